@@ -55,9 +55,13 @@ PARTS = [
         "velo_renew": "Renewal*",
         "velo_races": "Races*"}),
     ("What the program does", {
-        "velo_program": "Program* Check Explaining Carrying Format Scheduling Playing ByChance Exploring* Delivery Barred Fate Failures Causes",
+        "velo_program": "Program* Causes",
+        "velo_log_commands": "Commands* Check Explaining Carrying",
+        "velo_workload_commands": "Commands* Scheduling Playing ByChance Exploring*",
+        "velo_fate": "Verdict Format Delivery Barred Fate Failures Causes",
         "velo_delivery": "Disk Reading Writing Answers",
-        "velo_command": "CommandLine Asked Together Running Usage"}),
+        "velo_arguments": "CommandLine Asked Together",
+        "velo_command": "Running Usage"}),
     ("The library for other languages", {
         "velo_ffi": "Answers Numbers Texts* Pieces* Renewal* Words"}),
 ]

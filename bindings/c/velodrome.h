@@ -1,14 +1,14 @@
 /* velodrome.h: a proved checker of atomic blocks, in process.
  *
- * What each call does is proved, but for a shell in C (velodrome.c) that keeps the handle's memory, takes null pointers and hands
- * on the words of the statuses. What you owe is not checked by anything:
+ * What each call does is proved, except for a shell in C (velodrome.c) that keeps the handle's memory, takes null pointers and
+ * passes on the words of the statuses. Nothing checks what you have to ensure:
  *
  *  - One call at a time has a handle. Hold a lock of your own round each call.
- *  - The access that a call reports stands in the same hold of that lock: lock, access, report, unlock.
+ *  - The access that a call reports is in the same hold of that lock: lock, access, report, unlock.
  *  - Buffers do not overlap, and lengths are what they say.
  *  - No call comes from a signal handler, nor from the forked child of a process with threads.
  *
- * A pointer to what a call returns, such as an answer or a count, may be null: then it is not told. A null handle has the status
+ * A pointer to what a call returns, such as an answer or a count, may be null: then it is not returned. A null handle has the status
  * VELODROME_CLOSED.
  */
 #ifndef VELODROME_H
@@ -29,7 +29,7 @@ const char *velodrome_version(void);
 /* A run that is watched. */
 typedef struct velodrome velodrome;
 
-/* Limits of a run, and what is told of it. */
+/* Limits of a run, and of what is reported of it. */
 #define VELODROME_MAX_THREADS 64
 #define VELODROME_MAX_VARIABLES 65535
 #define VELODROME_MAX_LOCKS 4096
@@ -38,7 +38,7 @@ typedef struct velodrome velodrome;
 #define VELODROME_MAX_BLAMED 32
 #define VELODROME_REPORT_ROOM 4096 /* bytes, always enough for a report without names */
 
-/* 1 to 19: the event is refused. Where a status is not VELODROME_DONE nothing has changed, and nothing is told, but for what
+/* 1 to 19: the event is refused. Where a status is not VELODROME_DONE nothing has changed, and nothing is returned, except what
  * VELODROME_TOO_SHORT and VELODROME_BAD_NAMES put into *count. */
 typedef enum velodrome_status {
     VELODROME_DONE = 0,
@@ -114,7 +114,7 @@ void velodrome_close(velodrome *monitor);
 /* One call for each event, by the number of the thread that does it. Yours: the call is made under the lock that the access
  * itself is under, the thread is the one that did it, and a number always means the same variable, lock or thread.
  *
- * A read tells the value that was written last by velodrome_write, 0 at first. Where your values are of no interest, write 0. */
+ * A read returns the value that was written last by velodrome_write, 0 at first. Where your values are of no interest, write 0. */
 velodrome_status velodrome_read(velodrome *monitor, uint32_t thread, uint32_t variable, velodrome_answer *answer);
 velodrome_status velodrome_write(velodrome *monitor, uint32_t thread, uint32_t variable, uint64_t value, velodrome_answer *answer);
 
@@ -164,7 +164,7 @@ velodrome_status velodrome_log(velodrome *monitor, size_t from, char *buffer, si
 
 /* The report of the events so far, and their explanation: the bytes that `velodrome check` and `velodrome explain`
  * write for the text of the log, all of them or none. *count says how many bytes were put into the buffer, without a zero byte
- * behind them. VELODROME_TOO_SHORT where there is no room for all. The run goes on after each.
+ * after them. VELODROME_TOO_SHORT where there is no room for all. The run goes on after each.
  *
  * The report is short. An explanation takes time and memory in proportion to the log, each time that it is asked for. */
 velodrome_status velodrome_report(velodrome *monitor, char *buffer, size_t room, size_t *count);

@@ -69,7 +69,7 @@ static inline int vs_mutex_unlock(vs_mutex *m) {
     return pthread_mutex_unlock(&m->inner);
 }
 
-/* A wait releases the mutex and acquires it again, and both are told. */
+/* A wait releases the mutex and acquires it again, and both are recorded. */
 static inline int vs_cond_wait(pthread_cond_t *condition, vs_mutex *m) {
     VS_TELL_(&m->object, VS_RELEASE);
     int status = pthread_cond_wait(condition, &m->inner);

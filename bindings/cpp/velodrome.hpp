@@ -114,7 +114,7 @@ inline void tell(vs_object &object, vs_kind kind) noexcept {
     if (!vs_idle()) vs_tell(&object, kind);
 }
 
-// A mutex of std's, told: an acquire after it was acquired, a release before it is released.
+// A mutex of std's, recorded: an acquire after it was acquired, a release before it is released.
 template <class M> class lockable {
 public:
     constexpr lockable(place at = place::here()) noexcept : object_(at.object()) {}
@@ -212,7 +212,7 @@ public:
     template <class C, class D> [[nodiscard]] bool try_lock_shared_until(const std::chrono::time_point<C, D> &time) { return taken(inner_.try_lock_shared_until(time), VS_ACQUIRE_SHARED); }
 };
 
-// ---- waiting: the mutex is released and acquired again, and both are told
+// ---- waiting: the mutex is released and acquired again, and both are recorded
 
 class condition_variable {
 public:
@@ -303,7 +303,7 @@ public:
         return before;
     }
 
-    // One access by f, which gets a reference and is short: no other thread's events are told meanwhile.
+    // One access by f, which gets a reference and is short: no other thread's events are recorded meanwhile.
     template <class F> decltype(auto) with(F &&f, place at = place::here()) const {
         detail::access a(object_, VS_READ, at);
         return std::forward<F>(f)(value_);
@@ -423,7 +423,7 @@ private:
 // ---- threads
 
 namespace detail {
-struct living { // tells the thread's begin and end, also where it is unwound
+struct living { // reports the thread's begin and end, also if it is unwound
     explicit living(vs_child c) noexcept : child(c) { vs_born(child); }
     living(const living &) = delete;
     living &operator=(const living &) = delete;
@@ -535,7 +535,7 @@ struct options {
     std::uint32_t events = 0;    // most of them between two cuts; 0: 1,048,576
     std::uint16_t variables = 0; // 0: 65,535
     std::uint16_t locks = 0;     // 0: 4,096
-    std::uint32_t noise = 0;     // one event in so many waits for a while; 0: none
+    std::uint32_t noise = 0;     // one event in `noise` waits for a while; 0: none
     std::uint64_t seed = 0;      // which ones; 0: by the clock
     bool everywhere = true;      // also for threads that velodrome::thread did not start
     std::function<void(const collision &)> on_alarm; // called once, in the thread of the event; what it throws is lost
@@ -554,7 +554,7 @@ struct options {
 
 struct [[nodiscard]] result {
     verdict what = verdict::incomplete;
-    std::string words; // what `velodrome explain` tells of an alarm, with names and places; why it is incomplete
+    std::string words; // what `velodrome explain` prints of an alarm, with names and places; why it is incomplete
     bool fails = true; // what VELODROME_INCOMPLETE asks for, by finish()
     explicit operator bool() const noexcept { return what == verdict::clean; }
 };

@@ -1,10 +1,10 @@
-/* velodrome_session.h: what stands between a program and the calls of velodrome.h, for all languages.
+/* velodrome_session.h: the layer between a program and the calls of velodrome.h, for all languages.
  *
- * A session is one run that is watched, such as a test. The program tells its accesses, locks, blocks and threads by the objects
+ * A session is one run that is watched, such as a test. The program reports its accesses, locks, blocks and threads by the objects
  * that they are about; the session numbers them, takes the lock that the calls need, and keeps the verdict.
  *
- *  - No call fails its caller. What cannot be told stops the session with a reason, and the program runs on.
- *  - Threads are met, not declared: any thread may tell an event at any time.
+ *  - No call fails its caller. What cannot be recorded stops the session with a reason, and the program runs on.
+ *  - Threads are met, not declared: any thread may report an event at any time.
  *  - A session records up to its first alarm. Limits of events, threads, variables and locks count between moments at which no
  *    block is open, so a program may be as long as it likes.
  *  - Any call may come from any thread, also with a session that was closed. In the child of a fork(2) there is no session.
@@ -75,9 +75,9 @@ typedef struct vs_options {
     uint32_t events;    /* most events between two cuts; 0: 1,048,576 */
     uint16_t variables; /* 0: 65,535 */
     uint16_t locks;     /* 0: 4,096 */
-    uint32_t noise;     /* one event in so many waits up to 200 us before it happens; 0: none */
+    uint32_t noise;     /* one event in `noise` waits up to 200 us before it happens; 0: none */
     uint64_t seed;      /* which ones; 0: by the clock */
-    void (*alarm)(void *data, const vs_alarm *alarm); /* called once, in the thread of the event, behind it; may be null.
+    void (*alarm)(void *data, const vs_alarm *alarm); /* called once, in the thread of the event, after it; may be null.
                                                          Another thread's vs_close waits for its return */
     void *data;
     void (*wait)(uint32_t nanoseconds); /* how a thread waits, where it has to give something up meanwhile, such as an
@@ -91,7 +91,7 @@ void vs_environment(vs_options *options);
  * memory, or 256 are open; all goes on without it. `options` may be null. */
 vs_session vs_open(const vs_options *options, bool everywhere);
 
-/* The verdict, for good. The report is told with names and places, NULL where there is nothing to say; free it by vs_free.
+/* The verdict, for good. The report has names and places, and is NULL where there is nothing to say; free it by vs_free.
  * The thread is then in the session again that it was in before. VS_INCOMPLETE for a session that is not there. */
 vs_verdict vs_close(vs_session session, char **report);
 
@@ -118,22 +118,22 @@ void vs_stop(const char *why);
 extern uint32_t vs_recording;
 static inline bool vs_idle(void) { return __atomic_load_n(&vs_recording, __ATOMIC_RELAXED) == 0; }
 
-/* An access: vs_before, the access itself, vs_after with its token. Between the two this thread alone tells events to the
- * session, so keep the access short. It may tell others meanwhile. */
+/* An access: vs_before, the access itself, vs_after with its token. Between the two only this thread reports events to the
+ * session, so keep the access short. It may report others meanwhile. */
 unsigned vs_before(vs_object *object, vs_kind kind);
 unsigned vs_before_at(vs_object *object, vs_kind kind, const vs_place *place); /* place may be null */
 void vs_after(unsigned token);
 
-/* The same without an event, which vs_tell tells before vs_after: for an access that is known to be a read or a write only once it
+/* The same without an event, which vs_tell reports before vs_after: for an access that is known to be a read or a write only once it
  * is done, as a compare-exchange is, or that has a lock of its own to try. */
 unsigned vs_hold(vs_object *object);
 
-/* A lock: an acquire is told after it, a release before it. Of a lock that is taken again by its thread, each hold may be told:
+/* A lock: an acquire is reported after it, a release before it. Each hold of a lock that its thread takes again may be reported:
  * only the outermost is an event. */
 void vs_tell(vs_object *object, vs_kind kind);
 void vs_tell_at(vs_object *object, vs_kind kind, const vs_place *place);
 
-/* A block of this thread that is meant to be atomic. It is told once an event stands in it. The label is a static object for each
+/* A block of this thread that is meant to be atomic. It is recorded once an event is in it. The label is a static object for each
  * place in the program; labels of one name are one label. vs_end ends the innermost; without one it does nothing. */
 void vs_begin(vs_object *label);
 void vs_end(void);

@@ -1,4 +1,5 @@
--- What an audit tells, as text. Each number of a label, a lock, a variable or a thread has its name behind it, if it has one.
+-- What an audit prints. Each number of a label, a lock, a variable or a thread has its name after
+-- it, if it has one.
 use Rattle.std.specs.Prelude.{ℕ, ◌+◌, List, [], ◌++◌, length, map, Option, Some, None}
 use Rattle.std.specs.List.{flat_map}
 use Rattle.velo_events.specs.declared.event.Event.{Event}
@@ -14,7 +15,8 @@ abbrev pub optional_witness_text : NameLists → List Event → ℕ → Option E
 optional_witness_text names log p None = []
 optional_witness_text names log p (Some evidence) = witness_text names log p evidence
 
--- its labels, each once, outermost first; whether their blocks are to blame; and the witness, if there is one
+-- its labels, each once, outermost first; whether their blocks are to blame; and the witness, if
+-- there is one
 abbrev pub told_text : NameLists → List Event → Told → List ℕ
 told_text names log told =
     flat_map (not_atomic_text names) (each_once (map (λ block. block.label.0) told.blocks.items))

@@ -45,7 +45,8 @@ abbrev pub edge_text : NameLists → List Event → ℕ → ℕ → EdgeEvents �
 edge_text names log count k edge =
     order_text count k ++ (event_in_blocks_text names log edge.from ++ event_in_blocks_text names log edge.to)
 
--- the closing event, the transactions of the cycle, the events behind its edges, and why the blocks are to blame
+-- the closing event, the transactions of the cycle, the events of its edges, and why the blocks are
+-- to blame
 abbrev pub witness_text : NameLists → List Event → ℕ → Evidence → List ℕ
 witness_text names log p evidence =
     closing_text names log p (length evidence.spans.items)
@@ -53,6 +54,7 @@ witness_text names log p evidence =
     ++ (numbered (edge_text names log (length evidence.edges.items)) 0 evidence.edges.items
     ++ flat_map (blame_text names log p) evidence.blames.items))
 
--- so few blocks are open before each position that they can be listed. Private contracts cite this word
+-- so few blocks are open before each position that they can be listed. Private contracts cite this
+-- word
 pub record FewAreOpen (log : List Event) : Type 0 where
   pub each : (p t : ℕ) → p ≤ length log → length (open_blocks (take p log) t) ≤ MAX_OPEN_BLOCKS

@@ -1,4 +1,5 @@
--- The lines of what was asked for, of labels that are told, and of the counts. A number that has a name stands before it.
+-- The lines of what was asked for, of the labels found, and of the counts. A number that has a name
+-- comes before it.
 use Rattle.std.specs.Prelude.{ℕ, Bool, true, false, List, [], ◌∷◌, ◌++◌, codes, decimal}
 use Rattle.std.specs.List.{flat_map}
 use Rattle.velo_events.specs.declared.event.Label.{Label}
@@ -34,7 +35,7 @@ asked_text names asked =
 unfoldable pub not_atomic_text : NameLists → ℕ → List ℕ
 not_atomic_text names l = joined (codes "not atomic " ∷ decimal l ∷ named names kind.Label l ∷ codes "\n" ∷ [])
 
--- behind a label that is told because no block is to blame
+-- after a label that was found though no block is to blame
 unfoldable pub nobody_text : List ℕ
 nobody_text = codes "  no block alone is to blame\n"
 

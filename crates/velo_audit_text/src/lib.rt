@@ -1,4 +1,5 @@
-//! What an audit tells, as text: what was left out, each label that is not atomic with the witness of its round, and the counts.
+//! What an audit prints: what was left out, each label that is not atomic with the witness of its
+//! round, and the counts.
 #![tactic(auto)]
 
 mod whole;

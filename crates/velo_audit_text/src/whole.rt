@@ -64,7 +64,7 @@ fn add_witness_if_any(
     }
 }
 
-/// Adds what a round tells.
+/// Adds the text of a round.
 fn add_told(
     page: &mut Page,
     names: &Names,
@@ -82,7 +82,7 @@ fn add_told(
     add_witness_if_any(page, names, alloc, events, told.closing, &told.witness)
 }
 
-/// Adds what all rounds tell.
+/// Adds the text of all rounds.
 fn add_rounds(
     page: &mut Page,
     names: &Names,
@@ -101,12 +101,12 @@ fn add_rounds(
     Ok(())
 }
 
-/// What an audit tells, as text: what was to be left out, the labels and the witness of each round, how many labels are atomic, and
-/// how many rounds there were, the last one without an alarm. The rounds are as `audit` gives them for the log. A number that has
-/// a name stands before it.
+/// What an audit prints: what was to be left out, the labels and the witness of each round, how
+/// many labels are atomic, and how many rounds there were, the last one without an alarm. The
+/// rounds are as `audit` gives them for the log. A number that has a name comes before it.
 ///
 /// # Errors
-/// `Memory` where a growth was refused.
+/// `Memory` if an allocation failed.
 pub fn audit_text(
     alloc: Global,
     names: &Names,

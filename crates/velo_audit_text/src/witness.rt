@@ -125,7 +125,7 @@ fn add_order(page: &mut Page, count: usize, k: usize) -> Result<(), Memory>
     ])
 }
 
-/// Adds the events behind an edge of the cycle.
+/// Adds the events of an edge of the cycle.
 fn add_edge(
     page: &mut Page,
     names: &Names,
@@ -147,7 +147,7 @@ fn add_edge(
     add_event(page, names, alloc, events, edge.to)
 }
 
-/// Adds the events behind the edges of the cycle.
+/// Adds the events of the edges of the cycle.
 fn add_edges(
     page: &mut Page,
     names: &Names,
@@ -166,7 +166,7 @@ fn add_edges(
     Ok(())
 }
 
-/// Adds the witness of a round whose closing event stands at the position.
+/// Adds the witness of a round whose closing event is at the position.
 pub(crate) fn add_witness(
     page: &mut Page,
     names: &Names,

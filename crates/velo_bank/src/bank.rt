@@ -121,7 +121,8 @@ impl Bank {
     /// Ends the run, for its report.
     ///
     /// # Errors
-    /// `Memory` where the list of the seats was refused, and `Missing` where one of them does not fit.
+    /// `Memory` where the list of the seats was refused, and `Missing` where one of them does not
+    /// fit.
     pub fn close(self, alloc: Global) -> Result<Closed, RunError> {
         let Bank {
             accounts,

@@ -1,4 +1,5 @@
-//! A bank with threads of its own: once its transfers are blocks under a lock, and once a deposit is lost.
+//! A bank with threads of its own: once its transfers are blocks under a lock, and once a deposit
+//! is lost.
 #![tactic(auto)]
 
 mod bank;
@@ -65,7 +66,7 @@ fn print(rt: &HostRuntime, savings: u64, current: u64, closed: &Closed) -> anyho
     Ok(())
 }
 
-/// Shows what a day came to.
+/// Prints the outcome of a day.
 fn show(rt: &HostRuntime, ended: (u64, u64, Closed)) -> anyhow::Result<()> {
     let (savings, current, closed) = ended;
     let printed = print(rt, savings, current, &closed);

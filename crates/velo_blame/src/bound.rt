@@ -8,8 +8,9 @@ ghost use Rattle.velo_blame.specs.Known.{is_by_others, IsBound, TakesIn};
 use velo_conflicts::ConflictTable;
 use velo_events::{Event, ThreadId, conflicts};
 
-/// Records the event at a position, where those before it are recorded, with what it knows of the thread: the last position
-/// of the thread that happens before it, or is it, counted from 1; 0 where there is none. The answer is this number.
+/// Records the event at a position, where those before it are recorded, with what it knows of the
+/// thread: the last position of the thread that happens before it, or is it, counted from 1; 0
+/// where there is none. Returns this number.
 fn take_in(known: &mut ConflictTable, event: Event, at: usize, thread: ThreadId) -> usize
     requires places { HasPlaces (sizes known.old) event }
     requires small { at + 1 < 2 ^ 64 }
@@ -32,8 +33,9 @@ fn interrupts(event: &Event, last: &Event) -> bool
     conflicts(event, last) && event.thread != last.thread
 }
 
-/// Which begins of the thread at a position come before an earlier event of another thread that conflicts with the event
-/// there: those below the number that is answered. One pass over the events.
+/// Which begins of the thread at a position come before an earlier event of another thread that
+/// conflicts with the event there: those below the number that is returned. One pass over the
+/// events.
 pub(crate) fn bound_at(known: &mut ConflictTable, events: &[Event], position: usize) -> usize
     requires within { position < length events.now }
     requires places { AllHavePlaces (sizes known.old) events.now (position + 1) }

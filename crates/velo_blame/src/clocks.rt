@@ -17,8 +17,8 @@ use velo_clocks::ClockTables;
 use velo_events::{Bounds, Config, Event, MAX_OPEN_BLOCKS, Memory, Resolved};
 use velo_traces::Block;
 
-/// Which open blocks are to blame where an event closes the first cycle, without a look at the events before it. They were
-/// noted as they came.
+/// Which open blocks are to blame where an event closes the first cycle, without a look at the
+/// events before it. They were noted as they came.
 #[derive(Debug, Drop)]
 pub struct Clocks {
     tables: ClockTables,
@@ -53,11 +53,11 @@ fn blocks_below(alloc: Global, blocks: &[Block], bound: usize) -> SmallVec<Block
 }
 
 impl Clocks {
-    /// Clocks of a run with no event. They may stand for the events of a run from any position on, if the first that they
-    /// note is the one there.
+    /// Clocks of a run with no event. They may stand for the events of a run from any position on,
+    /// if the first that they note is the one there.
     ///
     /// # Errors
-    /// `Memory` where a growth was refused.
+    /// `Memory` if an allocation failed.
     pub fn new(alloc: Global, config: &Config) -> Result<Clocks, Memory>
         ensures bounds { IfOk result (λ clocks. clocks.bounds ≡ config.now.bounds) }
         ensures start { IfOk result (λ clocks. (trace : List Event) → AreClocksSince (length trace) clocks.state trace) }
@@ -70,10 +70,11 @@ impl Clocks {
         })
     }
 
-    /// Makes room for what the event notes. The clocks are those of the same events, also where it is refused.
+    /// Makes room for what the event notes. The clocks are those of the same events, also where it
+    /// is refused.
     ///
     /// # Errors
-    /// `Memory` where a growth was refused.
+    /// `Memory` if an allocation failed.
     pub fn reserve_for(&mut self, event: &Event) -> Result<(), Memory>
         ensures bounds { self.new.bounds ≡ self.old.bounds }
         ensures same { (first : ℕ) (trace : List Event) → AreClocksSince first self.old.state trace
@@ -94,8 +95,9 @@ impl Clocks {
         self.tables.has_room_for(event)
     }
 
-    /// Notes the event at the position, which comes next in the trace whose clocks these are. The position has to be
-    /// below 2^32 - 1, and there has to be room, as after `reserve_for`. It takes no memory.
+    /// Notes the event at the position, which comes next in the trace whose clocks these are. The
+    /// position has to be below 2^32 - 1, and there has to be room, as after `reserve_for`. It
+    /// takes no memory.
     #[inline(always)]
     pub fn note(&mut self, position: usize, event: &Event)
         requires room { HasRoomToNote self.old.bounds.threads self.old.state event.now }
@@ -119,10 +121,10 @@ impl Clocks {
         self.tables.note_resolved(position as u32, event);
     }
 
-    /// Those of the open blocks of the event's thread that are to blame where the event, at this position, closes the first
-    /// cycle: they are not self-serializable in the events up to it. They come outermost first, as the open blocks do. The
-    /// clocks need to stand for no event before the outermost of them. It takes no memory, and returns what `Scan::blamed`
-    /// returns.
+    /// Those of the open blocks of the event's thread that are to blame where the event, at this
+    /// position, closes the first cycle: they are not self-serializable in the events up to it.
+    /// They come outermost first, as the open blocks do. The clocks need to stand for no event
+    /// before the outermost of them. It takes no memory, and returns what `Scan::blamed` returns.
     pub fn blamed(
         &self,
         blocks: &[Block],

@@ -13,7 +13,7 @@ pub record AppendsBeginning (old new : Option (List ℕ)) (bytes : List ℕ) : T
   pub split : bytes ≡ beginning ++ rest
   pub appends : Appends old new beginning
 
--- ---- bytes in memory, which take or give a few at a time, and fail once so many are done
+-- ---- bytes in memory, which take or give a few at a time, and fail after a given number
 
 -- how many of these a call takes or gives
 abbrev pub count_at_once : ℕ → ℕ → Option ℕ → ℕ

@@ -50,7 +50,7 @@ by_word None f other = other
 abbrev pub of_number : {X : Type 0} → ℕ → (ℕ → X) → List ℕ → Taken X
 of_number most f bytes = number_at most bytes >>= λ n. Some (f n.0, n.1)
 
--- a number and the space behind it
+-- a number and the space after it
 abbrev pub spaced_number_at : ℕ → List ℕ → Taken ℕ
 spaced_number_at most bytes = do
   n ← number_at most bytes

@@ -3,7 +3,7 @@ ghost use Rattle.std.specs.Prelude.{◌≡◌, ◌≤◌, ◌+◌, ◌++◌, len
 
 use itoa::Buffer;
 
-/// Puts bytes at a place of a buffer that has room for them, and returns the place behind them.
+/// Puts bytes at a place of a buffer that has room for them, and returns the place after them.
 pub fn put_bytes(buffer: &mut [u8], at: usize, bytes: &[u8]) -> usize
     requires { at + length bytes.now ≤ length buffer.old }
     ensures text { take result buffer.new ≡ take at buffer.old ++ bytes.now }
@@ -14,7 +14,7 @@ pub fn put_bytes(buffer: &mut [u8], at: usize, bytes: &[u8]) -> usize
     end
 }
 
-/// Puts the digits of a number, of which there are at most 20, and returns the place behind them.
+/// Puts the digits of a number, of which there are at most 20, and returns the place after them.
 pub fn put_number(buffer: &mut [u8], at: usize, number: u64) -> usize
     requires { at + 20 ≤ length buffer.old }
     ensures text { take result buffer.new ≡ take at buffer.old ++ decimal number }

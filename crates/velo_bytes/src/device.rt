@@ -30,8 +30,8 @@ pub trait Source {
     /// How many reads have failed, modulo 2 ^ 64.
     ghost failures: { Self → ℕ };
 
-    /// Puts the next bytes at the front of the piece, and returns how many. It returns 0 for a piece
-    /// that is not empty only at the end of the input.
+    /// Puts the next bytes at the front of the piece, and returns how many. It returns 0 for a
+    /// piece that is not empty only at the end of the input.
     ///
     /// # Errors
     /// `Failed` where the device failed, which counts one failure more.
@@ -50,7 +50,8 @@ pub trait Sink {
     /// How many writes have failed, modulo 2 ^ 64.
     ghost failures: { Self → ℕ };
 
-    /// Takes bytes from the front of the piece, and returns how many: at least one where there are any.
+    /// Takes bytes from the front of the piece, and returns how many: at least one where there are
+    /// any.
     ///
     /// # Errors
     /// `Failed` where the device failed, which counts one failure more.

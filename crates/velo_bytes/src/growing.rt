@@ -8,7 +8,7 @@ use velo_events::growth::reserve;
 /// Appends bytes.
 ///
 /// # Errors
-/// `Memory` where a growth was refused.
+/// `Memory` if an allocation failed.
 pub fn append(text: &mut Vec<u8>, bytes: &[u8]) -> Result<(), Memory>
     ensures ok { OnOk result (text.new.items ≡ text.old.items ++ bytes.now) }
     ensures kept { OnErr result (text.new.items ≡ text.old.items) }
@@ -23,7 +23,7 @@ pub fn append(text: &mut Vec<u8>, bytes: &[u8]) -> Result<(), Memory>
 /// Appends the digits of a number.
 ///
 /// # Errors
-/// `Memory` where a growth was refused.
+/// `Memory` if an allocation failed.
 pub fn append_number(text: &mut Vec<u8>, number: u64) -> Result<(), Memory>
     ensures ok { OnOk result (text.new.items ≡ text.old.items ++ decimal number) }
     ensures kept { OnErr result (text.new.items ≡ text.old.items) }

@@ -9,7 +9,7 @@ use crate::device::{Failed, Sink};
 use crate::growing::append;
 use std::alloc::Global;
 
-/// Bytes in memory as a sink. It takes all that it is given, unless told otherwise.
+/// Bytes in memory as a sink. It takes all that it is given, unless set otherwise.
 #[derive(Drop)]
 pub struct Text {
     written: Vec<u8>,
@@ -65,7 +65,8 @@ impl Sink for Text {
 
     ghost failures = { λ s. s.failures };
 
-    /// It fails where this was told, and where a growth was refused. Else it takes all, or as many as it was told.
+    /// It fails where it was set to fail, and if an allocation failed. Else it takes all, or as
+    /// many as it was set to.
     fn write(&mut self, piece: &[u8]) -> Result<usize, Failed>
         ensures bound { WritesAtMost result piece.now }
         ensures some { 0 < length piece.now → IfOk result (λ n. 0 < n) }

@@ -6,7 +6,7 @@ ghost use Rattle.velo_bytes.specs.Device.{count_at_once, left_after, with_failur
 
 use crate::device::{Failed, Source};
 
-/// Bytes as a source. It gives as many at a time as the piece takes, unless told otherwise.
+/// Bytes as a source. It gives as many at a time as the piece takes, unless set otherwise.
 #[derive(Drop)]
 pub struct Bytes<'a> {
     rest: &'a [u8],
@@ -55,7 +55,8 @@ impl Source for Bytes<'_> {
 
     ghost failures = { λ s. s.failures };
 
-    /// It fails exactly where this was told. Else it gives what the piece takes, or as many as it was told.
+    /// It fails exactly where it was set to fail. Else it gives what the piece takes, or as many as
+    /// it was set to.
     fn read(&mut self, piece: &mut [u8]) -> Result<usize, Failed>
         ensures bound { ReadsAtMost result piece.new }
         ensures bytes { ReadConsumes (Some self.old.rest.now) (Some self.new.rest.now) result piece.new }

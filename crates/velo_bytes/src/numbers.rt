@@ -21,7 +21,7 @@ fn digits(start: u64, bytes: &[u8], most: u64) -> Option<(u64, &[u8])>
             return Some((value, &bytes[i..]));
         }
         let digit = u64::from(*byte - b'0');
-        // far below the bound, as most numbers are, one comparison tells
+        // far below the bound, as most numbers are, one comparison decides
         if value >= most / 10 && (value > most / 10 || digit > most - value * 10) {
             return None;
         }
@@ -30,7 +30,7 @@ fn digits(start: u64, bytes: &[u8], most: u64) -> Option<(u64, &[u8])>
     Some((value, &bytes[bytes.len()..]))
 }
 
-/// The same where so many bytes are there, so that the first digits need no look at their end.
+/// The same where `NEAR` bytes are there, so that the first digits need no test for the end.
 #[inline(always)]
 fn near_digits(start: u64, bytes: &[u8], most: u64) -> Option<(u64, &[u8])>
     requires start { start ≤ most }
@@ -76,7 +76,7 @@ pub fn number(bytes: &[u8], most: u64) -> Option<(u64, &[u8])>
     Some((value, rest))
 }
 
-/// The number at the front and the space behind it.
+/// The number at the front and the space after it.
 pub fn spaced_number(bytes: &[u8], most: u64) -> Option<(u64, &[u8])>
     requires { 9 ≤ most }
     ensures value { option_map (λ r. (r.0, r.1.now)) result ≡ spaced_number_at most bytes.now }

@@ -2,7 +2,7 @@
 ghost use Rattle.std.specs.Prelude.{◌≡◌, option_map};
 ghost use Rattle.velo_bytes.specs.Parsing.{after_word};
 
-/// What follows the word, where it stands at the front.
+/// What follows the word, if the bytes begin with it.
 #[inline(always)]
 pub fn after<'a>(bytes: &'a [u8], word: &[u8]) -> Option<&'a [u8]>
     ensures { option_map (λ r. r.now) result ≡ after_word word.now bytes.now }

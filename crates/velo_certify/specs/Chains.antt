@@ -1,4 +1,5 @@
--- Lists that are kept in one store, each link with the number of the next one. Private contracts cite these words.
+-- Lists that are kept in one store, each link with the number of the next one. Private contracts
+-- cite these words.
 use Rattle.std.specs.Prelude.{◌≡◌, ℕ, suc, ◌≤◌, ◌⊎◌, List, [], ◌∷◌, Some, slice_get, slice_index}
 use Rattle.velo_certify.specs.declared.chains.Link.{Link}
 

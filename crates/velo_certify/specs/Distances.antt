@@ -1,9 +1,11 @@
--- Distances to a transaction, backwards along the edges of the graph. Private contracts cite these words.
+-- Distances to a transaction, backwards along the edges of the graph. Private contracts cite these
+-- words.
 use Rattle.std.specs.Prelude.{◌≡◌, ◌≢◌, ℕ, suc, ◌+◌, ◌<◌, ◌≤◌, List, length, slice_index}
 use Rattle.velo_events.specs.declared.event.Event.{Event}
 use Rattle.velo_events.specs.Graph.{Edge}
 
--- the number of each transaction is the least number of edges that lead from it to the target plus one, or 0 where none do
+-- the number of each transaction is the least number of edges that lead from it to the target plus
+-- one, or 0 where none do
 pub record AreDistances (trace : List Event) (target : ℕ) (distance : List ℕ) : Type 0 where
   pub count : length distance ≡ length trace
   pub begins : slice_index distance target ≡ 1

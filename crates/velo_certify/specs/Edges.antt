@@ -1,4 +1,4 @@
--- The pairs of events behind the edges of a cycle.
+-- The two events of each edge of a cycle.
 use Rattle.std.specs.Prelude.{◌≡◌, ◌≢◌, ℕ, ◌+◌, ◌<◌, ◌==◌, cond, List, length, slice_index, slice_index_or, IsTrue}
 use Rattle.velo_events.specs.declared.event.Event.{Event}
 use Rattle.velo_events.specs.Block.{owner}
@@ -24,10 +24,11 @@ pub record ShowEdgesSoFar (trace : List Event) (cycle : List ℕ) (k : ℕ) (edg
   pub count : length edges ≡ k
   pub each : (i : ℕ) → i < k → ShowsEdge trace (slice_index cycle i) (next_in cycle i) (edge_at edges i)
 
--- an edge for each transaction of the cycle, in their order: to the next one, and from the last one to the first
+-- an edge for each transaction of the cycle, in their order: to the next one, and from the last one
+-- to the first
 abbrev pub ShowEdges : List Event → List ℕ → List EdgeEvents → Type 0
 ShowEdges trace cycle edges = ShowEdgesSoFar trace cycle (length cycle) edges
 
--- the number behind each position of a transaction, and 0 for the other positions
+-- the number after each position of a transaction, and 0 for the other positions
 unfoldable pub own_places : List Event → ℕ → ℕ → ℕ
 own_places trace a i = cond (owner trace i == a) (i + 1) 0

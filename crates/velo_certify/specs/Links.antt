@@ -1,5 +1,5 @@
--- For each transaction, lists of those from which an edge leads to it: enough of them that chains of links stand for all edges.
--- Private contracts cite these words.
+-- For each transaction, lists of those from which an edge leads to it: enough of them that chains
+-- of links stand for all edges. Private contracts cite these words.
 use Rattle.std.specs.Prelude.{◌≡◌, ◌≢◌, ℕ, ◌+◌, ◌*◌, ◌-◌, ◌<◌, ◌≤◌, ◌⊎◌, Bool, true, false, List, [], length, slice_index, IsTrue, IsFalse}
 use Rattle.velo_events.specs.declared.event.Event.{Event}
 use Rattle.velo_events.specs.declared.event.Access.{Access}
@@ -64,7 +64,8 @@ pub record IsGrown (trace : List Event) (old new : Links) : Type 0 where
 
 -- ---- what stands for a link
 
--- the list of some position at or before j, of j's thread, has some position at or behind i, of i's thread
+-- the list of some position at or before j, of j's thread, has some position at or after i, of i's
+-- thread
 pub record IsImplied (trace : List Event) (l : Links) (i j : ℕ) : Type 0 where
   pub from : ℕ
   pub to : ℕ
@@ -89,7 +90,7 @@ pair_at trace i j = thread_at trace j * 256 + thread_at trace i
 abbrev pub IsBefore : ℕ → ℕ → ℕ → ℕ → Type 0
 IsBefore n k i j = (k ≡ i + 1) × (j < n)
 
--- k counts j from the end, and i is n or behind it
+-- k counts j from the end, and i is n or after it
 abbrev pub IsBehind : List Event → ℕ → ℕ → ℕ → ℕ → Type 0
 IsBehind trace n k i j = (k ≡ length trace - j) × (n ≤ i)
 
@@ -144,14 +145,15 @@ pub record HasLinksLeft (trace : List Event) (listed : List Bool) (l : Links) : 
   pub rows : HasRows trace l
   pub linked : (i j : ℕ) → j < length trace → LinksSoFar trace (length trace) 0 i j → IsTrue (has listed (owner trace i)) ⊎ IsKept trace l i j
 
--- what is left of a list behind listed transactions
+-- what is left of a list after listed transactions
 pub record IsLeft (listed : List Bool) (l : Links) (k : ℕ) (xs : List ℕ) : Type 0 where
   pub ys : List ℕ
   pub list : IsChain l.links.items k ys
   pub keeps : (b : ℕ) → IsIn b xs → IsTrue (has listed b) ⊎ IsIn b ys
   pub only : (b : ℕ) → IsIn b ys → IsIn b xs
 
--- the list of a transaction has lost listed ones at its front; it is empty, or begins with one that is not listed
+-- the list of a transaction has lost listed ones at its front; it is empty, or begins with one that
+-- is not listed
 pub record DropsListed (listed : List Bool) (a : ℕ) (old new : Links) (answer : Bool) : Type 0 where
   pub count : length new.heads.items ≡ length old.heads.items
   pub others : (c : ℕ) (xs : List ℕ) → c ≢ a → list_of old c xs → list_of new c xs

@@ -6,14 +6,15 @@ use Rattle.velo_events.specs.Block.{passes_at}
 use Rattle.velo_certify.specs.declared.lists.Lists.{Lists}
 use Rattle.velo_conflicts.specs.Places.{Sizes}
 
--- j is the first position from n on whose event passes the test, or the number of positions where there is none
+-- j is the first position from n on whose event passes the test, or the number of positions where
+-- there is none
 pub record IsFirst (trace : List Event) (test : Event → Bool) (n j : ℕ) : Type 0 where
   pub from_n : n ≤ j
   pub at_most : j ≤ length trace
   pub own : j < length trace → IsTrue (passes_at trace test j)
   pub none : (k : ℕ) → n ≤ k → k < j → ¬ IsTrue (passes_at trace test k)
 
--- what follows each position is behind it
+-- what follows each position is after it
 pub record IsRising (trace : List Event) (following : List ℕ) : Type 0 where
   pub count : length following ≡ length trace
   pub each : (i : ℕ) → i < length trace → i < slice_index following i

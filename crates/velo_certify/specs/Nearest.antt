@@ -1,4 +1,5 @@
--- The edges out of one transaction, and the nearest one that they lead to. Private contracts cite these words.
+-- The edges out of one transaction, and the nearest one that they lead to. Private contracts cite
+-- these words.
 use Rattle.std.specs.Prelude.{◌≡◌, ◌≢◌, ℕ, ◌<◌, ◌≤◌, ◌==◌, ◌⊎◌, cond, List, slice_index, Option, Some, IfSome, IsTrue}
 use Rattle.velo_events.specs.declared.event.Event.{Event}
 use Rattle.velo_events.specs.Block.{owner}
@@ -8,7 +9,8 @@ use Rattle.velo_events.specs.Graph.{conflict_at, Edge}
 unfoldable pub own_positions : List Event → ℕ → ℕ → ℕ
 own_positions trace a i = cond (owner trace i == a) 1 0
 
--- an operation of the transaction conflicts with the later one at a position, which is of another transaction
+-- an operation of the transaction conflicts with the later one at a position, which is of another
+-- transaction
 pub record LeadsInto (trace : List Event) (a n : ℕ) : Type 0 where
   pub place : ℕ
   pub before : place < n
@@ -31,7 +33,7 @@ pub record IsNearestBelow (trace : List Event) (distance : List ℕ) (a n b : �
 pub record IsNoneBelow (trace : List Event) (distance : List ℕ) (a n : ℕ) : Type 0 where
   pub none : (i : ℕ) → i < n → LeadsInto trace a i → slice_index distance (owner trace i) ≡ 0
 
--- a transaction without a distance changes nothing; otherwise the answer is as near as both
+-- a transaction without a distance changes nothing; otherwise the result is as near as both
 pub record IsWithNext (distance : List ℕ) (nearest : Option ℕ) (next : ℕ) (result : Option ℕ) : Type 0 where
   pub without : slice_index distance next ≡ 0 → result ≡ nearest
   pub with_distance : 0 < slice_index distance next → (r : ℕ) × (result ≡ Some r) × (slice_index distance r ≤ slice_index distance next) × IfSome nearest (λ b. slice_index distance r ≤ slice_index distance b) × ((r ≡ next) ⊎ (nearest ≡ Some r))

@@ -23,11 +23,11 @@ pub record ArePlaces (n : ℕ) (order places : List ℕ) : Type 0 where
 pub record KeepsConflicts (trace : List Event) (places : List ℕ) : Type 0 where
   pub each : (i j : ℕ) → i < j → IsTrue (conflict_at trace i j) → slice_index places i < slice_index places j
 
--- the transaction of what stands at a place
+-- the transaction of the position at a place
 abbrev pub owner_at : List ℕ → List ℕ → ℕ → ℕ
 owner_at owners order k = slice_index owners (slice_index order k)
 
--- what stands between two places of one transaction is of it
+-- what is between two places of one transaction is of it
 pub record AreTogether (owners order : List ℕ) : Type 0 where
   pub each : (j l m : ℕ) → j < l → l < m → m < length order → owner_at owners order j ≡ owner_at owners order m → owner_at owners order l ≡ owner_at owners order m
 

@@ -1,4 +1,5 @@
--- A search backwards along the edges of the graph, which visits rising lists of positions. Private contracts cite these words.
+-- A search backwards along the edges of the graph, which visits rising lists of positions. Private
+-- contracts cite these words.
 use Rattle.std.specs.Prelude.{◌≡◌, ℕ, ◌+◌, ◌<◌, ◌≤◌, Bool, List, length, Option, Some, slice_get, slice_index, IsTrue}
 use Rattle.velo_events.specs.declared.event.Event.{Event}
 use Rattle.velo_events.specs.About.{is_about, thread_in, forked_or_joined_in, written_in, read_in}
@@ -25,7 +26,8 @@ pub record IsStart (count target : ℕ) (reached : Reached) : Type 0 where
   pub alone : (a : ℕ) → 0 < slice_index reached.distance.items a → a ≡ target
   pub queued : IsQueued reached target
 
--- what had a number keeps it, and what is new is put behind the queue and has the next number
+-- what had a number keeps it, and what is new is put at the end of the queue and has the next
+-- number
 pub record Grows (level : ℕ) (old new : Reached) : Type 0 where
   pub count : length new.distance.items ≡ length old.distance.items
   pub kept : (a : ℕ) → 0 < slice_index old.distance.items a → slice_index new.distance.items a ≡ slice_index old.distance.items a
@@ -75,7 +77,8 @@ pub record IsSearching (trace : List Event) (owners : List ℕ) (lists : Lists) 
   pub visited : AreVisited trace lists reached
   pub positive : 0 < level_at trace reached at_hand
 
--- what is new has a position before the one at hand whose event passes the test, and those below n are reached
+-- what is new has a position before the one at hand whose event passes the test, and those below n
+-- are reached
 pub record ReachesBelow (trace : List Event) (at_hand : ℕ) (test : Event → Bool) (n level : ℕ) (old new : Reached) : Type 0 where
   pub found : (a : ℕ) → slice_index old.distance.items a ≡ 0 → 0 < slice_index new.distance.items a → (slice_index new.distance.items a ≡ level + 1) × ((i : ℕ) × (i < at_hand) × IsTrue (passes_at trace test i) × (owner trace i ≡ a))
   pub all : (i : ℕ) → i < n → IsTrue (passes_at trace test i) → 0 < slice_index new.distance.items (owner trace i)

@@ -1,4 +1,5 @@
--- The events of each thread in their order, and how far each thread's are listed. Private contracts cite these words.
+-- The events of each thread in their order, and how far each thread's are listed. Private contracts
+-- cite these words.
 use Rattle.std.specs.Prelude.{◌≡◌, ◌≢◌, ℕ, ◌+◌, ◌<◌, ◌≤◌, Bool, List, length, slice_index, IsTrue, IsFalse}
 use Rattle.velo_events.specs.declared.event.Event.{Event}
 use Rattle.velo_events.specs.Event.{thread_of}
@@ -43,14 +44,14 @@ pub record AreFronts (trace : List Event) (listed : List Bool) (fronts : List �
 pub record IsFront (trace : List Event) (listed : List Bool) (a : ℕ) : Type 0 where
   pub passed : (i : ℕ) → i < a → thread_at trace i ≡ thread_at trace a → IsTrue (has listed (owner trace i))
 
--- k is the first position of the thread behind its transaction a
+-- k is the first position of the thread after its transaction a
 pub record IsBehind (trace : List Event) (a k : ℕ) : Type 0 where
   pub after : a < k
   pub own : k < length trace → thread_at trace k ≡ thread_at trace a
   pub other : k < length trace → owner trace k ≢ a
   pub mine : (i : ℕ) → a ≤ i → i < k → i < length trace → thread_at trace i ≡ thread_at trace a → owner trace i ≡ a
 
--- what is listed next, as far as the fronts of the first n threads tell
+-- what is listed next, by the fronts of the first n threads
 abbrev pub IsNextSoFar : List Event → List Bool → List ℕ → ℕ → Next → Type 0
 IsNextSoFar trace listed fronts n (Ready a) = IsCandidate trace listed a × IsFree trace listed a × ((t : ℕ) → t < n → slice_index fronts t < length trace → IsFree trace listed (slice_index fronts t) → a ≤ slice_index fronts t)
 IsNextSoFar trace listed fronts n Stuck = ((b : ℕ) × IsCandidate trace listed b) × ((t : ℕ) → t < n → slice_index fronts t < length trace → ¬ IsFree trace listed (slice_index fronts t))

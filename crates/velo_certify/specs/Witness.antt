@@ -1,4 +1,5 @@
--- An event that stands between the begin of a block and a later event of the block's thread, whatever the order.
+-- An event that is between the begin of a block and a later event of the block's thread in every
+-- reordering.
 use Rattle.std.specs.Prelude.{◌≢◌, ℕ, ◌<◌, List, length, slice_get, slice_index, IsTrue}
 use Rattle.std.specs.Option.{option_map_or}
 use Rattle.velo_events.specs.declared.event.Event.{Event}
@@ -15,7 +16,8 @@ pub record IsWitness (trace : List Event) (b p w : ℕ) : Type 0 where
   pub before_end : ConflictsInOrder trace w p
   pub other_thread : thread_at trace w ≢ thread_at trace p
 
--- those of the first positions that b reaches by conflicts in order have a number that is not 0, and nothing else has one
+-- those of the first positions that b reaches by conflicts in order have a number that is not 0,
+-- and nothing else has one
 pub record AreMarks (trace : List Event) (b : ℕ) (marks : List ℕ) : Type 0 where
   pub sound : (i : ℕ) → 0 < slice_index marks i → Reaches (ConflictsInOrder trace) b i
   pub begun : b < length marks → 0 < slice_index marks b

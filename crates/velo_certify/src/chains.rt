@@ -28,10 +28,10 @@ pub(crate) struct Links {
 }
 
 impl Links {
-    /// Empty lists for so many transactions.
+    /// Empty lists for this number of transactions.
     ///
     /// # Errors
-    /// `Memory` where a growth was refused.
+    /// `Memory` if an allocation failed.
     pub fn new(alloc: Global, count: usize) -> Result<Links, Memory>
         ensures blank { IfOk result (λ l. IsBlank l.heads.items) }
         ensures count { IfOk result (λ l. length l.heads.items ≡ count) }
@@ -45,7 +45,7 @@ impl Links {
     /// Puts a transaction at the front of a list.
     ///
     /// # Errors
-    /// `Memory` where a growth was refused.
+    /// `Memory` if an allocation failed.
     pub fn add(&mut self, before: usize, to: usize) -> Result<(), Memory>
         requires { to < length self.old.heads.items }
         ensures links { OnOk result

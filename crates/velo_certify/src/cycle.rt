@@ -64,15 +64,16 @@ fn last_cycle(alloc: Global, events: &[Event]) -> Result<Vec<usize>, CertFault>
     }
 }
 
-/// A shortest cycle of the events up to the position that begins with the transaction of the position. Each transaction is
-/// named by its first position; of several shortest cycles the least list is given.
+/// A shortest cycle of the events up to the position that begins with the transaction of the
+/// position. Each transaction is named by its first position; of several shortest cycles the least
+/// list is given.
 ///
-/// Each event is passed a bounded number of times, however long the cycle is, and the transactions that are at one distance are
-/// sorted.
+/// Each event is passed a bounded number of times, however long the cycle is, and the transactions
+/// that are at one distance are sorted.
 ///
 /// # Errors
-/// `NotThere` where the trace has no such position, `NoCycle` where no cycle of the events up to it contains its
-/// transaction, and `Memory` where a growth was refused.
+/// `NotThere` where the trace has no such position, `NoCycle` where no cycle of the events up to it
+/// contains its transaction, and `Memory` if an allocation failed.
 pub fn cycle_of(alloc: Global, trace: &Trace, position: usize) -> Result<Vec<usize>, CertFault>
     ensures cycle { IfOk result (λ cycle. IsShortestCycleAt trace.now.events position cycle.items) }
     ensures fault { IfErr result (IsCycleFault trace.now.events position) }
@@ -128,11 +129,12 @@ fn is_last_cycle(alloc: Global, events: &[Event], cycle: &[usize]) -> Result<boo
     Ok(is_linked(events, &owners, &mut table, cycle))
 }
 
-/// Whether the list is a cycle of the events up to the position that begins with the transaction of the position and is no
-/// longer than any other such cycle. It trusts nobody: any list and any position may be given.
+/// Whether the list is a cycle of the events up to the position that begins with the transaction of
+/// the position and is no longer than any other such cycle. It trusts nobody: any list and any
+/// position may be given.
 ///
 /// # Errors
-/// `Memory` where a growth was refused.
+/// `Memory` if an allocation failed.
 pub fn check_cycle(
     alloc: Global,
     trace: &Trace,

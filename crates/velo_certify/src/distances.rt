@@ -55,11 +55,12 @@ fn expand_level(
     }
 }
 
-/// The transactions that reach the target, with the least numbers of edges that lead from them to it. On each level the lower
-/// numbers come first, so that each leads to the lowest one that is nearer.
+/// The transactions that reach the target, with the least numbers of edges that lead from them to
+/// it. On each level the lower numbers come first, so that each leads to the lowest one that is
+/// nearer.
 ///
 /// # Errors
-/// `Memory` where a growth was refused.
+/// `Memory` if an allocation failed.
 pub(crate) fn reach_target(
     alloc: Global,
     events: &[Event],

@@ -1,4 +1,4 @@
-//! The pairs of events behind the edges of a cycle.
+//! The two events of each edge of a cycle.
 ghost use Rattle.std.specs.Prelude.{◌≡◌, ◌≢◌, ◌<◌, ◌+◌, ◌-◌, length, take, slice_index, IfOk, MatchOption};
 ghost use Rattle.velo_events.specs.Block.{owner};
 ghost use Rattle.velo_certify.specs.Shortest.{IsCycleAt};
@@ -20,7 +20,8 @@ use velo_events::growth::with_capacity;
 use velo_events::{Event, Memory};
 use velo_traces::Trace;
 
-/// Two conflicting events of two transactions. They make an edge from the first one's transaction to the second one's.
+/// Two conflicting events of two transactions. They make an edge from the first one's transaction
+/// to the second one's.
 #[derive(Clone, Copy, Debug, PartialEq, Eq)]
 pub struct EdgeEvents {
     /// The position of the earlier event.
@@ -29,8 +30,8 @@ pub struct EdgeEvents {
     pub to: usize,
 }
 
-/// Takes in the event at a position, where those before it were taken in. The number behind the latest event of the
-/// transaction that conflicts with it, or 0.
+/// Takes in the event at a position, where those before it were taken in. Returns the number after
+/// the latest event of the transaction that conflicts with it, or 0.
 fn place_before(
     events: &[Event],
     owners: &[usize],
@@ -53,7 +54,8 @@ fn place_before(
     take_in(table, events, at, number)
 }
 
-/// The earliest event of the one transaction that conflicts with an earlier one of the other, with the latest of these.
+/// The earliest event of the one transaction that conflicts with an earlier one of the other, with
+/// the latest of these.
 fn edge_events_between(
     events: &[Event],
     owners: &[usize],
@@ -119,14 +121,15 @@ fn all_edge_events(
     Ok(edges)
 }
 
-/// The events behind the edges of a cycle, in its order: for each transaction two conflicting events, the earlier one
-/// of it and the later one of the next transaction. The list has to be a cycle of the events up to the position that
-/// begins with the transaction of the position.
+/// The events of the edges of a cycle, in its order: for each transaction two conflicting events,
+/// the earlier one of it and the later one of the next transaction. The list has to be a cycle of
+/// the events up to the position that begins with the transaction of the position.
 ///
-/// It takes one pass over the events up to the position for each transaction of the cycle, and one to make the table.
+/// It takes one pass over the events up to the position for each transaction of the cycle, and one
+/// to make the table.
 ///
 /// # Errors
-/// `Memory` where a growth was refused.
+/// `Memory` if an allocation failed.
 pub fn edge_events_of(
     alloc: Global,
     trace: &Trace,

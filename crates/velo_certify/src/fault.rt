@@ -13,7 +13,7 @@ pub enum CertFault {
     /// The trace has no such position.
     #[error("no such position")]
     NotThere,
-    /// A growth was refused.
+    /// An allocation failed.
     #[error("out of memory")]
     Memory,
 }

@@ -14,7 +14,8 @@ pub fn well_formed_reordered()
         → IsWellFormed bounds (events_in_order trace order) }
 {}
 
-/// Every reordering of a trace leaves the same heap, so what the trace does a serial order of it does too.
+/// Every reordering of a trace leaves the same heap, so what the trace does a serial order of it
+/// does too.
 pub fn same_heap_reordered()
     ensures { (trace : List Event) (order : List ℕ)
         → IsReordering trace order → LeavesSameHeap trace (events_in_order trace order) }

@@ -1,5 +1,5 @@
-//! Certificates for traces that others can check: a serial order of a trace without a cycle, and a shortest cycle. The
-//! checkers trust nobody.
+//! Certificates for traces that others can check: a serial order of a trace without a cycle, and a
+//! shortest cycle. The checkers trust nobody.
 #![tactic(auto)]
 
 mod chains;

@@ -1,4 +1,5 @@
-//! For each transaction some of those from which an edge leads to it: enough of them that chains of these stand for all edges.
+//! For each transaction some of those from which an edge leads to it: enough of them that chains of
+//! these stand for all edges.
 ghost use Rattle.std.specs.Prelude.{◌≡◌, ◌<◌, ◌+◌, length, IfOk, OnOk, IsTrue};
 ghost use Rattle.velo_events.specs.Graph.{conflict_at};
 ghost use Rattle.velo_conflicts.specs.Numbers.{HasNumbers, IsBlank};
@@ -20,7 +21,8 @@ use velo_events::{Access, Event, Memory};
 /// How many pairs of thread numbers there are.
 const PAIRS: usize = 65_536;
 
-/// Whether the operation is about something that it does not change itself: a read, a fork or a join.
+/// Whether the operation is about something that it does not change itself: a read, a fork or a
+/// join.
 fn is_weak(access: Access) -> bool
     ensures { result ≡ is_weak access }
 {
@@ -49,9 +51,9 @@ fn zeros(alloc: Global, count: usize) -> Result<Vec<usize>, Memory>
     filled(alloc, 0, count)
 }
 
-/// Links two positions of two threads, unless a known link stands for it: one from the same position or a later one of its
-/// thread, to the same one or an earlier one of its. What is known are the numbers of such links, for each two threads the
-/// greatest; they rise as the passes go on.
+/// Links two positions of two threads, unless a known link stands for it: one from the same
+/// position or a later one of its thread, to the same one or an earlier one of its. What is known
+/// are the numbers of such links, for each two threads the greatest; they rise as the passes go on.
 fn link(
     events: &[Event],
     owners: &[usize],
@@ -109,7 +111,7 @@ fn link_back(
     link(events, owners, known, links, other - 1, at, other)
 }
 
-/// Links the position at hand to one behind it.
+/// Links the position at hand to a later one.
 fn link_on(
     events: &[Event],
     owners: &[usize],
@@ -169,7 +171,7 @@ fn link_all_back(
     Ok(())
 }
 
-/// Links all positions to those behind them.
+/// Links all positions to later ones.
 fn link_all_on(
     alloc: Global,
     events: &[Event],
@@ -195,7 +197,7 @@ fn link_all_on(
 /// The lists of all transactions of the events, made in one pass forwards and one backwards.
 ///
 /// # Errors
-/// `Memory` where a growth was refused.
+/// `Memory` if an allocation failed.
 pub(crate) fn links_of(
     alloc: Global,
     events: &[Event],

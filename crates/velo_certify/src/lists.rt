@@ -1,4 +1,5 @@
-//! The positions in rising lists, by what their events are about, and a search that visits each list from its front.
+//! The positions in rising lists, by what their events are about, and a search that visits each
+//! list from its front.
 ghost use Rattle.std.specs.Prelude.{◌≡◌, ◌≤◌, ◌<◌, ◌+◌, length, slice_index, slice_set, IfOk};
 ghost use Rattle.velo_certify.specs.Lists.{AreListed, IsRising, list_sizes};
 ghost use Rattle.velo_certify.specs.Owners.{AreOwners};
@@ -12,8 +13,8 @@ use velo_conflicts::counts_of;
 use velo_events::growth::filled;
 use velo_events::{Access, Event, Memory};
 
-/// The fronts: for each list its first position that was not visited. What follows: for each position the next one in its
-/// list. A place that is not there is the number of positions.
+/// The fronts: for each list its first position that was not visited. What follows: for each
+/// position the next one in its list. A place that is not there is the number of positions.
 #[derive(Drop)]
 pub(crate) struct Lists {
     /// Of the events of each thread.
@@ -71,7 +72,7 @@ impl Lists {
     /// The lists of the events, none of which is visited.
     ///
     /// # Errors
-    /// `Memory` where a growth was refused.
+    /// `Memory` if an allocation failed.
     pub fn new(alloc: Global, events: &[Event]) -> Result<Lists, Memory>
         ensures names { IfOk result (λ lists. AllHavePlaces (list_sizes lists) events.now (length events.now)) }
         ensures lists { IfOk result (AreListed events.now 0) }

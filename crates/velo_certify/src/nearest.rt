@@ -12,8 +12,8 @@ use crate::owners::owner_of;
 use velo_conflicts::ConflictTable;
 use velo_events::Event;
 
-/// Takes in the event at a position, where those before it were taken in. Whether it makes an edge from the transaction to
-/// its own.
+/// Takes in the event at a position, where those before it were taken in. Whether it makes an edge
+/// from the transaction to its own.
 fn makes_edge(
     events: &[Event],
     owners: &[usize],

@@ -11,7 +11,7 @@ use velo_events::{Event, Memory};
 /// A table for the events, without numbers.
 ///
 /// # Errors
-/// `Memory` where a growth was refused.
+/// `Memory` if an allocation failed.
 pub(crate) fn table_of(alloc: Global, events: &[Event]) -> Result<ConflictTable, Memory>
     ensures blank { IfOk result AreBlank }
     ensures places { IfOk result (λ table. AllHavePlaces (sizes table) events.now (length events.now)) }
@@ -20,8 +20,8 @@ pub(crate) fn table_of(alloc: Global, events: &[Event]) -> Result<ConflictTable,
     ConflictTable::new(alloc, counts.threads, counts.cells)
 }
 
-/// Gives the event at a position its number. The answer is the greatest number of those that conflict with it and have one
-/// already.
+/// Gives the event at a position its number. Returns the greatest number of those that conflict
+/// with it and have one already.
 pub(crate) fn take_in(
     table: &mut ConflictTable,
     events: &[Event],
@@ -39,8 +39,8 @@ pub(crate) fn take_in(
     greatest
 }
 
-/// Gives the event at a position its number. The answer is the greatest number of those that change what the event is about
-/// besides its thread and have one already.
+/// Gives the event at a position its number. Returns the greatest number of those that change what
+/// the event is about besides its thread and have one already.
 pub(crate) fn take_change(
     table: &mut ConflictTable,
     events: &[Event],

@@ -1,4 +1,4 @@
-//! Whether a list is a serial reordering of a trace, told by a few passes over each.
+//! Whether a list is a serial reordering of a trace, decided in a few passes over each.
 ghost use Rattle.std.specs.Prelude.{◌≡◌, ◌≤◌, ◌<◌, ◌+◌, ◌↔◌, ℕ, length, slice_index, IfOk, IfSome, IfNone, IsTrue, IsFalse};
 ghost use Rattle.velo_events.specs.Reordering.{IsReordering, IsSerial};
 ghost use Rattle.velo_certify.specs.Order.{HasEachOnce, IsFilled, ArePlaces, KeepsConflicts, AreTogether, StandSoFar};
@@ -11,7 +11,8 @@ use velo_events::growth::filled;
 use velo_events::{Event, Memory};
 use velo_traces::Trace;
 
-/// Gives each position its place in the list, counted from 1, unless one is twice in the list or beyond the places.
+/// Gives each position its place in the list, counted from 1, unless one is twice in the list or
+/// beyond the places.
 fn fill_places(order: &[usize], places: &mut Vec<usize>) -> bool
     requires { IsBlank places.old.items }
     ensures count { length places.new.items ≡ length places.old.items }
@@ -44,7 +45,7 @@ fn is_full(places: &[usize]) -> bool
     true
 }
 
-/// The places of so many positions in a list, if each is in it once, and nothing else.
+/// The places of the first `count` positions in a list, if each is in it once, and nothing else.
 fn places_of(alloc: Global, count: usize, order: &[usize]) -> Result<Option<Vec<usize>>, Memory>
     ensures places { IfOk result (λ found. IfSome found (λ places. ArePlaces count order.now places.items)) }
     ensures none { IfOk result (λ found. IfNone found (¬ HasEachOnce count order.now)) }
@@ -129,13 +130,14 @@ fn is_serial(
     are_together(alloc, &owners, order)
 }
 
-/// Whether the list is a serial reordering of the trace: each position once, every conflicting pair in its order, and the
-/// positions of each transaction next to one another. It trusts nobody: any list may be given.
+/// Whether the list is a serial reordering of the trace: each position once, every conflicting pair
+/// in its order, and the positions of each transaction next to one another. It trusts nobody: any
+/// list may be given.
 ///
 /// Its time and memory grow with the numbers of positions, threads and cells.
 ///
 /// # Errors
-/// `Memory` where a growth was refused.
+/// `Memory` if an allocation failed.
 pub fn check_order(alloc: Global, trace: &Trace, order: &[usize]) -> Result<bool, Memory>
     ensures { IfOk result (λ yes.
         IsTrue yes ↔ (IsReordering trace.now.events order.now × IsSerial trace.now.events order.now)) }

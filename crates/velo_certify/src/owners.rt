@@ -27,7 +27,7 @@ fn next_owner(events: &[Event], at: usize, threads: &mut [ThreadBlocks]) -> usiz
 /// The transaction of each position, named by its first position.
 ///
 /// # Errors
-/// `Memory` where a growth was refused.
+/// `Memory` if an allocation failed.
 pub fn owners_of(alloc: Global, events: &[Event]) -> Result<Vec<usize>, Memory>
     ensures { IfOk result (λ owners. AreOwners owners.items events.now) }
 {

@@ -80,7 +80,8 @@ fn next_ready(events: &[Event], listed: &[bool], links: &mut Links, fronts: &[us
     next
 }
 
-/// Appends the positions of a transaction, rising. The answer is the first position of the thread behind it.
+/// Appends the positions of a transaction, rising. Returns the first position of the thread after
+/// it.
 fn append_positions(
     events: &[Event],
     owners: &[usize],
@@ -133,12 +134,12 @@ fn list_all(alloc: Global, events: &[Event]) -> Result<Vec<usize>, CertFault>
     }
 }
 
-/// A serial reordering of the trace: its transactions one after another, each time the least of those whose
-/// predecessors are all listed, the positions of each rising.
+/// A serial reordering of the trace: its transactions one after another, each time the least of
+/// those whose predecessors are all listed, the positions of each rising.
 ///
 /// # Errors
-/// `HasCycle` where the trace has a cycle, and `Memory` where a growth was refused. Of a trace with a cycle no order is
-/// answered.
+/// `HasCycle` where the trace has a cycle, and `Memory` if an allocation failed. A trace with a
+/// cycle has no serial order.
 pub fn serial_order(alloc: Global, trace: &Trace) -> Result<Vec<usize>, CertFault>
     ensures order { IfOk result (λ order. IsSerialOrder trace.now.events order.items) }
     ensures acyclic { OnOk result (¬ HasCycle trace.now.events) }

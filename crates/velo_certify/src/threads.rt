@@ -21,7 +21,7 @@ impl Threads {
     /// The threads of the events, where none is listed.
     ///
     /// # Errors
-    /// `Memory` where a growth was refused.
+    /// `Memory` if an allocation failed.
     pub fn new(alloc: Global, events: &[Event], counts: Counts) -> Result<Threads, Memory>
         requires { AllHavePlaces (sizes_of counts.threads counts.cells) events.now (length events.now) }
         ensures names { IfOk result (λ threads. NamesFronts events.now threads.fronts.items) }

@@ -57,7 +57,8 @@ fn marks_before(
     Ok(marks)
 }
 
-/// Whether the event before the position is a marked one of another thread and conflicts with the one at the position.
+/// Whether the event before the position is a marked one of another thread and conflicts with the
+/// one at the position.
 fn is_witness(events: &[Event], marks: &[usize], begin: usize, position: usize, at: usize) -> bool
     requires within { position < length events.now }
     requires before { at < position }
@@ -90,14 +91,14 @@ fn first_witness(events: &[Event], marks: &[usize], begin: usize, position: usiz
     None
 }
 
-/// An event of another thread that happens after the begin and conflicts with the event at the later position, which
-/// has to be there: the first one, if there is one. Where both are of one block, no reordering brings the block
-/// together then.
+/// An event of another thread that happens after the begin and conflicts with the event at the
+/// later position, which has to be there: the first one, if there is one. Where both are of one
+/// block, no reordering brings the block together then.
 ///
 /// It takes two passes over the events up to the position, and one over all to make the table.
 ///
 /// # Errors
-/// `Memory` where a growth was refused.
+/// `Memory` if an allocation failed.
 pub fn witness_of(
     alloc: Global,
     trace: &Trace,

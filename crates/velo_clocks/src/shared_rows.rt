@@ -135,6 +135,8 @@ impl SharedRows {
         let spare = self.next;
         self.rows.copy(spare, clock);
         self.in_use[spare] = true;
+        // mostly the row behind is free too, so that the next event need not look for one
+        self.next = spare + 1;
         spare
     }
 

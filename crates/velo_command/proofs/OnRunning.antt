@@ -5,12 +5,12 @@ use Rattle.clap.specs.declared.error.kind.ErrorKind.{ErrorKind}
 use Rattle.clap.specs.declared.error.kind.ErrorKind.TheVariants.{OutOfMemory}
 use Rattle.clap.specs.declared.parser.matches.ArgMatches.{ArgMatches}
 use Rattle.velo_delivery.specs.Disk.{Store}
-use Rattle.velo_command.specs.Asked.{Asked, AsksForNothing}
-use Rattle.velo_command.specs.CommandLine.{asked_by, command_line, faults_of}
+use Rattle.velo_arguments.specs.Asked.{Asked, AsksForNothing}
+use Rattle.velo_arguments.specs.CommandLine.{asked_by, command_line, faults_of}
 use Rattle.velo_command.specs.Running.{Answers, Runs}
 use Rattle.velo_command.specs.Usage.{Console, Tells, TellsError}
-use Rattle.velo_command.proofs.OnCommandLine.{line_is_simple, line_is_simple_and_free}
-use Rattle.velo_command.proofs.OnRequest.{faultless_asks}
+use Rattle.velo_arguments.proofs.OnCommandLine.{line_is_simple, line_is_simple_and_free}
+use Rattle.velo_arguments.proofs.OnRequest.{faultless_asks}
 
 -- matches of words that were taken ask for a request
 pub matches_ask : (line : App) (words : List Text) (m : ArgMatches) → line ≡ command_line → HasMatchesOf line words m

@@ -4,15 +4,15 @@ use Rattle.clap.specs.Words.{IsAmong, Text}
 use Rattle.clap.specs.declared.error.kind.ErrorKind.{ErrorKind}
 use Rattle.velo_program.specs.Causes.{AnswersWithCause}
 use Rattle.velo_delivery.specs.Disk.{Store}
-use Rattle.velo_program.specs.Fate.{Closes, Ends}
+use Rattle.velo_fate.specs.Fate.{Closes, Ends}
 use Rattle.velo_program.specs.Program.{Does}
-use Rattle.velo_program.specs.declared.fate.Fate.{Fate}
-use Rattle.velo_program.specs.declared.request.Request.{Request}
-use Rattle.velo_command.specs.Asked.{AsksFor, Asked}
-use Rattle.velo_command.specs.CommandLine.{asked_by, faults_of}
-use Rattle.velo_command.specs.Together.{clash_of, given_by, line_of_clash}
+use Rattle.velo_fate.specs.declared.fate.Fate.{Fate}
+use Rattle.velo_request.specs.declared.request.Request.{Request}
+use Rattle.velo_arguments.specs.Asked.{AsksFor, Asked}
+use Rattle.velo_arguments.specs.CommandLine.{asked_by, faults_of}
+use Rattle.velo_arguments.specs.Together.{clash_of, given_by, line_of_clash}
 use Rattle.velo_command.specs.Usage.{Console, LacksMemory, TellsError, bad_usage}
-use Rattle.velo_command.specs.declared.together.Clash.{Clash}
+use Rattle.velo_arguments.specs.declared.together.Clash.{Clash}
 
 -- a request that was asked for, whose options go together, was done, and the end is that of what
 -- it came to

@@ -3,8 +3,8 @@ use Rattle.std.specs.Prelude.{◌⊎◌, ℕ, List, [], codes}
 use Rattle.clap.specs.declared.error.kind.ErrorKind.{ErrorKind}
 use Rattle.clap.specs.declared.error.kind.ErrorKind.TheVariants.{DisplayHelp, DisplayVersion, OutOfMemory}
 use Rattle.velo_events.specs.Refusals.{GrowthRefused}
-use Rattle.velo_program.specs.Fate.{Closes, Ends}
-use Rattle.velo_program.specs.declared.fate.Fate.TheVariants.{Memory, WriteFailed}
+use Rattle.velo_fate.specs.Fate.{Closes, Ends}
+use Rattle.velo_fate.specs.declared.fate.Fate.TheVariants.{Memory, WriteFailed}
 use Rattle.velo_delivery.specs.Writing.{BreaksOff, Writes, Writing}
 
 -- the status where the words are at fault

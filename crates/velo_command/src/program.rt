@@ -3,27 +3,27 @@ ghost use Rattle.std.specs.Prelude.{◌≡◌, map};
 ghost use Rattle.std.specs.declared.io.ErrorKind.TheVariants.{InvalidData};
 ghost use Rattle.clap.specs.Words.{subcommand_rows_of};
 ghost use Rattle.velo_delivery.specs.Disk.{store};
-ghost use Rattle.velo_program.specs.Fate.{Closes, Ends};
+ghost use Rattle.velo_fate.specs.Fate.{Closes, Ends};
 ghost use Rattle.velo_delivery.specs.Writing.{writing};
-ghost use Rattle.velo_program.specs.declared.fate.Fate.TheVariants as fate;
-ghost use Rattle.velo_command.specs.Asked.{AsksForNothing};
+ghost use Rattle.velo_fate.specs.declared.fate.Fate.TheVariants as fate;
+ghost use Rattle.velo_arguments.specs.Asked.{AsksForNothing};
 ghost use Rattle.velo_command.specs.Running.{Answers, Runs};
 ghost use Rattle.velo_command.specs.Usage.{bad_usage, console_of, not_utf8};
 
-use crate::arguments::command;
-use crate::growth::matches_of;
-use crate::requests::request_of;
-use crate::telling::{tell_error, tell_fault};
-use crate::together::{clash_of, given_by, tell_clash};
+use crate::telling::{tell_clash, tell_error, tell_fault};
 use clap::ArgMatches;
 use std::alloc::Global;
 use std::convert::AsStr;
 use std::io;
 use std::sync::Wait;
 use std::thread::Threads;
+use velo_arguments::{clash_of, command, given_by, matches_of, request_of};
 use velo_bytes::Sink;
+use velo_delivery::Files;
 use velo_events::Memory;
-use velo_program::{ExploreProgress, Fate, Files, do_request, end_with};
+use velo_fate::{Fate, end_with};
+use velo_program::do_request;
+use velo_workload_commands::ExploreProgress;
 
 /// Does what the words ask for, with reports and help on the one sink and all else on the other, and returns the status
 /// to end with. How far a search is goes to `progress`.

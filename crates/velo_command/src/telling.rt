@@ -3,18 +3,19 @@ ghost use Rattle.std.specs.Prelude.{◌≡◌, ◌≢◌};
 ghost use Rattle.clap.specs.Words.{kind_of};
 ghost use Rattle.clap.specs.declared.error.kind.ErrorKind.TheVariants.{OutOfMemory};
 ghost use Rattle.velo_events.specs.Refusals.{GrowthRefused};
-ghost use Rattle.velo_program.specs.Fate.{Closes};
+ghost use Rattle.velo_fate.specs.Fate.{Closes};
 ghost use Rattle.velo_delivery.specs.Writing.{writing};
+ghost use Rattle.velo_arguments.specs.Together.{line_of_clash};
 ghost use Rattle.velo_command.specs.Usage.{ShowsHelp, Tells, TellsError, bad_usage, console_of};
 
-use crate::growth::text_of;
 use clap::Error;
 use clap::error::ErrorKind;
 use std::alloc::Global;
+use velo_arguments::{Clash, line_of_clash, text_of};
 use velo_bytes::{Sink, write_all};
 use velo_events::Memory;
-use velo_program::status::{DONE, FAILED};
-use velo_program::{Fate, end_with};
+use velo_fate::{Fate, end_with};
+use velo_request::status::{DONE, FAILED};
 
 /// The status of a fault of usage.
 const BAD_USAGE: u8 = 2;
@@ -70,4 +71,12 @@ pub fn tell_fault<E: Sink>(text: &[u8], err: &mut E) -> u8
         Ok(()) => BAD_USAGE,
         Err(_) => FAILED,
     }
+}
+
+/// Tells why the options of a request do not go together, and returns the status to end with.
+pub fn tell_clash<E: Sink>(clash: Clash, err: &mut E) -> u8
+    ensures { Closes bad_usage (line_of_clash clash)
+        (writing E.contents E.failures err.old err.new) result }
+{
+    tell_fault(line_of_clash(clash), err)
 }

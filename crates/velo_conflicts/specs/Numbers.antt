@@ -1,4 +1,5 @@
--- Numbers of events, each named by its position, and the greatest of those whose events pass a test.
+-- Numbers of events, each named by its position, and the greatest of those whose events pass a
+-- test.
 use Rattle.std.specs.Prelude.{◌≡◌, ◌≢◌, ℕ, ◌<◌, ◌≤◌, Bool, false, List, length, Option, Some, slice_get, slice_index, IsTrue}
 use Rattle.velo_events.specs.declared.event.Event.{Event}
 use Rattle.velo_events.specs.declared.event.Access.{Access}
@@ -15,7 +16,8 @@ pub record IsGreatest (trace : List Event) (numbers : ℕ → ℕ) (test : Event
 
 -- ---- the rows
 
--- a table as callers see it: by number of a thread the greatest numbers of its events and of its forks and joins, by number of a cell those of its writes and reads
+-- a table as callers see it: by number of a thread the greatest numbers of its events and of its
+-- forks and joins, by number of a cell those of its writes and reads
 pub record Rows : Type 0 where
   pub threads : List ℕ
   pub handles : List ℕ
@@ -45,12 +47,13 @@ pub record AreBlank (table : Rows) : Type 0 where
 
 -- ---- the calls
 
--- the number is the greatest of the events that conflict with the given one, of whatever positions the table has the numbers
+-- the number is the greatest of the events that conflict with the given one, of whatever positions
+-- the table has the numbers
 pub record IsLookedUp (table : Rows) (e : Event) (m : ℕ) : Type 0 where
   pub each : (trace : List Event) (numbers : ℕ → ℕ) → HasNumbers trace numbers table → IsGreatest trace numbers (λ f. conflict f e) m
 
--- what an operation is about besides its thread: a cell, or the thread that it forks or joins. All operations on it that pass
--- this test conflict with one another and with this one
+-- what an operation is about besides its thread: a cell, or the thread that it forks or joins. All
+-- operations on it that pass this test conflict with one another and with this one
 abbrev pub strong_for : Access → Event → Bool
 strong_for (Shared c) f = is_about written_in c.0 f
 strong_for (Exclusive c) f = is_about written_in c.0 f
@@ -68,6 +71,6 @@ pub record IsNumbered (old new : ℕ → ℕ) (n number : ℕ) : Type 0 where
   pub after : new n ≡ number
   pub others : (i : ℕ) → i ≢ n → new i ≡ old i
 
--- the event has its number, at whatever position it stands
+-- the event has its number, whatever its position
 pub record IsRecorded (old : Rows) (e : Event) (number : ℕ) (new : Rows) : Type 0 where
   pub each : (trace : List Event) (n : ℕ) (before after : ℕ → ℕ) → slice_get trace n ≡ Some e → IsNumbered before after n number → HasNumbers trace before old → HasNumbers trace after new

@@ -22,7 +22,7 @@ sizes table = record {
   reads = length table.reads;
 }
 
--- the sizes for so many threads and cells
+-- the sizes for these numbers of threads and cells
 abbrev pub sizes_of : ℕ → ℕ → Sizes
 sizes_of threads cells = record { threads = threads; handles = threads; writes = cells; reads = cells }
 

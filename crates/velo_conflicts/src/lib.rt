@@ -1,5 +1,5 @@
-//! A table of numbers, one for each event of a list, in which the greatest number of all events that conflict with a given
-//! one is found at a few places.
+//! A table of numbers, one for each event of a list, in which the greatest number of all events
+//! that conflict with a given one is found at a few places.
 #![tactic(auto)]
 
 mod counts;

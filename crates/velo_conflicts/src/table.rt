@@ -57,10 +57,10 @@ fn raise_at(row: &mut [usize], place: usize, number: usize)
 }
 
 impl ConflictTable {
-    /// A table for so many threads and cells, without numbers.
+    /// A table for these numbers of threads and cells, with no number recorded.
     ///
     /// # Errors
-    /// `Memory` where a growth was refused.
+    /// `Memory` if an allocation failed.
     pub fn new(alloc: Global, threads: usize, cells: usize) -> Result<ConflictTable, Memory>
         ensures blank { IfOk result AreBlank }
         ensures sizes { IfOk result (λ table. sizes table ≡ sizes_of threads cells) }
@@ -84,7 +84,8 @@ impl ConflictTable {
         clear(&mut self.reads);
     }
 
-    /// The greatest number of an event that conflicts with the given one. The event's threads and cell have to have places.
+    /// The greatest number of an event that conflicts with the given one. The event's threads and
+    /// cell have to have places.
     pub fn look_up(&self, event: Event) -> usize
         requires { HasPlaces (sizes self.now) event }
         ensures { IsLookedUp self.now event result }
@@ -101,8 +102,9 @@ impl ConflictTable {
         }
     }
 
-    /// The greatest number of an event that changes what the given one is about beside its own thread: that writes its cell,
-    /// or is of the thread that it forks or joins. It conflicts with it, and any two such events conflict.
+    /// The greatest number of an event that changes what the given one is about beside its own
+    /// thread: that writes its cell, or is of the thread that it forks or joins. It conflicts with
+    /// it, and any two such events conflict.
     pub fn look_up_change(&self, event: Event) -> usize
         requires { HasPlaces (sizes self.now) event }
         ensures { IsChangeLookedUp self.now event result }

@@ -1,15 +1,13 @@
 //! Files, whatever they are.
 ghost use Rattle.std.specs.Prelude.{◌≡◌, ◌≢◌, ◌↔◌, codes, IfSome, IsNone, IsTrue};
-ghost use Rattle.velo_delivery.specs.Disk.{Disk, IsOpened, untold};
+ghost use Rattle.velo_delivery.specs.Disk.{Disk, FailsToOpen, IsOpened, untold};
 
 use velo_bytes::{Sink, Source};
 
 /// Where the program finds its files.
 pub trait Files {
-    /// A file that was opened to be read.
+    /// A source that was opened to be read: a file, or standard input.
     type Input: Source + Drop;
-    /// Standard input.
-    type StandardInput: Source + Drop;
     /// A file that was opened to be written.
     type Output: Sink + Drop;
 
@@ -24,9 +22,9 @@ pub trait Files {
         ensures none { IsNone result → (disk self.now).fails_to_read path.now };
 
     /// Standard input.
-    fn standard_input(&self) -> Self::StandardInput
+    fn standard_input(&self) -> Self::Input
         ensures { IsOpened (disk self.now) (codes "-")
-            Self.StandardInput.remaining Self.StandardInput.failures result };
+            Self.Input.remaining Self.Input.failures result };
 
     /// Whether the file at a path is the file at another one, which is to be emptied: where this is not known, it is another
     /// file.
@@ -47,6 +45,19 @@ pub trait Files {
     fn close(&mut self, path: &str, file: Self::Output)
         ensures { (disk self.new).closed path.now
             (Self.Output.contents file) (Self.Output.failures file) };
+}
+
+/// Opens the file at a path, or standard input; none where a file does not open.
+pub fn open_at<F: Files>(files: &F, path: &str) -> Option<F::Input>
+    ensures some { IfSome result (IsOpened (F.disk files.now) path.now
+        F.Input.remaining F.Input.failures) }
+    ensures none { IsNone result → FailsToOpen (F.disk files.now) path.now }
+{
+    if is_standard_input(path) {
+        Some(files.standard_input())
+    } else {
+        files.open(path)
+    }
 }
 
 /// Whether the path stands for standard input.

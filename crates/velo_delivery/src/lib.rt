@@ -8,5 +8,5 @@ mod reading;
 
 pub use answer::{Answer, Save, Text, deliver, save_all};
 pub use failure::{Failure, Operand};
-pub use files::{Files, is_standard_input};
+pub use files::{Files, is_standard_input, open_at};
 pub use reading::{ReadFault, read_whole};

@@ -1,4 +1,4 @@
--- What an explanation stands on.
+-- The evidence of an explanation.
 use Rattle.std.specs.Prelude.{◌≡◌, ℕ, ◌+◌, ◌<◌, ◌≤◌, List, length, take, slice_index_or, Contains}
 use Rattle.velo_events.specs.declared.event.Event.{Event}
 use Rattle.velo_events.specs.Block.{open_blocks}
@@ -43,8 +43,9 @@ AreBlames trace p blamed blames = AreBlamesSoFar trace p blamed (length blamed) 
 
 -- ---- the whole
 
--- a shortest cycle of the events up to position p that begins with the transaction of p, its transactions' spans there, the
--- events behind its edges, and of the blocks to blame those that have a witness
+-- a shortest cycle of the events up to position p that begins with the transaction of p, its
+-- transactions' spans there, the events of its edges, and of the blocks to blame those that have a
+-- witness
 pub record IsEvidence (trace : List Event) (p : ℕ) (blamed : List Block) (evidence : Evidence) : Type 0 where
   pub cycle : List ℕ
   pub shortest : IsShortestCycleAt trace p cycle
@@ -57,8 +58,8 @@ pub record IsEvidenceAt (trace : List Event) (p : ℕ) (evidence : Evidence) : T
   pub blamed : List Block
   pub is_evidence : IsEvidence trace p blamed evidence
 
--- Each block that is to blame by the definition (open at p in its thread, and not self-serializable in the events up to p)
--- has its witness
+-- Each block that is to blame by the definition (open at p in its thread, and not self-serializable
+-- in the events up to p) has its witness
 pub record HaveReasons (trace : List Event) (p : ℕ) (blamed : List Block) (evidence : Evidence) : Type 0 where
   pub each : (j : ℕ) → j < length blamed → Contains (open_blocks (take (p + 1) trace) (thread_at trace p)) (slice_index_or blamed j no_block).first → ¬ IsSelfSerializable (take (p + 1) trace) (slice_index_or blamed j no_block).first → HasBlame evidence.blames.items (slice_index_or blamed j no_block)
 

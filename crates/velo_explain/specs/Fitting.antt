@@ -1,4 +1,4 @@
--- Text that fits into so many columns.
+-- Text that fits into a number of columns.
 use Rattle.std.specs.Prelude.{ℕ, zero, suc, ◌-◌, nat_eq, nat_lt, nat_le, Bool, ◌&&◌, ◌||◌, if◌then◌else◌, List, [], ◌∷◌, ◌++◌, length, codes, decimal, count_by}
 
 abbrev pub spaces : ℕ → List ℕ
@@ -23,7 +23,7 @@ first_characters n (b ∷ bs) =
     if begins_character b && nat_eq n 0 then []
     else b ∷ first_characters (if begins_character b then n - 1 else n) bs
 
--- a text in so many characters: as it is, or with ".." in the place of what has no room
+-- a text in at most `room` characters: as it is, or with ".." in the place of what has no room
 unfoldable pub shortened : ℕ → List ℕ → List ℕ
 shortened room text =
     if nat_le (characters text) room then text

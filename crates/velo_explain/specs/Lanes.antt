@@ -34,8 +34,8 @@ actor_at trace p = (event_at trace p).thread.0
 unfoldable pub lanes_of : List Event → List ℕ → List ℕ
 lanes_of trace shown = among_below 256 (map (actor_at trace) shown)
 
--- how many characters a lane has room for, where there are so many lanes. Each has two spaces before it: up to six lanes are
--- at most 72 columns wide
+-- how many characters a lane has room for, by the number of lanes. Each has two spaces before it:
+-- up to six lanes are at most 72 columns wide
 abbrev pub room_of : ℕ → ℕ
 room_of count =
     if nat_le count 2 then 34 else if nat_le count 3 then 22 else if nat_le count 4 then 16
@@ -50,13 +50,13 @@ thread_text t = codes "thread " ++ decimal t
 unfoldable pub lane_text : NameLists → ℕ → ℕ → List ℕ
 lane_text names room t = thread_text t ++ shortened (room - length (thread_text t)) (name_text (name_of names of_name.Thread t))
 
--- the spaces that fill the lane before the k-th, behind what stands over it
+-- the spaces that fill the lane before the k-th, after its heading
 unfoldable pub left_text : NameLists → List ℕ → ℕ → List ℕ
 left_text names lanes k =
     if nat_eq k 0 then []
     else spaces (room_of (length lanes) - characters (lane_text names (room_of (length lanes)) (slice_index lanes (k - 1))))
 
--- with these before it, what stands over the k-th lane, which is that of thread t
+-- with these before it, the heading of the k-th lane, which is that of thread t
 unfoldable pub heading_cell : NameLists → List ℕ → ℕ → ℕ → List ℕ
 heading_cell names lanes k t = left_text names lanes k ++ (codes "  " ++ lane_text names (room_of (length lanes)) t)
 
@@ -66,11 +66,11 @@ lanes_heading names lanes = codes "    line" ++ (numbered (heading_cell names la
 
 -- ---- the others
 
--- in the row of thread t, the lane of thread u is left blank, if it stands before that of t
+-- in the row of thread t, the lane of thread u has only spaces, if it comes before that of t
 abbrev pub blank_before : ℕ → ℕ → ℕ → List ℕ
 blank_before width t u = if nat_lt u t then spaces width else []
 
--- what stands before the lane of thread t, where each lane is so wide
+-- what comes before the lane of thread t, where each lane has this width
 abbrev pub indent_within : ℕ → ℕ → List ℕ → List ℕ
 indent_within width t lanes = flat_map (blank_before width t) lanes
 
@@ -98,7 +98,7 @@ between_text count =
     else if nat_eq count 1 then codes "      .. 1 line ..\n"
     else joined (codes "      .. " ∷ decimal count ∷ codes " lines ..\n" ∷ [])
 
--- the row of the k-th position, behind what lies before it
+-- the row of the k-th position, after the gap before it
 abbrev pub step_text : NameLists → List Event → List ℕ → List ℕ → ℕ → ℕ → List ℕ
 step_text names trace lanes shown k p = between_text (lines_before shown k) ++ row_text names trace lanes p
 
@@ -126,8 +126,8 @@ ends_of edge = edge.from ∷ edge.to ∷ []
 abbrev pub cycle_marks : Evidence → List ℕ
 cycle_marks evidence = flat_map ends_of evidence.edges.items
 
--- what is shown where there is room: the events that part the blocks to blame, and the first events of the transactions and
--- of these blocks
+-- what is shown where there is room: the events that part the blocks to blame, and the first events
+-- of the transactions and of these blocks
 abbrev pub other_marks : Evidence → List ℕ
 other_marks evidence =
     map (λ (b : Blame). b.witness) evidence.blames.items
@@ -144,7 +144,7 @@ fits names trace marks =
 abbrev pub with_mark : NameLists → List Event → List ℕ → ℕ → List ℕ
 with_mark names trace marks p = if fits names trace (marks ++ p ∷ []) then marks ++ p ∷ [] else marks
 
--- the events of the cycle, and of the others, one after the other, those for which there is room
+-- the events of the cycle, and of the others, one after the other, those that have room
 abbrev pub marks_of : NameLists → List Event → Evidence → List ℕ
 marks_of names trace evidence = fold (with_mark names trace) (cycle_marks evidence) (other_marks evidence)
 

@@ -7,3 +7,4 @@ pub mod Lanes
 pub mod Text
 pub mod Picture
 pub mod Count
+pub mod Places

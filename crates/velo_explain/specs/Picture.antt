@@ -1,4 +1,5 @@
--- A cycle as a Graphviz picture: a column for each thread, a box for each transaction, an arrow for each edge.
+-- A cycle as a Graphviz picture: a column for each thread, a box for each transaction, an arrow for
+-- each edge.
 use Rattle.std.specs.Prelude.{ℕ, ◌+◌, List, [], ◌∷◌, ◌++◌, length, codes, decimal}
 use Rattle.velo_events.specs.declared.event.Event.{Event}
 use Rattle.velo_certify.specs.declared.edges.EdgeEvents.{EdgeEvents}
@@ -13,8 +14,8 @@ use Rattle.velo_explain.specs.Text.{line_of, numbered, next_number}
 unfoldable pub start_text : List ℕ
 start_text = codes "digraph cycle {\n  rankdir=LR;\n  node [shape=box];\n"
 
--- "  subgraph cluster_0 { label="thread 0"; T1 [label="T1: block 7\nlines 3 to 6"]; }". Boxes of one thread are put
--- together, since clusters of one name are one.
+-- "  subgraph cluster_0 { label="thread 0"; T1 [label="T1: block 7\nlines 3 to 6"]; }". Boxes of
+-- one thread are put together, since clusters of one name are one.
 unfoldable pub box_text : NameLists → List Event → ℕ → Span → List ℕ
 box_text names trace k span = joined (
     codes "  subgraph cluster_" ∷ decimal (event_at trace span.first).thread.0
@@ -25,7 +26,8 @@ box_text names trace k span = joined (
     ∷ escaped_text (block_name names (event_at trace span.first).kind)
     ∷ codes "\\n" ∷ lines_text (line_of span.first) (line_of span.last) ∷ codes "\"]; }\n" ∷ [])
 
--- "  T1 -> T2 [label="line 4: 0 rd 0 0\nline 5: 1 wr 0 5"];". Behind each event stands the name of what it is about.
+-- "  T1 -> T2 [label="line 4: 0 rd 0 0\nline 5: 1 wr 0 5"];". After each event comes the name of
+-- what it is about.
 unfoldable pub arrow_text : NameLists → List Event → ℕ → ℕ → EdgeEvents → List ℕ
 arrow_text names trace count k edge = joined (
     codes "  T" ∷ decimal (k + 1) ∷ codes " -> T" ∷ decimal (next_number count k)

@@ -11,7 +11,7 @@ use Rattle.velo_names.specs.Names.{NameLists, name_of}
 use Rattle.velo_explain.specs.declared.pieces.Piece.{Piece}
 use Rattle.velo_explain.specs.declared.pieces.Piece.TheVariants.{Text, Number, Words, Block, Lines, Name, Operation, ThreadName, KindName, BlockName, EscapedThread, EscapedKind, EscapedBlock}
 
--- an event as it stands in the log
+-- an event as in the log
 abbrev pub event_text : Event → List ℕ
 event_text e = decimal e.thread.0 ++ (codes " " ++ kind_text e.kind)
 
@@ -31,7 +31,7 @@ abbrev pub joined : List (List ℕ) → List ℕ
 joined [] = []
 joined (text ∷ texts) = text ++ joined texts
 
--- the number of the line on which a position stands, behind the header on line 1
+-- the number of the line of a position; the header is line 1
 abbrev pub line_of : ℕ → ℕ
 line_of i = i + 2
 
@@ -61,7 +61,7 @@ abbrev pub block_name : NameLists → Kind → Option (List ℕ)
 block_name names (Begin l) = name_of names of_name.Label l.0
 block_name names _ = None
 
--- a name behind a space, if there is one
+-- a name after a space, if there is one
 abbrev pub name_text : Option (List ℕ) → List ℕ
 name_text None = []
 name_text (Some name) = codes " " ++ name

@@ -13,7 +13,7 @@ use Rattle.velo_explain.specs.Pieces.{event_text, block_text, lines_text, joined
 use Rattle.velo_explain.specs.Lanes.{lanes_text}
 pub use Rattle.velo_explain.specs.Pieces.{line_of, numbered}
 
--- ---- an alarm. The name of what a number or an operation is about stands right after it, if it has one
+-- ---- an alarm. The name of what a number or an operation is about comes right after it, if any
 
 unfoldable pub alarm_text : List ℕ
 alarm_text = codes "The blocks of this log cannot be serialized.\n"
@@ -38,7 +38,7 @@ member_text names trace k span = joined (
 unfoldable pub order_text : List ℕ
 order_text = codes "Each must come before the next, and the last before the first:\n"
 
--- the number of the transaction that comes after the one at place k, of so many
+-- the number of the transaction after the one at place k, of `count`
 abbrev pub next_number : ℕ → ℕ → ℕ
 next_number count k = if nat_lt (k + 1) count then k + 2 else 1
 

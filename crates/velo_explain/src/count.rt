@@ -24,7 +24,7 @@ fn count_firsts(events: &[Event], owners: &[usize]) -> usize
 /// The number of transactions, which is that of any serial order.
 ///
 /// # Errors
-/// `Memory` where a growth was refused.
+/// `Memory` if an allocation failed.
 pub(crate) fn transactions_of(alloc: Global, events: &[Event]) -> Result<usize, Memory>
     ensures { IfOk result (λ count. count ≡ transactions_of events.now) }
 {

@@ -138,7 +138,7 @@ fn add_arrows(
 /// The picture of the cycle of an alarm at a position.
 ///
 /// # Errors
-/// `Memory` where a growth was refused.
+/// `Memory` if an allocation failed.
 pub(crate) fn picture_of(
     alloc: Global,
     names: &Names,

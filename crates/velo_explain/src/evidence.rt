@@ -1,4 +1,5 @@
-//! What an explanation stands on: a cycle with its events, and the blocks to blame, each with an event that parts it.
+//! The evidence of an explanation: a cycle with its events, and the blocks to blame, each with an
+//! event that parts it.
 ghost use Rattle.std.specs.Prelude.{◌≡◌, ◌<◌, length, take, IfOk, IfErr};
 ghost use Rattle.velo_events.specs.Graph.{HasCycle};
 ghost use Rattle.velo_certify.specs.Cycle.{IsCycleFault};
@@ -16,16 +17,18 @@ use velo_traces::{Block, Trace};
 pub struct Blame {
     /// The block.
     pub block: Block,
-    /// The position of an event of another thread that happens after the block's begin and conflicts with the closing event.
+    /// The position of an event of another thread that happens after the block's begin and
+    /// conflicts with the closing event.
     pub witness: usize,
 }
 
-/// What an explanation stands on.
+/// The evidence of an explanation.
 #[derive(Debug, Drop)]
 pub struct Evidence {
     /// The transactions of a cycle in its order, that of the closing event first.
     pub spans: Vec<Span>,
-    /// For each of them the two events behind its edge to the next one; the last one's leads to the first.
+    /// For each of them the two events of its edge to the next one; the last one's leads to the
+    /// first.
     pub edges: Vec<EdgeEvents>,
     /// The blocks to blame.
     pub blames: Vec<Blame>,
@@ -51,12 +54,13 @@ fn blames_of(
     Ok(blames)
 }
 
-/// What explains an alarm: a shortest cycle of the events up to the position, from the position's transaction on, with the
-/// events behind its edges; and of the blocks to blame those that an event of another thread parts, each with this event.
+/// What explains an alarm: a shortest cycle of the events up to the position, from the position's
+/// transaction on, with the events of its edges; and of the blocks to blame those that an event of
+/// another thread parts, each with this event.
 ///
 /// # Errors
-/// As `cycle_of`: `NotThere` where there is no such position, `NoCycle` where no cycle contains its transaction, and
-/// `Memory` where a growth was refused.
+/// As `cycle_of`: `NotThere` where there is no such position, `NoCycle` where no cycle contains its
+/// transaction, and `Memory` if an allocation failed.
 pub fn evidence_of(
     alloc: Global,
     trace: &Trace,

@@ -1,4 +1,4 @@
-//! Text that fits into so many columns.
+//! Text that fits into a number of columns.
 ghost use Rattle.std.specs.Prelude.{◌≡◌, ◌≤◌, ◌<◌, ◌++◌, length, take, nat_eq, count_by, OnOk};
 ghost use Rattle.velo_explain.specs.Fitting.{spaces, right_text, begins_character, characters, first_characters, shortened};
 ghost use Rattle.velo_explain.specs.Lanes.{room_of};
@@ -16,7 +16,7 @@ pub const SCREEN_LANES: usize = 6;
 /// The fewest characters of a lane. A picture of fewer than six lanes has wider ones.
 pub const LEAST_LANE: usize = 10;
 
-/// How many characters a lane has, where there are so many.
+/// How many characters a lane has, by the number of lanes.
 pub(crate) fn room_of(lanes: usize) -> usize
     ensures { result ≡ room_of lanes }
 {
@@ -66,7 +66,7 @@ pub(crate) fn lines_in(text: &[u8]) -> usize
     count
 }
 
-/// Where the first so many characters of a text end.
+/// Where the first `most` characters of a text end.
 fn end_of(text: &[u8], most: usize) -> usize
     ensures end { result ≤ length text.now }
     ensures kept { take result text.now ≡ first_characters most text.now }
@@ -83,7 +83,7 @@ fn end_of(text: &[u8], most: usize) -> usize
     text.len()
 }
 
-/// Adds so many spaces.
+/// Adds `count` spaces.
 pub(crate) fn add_spaces(page: &mut Page, count: usize) -> Result<(), Memory>
     ensures { OnOk result (page.new ≡ page.old ++ spaces count) }
 {
@@ -104,7 +104,7 @@ pub(crate) fn add_right(page: &mut Page, number: u64) -> Result<(), Memory>
     page.add_bytes(&buffer[..end])
 }
 
-/// Adds a text in so many characters.
+/// Adds a text in at most `room` characters.
 #[tactic(auto, unfolding(crate::specs::Fitting::shortened))]
 pub(crate) fn add_shortened(page: &mut Page, room: usize, text: &[u8]) -> Result<(), Memory>
     ensures { OnOk result (page.new ≡ page.old ++ shortened room text.now) }

@@ -38,7 +38,7 @@ pub(crate) fn lanes_of(
     in_order(alloc, &threads, 256)
 }
 
-/// What stands over a lane.
+/// The heading of a lane.
 #[tactic(auto, unfolding(crate::specs::Lanes::lane_text))]
 fn lane_heading(alloc: Global, names: &Names, room: usize, thread: ThreadId) -> Result<Page, Memory>
     ensures { IfOk result (λ page. page ≡ lane_text names.now room thread.0) }
@@ -73,7 +73,7 @@ fn add_left(
     add_spaces(page, room.saturating_sub(characters(before.as_slice())))
 }
 
-/// Adds what stands over a lane, behind what is left of the one before.
+/// Adds the heading of a lane, after the rest of the lane before.
 #[tactic(auto, unfolding(crate::specs::Lanes::heading_cell))]
 fn add_heading_cell(
     page: &mut Page,
@@ -92,7 +92,7 @@ fn add_heading_cell(
     page.add_bytes(heading.as_slice())
 }
 
-/// Adds what stands over the lanes.
+/// Adds the headings of the lanes.
 fn add_heading_cells(
     page: &mut Page,
     alloc: Global,
@@ -118,7 +118,7 @@ fn add_heading(page: &mut Page, alloc: Global, names: &Names, lanes: &[usize]) -
     page.add_bytes(b"\n")
 }
 
-/// Leaves the lanes of threads with smaller numbers blank.
+/// Fills the lanes of threads with smaller numbers with spaces.
 fn add_indent(page: &mut Page, lanes: &[usize], thread: ThreadId) -> Result<(), Memory>
     ensures { OnOk result (page.new ≡ page.old ++ indent lanes.now thread.0) }
 {
@@ -188,7 +188,7 @@ fn add_between(page: &mut Page, count: usize) -> Result<(), Memory>
     ])
 }
 
-/// Adds the row of an event, behind what lies before it.
+/// Adds the row of an event, after the gap before it.
 fn add_step(
     page: &mut Page,
     alloc: Global,
@@ -229,7 +229,7 @@ fn add_steps(
 /// Adds the picture of some positions.
 ///
 /// # Errors
-/// `Memory` where a growth was refused.
+/// `Memory` if an allocation failed.
 pub(crate) fn add_rows(
     page: &mut Page,
     alloc: Global,

@@ -1,5 +1,5 @@
-//! A verdict in words, for people: the cycle that an alarm tells of, event by event, the blocks to blame and why; and the
-//! cycle as a picture.
+//! A verdict in words, for people: the cycle of an alarm, event by event, the blocks to blame and
+//! why; and the cycle as a picture.
 #![tactic(auto)]
 
 mod count;
@@ -10,6 +10,7 @@ mod lanes;
 mod marks;
 mod order;
 mod pieces;
+mod places;
 mod spans;
 mod words;
 mod writing;
@@ -19,4 +20,4 @@ pub use fitting::{LEAST_LANE, SCREEN_LANES, SCREEN_LINES};
 pub use pieces::{Page, Piece};
 pub use spans::Span;
 pub use words::{add_heading, add_members, add_reasons, line_of, next_number};
-pub use writing::{explain, explain_clean, explain_named, picture, picture_named};
+pub use writing::{explain, explain_clean, explain_named, explain_sited, picture, picture_named};

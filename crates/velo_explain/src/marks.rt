@@ -17,8 +17,8 @@ use velo_certify::EdgeEvents;
 use velo_events::{Event, Memory};
 use velo_names::Names;
 
-/// The events behind the edges of the cycle.
-fn cycle_marks(alloc: Global, edges: &[EdgeEvents]) -> Result<Vec<usize>, Memory>
+/// The events of the edges of the cycle.
+pub(crate) fn cycle_marks(alloc: Global, edges: &[EdgeEvents]) -> Result<Vec<usize>, Memory>
     ensures { IfOk result (λ marks. marks.items ≡ flat_map ends_of edges.now) }
 {
     let mut marks = Vec::new(alloc);
@@ -60,7 +60,7 @@ fn add_begins(marks: &mut Vec<usize>, blames: &[BlameOf]) -> Result<(), Memory>
 }
 
 /// What is shown where there is room.
-fn other_marks(alloc: Global, evidence: &Evidence) -> Result<Vec<usize>, Memory>
+pub(crate) fn other_marks(alloc: Global, evidence: &Evidence) -> Result<Vec<usize>, Memory>
     ensures { IfOk result (λ marks. marks.items ≡ other_marks evidence.now) }
 {
     let mut marks = Vec::new(alloc);
@@ -105,7 +105,7 @@ fn add_mark(
     Ok(())
 }
 
-/// Marks those of some positions for which there is room, one after the other.
+/// Marks those of some positions that have room, one after the other.
 fn add_marks(
     alloc: Global,
     names: &Names,
@@ -157,7 +157,7 @@ fn add_marked(
 /// Adds the picture of a cycle.
 ///
 /// # Errors
-/// `Memory` where a growth was refused.
+/// `Memory` if an allocation failed.
 pub(crate) fn add_lanes(
     page: &mut Page,
     alloc: Global,

@@ -21,21 +21,21 @@ pub enum Piece<'a> {
     Text(&'a str),
     /// The digits of a number.
     Number(u64),
-    /// An event as it stands in the log.
+    /// An event as in the log.
     Words(Event),
     /// What a transaction is, by its first operation.
     Block(Kind),
     /// A first and a last line.
     Lines(u64, u64),
-    /// A name behind a space, if there is one.
+    /// A name after a space, if there is one.
     Name(Option<&'a [u8]>),
-    /// An operation as it stands in the log.
+    /// An operation as in the log.
     Operation(Kind),
-    /// The name of a thread behind a space, if it has one.
+    /// The name of a thread after a space, if it has one.
     ThreadName(&'a Names<'a>, ThreadId),
-    /// The name of what an operation is about behind a space, if it has one.
+    /// The name of what an operation is about after a space, if it has one.
     KindName(&'a Names<'a>, Kind),
-    /// The name of the label of the block that an operation begins behind a space, if there is one.
+    /// The name of the label of the block that an operation begins, after a space, if there is one.
     BlockName(&'a Names<'a>, Kind),
     /// The name of a thread in a picture.
     EscapedThread(&'a Names<'a>, ThreadId),
@@ -112,7 +112,7 @@ impl Page {
     /// Adds bytes.
     ///
     /// # Errors
-    /// `Memory` where a growth was refused.
+    /// `Memory` if an allocation failed.
     pub(crate) fn add_bytes(&mut self, bytes: &[u8]) -> Result<(), Memory>
         ensures { OnOk result (self.new ≡ self.old ++ bytes.now) }
     {
@@ -126,7 +126,7 @@ impl Page {
         append_number(&mut self.bytes, number)
     }
 
-    /// Adds an operation as it stands in the log.
+    /// Adds an operation as in the log.
     fn add_operation(&mut self, kind: Kind) -> Result<(), Memory>
         ensures { OnOk result (self.new ≡ self.old ++ kind_text kind) }
     {
@@ -135,7 +135,7 @@ impl Page {
         self.add_bytes(&buffer[..end])
     }
 
-    /// Adds an event as it stands in the log.
+    /// Adds an event as in the log.
     fn add_event(&mut self, event: Event) -> Result<(), Memory>
         ensures { OnOk result (self.new ≡ self.old ++ event_text event) }
     {
@@ -174,7 +174,7 @@ impl Page {
         Ok(())
     }
 
-    /// Adds a name behind a space, if there is one.
+    /// Adds a name after a space, if there is one.
     fn add_name(&mut self, name: Option<&[u8]>) -> Result<(), Memory>
         ensures { OnOk result (self.new ≡ self.old ++ name_text (option_copied name.entry)) }
     {
@@ -207,7 +207,7 @@ impl Page {
         Ok(())
     }
 
-    /// Adds a name in a picture behind a space, if there is one.
+    /// Adds a name in a picture after a space, if there is one.
     fn add_escaped(&mut self, name: Option<&[u8]>) -> Result<(), Memory>
         ensures { OnOk result (self.new ≡ self.old ++ escaped_text (option_copied name.entry)) }
     {
@@ -244,7 +244,8 @@ impl Page {
     /// Adds pieces.
     ///
     /// # Errors
-    /// `Memory` where a growth was refused; the text can then have a part of them, and is no more to be used.
+    /// `Memory` if an allocation failed; the text can then have a part of them, and is no more to
+    /// be used.
     pub fn add(&mut self, pieces: &[Piece]) -> Result<(), Memory>
         ensures { OnOk result (self.new ≡ self.old ++ pieces_text pieces.now) }
     {

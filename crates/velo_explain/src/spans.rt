@@ -1,4 +1,4 @@
-//! Where the transactions of a cycle stand.
+//! Where the transactions of a cycle begin and end.
 ghost use Rattle.std.specs.Prelude.{◌≡◌, ◌<◌, ◌+◌, length, take, IfOk};
 ghost use Rattle.velo_events.specs.Block.{IsTransaction};
 ghost use Rattle.velo_certify.specs.Shortest.{IsCycleAt};
@@ -54,7 +54,7 @@ fn all_spans(alloc: Global, events: &[Event], cycle: &[usize]) -> Result<Vec<Spa
 /// The spans of the transactions of a cycle in the events up to the position.
 ///
 /// # Errors
-/// `Memory` where a growth was refused.
+/// `Memory` if an allocation failed.
 pub(crate) fn spans_of(
     alloc: Global,
     trace: &Trace,

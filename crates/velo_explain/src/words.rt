@@ -15,7 +15,7 @@ use velo_certify::EdgeEvents;
 use velo_events::{Event, MAX_EVENTS, Memory};
 use velo_names::{NameKind, Names};
 
-/// The number of the line on which a position stands, behind the header on line 1.
+/// The number of the line of a position; the header is line 1.
 pub fn line_of(position: usize) -> u64
     requires { position < MAX_EVENTS }
     ensures { result ≡ line_of position }
@@ -120,7 +120,7 @@ pub fn add_members(
     Ok(())
 }
 
-/// Adds the events behind an edge of the cycle.
+/// Adds the events of an edge of the cycle.
 #[tactic(auto, unfolding(crate::specs::Text::edge_text))]
 fn add_edge(
     page: &mut Page,
@@ -157,7 +157,7 @@ fn add_edge(
     ])
 }
 
-/// Adds the events behind the edges of the cycle.
+/// Adds the events of the edges of the cycle.
 fn add_edges(
     page: &mut Page,
     names: &Names,
@@ -312,7 +312,7 @@ fn add_words(
 /// The explanation of an alarm at a position.
 ///
 /// # Errors
-/// `Memory` where a growth was refused.
+/// `Memory` if an allocation failed.
 pub(crate) fn explanation(
     alloc: Global,
     names: &Names,
@@ -334,7 +334,7 @@ pub(crate) fn explanation(
 /// The explanation of a clean log.
 ///
 /// # Errors
-/// `Memory` where a growth was refused.
+/// `Memory` if an allocation failed.
 #[tactic(auto, unfolding(crate::specs::Text::clean_text))]
 pub(crate) fn clean_explanation(
     alloc: Global,

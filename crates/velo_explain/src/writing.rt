@@ -5,32 +5,36 @@ ghost use Rattle.velo_events.specs.declared.limits.TheConstants.{MAX_EVENTS};
 ghost use Rattle.velo_explain.specs.Count.{transactions_of};
 ghost use Rattle.velo_explain.specs.Evidence.{IsEvidenceAt};
 ghost use Rattle.velo_explain.specs.Picture.{picture_text, named_picture_text};
+ghost use Rattle.velo_explain.specs.Places.{sited_explanation_text};
 ghost use Rattle.velo_explain.specs.Text.{explanation_text, named_explanation_text, clean_text};
 
 use crate::count::transactions_of;
 use crate::drawing::picture_of;
 use crate::evidence::Evidence;
 use crate::pieces::Page;
+use crate::places::add_places;
 use crate::words::{clean_explanation, explanation};
 use std::alloc::Global;
 use velo_events::Memory;
 use velo_names::Names;
+use velo_sites::Sites;
 use velo_traces::Trace;
 
-/// What an alarm at the position means: first as a picture with a lane for each thread and a row for each event, then in
-/// words: the closing event, the transactions of the cycle with their threads, blocks and lines, the two events behind each
-/// edge, and the blocks to blame, each with an event of another thread that parts it. The log has a header, so position P
-/// stands on line P + 2.
+/// What an alarm at the position means: first as a picture with a lane for each thread and a row
+/// for each event, then in words: the closing event, the transactions of the cycle with their
+/// threads, blocks and lines, the two events of each edge, and the blocks to blame, each with an
+/// event of another thread that parts it. The log has a header, so position P is on line P + 2.
 ///
-/// The picture shows the events behind the edges, and as long as it has at most [`SCREEN_LINES`](crate::SCREEN_LINES) lines
-/// and [`SCREEN_LANES`](crate::SCREEN_LANES) lanes also the events that part the blocks to blame, the first events of the
-/// transactions, and those of these blocks. A text that is too long for its lane ends in `..`.
+/// The picture shows the events of the edges, and as long as it has at most
+/// [`SCREEN_LINES`](crate::SCREEN_LINES) lines and [`SCREEN_LANES`](crate::SCREEN_LANES) lanes also
+/// the events that part the blocks to blame, the first events of the transactions, and those of
+/// these blocks. A text that is too long for its lane ends in `..`.
 ///
-/// The evidence has to be as `evidence_of` gives it for the trace and the position, and the trace has at most
-/// [`MAX_EVENTS`](velo_events::MAX_EVENTS) events.
+/// The evidence has to be as `evidence_of` gives it for the trace and the position, and the trace
+/// has at most [`MAX_EVENTS`](velo_events::MAX_EVENTS) events.
 ///
 /// # Errors
-/// `Memory` where a growth was refused.
+/// `Memory` if an allocation failed.
 pub fn explain(
     alloc: Global,
     trace: &Trace,
@@ -48,7 +52,7 @@ pub fn explain(
     told
 }
 
-/// The same with names: those of what a line tells of are its last words, also in a lane.
+/// The same with names: the name of what a line is about is its last word, also in a lane.
 ///
 /// # Errors
 /// As `explain`.
@@ -67,11 +71,35 @@ pub fn explain_named(
     explanation(alloc, names, trace.as_slice(), position, evidence)
 }
 
-/// The cycle of an alarm as a Graphviz picture: a column for each thread, a box for each transaction with its block and
-/// lines, and an arrow for each edge with its two events. It asks for what `explain` asks for.
+/// The same, and after it where in the source each event happened that it mentions, by line: of those
+/// whose place the sites give.
 ///
 /// # Errors
-/// `Memory` where a growth was refused.
+/// As `explain`.
+pub fn explain_sited(
+    alloc: Global,
+    trace: &Trace,
+    position: usize,
+    evidence: &Evidence,
+    names: &Names,
+    sites: &Sites,
+) -> Result<Page, Memory>
+    requires few { length trace.now.events ≤ MAX_EVENTS }
+    requires evidence { IsEvidenceAt trace.now.events position evidence.now }
+    ensures { IfOk result (λ page. page ≡ sited_explanation_text names.now sites.now
+        trace.now.events position evidence.now) }
+{
+    let mut page = explain_named(alloc, trace, position, evidence, names)?;
+    add_places(&mut page, alloc, sites, trace.len(), position, evidence)?;
+    Ok(page)
+}
+
+/// The cycle of an alarm as a Graphviz picture: a column for each thread, a box for each
+/// transaction with its block and lines, and an arrow for each edge with its two events. It asks
+/// for what `explain` asks for.
+///
+/// # Errors
+/// `Memory` if an allocation failed.
 pub fn picture(
     alloc: Global,
     trace: &Trace,
@@ -88,7 +116,8 @@ pub fn picture(
     drawn
 }
 
-/// The same with the names of threads, of labels and of what the events are about. Quotes and backslashes are escaped.
+/// The same with the names of threads, of labels and of what the events are about. Quotes and
+/// backslashes are escaped.
 ///
 /// # Errors
 /// As `picture`.
@@ -107,11 +136,11 @@ pub fn picture_named(
     picture_of(alloc, names, trace.as_slice(), position, evidence)
 }
 
-/// That the blocks of a log, which has to be without a cycle, can be serialized: how many events there are, and how many
-/// transactions a serial order has.
+/// That the blocks of a log, which has to be without a cycle, can be serialized: how many events
+/// there are, and how many transactions a serial order has.
 ///
 /// # Errors
-/// `Memory` where a growth was refused.
+/// `Memory` if an allocation failed.
 pub fn explain_clean(alloc: Global, trace: &Trace) -> Result<Page, Memory>
     requires { ¬ HasCycle trace.now.events }
     ensures { IfOk result (λ page. page

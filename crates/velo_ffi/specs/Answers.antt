@@ -1,4 +1,4 @@
--- What the calls of a handle come to.
+-- The results of the calls of a handle.
 use Rattle.std.specs.Prelude.{◌≡◌, ◌≢◌, ◌⊎◌, ℕ, true, false, List, [], length, map, Option, Some, None, Result, Ok, Err}
 use Rattle.velo_events.specs.declared.config.Bounds.{Bounds}
 use Rattle.velo_events.specs.declared.event.Action.{Action}
@@ -29,7 +29,7 @@ pub record IsOpened (asked : Bounds) (most_events most_nodes : ℕ) (w : WorldSt
   pub live : w.halted ≡ false
   pub empty : w.log ≡ []
 
--- what opening came to, by what the handle keeps then: a number may be bad, or a growth refused
+-- the result of opening, by what the handle keeps then: a number may be bad, or an allocation fails
 abbrev pub Opens : Bounds → ℕ → ℕ → ℕ → Option WatchState → Type 0
 Opens bounds events nodes status (Some w) = (status ≡ DONE) × IsOpened bounds events nodes w.world
 Opens bounds events nodes status None =
@@ -37,7 +37,7 @@ Opens bounds events nodes status None =
 
 -- ---- an event
 
--- the number by which a refusal is answered
+-- the number that is returned for a refusal
 abbrev pub number_of : Refusal → ℕ
 number_of Halted = 1
 number_of NotLive = 2
@@ -70,18 +70,19 @@ value_or_0 (Some value) = value
 abbrev pub answer_of : Reply → Answer
 answer_of reply = record { position = reply.position; value = value_or_0 reply.value; alarmed = reply.alarmed }
 
--- a reply is written down; at a refusal its number is the status, and the answer is as it was
+-- a reply is written down; at a refusal its number is the status, and the caller's answer is as it
+-- was
 abbrev pub Tells : Result Reply Refusal → Answer → ℕ → Answer → Type 0
 Tells (Ok reply) before status after = (status ≡ DONE) × (after ≡ answer_of reply)
 Tells (Err refusal) before status after = (status ≡ number_of refusal) × (after ≡ before)
 
--- the thread did the action, and was told what it came to
+-- the thread did the action, and its result was written down
 pub record Steps (w : WatchState) (thread : ThreadId) (action : Action) (before : Answer) (status : ℕ) (after : Answer) (w' : WatchState) : Type 0 where
   pub outcome : Result Reply Refusal
   pub steps : StepsTo w.world w.shares thread action outcome w'.world w'.shares
   pub told : Tells outcome before status after
 
--- what the numbers of a call come to: a step, unless one of them is beyond its type
+-- what a call does by its numbers: a step, unless one of them is beyond its type
 abbrev pub Tries : WatchState → Option ThreadId → Option Action → Answer → ℕ → Answer → WatchState → Type 0
 Tries w (Some thread) (Some action) before status after w' = Steps w thread action before status after w'
 Tries w _ _ before status after w' = (status ≡ BAD_NUMBER) × (after ≡ before) × (w' ≡ w)
@@ -123,6 +124,6 @@ pub record AreBlocks (log : List Event) (blocks : List Blamed) : Type 0 where
   pub exact : AlarmOf log alarm
   pub told : blocks ≡ blocks_of alarm
 
--- they are put into the buffer, or how many they are is told
+-- they are put into the buffer, or their number is returned
 abbrev pub TellsBlocks : List Event → ℕ → List Blamed → ℕ → Type 0
 TellsBlocks log status buffer count = (blocks : List Blamed) × AreBlocks log blocks × TellsAll blocks status buffer count

@@ -11,6 +11,6 @@ pub record GatheredText : Type 0 where
 abbrev pub gathered_of : Inside → GatheredText
 gathered_of g = record { bytes = g.bytes.items; failures = g.failures }
 
--- where a write failed, a growth was refused
+-- where a write failed, an allocation failed
 abbrev pub FailsByGrowth : Inside → Type 0
 FailsByGrowth g = g.failures ≢ 0 → GrowthRefused

@@ -17,7 +17,8 @@ piece bounds log from next = head_at bounds from ++ event_lines (take (next - fr
 abbrev pub first_piece : Bounds → List Event → ℕ → List ℕ
 first_piece bounds log from = head_at bounds from ++ event_lines (take 1 (drop from log))
 
--- a piece was put at the front of the buffer: it ends at an event that is there, and nothing is said of the bytes behind it
+-- a piece was put at the front of the buffer: it ends at an event that is there, and the bytes
+-- after it are unspecified
 pub record PutsPiece (bounds : Bounds) (log : List Event) (from : ℕ) (buffer : List ℕ) (count next : ℕ) : Type 0 where
   pub from_there : from ≤ next
   pub goes_on : from < length log → from < next
@@ -27,7 +28,7 @@ pub record PutsPiece (bounds : Bounds) (log : List Event) (from : ℕ) (buffer :
   -- one line more has no room
   pub most : next < length log → length buffer < length (piece bounds log from (next + 1))
 
--- not even the shortest piece has room, and its length is told, which is never more than this
+-- not even the shortest piece has room, and its length is returned, which is never more than this
 pub record LacksRoom (bounds : Bounds) (log : List Event) (from : ℕ) (buffer : List ℕ) (count : ℕ) : Type 0 where
   pub short : length buffer < count
   pub needed : count ≡ length (first_piece bounds log from)
@@ -41,8 +42,8 @@ TellsPiece bounds log from status buffer count next =
 
 -- ---- all pieces
 
--- From one event on pieces end at these places, one after another, and the last at the end of the log. Each goes on, as one
--- does that is put before the end of the log
+-- From one event on pieces end at these places, one after another, and the last at the end of the
+-- log. Each goes on, as one does that is put before the end of the log
 abbrev pub LeadToEnd : List Event → ℕ → List ℕ → Type 0
 LeadToEnd log from [] = ⊥
 LeadToEnd log from (next ∷ []) = next ≡ length log

@@ -6,7 +6,7 @@ use Rattle.velo_renew.specs.Renewal.{IsReasonAgainst, Renews}
 use Rattle.velo_ffi.specs.declared.answers.TheConstants.{ALARMED, CLOSED, DONE, IN_BLOCK, NO_MEMORY}
 use Rattle.velo_ffi.specs.Watch.{WatchState}
 
--- the status by which a reason is told; a log that is full has the number of that refusal
+-- the status for a reason; a log that is full has the number of that refusal
 abbrev pub status_of : NotRenewed → ℕ
 status_of Alarm = ALARMED
 status_of (BlockOpen thread) = IN_BLOCK

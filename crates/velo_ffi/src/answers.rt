@@ -1,6 +1,6 @@
-//! What is answered to a caller.
+//! What is returned to a caller.
 
-/// What an event came to.
+/// The result of an event.
 #[repr(C)]
 #[derive(Drop, Clone, Copy)]
 pub struct Answer {
@@ -47,7 +47,7 @@ pub const CLOSED: u32 = 100;
 /// A number is out of its range.
 pub const BAD_NUMBER: u32 = 102;
 
-/// A growth was refused.
+/// An allocation failed.
 pub const NO_MEMORY: u32 = 103;
 
 /// The buffer is too short. It is as it was.

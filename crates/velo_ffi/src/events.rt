@@ -11,10 +11,10 @@ use crate::numbers::{lock_of, thread_of, variable_of};
 use std::alloc::Global;
 use velo_events::{Action, Label};
 
-/// A thread reads a variable, and is told the value that was written last.
+/// A thread reads a variable, and gets the value that was written last.
 ///
-/// Where the status is not 0, nothing changes: a number is beyond its type (`BAD_NUMBER`), or the event is refused, and the
-/// status is the number of its refusal.
+/// Where the status is not 0, nothing changes: a number is beyond its type (`BAD_NUMBER`), or the
+/// event is refused, and the status is the number of its refusal.
 #[unsafe(no_mangle)]
 pub extern "C" fn velo_read(
     alloc: Global,

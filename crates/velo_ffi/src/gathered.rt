@@ -7,7 +7,7 @@ use velo_bytes::{Failed, Sink};
 use velo_events::Memory;
 use velo_events::growth::reserve;
 
-/// Bytes that were written, in memory. A write fails only where a growth was refused.
+/// Bytes that were written, in memory. A write fails only if an allocation failed.
 #[derive(Drop)]
 pub struct Gathered {
     bytes: Vec<u8>,
@@ -42,7 +42,7 @@ impl Gathered {
         self.bytes.as_slice()
     }
 
-    /// What a failed write comes to.
+    /// The error of a failed write.
     pub fn refusal(&self) -> Memory
         requires { self.now.failures ≢ 0 }
     {

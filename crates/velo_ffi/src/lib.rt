@@ -1,4 +1,5 @@
-//! What programs in other languages call: a monitor that they keep by a handle, and one call for each event.
+//! What programs in other languages call: a monitor that they keep by a handle, and one call for
+//! each event.
 #![tactic(auto)]
 
 mod answers;

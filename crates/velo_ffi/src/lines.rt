@@ -54,8 +54,8 @@ pub fn first_length(events: &[Event]) -> usize
     }
 }
 
-/// Puts the lines of events, as many as there is room for, and returns the place behind them and how many they are: at least
-/// one, if there is room for the first.
+/// Puts the lines of events, as many as there is room for, and returns the place after them and how
+/// many they are: at least one, if there is room for the first.
 pub fn put_lines(buffer: &mut [u8], at: usize, events: &[Event]) -> (usize, usize)
     requires { at ≤ length buffer.old }
     ensures text { take result.0 buffer.new ≡ take at buffer.old ++ event_lines (take result.1 events.now) }

@@ -16,7 +16,7 @@ use velo_world::Reply;
 /// A watch without events, in a box of its own.
 ///
 /// # Errors
-/// `Memory` where a growth was refused.
+/// `Memory` if an allocation failed.
 fn start(alloc: Global, config: Config) -> Result<Box<Watch>, Memory>
     requires { config.stop ≡ false }
     ensures { IfOk result (λ watch.
@@ -26,9 +26,9 @@ fn start(alloc: Global, config: Config) -> Result<Box<Watch>, Memory>
     boxed(alloc, watch)
 }
 
-/// Opens a monitor without events, of so many threads, variables and locks, and with these limits of events and of nodes. What
-/// the handle had before is not read. `BAD_NUMBER` where a number is out of its range, `NO_MEMORY` where a growth was refused;
-/// it is closed then.
+/// Opens a monitor without events, with these numbers of threads, variables and locks, and these
+/// limits of events and of nodes. What the handle had before is not read. `BAD_NUMBER` where a
+/// number is out of its range, `NO_MEMORY` if an allocation failed; it is closed then.
 #[unsafe(no_mangle)]
 pub extern "C" fn velo_open(
     alloc: Global,
@@ -69,7 +69,7 @@ pub extern "C" fn velo_close(alloc: Global, monitor: &mut Monitor) -> u32
     }
 }
 
-/// The number by which a refusal is answered.
+/// The number that is returned for a refusal.
 pub fn number_of(refusal: Refusal) -> u32
     ensures { result ≡ number_of refusal }
 {
@@ -116,7 +116,7 @@ fn tell(outcome: Result<Reply, Refusal>, answer: &mut Answer) -> u32
     }
 }
 
-/// Does what the numbers of a call come to.
+/// Does what a call's numbers mean.
 fn try_to(watch: &mut Watch, thread: u32, action: Option<Action>, answer: &mut Answer) -> u32
     ensures { Tries watch.old (thread_of thread) action answer.old result answer.new watch.new }
 {

@@ -9,7 +9,8 @@ use crate::watch::Watch;
 use std::alloc::Global;
 use velo_bytes::put_bytes;
 
-/// Puts the lines from an event on, as many as there is room for, and before the first event the header.
+/// Puts the lines from an event on, as many as there is room for, and before the first event the
+/// header.
 fn put_piece(
     watch: &Watch,
     from: usize,
@@ -41,11 +42,12 @@ fn put_piece(
     DONE
 }
 
-/// Writes the lines of the log from an event on to a buffer, whole lines as many as it has room for, and before the first
-/// event the header; tells how many bytes these are, and the event to go on from, which is the number of events at the end.
+/// Writes the lines of the log from an event on to a buffer, whole lines as many as it has room
+/// for, and before the first event the header; returns how many bytes these are, and the event to
+/// go on from, which is the number of events at the end.
 ///
-/// Where not even one line has room, `TOO_SHORT` with the length that is needed; the buffer is as it was. One of 180 bytes is
-/// always long enough.
+/// Where not even one line has room, `TOO_SHORT` with the length that is needed; the buffer is as
+/// it was. One of 180 bytes is always long enough.
 #[unsafe(no_mangle)]
 pub extern "C" fn velo_log(
     alloc: Global,

@@ -32,11 +32,13 @@ fn renew(alloc: Global, watch: &mut Watch) -> u32
     }
 }
 
-/// Goes on in a new log, with the same threads, but for those that were joined, and the same values, holders and sharers of
-/// locks: whatever comes after is judged as after all that was before, by positions from the new log's end on.
+/// Goes on in a new log, with the same threads, but for those that were joined, and the same
+/// values, holders and sharers of locks: whatever comes after is judged as after all that was
+/// before, by positions from the new log's end on.
 ///
-/// `ALARMED` where there is an alarm; `IN_BLOCK` where a block is open; 17, the number of `LogFull`, where the new log is longer
-/// than it may be; `NO_MEMORY` where a growth was refused. Nothing has changed then.
+/// `ALARMED` where there is an alarm; `IN_BLOCK` where a block is open; 17, the number of
+/// `LogFull`, where the new log is longer than it may be; `NO_MEMORY` if an allocation failed.
+/// Nothing has changed then.
 #[unsafe(no_mangle)]
 pub extern "C" fn velo_renew(alloc: Global, monitor: &mut Monitor) -> u32
     ensures renews { RenewsKept monitor.old.kept.watch result monitor.new.kept.watch }

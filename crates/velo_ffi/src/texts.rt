@@ -19,7 +19,8 @@ use velo_report::report_so_far;
 use velo_traces::Trace;
 use velo_world::{Alarm, World};
 
-/// Puts a whole text at the front of a buffer, if there is room for it, and tells how many bytes it is.
+/// Puts a whole text at the front of a buffer, if there is room for it, and returns how many bytes
+/// it is.
 pub fn put_whole(text: &[u8], buffer: &mut [u8], count: &mut usize) -> u32
     ensures told { TellsAll text.now result buffer.new count.new }
     ensures same { result ≢ DONE → buffer.new ≡ buffer.old }
@@ -33,7 +34,7 @@ pub fn put_whole(text: &[u8], buffer: &mut [u8], count: &mut usize) -> u32
     DONE
 }
 
-/// Tells why a file has no names: the line of its fault, or that memory was refused.
+/// Returns why a file has no names: the line of its fault, or that an allocation failed.
 fn put_fault(fault: NamesFault, count: &mut usize) -> u32
     ensures told { (file : List ℕ) → ReadsAs file (Err fault)
         → TellsFault file result count.new ⊎ WantsMemory result }
@@ -64,7 +65,7 @@ fn shown_by<'a>(file: &[u8], names: &'a Names<'a>) -> velo_report::Names<'a>
 /// The report of the events so far, by the names of a file.
 ///
 /// # Errors
-/// `Memory` where a growth was refused.
+/// `Memory` if an allocation failed.
 fn report_of(alloc: Global, world: &World, file: &[u8], names: &Names) -> Result<Gathered, Memory>
     requires { Stands file.now (Ok names.now) }
     ensures { IfOk result (λ text. IsReportBy file.now world.now text.bytes) }
@@ -80,7 +81,7 @@ fn report_of(alloc: Global, world: &World, file: &[u8], names: &Names) -> Result
 /// The report of the events so far, by the names in the bytes of a file; no bytes are no names.
 ///
 /// # Errors
-/// The fault of the file. `Memory` where a growth was refused.
+/// The fault of the file. `Memory` if an allocation failed.
 fn report_by(alloc: Global, world: &World, file: &[u8]) -> Result<Gathered, NamesFault>
     ensures report { IfOk result (λ text. IsReportBy file.now world.now text.bytes) }
     ensures fault { IfErr result (λ fault. ReadsAs file.now (Err fault)) }
@@ -113,12 +114,14 @@ fn put_report(
     }
 }
 
-/// Writes the report of the events so far to a buffer, and tells how many bytes it is: what `velodrome check` writes for the log,
-/// with `--names` where the file of names has bytes. The monitor goes on.
+/// Writes the report of the events so far to a buffer, and returns how many bytes it is: what
+/// `velodrome check` writes for the log, with `--names` where the file of names has bytes. The
+/// monitor goes on.
 ///
-/// Where there is no room for all, `TOO_SHORT` with the length that is needed; the buffer is as it was. Without names one of
-/// 4,096 bytes is always long enough. Where the file has a fault, `BAD_NAMES` with the line of it, which is 0 where it is one of
-/// the whole. `NO_MEMORY` where a growth was refused; nothing has changed then.
+/// Where there is no room for all, `TOO_SHORT` with the length that is needed; the buffer is as it
+/// was. Without names one of 4,096 bytes is always long enough. Where the file has a fault,
+/// `BAD_NAMES` with the line of it, which is 0 where it is one of the whole. `NO_MEMORY` if an
+/// allocation failed; nothing has changed then.
 #[unsafe(no_mangle)]
 pub extern "C" fn velo_report(
     alloc: Global,
@@ -146,7 +149,7 @@ pub extern "C" fn velo_report(
 /// The explanation of an alarm of a log, by names.
 ///
 /// # Errors
-/// `Memory` where a growth was refused.
+/// `Memory` if an allocation failed.
 fn explain_alarm(alloc: Global, log: &Trace, alarm: &Alarm, names: &Names) -> Result<Page, Memory>
     requires few { length log.now.events ≤ MAX_EVENTS }
     requires alarm { IsAlarm log.now.events alarm.now }
@@ -168,7 +171,7 @@ fn explain_alarm(alloc: Global, log: &Trace, alarm: &Alarm, names: &Names) -> Re
 /// The explanation of the events so far, by names.
 ///
 /// # Errors
-/// `Memory` where a growth was refused.
+/// `Memory` if an allocation failed.
 fn explanation_of(alloc: Global, world: &World, names: &Names) -> Result<Page, Memory>
     ensures { IfOk result (λ page. IsExplanation names.now world.now.log page) }
 {
@@ -179,10 +182,11 @@ fn explanation_of(alloc: Global, world: &World, names: &Names) -> Result<Page, M
     }
 }
 
-/// The explanation of the events so far, by the names in the bytes of a file; no bytes are no names.
+/// The explanation of the events so far, by the names in the bytes of a file; no bytes are no
+/// names.
 ///
 /// # Errors
-/// The fault of the file. `Memory` where a growth was refused.
+/// The fault of the file. `Memory` if an allocation failed.
 fn explanation_by(alloc: Global, world: &World, file: &[u8]) -> Result<Page, NamesFault>
     ensures explains { IfOk result (λ page. IsExplanationBy file.now world.now.log page) }
     ensures fault { IfErr result (λ fault. ReadsAs file.now (Err fault)) }
@@ -215,13 +219,13 @@ fn put_explanation(
     }
 }
 
-/// Writes the explanation of the events so far to a buffer, and tells how many bytes it is: what `velodrome explain` writes for
-/// the log, with `--names` where the file of names has bytes. The monitor goes on. It takes time and memory in proportion to the
-/// log.
+/// Writes the explanation of the events so far to a buffer, and returns how many bytes it is: what
+/// `velodrome explain` writes for the log, with `--names` where the file of names has bytes. The
+/// monitor goes on. It takes time and memory in proportion to the log.
 ///
-/// Where there is no room for all, `TOO_SHORT` with the length that is needed; the buffer is as it was. Where the file has a
-/// fault, `BAD_NAMES` with the line of it, which is 0 where it is one of the whole. `NO_MEMORY` where a growth was refused;
-/// nothing has changed then.
+/// Where there is no room for all, `TOO_SHORT` with the length that is needed; the buffer is as it
+/// was. Where the file has a fault, `BAD_NAMES` with the line of it, which is 0 where it is one of
+/// the whole. `NO_MEMORY` if an allocation failed; nothing has changed then.
 #[unsafe(no_mangle)]
 pub extern "C" fn velo_explanation(
     alloc: Global,

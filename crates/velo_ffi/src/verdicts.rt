@@ -31,7 +31,7 @@ fn verdict_of(watch: &Watch) -> Verdict
     }
 }
 
-/// Tells the verdict so far.
+/// Returns the verdict so far.
 #[unsafe(no_mangle)]
 pub extern "C" fn velo_verdict(alloc: Global, monitor: &mut Monitor, verdict: &mut Verdict) -> u32
     ensures kept { monitor.new.kept.watch ≡ monitor.old.kept.watch }
@@ -61,7 +61,7 @@ fn put_blocks(blocks: &[Block], buffer: &mut [Blamed])
     }
 }
 
-/// Tells the blocks to blame, and how many they are.
+/// Returns the blocks to blame, and how many they are.
 fn put_blamed(watch: &Watch, buffer: &mut [Blamed], count: &mut usize) -> u32
     ensures told { TellsBlocks watch.now.world.log result buffer.new count.new }
     ensures same { result ≢ DONE → buffer.new ≡ buffer.old }
@@ -83,9 +83,10 @@ fn put_blamed(watch: &Watch, buffer: &mut [Blamed], count: &mut usize) -> u32
     }
 }
 
-/// Tells the blocks to blame, outermost first, and how many they are; none without an alarm.
+/// Returns the blocks to blame, outermost first, and how many they are; none without an alarm.
 ///
-/// Where there is no room for all, `TOO_SHORT` with their number; the buffer is as it was. One of 32 is always long enough.
+/// Where there is no room for all, `TOO_SHORT` with their number; the buffer is as it was. One of
+/// 32 is always long enough.
 #[unsafe(no_mangle)]
 pub extern "C" fn velo_blamed(
     alloc: Global,

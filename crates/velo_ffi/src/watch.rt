@@ -35,7 +35,7 @@ impl Watch {
     /// A watch without events.
     ///
     /// # Errors
-    /// `Memory` where a growth was refused.
+    /// `Memory` if an allocation failed.
     pub fn start(alloc: Global, config: Config) -> Result<Watch, Memory>
         requires { config.stop ≡ false }
         ensures { IfOk result (λ watch. watch.world ≡ opening config) }

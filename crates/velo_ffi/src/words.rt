@@ -101,8 +101,9 @@ fn words_for(status: u32) -> &'static str
     }
 }
 
-/// Writes the words of a status to a buffer, and tells how many bytes they are. `TOO_SHORT` where there is no room, with the
-/// length that is needed; the buffer is as it was. Room for 31 is always enough.
+/// Writes the words of a status to a buffer, and returns how many bytes they are. `TOO_SHORT` where
+/// there is no room, with the length that is needed; the buffer is as it was. Room for 31 is always
+/// enough.
 #[unsafe(no_mangle)]
 pub extern "C" fn velo_words(status: u32, buffer: &mut [u8], count: &mut usize) -> u32
     ensures told { TellsWords status result buffer.new count.new }

@@ -20,7 +20,8 @@ fn finish_and_free(rt: &impl Abort, arena: &mut Arena, step: Step) {
     arena.free(step.slot);
 }
 
-/// An arena of one slot that serves for the second time, with the step that it served first and the one that it serves now.
+/// An arena of one slot that serves for the second time, with the step that it served first and the
+/// one that it serves now.
 fn used_again(rt: &impl Abort, alloc: Global) -> (Arena, Step, Step) {
     let mut arena = Arena::new(alloc, 1).expect(rt, "memory");
     assert!(rt; arena.newest().is_none());

@@ -70,7 +70,7 @@ fn checked(rt: &impl Abort, alloc: Global, known: &Known) -> Result<Trace, Memor
     trace_of(alloc, known.events)
 }
 
-/// Whether the event's thread, and one that it forks, are among so many.
+/// Whether the event's thread, and one that it forks, are below `threads`.
 fn is_of_threads(event: Event, threads: u8) -> bool
     ensures { IsTrue result → IsOfThreads threads event }
 {
@@ -93,7 +93,7 @@ fn clocks_of(rt: &impl Abort, alloc: Global, events: &[Event]) -> Result<Clocks,
     Ok(clocks)
 }
 
-/// Compares what clocks answer.
+/// Compares what clocks return.
 fn judge_clocks(rt: &impl Abort, alloc: Global, known: &Known) -> Result<(), Fail>
     requires { known.now.position < length known.now.events.now }
 {
@@ -105,7 +105,7 @@ fn judge_clocks(rt: &impl Abort, alloc: Global, known: &Known) -> Result<(), Fai
     Ok(())
 }
 
-/// Compares what a scan, the function and clocks answer. The scan may have been used before.
+/// Compares what a scan, the function and clocks return. The scan may have been used before.
 fn judge(rt: &impl Abort, alloc: Global, scan: &mut Scan, known: &Known) -> Result<(), Fail>
     requires { scan.old ≡ BOUNDS }
     ensures { scan.new ≡ BOUNDS }
@@ -267,7 +267,8 @@ fn threads_and_locks(rt: HostRuntime) -> Result<(), Fail> {
     judge_all(&rt, rt.alloc(), &[joined, lock])
 }
 
-/// The lost update of a workload: how its threads are scheduled leaves open which of the last exits comes first.
+/// The lost update of a workload: how its threads are scheduled leaves open which of the last exits
+/// comes first.
 #[test]
 fn updates_of_a_workload(rt: HostRuntime) -> Result<(), Fail> {
     let replayed = Known {
@@ -402,7 +403,8 @@ fn nobody_is_to_blame(rt: HostRuntime) -> Result<(), Fail> {
     judge_all(&rt, rt.alloc(), &[crossed, no_block])
 }
 
-/// More blocks than a well-formed trace has open, all begun before the read that another thread overwrites.
+/// More blocks than a well-formed trace has open, all begun before the read that another thread
+/// overwrites.
 #[test]
 fn forty_nested_blocks(rt: HostRuntime) -> Result<(), Fail> {
     let mut events = [begin(0, 1); 43];

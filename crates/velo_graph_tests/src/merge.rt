@@ -37,7 +37,8 @@ fn operations_find_their_nodes<A: Ancestors>(rt: &impl Abort, alloc: Global) -> 
     Ok(())
 }
 
-/// Two finished nodes after an unfinished one: an operation after one of them alone goes into it, and one after both does not.
+/// Two finished nodes after an unfinished one: an operation after one of them alone goes into it,
+/// and one after both does not.
 fn beside_another<A: Ancestors>(rt: &impl Abort, alloc: Global) -> Result<(), Fail> {
     let mut graph = Graph::<A>::new(alloc, 3)?;
     let first = open(rt, &mut graph, 1);

@@ -46,7 +46,8 @@ fn sets_of_slots(rt: HostRuntime) -> Result<(), Fail> {
     Ok(())
 }
 
-/// Does one of the calls to a row, or to the row that it takes in, and tells what the row answers at the slot.
+/// Does one of the calls to a row, or to the row that it takes in, and returns what the row says at
+/// the slot.
 fn answer<A: Ancestors>(row: &mut A, other: &mut A, call: u32, slot: u16) -> (bool, bool, bool)
     requires mine { slot < A.capacity row.old }
     requires theirs { A.capacity other.old ≡ A.capacity row.old }

@@ -111,7 +111,8 @@ fn a_lock_has_one_last_event(rt: HostRuntime) {
 
 const LOCK: LockId = LockId(1);
 
-/// Who shares a lock looks up who last had it alone, and who takes it alone looks up its sharers too.
+/// Who shares a lock looks up who last had it alone, and who takes it alone looks up its sharers
+/// too.
 #[test]
 fn a_lock_has_a_last_event_of_each_sharer(rt: HostRuntime) {
     let mut tables = tables_of_four(&rt, rt.alloc());

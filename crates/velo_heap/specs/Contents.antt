@@ -1,4 +1,4 @@
--- What a heap holds, the traces that it stands for, and what it answers by them.
+-- What a heap holds, the traces that it represents, and what it returns for them.
 use Rattle.std.specs.Prelude.{◌≡◌, ℕ, zero, suc, ◌+◌, ◌-◌, ◌*◌, ◌^◌, ◌<◌, Bool, if◌then◌else◌, List, length, slice_get, Option, Some, None, option_map, Result, Ok, Err}
 use Rattle.velo_events.specs.declared.config.Bounds.{Bounds}
 use Rattle.velo_events.specs.declared.event.ThreadId.{ThreadId}
@@ -13,7 +13,7 @@ use Rattle.velo_events.specs.declared.thread_set.ThreadSet.{ThreadSet}
 use Rattle.velo_heap.specs.declared.lock.Lock.{Lock}
 use Rattle.velo_heap.specs.declared.thread_state.ThreadState.{ThreadState}
 
--- the value of each variable, who holds each lock, and how each thread stands
+-- the value of each variable, who holds each lock, and the state of each thread
 pub record Contents : Type 0 where
   pub values : List ℕ
   pub locks : List Lock
@@ -45,7 +45,8 @@ set_below n test = record { 0 = mask_below n test }
 abbrev pub lock_in : ℕ → List Event → ℕ → Lock
 lock_in n trace m = record { holder = option_map thread_named (holder_in trace m); sharers = set_below n (shares_in trace m) }
 
--- how many locks the thread holds, alone or with others: its acquires of both kinds minus its releases
+-- how many locks the thread holds, alone or with others: its acquires of both kinds minus its
+-- releases
 abbrev pub locks_in : List Event → ℕ → ℕ
 locks_in trace t = (times (is_acquire_by t) trace - times (is_release_by t) trace) + (times (is_acquire_shared_by t) trace - times (is_release_shared_by t) trace)
 
@@ -53,18 +54,18 @@ locks_in trace t = (times (is_acquire_by t) trace - times (is_release_by t) trac
 abbrev pub thread_state_in : List Event → ℕ → ThreadState
 thread_state_in trace t = record { status = status_in trace t; depth = depth_in trace t; locks = locks_in trace t }
 
--- the heap is that of the trace, which can come about within the heap's bounds
+-- the heap is that of the trace, which can happen within the heap's bounds
 pub record IsHeapOf (heap : Contents) (trace : List Event) : Type 0 where
   pub well_formed : IsWellFormed (bounds_of heap) trace
   pub values : Tabulates heap.values (value_in trace)
   pub locks : Tabulates heap.locks (lock_in (length heap.threads) trace)
   pub threads : Tabulates heap.threads (thread_state_in trace)
 
--- a fact about each trace that the heap stands for
+-- a fact about each trace that the heap represents
 abbrev pub ForItsTraces : Contents → (List Event → Type 0) → Type 0
 ForItsTraces heap Fact = (trace : List Event) → IsHeapOf heap trace → Fact trace
 
--- ---- what the heap answers and takes
+-- ---- what the heap returns and takes
 
 abbrev pub unless_refused : Option Refusal → Event → Result Event Refusal
 unless_refused (Some refusal) event = Err refusal
@@ -74,7 +75,7 @@ unless_refused None event = Ok event
 abbrev pub admission : Bounds → List Event → ThreadId → Action → Result Event Refusal
 admission bounds trace t action = unless_refused (refusal_of bounds trace t.0 (kind_for trace action)) (event_for trace t action)
 
--- the event was admitted: it may follow a trace that the heap stands for
+-- the event was admitted: it may follow a trace that the heap represents
 pub record IsAdmitted (heap : Contents) (event : Event) : Type 0 where
   pub trace : List Event
   pub stands : IsHeapOf heap trace

@@ -21,7 +21,7 @@ use Rattle.velo_heap.specs.declared.lock.Lock.{Lock}
 use Rattle.velo_heap.specs.declared.thread_state.ThreadState.{ThreadState}
 use Rattle.velo_heap.specs.Contents.{Contents, bounds_of}
 
--- ---- which operation is admitted, by what stands at the place that the action names
+-- ---- which operation is admitted, by what is at the place that the action names
 
 abbrev pub read_at : VarId → Option ℕ → Result Kind Refusal
 read_at x (Some v) = Ok (Read x v)
@@ -122,7 +122,8 @@ refusal_in (Err refusal) = Some refusal
 
 -- ---- how an operation changes the contents
 
--- the operation makes no count of the thread wrap, where a thread may hold so many locks in each of two ways
+-- the operation makes no count of the thread wrap, if a thread may hold this many locks in each of
+-- two ways
 abbrev pub CountsFit : ℕ → ThreadState → Kind → Type 0
 CountsFit most own (Acquire m) = own.locks < most + most
 CountsFit most own (Release m) = 0 < own.locks
@@ -168,11 +169,11 @@ with_lock locks m change = slice_set locks m (change (get_or locks m free))
 abbrev pub with_status : List ThreadState → ℕ → Status → List ThreadState
 with_status threads t status = slice_set threads t (record (thread_state_at threads t) { status = status })
 
--- the thread stands as after its own operation
+-- the thread's state is as after its own operation
 abbrev pub own_after : List ThreadState → ℕ → Kind → List ThreadState
 own_after threads t kind = slice_set threads t (thread_state_after (thread_state_at threads t) kind)
 
--- the operation changes what it names, and its own thread where that stands otherwise then
+-- the operation changes what it names, and its own thread if that has another state then
 abbrev pub after_kind : Contents → ThreadId → Kind → Contents
 after_kind heap t (Read x v) = heap
 after_kind heap t (Write x v) = record heap { values = slice_set heap.values x.0 v }

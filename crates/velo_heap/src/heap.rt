@@ -16,9 +16,9 @@ use velo_events::{
     Action, Config, Event, Kind, LockId, Memory, Refusal, Status, ThreadId, ThreadSet, VarId,
 };
 
-/// The variables, locks and threads of a run as they stand.
+/// The variables, locks and threads of a run, each with its state.
 ///
-/// A heap keeps no log. It stands for the trace of the events that were applied to it.
+/// A heap keeps no log. It represents the trace of the events that were applied to it.
 #[derive(Debug, Drop)]
 pub struct Heap {
     values: Vec<u64>,
@@ -35,14 +35,15 @@ impl Model for Heap {
 
     ghost view = { λ h. record { values = h.values.items; locks = h.locks.items; threads = h.threads.items } };
 
-    // so few locks that the count of those that a thread holds never wraps, and a bit for each thread
+    // so few locks that the count of those that a thread holds never wraps, and a bit for each
+    // thread
     ghost invariant = { λ h. (length h.locks.items ≤ MAX_LOCKS) × (length h.threads.items ≤ MAX_THREADS) };
 }
 
 /// The same items once more.
 ///
 /// # Errors
-/// `Memory` where a growth was refused.
+/// `Memory` if an allocation failed.
 fn copied<T: Copy>(alloc: Global, items: &[T]) -> Result<Vec<T>, Memory>
     ensures { IfOk result (λ copy. copy.items ≡ items.now) }
 {
@@ -67,7 +68,7 @@ fn are_held_alike(one: &[Lock], other: &[Lock]) -> bool
     one == other
 }
 
-/// Whether the threads of the two stand alike.
+/// Whether the threads of the two have equal states.
 fn stand_alike(one: &[ThreadState], other: &[ThreadState]) -> bool
     ensures { IsTrue result ↔ (one.now ≡ other.now) }
 {
@@ -75,10 +76,11 @@ fn stand_alike(one: &[ThreadState], other: &[ThreadState]) -> bool
 }
 
 impl Heap {
-    /// The heap at the start of a run: thread 0 is live and no other is born, all variables are 0, all locks are free.
+    /// The heap at the start of a run: thread 0 is live and no other is born, all variables are 0,
+    /// all locks are free.
     ///
     /// # Errors
-    /// `Memory` where a growth was refused. No later call but `copy` takes memory.
+    /// `Memory` if an allocation failed. No later call but `copy` takes memory.
     pub fn new(alloc: Global, config: &Config) -> Result<Heap, Memory>
         ensures bounds { IfOk result (λ h. bounds_of h ≡ config.now.bounds) }
         ensures start { IfOk result (λ h. IsHeapOf h []) }
@@ -98,7 +100,7 @@ impl Heap {
     /// The same heap once more.
     ///
     /// # Errors
-    /// `Memory` where a growth was refused.
+    /// `Memory` if an allocation failed.
     pub fn copy(&self, alloc: Global) -> Result<Heap, Memory>
         ensures { IfOk result (λ h. h ≡ self.now) }
     {
@@ -121,7 +123,8 @@ impl Heap {
             && stand_alike(&self.threads, &other.threads)
     }
 
-    /// The event that the action becomes if the thread does it now; a read's event has the variable's value.
+    /// The event that the action becomes if the thread does it now; a read's event has the
+    /// variable's value.
     ///
     /// # Errors
     /// The first refusal that applies, from `NotLive` (2) to `LockHeld` (16).
@@ -133,8 +136,8 @@ impl Heap {
         Ok(Event { thread, kind })
     }
 
-    /// Why the event's thread may not do its operation now: the first refusal that applies, from `NotLive` (2) to
-    /// `LockHeld` (16). The value that a read returned is not checked here.
+    /// Why the event's thread may not do its operation now: the first refusal that applies, from
+    /// `NotLive` (2) to `LockHeld` (16). The value that a read returned is not checked here.
     #[inline(always)]
     pub fn refusal(&self, event: &Event) -> Option<Refusal>
         ensures { (trace : List Event) → IsHeapOf self.now trace →
@@ -255,7 +258,7 @@ impl Heap {
         }
     }
 
-    /// Why the operation is refused, by what stands here.
+    /// Why the operation is refused, by what the heap has.
     #[inline(always)]
     fn reason(&self, event: &Event) -> Option<Refusal>
         ensures { result ≡ refusal_in (kind_in self.now event.now.thread (action_of event.now.kind)) }
@@ -370,7 +373,7 @@ impl Heap {
         }
     }
 
-    /// Changes what the event names, and its thread where that stands otherwise then.
+    /// Changes what the event names, and its thread if that has another state then.
     #[inline(always)]
     fn change(&mut self, event: &Event)
         requires { CanChange self.old event.now }

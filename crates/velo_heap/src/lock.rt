@@ -68,7 +68,8 @@ impl Lock {
     /// The shared acquire of this lock, whose number is `m`.
     ///
     /// # Errors
-    /// `AlreadyHeld` where the thread holds it, and else `Busy` where another thread holds it alone.
+    /// `AlreadyHeld` where the thread holds it, and else `Busy` where another thread holds it
+    /// alone.
     pub fn admit_acquire_shared(self, t: ThreadId, m: LockId) -> Result<Kind, Refusal>
         ensures { result ≡ acquire_shared_in t m self }
     {

@@ -22,7 +22,8 @@ pub record FitsBook (book : Accounts) (share : Holding) : Type 0 where
   pub run : share.run ≡ book.run
   pub row : slice_get book.rows share.thread.0 ≡ Some share.tally
 
--- the fitting share of the event's thread is at its place, and knows of no event from the position on
+-- the fitting share of the event's thread is at its place, and knows of no event from the position
+-- on
 pub record CanEnterAt (book : Accounts) (places : List (Option Holding)) (position : ℕ) (e : Event) : Type 0 where
   pub share : Holding
   pub there : slice_get places e.thread.0 ≡ Some (Some share)
@@ -44,7 +45,8 @@ pub record CanCount (book : Accounts) (position : ℕ) (e : Event) : Type 0 wher
 pub record CountsIn (book : Accounts) (position : ℕ) (e : Event) (book' : Accounts) : Type 0 where
   pub row : (row : Tally) → slice_get book.rows e.thread.0 ≡ Some row → book' ≡ with_row book e.thread (with_event row position e)
 
--- of the same place of two lists: one share is there and fits, or none, and no thread has this place
+-- of the same place of two lists: one share is there and fits, or none, and no thread has this
+-- place
 abbrev pub PlacesFit : Accounts → ℕ → Option Holding → Option Holding → Type 0
 PlacesFit book t None None = length book.rows ≤ t
 PlacesFit book t (Some share) None = FitsBook book share
@@ -60,7 +62,8 @@ pub record HasAllShares (book : Accounts) (places : List (Option Holding)) : Typ
   pub there : (t : ℕ) → t < length book.rows → IsFilled places t
   pub fit : (t : ℕ) (share : Holding) → slice_get places t ≡ Some (Some share) → FitsBook book share
 
--- the share of each thread is in one of two lists of places, no place has a share in both, and all shares fit
+-- the share of each thread is in one of two lists of places, no place has a share in both, and all
+-- shares fit
 pub record HaveAllShares (book : Accounts) (kept given : List (Option Holding)) : Type 0 where
   pub there : (t : ℕ) → t < length book.rows → IsFilled kept t ⊎ IsFilled given t
   pub once : (t : ℕ) → IsFilled kept t → ¬ IsFilled given t

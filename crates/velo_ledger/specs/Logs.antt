@@ -4,7 +4,7 @@ use Rattle.velo_events.specs.declared.event.Event.{Event}
 use Rattle.velo_events.specs.Tally.{events_of, next_of, last_of, read_total_of, written_total_of}
 use Rattle.velo_ledger.specs.declared.tally.Tally.{Tally}
 
--- what the thread's events in the trace come to
+-- the tally of the thread's events in the trace
 abbrev pub tally_of : List Event → ℕ → Tally
 tally_of trace t = record {
   events = events_of trace t;

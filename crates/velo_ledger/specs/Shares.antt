@@ -13,7 +13,7 @@ share_in places t = option_and_then (λ place. place) (slice_get places t)
 abbrev pub share_at : List (Option Holding) → ThreadId → Option Holding
 share_at places t = share_in places t.0
 
--- each share stands at the place of its thread
+-- each share is at the place of its thread
 pub record AreInPlace (places : List (Option Holding)) : Type 0 where
   pub few : length places ≤ 255
   pub own : (t : ℕ) (share : Holding) → slice_get places t ≡ Some (Some share) → share.thread.0 ≡ t
@@ -22,7 +22,7 @@ pub record AreInPlace (places : List (Option Holding)) : Type 0 where
 abbrev pub opening_share : ℕ → ℕ → Holding
 opening_share run t = record { run = run; thread = record { 0 = t }; tally = blank }
 
--- each of so many threads has the share that it begins with
+-- each of the threads has the share that it begins with
 pub record AreOpening (run threads : ℕ) (places : List (Option Holding)) : Type 0 where
   pub all : length places ≡ threads
   pub each : (t : ℕ) → t < threads → slice_get places t ≡ Some (Some (opening_share run t))

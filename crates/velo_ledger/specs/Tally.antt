@@ -1,4 +1,4 @@
--- What the events of a thread come to, one event after another.
+-- The tally of a thread's events, one event after another.
 use Rattle.std.specs.Prelude.{ℕ, ◌+◌, ◌*◌, ◌≤◌, ◌^◌, Some, None}
 use Rattle.velo_events.specs.declared.limits.TheConstants.{MAX_EVENTS}
 use Rattle.velo_events.specs.declared.event.Event.{Event}

@@ -8,7 +8,7 @@ pub record Accounts : Type 0 where
   pub run : ℕ
   pub rows : List Tally
 
--- a share: the number of the run, the thread, and what its events come to
+-- a share: the number of the run, the thread, and the tally of its events
 pub record Holding : Type 0 where
   pub run : ℕ
   pub thread : ThreadId

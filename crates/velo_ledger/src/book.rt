@@ -35,11 +35,11 @@ impl Model for Book {
 impl Book {
     /// A book without events, and a fitting share of each of its threads.
     ///
-    /// Books that are alive together need different numbers of their runs. With the same number, a share of one book fits
-    /// another where the other's row says the same.
+    /// Books that are alive together need different numbers of their runs. With the same number, a
+    /// share of one book fits another where the other's row says the same.
     ///
     /// # Errors
-    /// `Memory` where a growth was refused.
+    /// `Memory` if an allocation failed.
     pub fn open(alloc: Global, run: u64, threads: u8) -> Result<(Book, Shares), Memory>
         ensures book { IfOk result (λ opened. opened.0 ≡ opening_accounts run threads) }
         ensures shares { IfOk result (λ opened. AreOpening run threads opened.1) }
@@ -77,9 +77,9 @@ impl Book {
         self.rows[place].is_same(&share.tally)
     }
 
-    /// Adds an event to the row and to the share of its thread. The share has to fit and to be of the event's thread,
-    /// and the position has to be behind that of the thread's last event and below
-    /// [`MAX_EVENTS`](velo_events::MAX_EVENTS).
+    /// Adds an event to the row and to the share of its thread. The share has to fit and to be of
+    /// the event's thread, and the position has to be after that of the thread's last event and
+    /// below [`MAX_EVENTS`](velo_events::MAX_EVENTS).
     #[inline]
     pub fn enter(&mut self, share: &mut Share, position: usize, event: &Event)
         requires fits { FitsBook self.old share.old }
@@ -96,8 +96,8 @@ impl Book {
         share.tally = tally;
     }
 
-    /// Adds an event to the row of its thread and to the share at its thread's place, which stays there. A share has to
-    /// be there, and the rest is asked for as by [`Book::enter`].
+    /// Adds an event to the row of its thread and to the share at its thread's place, which stays
+    /// there. A share has to be there, and the rest is asked for as by [`Book::enter`].
     #[inline]
     pub fn enter_at(&mut self, shares: &mut Shares, position: usize, event: &Event)
         requires there { CanEnterAt self.old shares.old position event.now }
@@ -111,9 +111,9 @@ impl Book {
         }
     }
 
-    /// Adds an event to the row of its thread alone. The thread's share says what the row says only once it is settled
-    /// again. The thread has to be one of the book's, and the position has to be behind that of its last event and below
-    /// [`MAX_EVENTS`](velo_events::MAX_EVENTS).
+    /// Adds an event to the row of its thread alone. The thread's share says what the row says only
+    /// once it is settled again. The thread has to be one of the book's, and the position has to be
+    /// after that of its last event and below [`MAX_EVENTS`](velo_events::MAX_EVENTS).
     #[inline]
     pub fn count(&mut self, position: usize, event: &Event)
         requires there { CanCount self.old position event.now }
@@ -125,7 +125,8 @@ impl Book {
         *row = tally;
     }
 
-    /// Copies the row of the share's thread into the share, which has to be of this run and of a thread of the book.
+    /// Copies the row of the share's thread into the share, which has to be of this run and of a
+    /// thread of the book.
     pub fn settle(&self, share: &mut Share)
         requires run { share.old.run ≡ self.now.run }
         requires thread { share.old.thread.0 < length self.now.rows }
@@ -135,7 +136,8 @@ impl Book {
         share.tally = self.rows[usize::from(share.thread.0)];
     }
 
-    /// The events of the one share at a place of two lists, where it fits, or none where no thread has this place.
+    /// The events of the one share at a place of two lists, where it fits, or none where no thread
+    /// has this place.
     fn events_at(&self, place: usize, kept: Option<&Share>, given: Option<&Share>) -> Option<u64>
         ensures sum { SomeIff result (PlacesFit self.now place (option_copied kept.entry) (option_copied given.entry))
             (events_in (option_copied kept.entry) + events_in (option_copied given.entry)) }
@@ -159,8 +161,8 @@ pub fn gather(book: &Book, shares: &Shares) -> Option<u64>
     gather_both(book, &Shares::nowhere(*shares.places.allocator()), shares)
 }
 
-/// The sum of the shares' events, where the share of each thread is in one of the two lists, no place has a share in both,
-/// and all fit.
+/// The sum of the shares' events, where the share of each thread is in one of the two lists, no
+/// place has a share in both, and all fit.
 pub fn gather_both(book: &Book, kept: &Shares, given: &Shares) -> Option<u64>
     ensures sum { SomeIff result (HaveAllShares book.now kept.now given.now) (events_in_all kept.now + events_in_all given.now) }
     ensures rows { IfSome result (λ events. events ≡ sum_by (λ row. row.events) book.now.rows) }

@@ -1,4 +1,5 @@
-//! A book with a row for each thread of a run, and the shares that tell each thread what its row says.
+//! A book with a row for each thread of a run, and the shares, which hold for each thread what its
+//! row says.
 #![tactic(auto)]
 
 mod book;

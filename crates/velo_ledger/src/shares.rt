@@ -37,10 +37,10 @@ impl Shares {
         }
     }
 
-    /// A place for each of so many threads, and every place empty.
+    /// A place for each thread, all empty.
     ///
     /// # Errors
-    /// `Memory` where a growth was refused.
+    /// `Memory` if an allocation failed.
     pub fn none(alloc: Global, threads: u8) -> Result<Shares, Memory>
         ensures { IfOk result (λ shares. shares ≡ replicate threads None) }
     {
@@ -90,7 +90,8 @@ impl Shares {
     /// Puts a share at its thread's place.
     ///
     /// # Errors
-    /// The share itself, exactly where that place is filled or not there. The places are as they were then.
+    /// The share itself, exactly where that place is filled or not there. The places are as they
+    /// were then.
     pub fn put(&mut self, share: Share) -> Result<(), Share>
         ensures ok { IsOk result ↔ (slice_get self.old share.thread.0 ≡ Some None) }
         ensures placed { OnOk result (self.new ≡ slice_set self.old share.thread.0 (Some share)) }

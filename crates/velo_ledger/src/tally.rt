@@ -3,7 +3,7 @@ ghost use Rattle.velo_events.specs.declared.limits.TheConstants.{MAX_EVENTS};
 
 use velo_events::{Event, Kind};
 
-/// What the events of one thread come to.
+/// Counts and sums over the events of one thread.
 #[derive(Clone, Copy, Debug, PartialEq, Eq)]
 pub struct Tally {
     /// How many events there are.
@@ -34,8 +34,8 @@ impl Tally {
         }
     }
 
-    /// The tally with one event more. It is made anew and then written to row and share: copying one to the other would
-    /// stall on store forwarding.
+    /// The tally with one event more. It is made anew and then written to row and share: copying
+    /// one to the other would stall on store forwarding.
     #[inline]
     pub(crate) fn with(&self, position: u64, event: &Event) -> Tally
         requires small { IsSmall self.now }

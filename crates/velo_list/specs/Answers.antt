@@ -1,5 +1,5 @@
--- What the steps of the reader answer. Private contracts cite these words, and `entry`, `entries` and
--- `numbers`.
+-- What the steps of the reader return. Private contracts cite these words, and `entry`, `entries`
+-- and `numbers`.
 use Rattle.std.specs.Prelude.{◌≡◌, ℕ, Bool, List, map, Result, Ok, Err}
 use Rattle.velo_events.specs.Refusals.{GrowthRefused}
 use Rattle.velo_events.specs.declared.event.Label.{Label}
@@ -25,7 +25,7 @@ entries found = map entry found
 abbrev pub numbers : List Label → List ℕ
 numbers labels = map (λ (l : Label). l.0) labels
 
--- the answer is what was to come, with what is there then, unless a growth was refused
+-- the result is the expected one, with what is there then, unless an allocation failed
 abbrev pub AnswersAs : {X : Type 0} → Result X ListFault → X → Result (Unit {0}) ListFault → Type 0
 AnswersAs meaning after (Ok _) = meaning ≡ Ok after
 AnswersAs meaning after (Err Memory) = GrowthRefused

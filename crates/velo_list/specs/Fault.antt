@@ -1,5 +1,5 @@
--- How a fault is told. The numbers are those of a file of names, of which a list has no second: a label
--- may be said again.
+-- The number of a fault. The numbers are those of a file of names, of which a list has no second: a
+-- label may be said again.
 use Rattle.std.specs.Prelude.{ℕ, ◌+◌, Option, Some, None}
 use Rattle.velo_names.specs.declared.limits.TheConstants.{MAX_NAME_LINES}
 use Rattle.velo_list.specs.declared.fault.ListFault.{ListFault}

@@ -13,14 +13,15 @@ abbrev pub labels_by : NameLists → ℕ → List ℕ → List ℕ
 labels_by names n name =
     if length (numbers_of names Label name) == 0 then n ∷ [] else numbers_of names Label name
 
--- the same where the number has no name; and where it has one, it is the number if that is this name
+-- the same where the number has no name; and where it has one, it is the number if that is this
+-- name
 abbrev pub labels_if : NameLists → ℕ → List ℕ → Option (List ℕ) → List ℕ
 labels_if names n name None = labels_by names n name
 labels_if names n name (Some its_name) =
     if bytes_eq name its_name then n ∷ [] else numbers_of names Label name
 
--- What a label means that was told by its number and its name: this label, while the names say so or
--- know of neither; else it is known by its name, whatever numbers that has now.
+-- What a line of an audit with a label's number and name means: this label, while the names say so
+-- or know of neither; else it is known by its name, whatever numbers that has now.
 abbrev pub labels_told : NameLists → ℕ → List ℕ → List ℕ
 labels_told names n name = labels_if names n name (name_of names Label n)
 

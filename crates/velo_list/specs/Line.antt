@@ -1,5 +1,5 @@
--- What a line of a list of known labels says. The lines that an audit writes are such lines, so that its
--- text is a list.
+-- What a line of a list of known labels says. The lines that an audit writes are such lines, so
+-- that its text is a list.
 use Rattle.std.specs.Prelude.{ℕ, ◌-◌, ◌^◌, ◌==◌, ◌||◌, Bool, true, false, List, [], ◌∷◌, codes, Option, Some, None, option_map, if◌then◌else◌}
 use Rattle.std.specs.Option.{option_map_or}
 use Rattle.std.specs.Str.{bytes_eq}
@@ -16,7 +16,7 @@ pub data Entry : Type 0 where
   Number : ℕ → Entry
   -- the labels of this name
   Name : List ℕ → Entry
-  -- a label that an audit told by its number and its name
+  -- a label that an audit printed with its name
   Told : ℕ → List ℕ → Entry
 
 -- ---- what says nothing
@@ -37,9 +37,9 @@ abbrev pub is_count : List ℕ → Bool
 is_count line =
     is_counted (codes "atomic ") (codes " labels") line || is_counted (codes "rounds ") [] line
 
--- ---- what an audit tells
+-- ---- what an audit prints
 
--- behind a number there is nothing, or a space and a name
+-- after a number there is nothing, or a space and a name
 abbrev pub named_at : ℕ → List ℕ → Option Entry
 named_at n [] = Some (Number n)
 named_at n (b ∷ bs) =

@@ -1,4 +1,4 @@
--- The entries that stand in the bytes of a list.
+-- The entries in the bytes of a list.
 use Rattle.std.specs.Prelude.{◌≡◌, ℕ, ◌+◌, ◌<◌, ◌≤◌, nat_lt, List, [], ◌∷◌, ◌++◌, length, Result, Ok, Err, if◌then◌else◌}
 use Rattle.std.specs.Option.{option_map_or}
 use Rattle.std.specs.Str.{IsUtf8}
@@ -23,7 +23,7 @@ abbrev pub and_then : Result (List Entry) ListFault → (List Entry → Result (
 and_then (Ok entries) f = f entries
 and_then (Err fault) f = Err fault
 
--- the entries after these lines, which come after so many, or the fault of the first that has one
+-- the entries after these lines, which come after n others, or the fault of the first that has one
 abbrev pub entries_from : List Entry → ℕ → List (List ℕ) → Result (List Entry) ListFault
 entries_from entries n [] = Ok entries
 entries_from entries n (line ∷ others) =
@@ -33,10 +33,10 @@ entries_from entries n (line ∷ others) =
 abbrev pub entries_in_text : List ℕ → Result (List Entry) ListFault
 entries_in_text text = entries_from [] 0 (lines text)
 
--- ---- what stands in the bytes of a file
+-- ---- what the bytes of a file say
 
--- What is wrong with the whole file comes before what is wrong with a line. Want of memory stands in
--- none.
+-- What is wrong with the whole file comes before what is wrong with a line. No bytes say that
+-- memory ran out.
 abbrev pub Stands : List ℕ → Result (List Entry) ListFault → Type 0
 Stands bytes (Err TooManyBytes) = MAX_NAMES_BYTES < length bytes
 Stands bytes (Err NotText) = (length bytes ≤ MAX_NAMES_BYTES) × (¬ IsUtf8 bytes)
@@ -45,7 +45,7 @@ Stands bytes (Err (BadLine n)) = IsText bytes × (entries_in_text bytes ≡ Err 
 Stands bytes (Err TooManyLines) = IsText bytes × (entries_in_text bytes ≡ Err TooManyLines)
 Stands bytes (Ok entries) = IsText bytes × (entries_in_text bytes ≡ Ok entries)
 
--- why a reader of the bytes answers none: their fault, or a growth was refused
+-- why a reader of the bytes returns none: their fault, or an allocation failed
 abbrev pub HasFault : List ℕ → ListFault → Type 0
 HasFault bytes Memory = GrowthRefused
 HasFault bytes fault = Stands bytes (Err fault)

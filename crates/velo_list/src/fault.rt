@@ -12,7 +12,7 @@ pub enum ListFault {
     /// This line is no entry.
     #[error("bad line {0}")]
     BadLine(usize),
-    /// There is a line behind the last one that a file may have, the one with the number
+    /// There is a line after the last one that a file may have, the one with the number
     /// [`MAX_NAME_LINES`](velo_names::MAX_NAME_LINES).
     #[error("too many lines")]
     TooManyLines,
@@ -22,13 +22,14 @@ pub enum ListFault {
     /// The bytes are not UTF-8.
     #[error("not UTF-8")]
     NotText,
-    /// A growth was refused in this call.
+    /// An allocation failed in this call.
     #[error("out of memory")]
     Memory,
 }
 
 impl ListFault {
-    /// The number of the fault, as of a file of names; `None` for want of memory, which is no fault of the file.
+    /// The number of the fault, as of a file of names; `None` for `Memory`, which is no fault of
+    /// the file.
     pub fn number(&self) -> Option<u8>
         ensures { result ≡ fault_number self.now }
     {

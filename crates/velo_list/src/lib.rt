@@ -1,4 +1,5 @@
-//! Lists of labels that are known already: the text of such a list, and the labels that it means by names.
+//! Lists of labels that are known already: the text of such a list, and the labels that it means by
+//! names.
 #![tactic(auto)]
 
 mod fault;

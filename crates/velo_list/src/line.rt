@@ -15,7 +15,7 @@ pub enum Entry<'a> {
     Number(u32),
     /// The labels of this name are known.
     Name(&'a [u8]),
-    /// A label is known that an audit told by its number and its name.
+    /// A label that an audit printed with its name.
     Told(u32, &'a [u8]),
 }
 
@@ -49,7 +49,7 @@ fn is_count(line: &[u8]) -> bool
     is_counted(b"atomic ", b" labels", line) || is_counted(b"rounds ", b"", line)
 }
 
-/// What a label is told by: its number, and the name behind it if there is one.
+/// A label by its number, and by the name after it if there is one.
 fn named(number: u32, rest: &[u8]) -> Option<Entry<'_>>
     ensures { option_map entry result ≡ named_at number rest.now }
 {
@@ -63,7 +63,7 @@ fn named(number: u32, rest: &[u8]) -> Option<Entry<'_>>
     Some(Entry::Told(number, name))
 }
 
-/// What stands behind the words of something that an audit tells.
+/// What follows the first words of a line that an audit prints.
 fn told(kind: NameKind, bytes: &[u8]) -> Option<Entry<'_>>
     ensures { option_map entry result ≡ told_at kind bytes.now }
 {
@@ -71,7 +71,7 @@ fn told(kind: NameKind, bytes: &[u8]) -> Option<Entry<'_>>
     named(number as u32, rest)
 }
 
-/// What stands behind the words of a lock or a variable that was left out.
+/// What follows the first words of the line of a lock or a variable that was left out.
 fn other(kind: NameKind, bytes: &[u8]) -> Option<Entry<'_>>
     ensures { option_map entry result ≡ other_at kind bytes.now }
 {

@@ -45,10 +45,11 @@ fn take_lines<'a>(found: &mut Vec<Entry<'a>>, text: &'a [u8]) -> Result<(), List
     Ok(())
 }
 
-/// The entries that stand in the bytes of a list, one for each line.
+/// Reads the entries in the bytes of a list, one for each line.
 ///
 /// # Errors
-/// `TooManyBytes`, and else `NotText`, and else the fault of the first line that has one. `Memory` where a growth was refused.
+/// `TooManyBytes`, and else `NotText`, and else the fault of the first line that has one. `Memory`
+/// if an allocation failed.
 pub fn parse_list(alloc: Global, bytes: &[u8]) -> Result<Vec<Entry<'_>>, ListFault>
     ensures found { IfOk result (λ found. Stands bytes.now (Ok (entries found.items))) }
     ensures fault { IfErr result (HasFault bytes.now) }

@@ -31,7 +31,7 @@ fn labels_by(alloc: Global, names: &Names, number: u32, name: &[u8]) -> Result<V
     Ok(labels)
 }
 
-/// The labels that an audit told by this number and this name.
+/// The labels that a line of an audit with this number and this name means.
 fn labels_told(alloc: Global, names: &Names, number: u32, name: &[u8]) -> Result<Vec<u32>, Memory>
     ensures { IfOk result (λ labels. labels.items ≡ labels_told names.now number name.now) }
 {
@@ -88,7 +88,7 @@ fn add_all(labels: &mut Vec<Label>, seen: &mut LeftOut, found: &[u32]) -> Result
 /// The labels that the entries mean by these names, each once.
 ///
 /// # Errors
-/// `Memory` where a growth was refused.
+/// `Memory` if an allocation failed.
 pub fn known_labels(alloc: Global, names: &Names, found: &[Entry]) -> Result<Vec<Label>, Memory>
     ensures { IfOk result (λ labels. numbers labels.items
         ≡ labels_known names.now (entries found.now)) }

@@ -68,7 +68,7 @@ fn judge_order(rt: &impl Abort, alloc: Global, trace: &Trace, known: &Known) -> 
     Ok(())
 }
 
-/// Compares the cycles at the last position, at those without one, and behind the last.
+/// Compares the cycles at the last position, at those without one, and after the last.
 fn judge_cycles(rt: &impl Abort, alloc: Global, trace: &Trace, known: &Known) -> Result<(), Fail> {
     if !known.serial {
         match cycle_of(alloc, trace, trace.len().saturating_sub(1)) {
@@ -174,8 +174,8 @@ fn logs_that_share_a_lock(rt: HostRuntime) -> Result<(), Fail> {
     judge_all(&rt, rt.alloc(), &[two_sharers, shared_twice])
 }
 
-/// Two ways lead from the second transaction back to the first, and the one that is found first goes through the later
-/// block.
+/// Two ways lead from the second transaction back to the first, and the one that is found first
+/// goes through the later block.
 fn two_ways_back() -> [Event; 16] {
     [
         begin(0, 1),
@@ -197,7 +197,8 @@ fn two_ways_back() -> [Event; 16] {
     ]
 }
 
-/// Two blocks follow the first, and the earlier of them leads back to it through the later of two others.
+/// Two blocks follow the first, and the earlier of them leads back to it through the later of two
+/// others.
 fn two_ways_there() -> [Event; 16] {
     [
         begin(0, 1),

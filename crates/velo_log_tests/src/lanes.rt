@@ -7,8 +7,8 @@ use velo_explain::{evidence_of, explain_named, picture_named};
 use velo_names::Names;
 use velo_traces::Block;
 
-/// A log with names and its alarm, the first lines of what is to be written, and whether they are those of the picture for
-/// Graphviz.
+/// A log with names and its alarm, the first lines of what is to be written, and whether they are
+/// those of the picture for Graphviz.
 #[derive(Clone, Copy)]
 struct Known<'a> {
     names: &'a str,
@@ -43,7 +43,8 @@ fn compare(rt: &impl Abort, alloc: Global, known: &Known) -> Result<(), Fail> {
     Ok(())
 }
 
-/// Three transactions. The names are cut before a character of two bytes, and behind one; one just fits.
+/// Three transactions. The names are cut before a character of two bytes, and after one; one just
+/// fits.
 fn three_lanes(rt: &impl Abort, alloc: Global) -> Result<(), Fail> {
     let known = Known {
         names: "\
@@ -90,7 +91,7 @@ Line 13 `0 rd 2 1` exactly fifteen closes a cycle of 3 transactions:
     compare(rt, alloc, &known)
 }
 
-/// The event that parts the block is not on the cycle. Two events of thread 1 stand side by side.
+/// The event that parts the block is not on the cycle. Two events of thread 1 are side by side.
 fn witness_beside_the_cycle(rt: &impl Abort, alloc: Global) -> Result<(), Fail> {
     let known = Known {
         names: "lock 0 table\n",
@@ -126,7 +127,8 @@ Line 11 `0 acq 0` table closes a cycle of 2 transactions:
     compare(rt, alloc, &known)
 }
 
-/// Six transactions of six threads, with lines between any two events of the cycle: a screen is full, and no begin is shown.
+/// Six transactions of six threads, with lines between any two events of the cycle: a screen is
+/// full, and no begin is shown.
 fn six_lanes(rt: &impl Abort, alloc: Global) -> Result<(), Fail> {
     let known = Known {
         names: "thread 0 main\nvariable 0 total\nvariable 5 abc\n",

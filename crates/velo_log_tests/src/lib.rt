@@ -1,5 +1,5 @@
-//! Tests of `velo_events`, `velo_traces`, `velo_logtext`, `velo_heap`, `velo_certify`, `velo_explain`, `velo_ledger` and
-//! `velo_workload`, through their public calls.
+//! Tests of `velo_events`, `velo_traces`, `velo_logtext`, `velo_heap`, `velo_certify`,
+//! `velo_explain`, `velo_ledger` and `velo_workload`, through their public calls.
 #![tactic(auto)]
 
 #[cfg(test)]

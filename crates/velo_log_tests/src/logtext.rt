@@ -17,7 +17,8 @@ fn fault_of(alloc: Global, text: &[u8]) -> Option<LogFault> {
     read_log(alloc, &mut Bytes::new(text)).err()
 }
 
-/// Logs in which no lock is shared: as in the worked examples, and each kind of line at the ends of its numbers' ranges.
+/// Logs in which no lock is shared: as in the worked examples, and each kind of line at the ends of
+/// its numbers' ranges.
 const LOGS: [&str; 14] = [
     "vlog 2 1 0 0\n",
     "vlog 2 2 1 0\n0 fork 1\n0 begin 7\n0 rd 0 0\n1 wr 0 5\n0 wr 0 1\n",
@@ -201,7 +202,7 @@ const LATER_LINES: [Case; 40] = [
     ),
 ];
 
-/// How many events stand behind the header, what stands behind them, and the fault.
+/// How many events come after the header, what comes after them, and the fault.
 const AT_THE_LIMIT: [(usize, &str, Option<LogFault>); 4] = [
     (16_777_216, "", None),
     (16_777_216, "0", Some(LogFault::TooLong)),
@@ -231,7 +232,7 @@ fn first_other(alloc: Global, cases: &[Case]) -> Option<usize> {
     None
 }
 
-/// A text of a header, so many events, and what stands behind them.
+/// A text of a header, `count` events, and what comes after them.
 fn text_of_ends(alloc: Global, count: usize, rest: &str) -> Result<Vec<u8>, Fail> {
     let mut text = Vec::new(alloc);
     text.extend_from_slice(b"vlog 1 1 0 0\n")?;
@@ -278,14 +279,15 @@ fn beginnings(rt: HostRuntime) {
     }
 }
 
-/// Reads from a source that fails after so many bytes, and once more.
+/// Reads from a source that fails after `count` bytes, and once more.
 fn read_failing(alloc: Global, log: &[u8], count: usize) -> (Option<LogFault>, bool) {
     let mut source = Bytes::new(log).failing_after(count);
     let fault = read_log(alloc, &mut source).err();
     (fault, source.read(&mut [0; 4]).is_err())
 }
 
-/// Reads a log, and writes it to a sink that fails after so many bytes: whether that is told, and what went out.
+/// Reads a log, and writes it to a sink that fails after `count` bytes: whether that is reported,
+/// and what was written.
 fn written_failing(alloc: Global, log: &[u8], count: usize) -> Result<(bool, Text), Fail> {
     let (bounds, trace) = read_log(alloc, &mut Bytes::new(log))?;
     let mut sink = Text::new(alloc).in_steps(7).failing_after(count);
@@ -352,7 +354,7 @@ fn works_after(first: First) -> WorksLater {
     }
 }
 
-/// Each failure is told at the call that met it, and nothing is tried again.
+/// Each failure is reported at the call that met it, and nothing is tried again.
 #[test]
 fn nothing_is_tried_again(rt: HostRuntime) {
     let faults = [
@@ -412,7 +414,7 @@ fn ten_thousand_events(alloc: Global) -> Result<Trace, Fail> {
     Ok(trace)
 }
 
-/// Writes a log, and tells how long its text is and what is read from that.
+/// Writes a log, and returns how long its text is and what is read from it.
 fn read_back(alloc: Global, bounds: Bounds, trace: &Trace) -> Result<(usize, Bounds, Trace), Fail>
     requires bounds { AreBounds bounds }
     requires few { length trace.now.events ≤ MAX_EVENTS }
@@ -439,8 +441,8 @@ fn ten_thousand_lines(rt: HostRuntime) -> Result<(), Fail> {
     Ok(())
 }
 
-/// Reads by a reader, and writes by a writer with room and by one without: what the first was given, whether the second
-/// failed, and how often.
+/// Reads by a reader, and writes by a writer with room and by one without: what the first was
+/// given, whether the second failed, and how often.
 fn read_and_write(alloc: Global, log: &[u8]) -> Result<(Vec<u8>, bool, u64), Fail> {
     let (bounds, trace) = read_log(alloc, &mut ReaderSource::new(Cursor::new(log)))?;
     let mut space = [0u8; 4];

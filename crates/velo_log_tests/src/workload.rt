@@ -119,7 +119,7 @@ fn fault_of(alloc: Global, text: &str) -> Option<WorkFault> {
     parse(alloc, text).err()
 }
 
-/// The fault of the text in which each piece stands so many times.
+/// The fault of the text that repeats each piece as often as its number says.
 fn fault_of_pieces(rt: &impl Abort, alloc: Global, pieces: &[(usize, &str)]) -> Option<WorkFault> {
     let mut text = String::new(alloc);
     for (count, piece) in pieces {
@@ -132,7 +132,7 @@ fn fault_of_pieces(rt: &impl Abort, alloc: Global, pieces: &[(usize, &str)]) -> 
     fault
 }
 
-/// So many declarations by this word, what stands behind them, and the fault.
+/// A number of declarations by this word, what comes after them, and the fault.
 struct Declarations {
     word: &'static str,
     count: usize,
@@ -179,7 +179,7 @@ static DECLARATIONS: [Declarations; 6] = [
     },
 ];
 
-/// The fault of a text with so many declarations.
+/// The fault of a text with these declarations.
 fn fault_of_declarations(
     rt: &impl Abort,
     alloc: Global,

@@ -35,7 +35,7 @@ IsOfText _ = Unit {0}
 -- what taking does to the reader: only the line of an event changes it, the end is told only where the source has told it, and
 -- more bytes are wanted only where no line is whole
 abbrev pub Takes : ReaderState → Result Front LogFault → ReaderState → Type 0
-Takes old (Ok (Line e)) new = new.bounds ≡ old.bounds
+Takes old (Ok (Line e)) new = (new.bounds ≡ old.bounds) × (new.shares ≡ old.shares)
 Takes old (Ok End) new = (new ≡ old) × (old.ended ≡ true)
 Takes old (Ok Open) new = (new ≡ old) × (old.ended ≡ false) × (is_whole old.held ≡ false)
 Takes old (Err fault) new = (new ≡ old) × IsOfText fault × IsMetBehind old.given fault

@@ -166,6 +166,13 @@ impl LogReader {
         self.bounds
     }
 
+    /// Counts the events from here on anew, and with them the lines: the next one is line 2, as behind a header.
+    pub fn count_anew(&mut self)
+        ensures { self.new ≡ record self.old { given = 0 } }
+    {
+        self.given = 0;
+    }
+
     /// The next event, or none at the end of the log. Nothing is read from the source while a whole line is at hand.
     ///
     /// # Errors
@@ -180,6 +187,7 @@ impl LogReader {
             → result ≡ Ok None
             → IsAtEnd (S.remaining source.new) }
         ensures bounds { self.new.bounds ≡ self.old.bounds }
+        ensures version { self.new.shares ≡ self.old.shares }
         ensures unread { HasWholeLine self.old.held → source.new ≡ source.old }
         ensures failures { S.failures source.new ≡ failures_after result (S.failures source.old) }
         ensures place { IfErr result (IsMetBehind self.old.given) }

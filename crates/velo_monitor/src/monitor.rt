@@ -207,6 +207,7 @@ impl Monitor {
 }
 
 /// Where an event outside blocks goes by the merge rule: the step that stands for it, if any does.
+#[inline(always)]
 fn place_operation(graph: &mut Graph<BitRow>, steps: &[Step], position: u32) -> Option<Step>
     requires stamp { ForSome graph.old.slots.newest (λ newest. newest < position) }
     requires slot { GetsNew graph.old (live_stamps graph.old steps.now) → used_in graph.old.slots < limit_of graph.old.slots }
@@ -225,6 +226,7 @@ fn place_operation(graph: &mut Graph<BitRow>, steps: &[Step], position: u32) -> 
 }
 
 /// Where an event outside blocks goes after the one step, the other, both or none.
+#[inline(always)]
 fn place_after_both(
     graph: &mut Graph<BitRow>,
     own: Option<Step>,

@@ -1,4 +1,4 @@
--- What the steps of the reader answer. Private contracts cite these words.
+-- What the steps of the reader return. Private contracts cite these words.
 use Rattle.std.specs.Prelude.{◌≡◌, ℕ, List, map, Result, Ok, Err}
 use denote.Ref.{Bor}
 use Rattle.indexmap.specs.IndexMap.{IndexMap}
@@ -14,7 +14,7 @@ entry_of e = (e.0, e.1.now)
 abbrev pub list_in : {S : Type 0} → IndexMap ℕ (Bor (List ℕ)) S → NameList
 list_in m = map entry_of m.entries
 
--- the answer is what was to come, with what is there then, unless a growth was refused
+-- the result is the expected one, with what is there then, unless an allocation failed
 abbrev pub AnswersAs : {X : Type 0} → Result X NamesFault → X → Result (Unit {0}) NamesFault → Type 0
 AnswersAs meaning after (Ok _) = meaning ≡ Ok after
 AnswersAs meaning after (Err Memory) = GrowthRefused

@@ -1,4 +1,4 @@
--- How a fault is told.
+-- The number of a fault.
 use Rattle.std.specs.Prelude.{ℕ, ◌+◌, Option, Some, None}
 use Rattle.velo_names.specs.declared.limits.TheConstants.{MAX_NAME_LINES}
 use Rattle.velo_names.specs.declared.fault.NamesFault.{NamesFault}

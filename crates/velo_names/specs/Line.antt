@@ -28,11 +28,12 @@ greatest Variable = 65535
 greatest Lock = 65535
 greatest Label = 4294967295
 
--- A control character of ASCII, or the second byte of one of U+0080 to U+009F, by the byte before it
+-- A control character of ASCII, or the second byte of one of U+0080 to U+009F, by the byte before
+-- it
 abbrev pub is_control : ℕ → ℕ → Bool
 is_control before b = nat_lt b 32 || (b == 127 || (before == 194 && (nat_le 128 b && nat_lt b 160)))
 
--- there is one in the bytes behind that byte
+-- there is one in the bytes after that byte
 abbrev pub has_control : ℕ → List ℕ → Bool
 has_control before [] = false
 has_control before (b ∷ bs) = is_control before b || has_control b bs
@@ -62,7 +63,7 @@ is_silent (b ∷ bs) = b == 35
 abbrev pub naming_text : Naming → List ℕ
 naming_text x = kind_text x.kind ++ (codes " " ++ (decimal x.number ++ (codes " " ++ x.name)))
 
--- what a line says behind its kind
+-- what a line says after its kind
 abbrev pub name_at : NameKind → ℕ → List ℕ → Option Naming
 name_at kind n bytes = if is_name bytes then Some (record { kind = kind; number = n; name = bytes }) else None
 

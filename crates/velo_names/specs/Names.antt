@@ -54,7 +54,8 @@ numbers_in list name = map (λ e. e.0) (filter (λ e. bytes_eq name e.1) list)
 abbrev pub numbers_of : NameLists → NameKind → List ℕ → List ℕ
 numbers_of names kind name = numbers_in (list_of kind names) name
 
--- What an argument means: digits alone are a number, which has to be one of the kind; all else is a name
+-- What an argument means: digits alone are a number, which has to be one of the kind; all else is a
+-- name
 abbrev pub meant_by : NameLists → NameKind → List ℕ → List ℕ
 meant_by names kind argument = if is_number argument then option_to_list (number_of_kind kind argument) else numbers_of names kind argument
 
@@ -82,7 +83,7 @@ abbrev pub and_then : Result NameLists NamesFault → (NameLists → Result Name
 and_then (Ok names) f = f names
 and_then (Err fault) f = Err fault
 
--- the names after these lines, which come after so many, or the fault of the first that has one
+-- the names after these lines, which come after n others, or the fault of the first that has one
 abbrev pub names_from : NameLists → ℕ → List (List ℕ) → Result NameLists NamesFault
 names_from names n [] = Ok names
 names_from names n (line ∷ others) = and_then (names_after names (n + 1) line) (λ more. names_from more (n + 1) others)
@@ -91,14 +92,15 @@ names_from names n (line ∷ others) = and_then (names_after names (n + 1) line)
 abbrev pub names_in_text : List ℕ → Result NameLists NamesFault
 names_in_text text = names_from no_names 0 (lines text)
 
--- ---- what stands in the bytes of a file
+-- ---- what the bytes of a file say
 
 -- so few bytes, which are text
 pub record IsText (bytes : List ℕ) : Type 0 where
   pub few : length bytes ≤ MAX_NAMES_BYTES
   pub utf8 : IsUtf8 bytes
 
--- What is wrong with the whole file comes before what is wrong with a line. Want of memory stands in none.
+-- What is wrong with the whole file comes before what is wrong with a line. No bytes say that
+-- memory ran out.
 abbrev pub Stands : List ℕ → Result NameLists NamesFault → Type 0
 Stands bytes (Err TooManyBytes) = MAX_NAMES_BYTES < length bytes
 Stands bytes (Err NotText) = (length bytes ≤ MAX_NAMES_BYTES) × (¬ IsUtf8 bytes)
@@ -108,7 +110,7 @@ Stands bytes (Err (NamedTwice n)) = IsText bytes × (names_in_text bytes ≡ Err
 Stands bytes (Err TooManyLines) = IsText bytes × (names_in_text bytes ≡ Err TooManyLines)
 Stands bytes (Ok names) = IsText bytes × (names_in_text bytes ≡ Ok names)
 
--- what a reader of the bytes answers: what stands in them, unless a growth was refused
+-- what a reader of the bytes returns: what they say, unless an allocation failed
 abbrev pub ReadsAs : List ℕ → Result NameLists NamesFault → Type 0
 ReadsAs bytes (Err Memory) = GrowthRefused
 ReadsAs bytes (Ok names) = Stands bytes (Ok names)

@@ -14,7 +14,7 @@ pub enum NamesFault {
     /// This line names what a line before it names.
     #[error("named twice in line {0}")]
     NamedTwice(usize),
-    /// There is a line behind the last one that a file may have, the one with the number
+    /// There is a line after the last one that a file may have, the one with the number
     /// [`MAX_NAME_LINES`](crate::MAX_NAME_LINES).
     #[error("too many lines")]
     TooManyLines,
@@ -24,13 +24,13 @@ pub enum NamesFault {
     /// The bytes are not UTF-8.
     #[error("not UTF-8")]
     NotText,
-    /// A growth was refused in this call.
+    /// An allocation failed in this call.
     #[error("out of memory")]
     Memory,
 }
 
 impl NamesFault {
-    /// The number of the fault; `None` for want of memory, which is no fault of the file.
+    /// The number of the fault; `None` for `Memory`, which is no fault of the file.
     pub fn number(&self) -> Option<u8>
         ensures { result ≡ fault_number self.now }
     {

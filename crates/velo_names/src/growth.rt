@@ -1,4 +1,5 @@
-//! A growing call of `indexmap`, with the fact that its refusal leaves. No other code of this crate can show this fact.
+//! A growing call of `indexmap`, with the fact that its refusal leaves. No other code of this crate
+//! can show this fact.
 ghost use Rattle.std.specs.Prelude.{◌≡◌, ◌++◌, ◌∷◌, [], None, OnOk};
 ghost use Rattle.velo_names.specs.Answers.{list_in};
 ghost use Rattle.velo_names.specs.Names.{name_in};
@@ -6,10 +7,10 @@ ghost use Rattle.velo_names.specs.Names.{name_in};
 use indexmap::IndexMap;
 use velo_events::Memory;
 
-/// Puts the name of a number that has none behind the others.
+/// Appends the name of a number that has none.
 ///
 /// # Errors
-/// `Memory` where a growth was refused.
+/// `Memory` if an allocation failed.
 pub fn insert<'a>(
     names: &mut IndexMap<u32, &'a [u8]>,
     number: u32,

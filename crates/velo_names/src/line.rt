@@ -27,8 +27,8 @@ fn is_control(before: u8, byte: u8) -> bool
     byte < 32 || byte == 127 || (before == 194 && 128 <= byte && byte < 160)
 }
 
-/// Whether a control character stands there.
-fn has_control(bytes: &[u8]) -> bool
+/// Whether the bytes have a control character, of ASCII or of U+0080 to U+009F.
+pub fn has_control(bytes: &[u8]) -> bool
     ensures { result ≡ has_control 0 bytes.now }
 {
     let mut before = 0;
@@ -48,7 +48,7 @@ pub fn is_name(bytes: &[u8]) -> bool
     !bytes.is_empty() && bytes.len() <= MAX_NAME_BYTES && !has_control(bytes)
 }
 
-/// What a line says behind its kind.
+/// What a line says after its kind.
 fn number_and_name(kind: NameKind, bytes: &[u8]) -> Option<Said<'_>>
     ensures { option_map said result ≡ number_and_name_at kind bytes.now }
 {
@@ -89,7 +89,7 @@ pub fn is_silent(line: &[u8]) -> bool
     }
 }
 
-/// Where the first newline stands, or the length.
+/// The index of the first newline, or the length.
 fn line_end(bytes: &[u8]) -> usize
     ensures value { result ≡ position_or_len (λ b. b == 10) bytes.now }
     ensures within { result ≤ length bytes.now }

@@ -136,11 +136,11 @@ impl<'a> Names<'a> {
         Ok(())
     }
 
-    /// The names that stand in the bytes of a file.
+    /// Reads the names in the bytes of a file.
     ///
     /// # Errors
-    /// `TooManyBytes`, and else `NotText`, and else the fault of the first line that has one. `Memory` where a growth
-    /// was refused.
+    /// `TooManyBytes`, and else `NotText`, and else the fault of the first line that has one.
+    /// `Memory` if an allocation failed.
     pub fn parse(alloc: Global, bytes: &'a [u8]) -> Result<Names<'a>, NamesFault>
         ensures { ReadsAs bytes.now result }
     {
@@ -175,7 +175,7 @@ impl<'a> Names<'a> {
     /// The numbers of a name, in the order of their lines.
     ///
     /// # Errors
-    /// `Memory` where a growth was refused.
+    /// `Memory` if an allocation failed.
     pub fn numbers_of(&self, alloc: Global, kind: NameKind, name: &[u8]) -> Result<Vec<u32>, Memory>
         ensures { IfOk result (λ numbers. numbers.items ≡ numbers_of self.now kind name.now) }
     {
@@ -187,11 +187,12 @@ impl<'a> Names<'a> {
         }
     }
 
-    /// The numbers that an argument means: a number, if the argument is digits alone, and else those of which it is the name.
-    /// Digits with a leading zero, or beyond the ids of the kind, mean none.
+    /// The numbers that an argument means: a number, if the argument is digits alone, and else
+    /// those of which it is the name. Digits with a leading zero, or beyond the ids of the kind,
+    /// mean none.
     ///
     /// # Errors
-    /// `Memory` where a growth was refused.
+    /// `Memory` if an allocation failed.
     pub fn meant_by(
         &self,
         alloc: Global,

@@ -36,7 +36,7 @@ fn append_line(text: &mut Vec<u8>, kind: NameKind, number: u64, name: &[u8]) -> 
 /// Appends a line for each name of a kind, in the order of their numbers from 0 on.
 ///
 /// # Errors
-/// `Memory` where a growth was refused.
+/// `Memory` if an allocation failed.
 pub fn append_names(text: &mut Vec<u8>, kind: NameKind, names: &[String]) -> Result<(), Memory>
     ensures { OnOk result (text.new.items ≡ text.old.items ++ list_text kind (by_place (map string_bytes names.now))) }
 {

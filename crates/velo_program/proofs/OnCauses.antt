@@ -22,22 +22,22 @@ use Rattle.velo_names.specs.declared.fault.NamesFault.TheVariants as names_fault
 use Rattle.velo_names.specs.Names.{NameLists}
 use Rattle.velo_audit_text.specs.declared.words.Asked.{Asked}
 use Rattle.velo_report.specs.declared.names.Names.{Names}
-use Rattle.velo_program.specs.declared.check.CheckFault.{CheckFault}
-use Rattle.velo_program.specs.declared.check.CheckFault.TheVariants as check_fault
-use Rattle.velo_program.specs.declared.fate.Fate.{Fate}
-use Rattle.velo_program.specs.declared.fate.Fate.TheVariants as fate
-use Rattle.velo_program.specs.declared.request.AuditOptions.{AuditOptions}
-use Rattle.velo_program.specs.declared.request.ExploreOptions.{ExploreOptions}
-use Rattle.velo_program.specs.declared.request.Ignorable.{Ignorable}
-use Rattle.velo_program.specs.declared.request.Ignorable.TheVariants.{Lock, Variable}
+use Rattle.velo_fate.specs.declared.fault.CheckFault.{CheckFault}
+use Rattle.velo_fate.specs.declared.fault.CheckFault.TheVariants as check_fault
+use Rattle.velo_fate.specs.declared.fate.Fate.{Fate}
+use Rattle.velo_fate.specs.declared.fate.Fate.TheVariants as fate
+use Rattle.velo_request.specs.declared.request.AuditOptions.{AuditOptions}
+use Rattle.velo_request.specs.declared.request.ExploreOptions.{ExploreOptions}
+use Rattle.velo_request.specs.declared.request.Ignorable.{Ignorable}
+use Rattle.velo_request.specs.declared.request.Ignorable.TheVariants.{Lock, Variable}
 use Rattle.velo_delivery.specs.declared.failure.Operand.{Operand}
 use Rattle.velo_delivery.specs.declared.failure.Operand.TheVariants.{File, Log}
-use Rattle.velo_program.specs.declared.request.RunOptions.{RunOptions}
-use Rattle.velo_program.specs.declared.request.Request.{Request}
-use Rattle.velo_program.specs.declared.request.WatchOptions.{WatchOptions}
-use Rattle.velo_program.specs.declared.request.Request.TheVariants as request
-use Rattle.velo_program.specs.declared.request.ScheduleSource.{ScheduleSource}
-use Rattle.velo_program.specs.declared.request.ScheduleSource.TheVariants as source
+use Rattle.velo_request.specs.declared.request.RunOptions.{RunOptions}
+use Rattle.velo_request.specs.declared.request.Request.{Request}
+use Rattle.velo_request.specs.declared.request.WatchOptions.{WatchOptions}
+use Rattle.velo_request.specs.declared.request.Request.TheVariants as request
+use Rattle.velo_request.specs.declared.request.ScheduleSource.{ScheduleSource}
+use Rattle.velo_request.specs.declared.request.ScheduleSource.TheVariants as source
 use Rattle.velo_turns.specs.declared.schedule.ScheduleFault.{ScheduleFault}
 use Rattle.velo_turns.specs.declared.schedule.ScheduleFault.TheVariants as schedule_fault
 use Rattle.velo_worker.specs.declared.ending.Ending.{Ending}
@@ -46,26 +46,28 @@ use Rattle.velo_worker.specs.Causes.{RefusedByGrowth}
 use Rattle.velo_workload.specs.Program.{Program}
 use Rattle.velo_workload.specs.declared.fault.WorkFault.TheVariants as work_fault
 use Rattle.velo_world.specs.World.{WorldState}
-use Rattle.velo_program.specs.Causes.{AnswersWithCause, CheckByGrowth, ComesByRefusal, EndsByRefusal, Growths, GrowthsAndStarts, ListByGrowth, LogByGrowth, NamesByGrowth, Needs, ScheduleByGrowth}
-use Rattle.velo_program.specs.Auditing.{IsAuditAnswer}
-use Rattle.velo_program.specs.Carrying.{IsCarryAnswer, IsPut}
-use Rattle.velo_program.specs.Check.{IsCheckAnswer, IsFaultOfInput}
-use Rattle.velo_program.specs.Delivery.{Answer, DeliversBy, FailsSaving, IsDelivered, IsDeliveredInTurn, IsPrinted, LacksMemory, silent}
+use Rattle.velo_program.specs.Causes.{AnswersWithCause}
+use Rattle.velo_fate.specs.Causes.{CheckByGrowth, ComesByRefusal, EndsByRefusal, Growths, GrowthsAndStarts, ListByGrowth, LogByGrowth, NamesByGrowth, Needs, ScheduleByGrowth}
+use Rattle.velo_log_commands.specs.Auditing.{IsAuditAnswer}
+use Rattle.velo_log_commands.specs.Carrying.{IsCarryAnswer, IsPut}
+use Rattle.velo_log_commands.specs.Check.{IsCheckAnswer, IsFaultOfInput}
+use Rattle.velo_fate.specs.Delivery.{Answer, DeliversBy, FailsSaving, IsDelivered, IsDeliveredInTurn, IsPrinted, LacksMemory, silent}
 use Rattle.velo_delivery.specs.Disk.{Disk, Store, behind}
-use Rattle.velo_program.specs.Barred.{IsBarred, IsBarredRun}
-use Rattle.velo_program.specs.Explaining.{IsExplanation}
-use Rattle.velo_program.specs.Exploring.{IsExploreAnswer}
-use Rattle.velo_program.specs.Ignoring.{AsksInVain, MeanNothing}
-use Rattle.velo_program.specs.Format.{SaysNone}
-use Rattle.velo_program.specs.Listing.{HaveFaultOfList, LacksLabels, list_file}
-use Rattle.velo_program.specs.Naming.{HaveFaultOfNames, LacksNames, names_file}
-use Rattle.velo_program.specs.Playing.{ByThreads, ByTurns, IsPlayAnswer, IsRunOf, IsSaidOfRun, IsUnread, Play}
-use Rattle.velo_program.specs.Program.{Does, DoesPlay}
+use Rattle.velo_fate.specs.Barred.{IsBarred, IsBarredRun}
+use Rattle.velo_log_commands.specs.Explaining.{IsExplanation}
+use Rattle.velo_workload_commands.specs.Exploring.{IsExploreAnswer}
+use Rattle.velo_log_commands.specs.Ignoring.{AsksInVain, MeanNothing}
+use Rattle.velo_fate.specs.Format.{SaysNone}
+use Rattle.velo_log_commands.specs.Listing.{HaveFaultOfList, LacksLabels, list_file}
+use Rattle.velo_log_commands.specs.Naming.{HaveFaultOfNames, LacksNames, names_file}
+use Rattle.velo_workload_commands.specs.Playing.{ByThreads, ByTurns, IsPlayAnswer, IsRunOf, IsSaidOfRun, IsUnread, Play}
+use Rattle.velo_program.specs.Program.{Does}
+use Rattle.velo_workload_commands.specs.Commands.{DoesPlay}
 use Rattle.velo_turns.specs.Schedule.{IsFaultOfSchedule, IsFaultOfTurns}
-use Rattle.velo_program.specs.Scheduling.{HaveFaultOfSchedule, LacksSchedule, turns_file}
-use Rattle.velo_program.specs.Watching.{EndsBehind, IsFaultOfHeader, IsWatchAnswer, Watches}
+use Rattle.velo_workload_commands.specs.Scheduling.{HaveFaultOfSchedule, LacksSchedule, turns_file}
+use Rattle.velo_log_commands.specs.Watching.{EndsBehind, IsFaultOfHeader, IsWatchAnswer, Watches}
 use Rattle.velo_delivery.specs.Writing.{Writing}
-use Rattle.velo_program.proofs.OnFindings.{caused}
+use Rattle.velo_workload_commands.proofs.OnFindings.{caused}
 
 -- ---- by what it means no event is refused for want of memory
 

@@ -4,22 +4,15 @@ ghost use Rattle.velo_program.specs.Program.{Does};
 ghost use Rattle.velo_delivery.specs.Disk.{store};
 ghost use Rattle.velo_delivery.specs.Writing.{writing};
 
-use crate::auditing::audit_file;
-use crate::carrying::carry_file;
-use crate::check::check_file;
-use crate::explaining::explain_file;
-use crate::exploring::explore_file;
-use crate::fate::Fate;
-use crate::progress::ExploreProgress;
-use crate::replaying::replay_file;
-use crate::request::Request;
-use crate::running::run_file;
-use crate::watching::watch_file;
 use std::alloc::Global;
 use std::sync::Wait;
 use std::thread::Threads;
 use velo_bytes::Sink;
 use velo_delivery::Files;
+use velo_fate::Fate;
+use velo_log_commands::{audit_file, carry_file, check_file, explain_file, watch_file};
+use velo_request::Request;
+use velo_workload_commands::{ExploreProgress, explore_file, replay_file, run_file};
 
 /// Does what was asked for, with the report, the certificate or the words of an explanation on the sink, and returns what it
 /// came to. How far a search is goes to `progress`. A run of a workload by threads of its own may wait; the other commands start

@@ -29,7 +29,7 @@ use Rattle.velo_world.specs.Faults.{world_of, IsRefusedAt}
 use Rattle.velo_renew.specs.declared.renewal.NotRenewed.{NotRenewed}
 use Rattle.velo_renew.specs.declared.renewal.NotRenewed.TheVariants.{Alarm, BlockOpen, LogFull, Memory}
 use Rattle.velo_renew.specs.Opening.{IsReasonToRefuse}
-use Rattle.velo_renew.specs.Renewal.{Renews, IsReasonAgainst}
+use Rattle.velo_renew.specs.Renewal.{Renews, Restarts, StandsInTheWay, IsReasonAgainst}
 
 -- a thread that is not there has no block open
 module _ (bounds : Bounds) (t : ℕ) (out : bounds.threads ≤ t) where
@@ -103,19 +103,36 @@ pub if_err : {T E : Type 0} {P Q : E → Type 0} (r : Result T E) → ((x : E) �
 if_err (Ok x) f h = tt
 if_err (Err e) f h = f e h
 
-module _ (w : WorldState) (made : List Event) (well : IsWellFormed w.config.bounds w.log) (ended : NoBlockOpen w.log) (none : ¬ HasCycle w.log) (stands : IsPrologueOf w.config.bounds w.log made) (as_many : length made ≡ events_to_leave w.config.bounds w.log) where
-  pub renews : (w' : WorldState) → w' ≡ world_of w.config made → Renews w w'
-  renews w' is = subst (Renews w) (sym is) (record {
-    config = refl;
-    live = refl;
-    ended = ended;
-    no_cycle = none;
-    prologue = stands;
-    goes_on = λ after. fresh_law w.config.bounds w.log made after stands well ended none;
-  })
+-- the prologue that was made is that of a log which leaves the heap
+pub restarts : (bounds : Bounds) (log made : List Event) → NoBlockOpen log → IsPrologueOf bounds log made → length made ≡ events_to_leave bounds log → Restarts bounds log made
+restarts bounds log made ended stands as_many = record { ended = ended; prologue = stands; length = as_many }
 
-  pub reason_against : (reason : NotRenewed) → IsReasonToRefuse w.config made reason → IsReasonAgainst w reason
-  reason_against LogFull long = (none, ended, subst (λ n. w.config.events < n) as_many long)
+pub in_the_way : (config : Config) (log made : List Event) → Restarts config.bounds log made → (reason : NotRenewed) → IsReasonToRefuse config made reason → StandsInTheWay config log reason
+in_the_way config log made is LogFull long = (is.ended, subst (λ n. config.events < n) is.length long)
+in_the_way config log made is Memory refused = refused
+in_the_way config log made is Alarm never = absurd never
+in_the_way config log made is (BlockOpen thread) never = absurd never
+
+-- ---- the renewal of a world
+
+module _ (w : WorldState) (well : IsWellFormed w.config.bounds w.log) (none : ¬ HasCycle w.log) where
+  pub renews : (w' : WorldState) → w' ≡ world_of w.config w'.log → Restarts w.config.bounds w.log w'.log → Renews w w'
+  renews w' is h = record {
+    config = ap (λ (v : WorldState). v.config) is;
+    live = ap (λ (v : WorldState). v.halted) is;
+    ended = h.ended;
+    no_cycle = none;
+    prologue = h.prologue;
+    goes_on = λ after. fresh_law w.config.bounds w.log w'.log after h.prologue well h.ended none;
+  }
+
+  pub reason_against : (reason : NotRenewed) → StandsInTheWay w.config w.log reason → IsReasonAgainst w reason
+  reason_against LogFull h = (none, h)
   reason_against Memory refused = refused
   reason_against Alarm never = absurd never
-  reason_against (BlockOpen thread) never = absurd never
+  reason_against (BlockOpen thread) h = (none, h)
+
+-- both facts of one result
+pub if_ok_both : {T E : Type 0} {P Q R : T → Type 0} (r : Result T E) → ((x : T) → P x → Q x → R x) → IfOk r P → IfOk r Q → IfOk r R
+if_ok_both (Ok x) f h i = f x h i
+if_ok_both (Err e) f h i = tt

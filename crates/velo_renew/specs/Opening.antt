@@ -6,7 +6,7 @@ use Rattle.velo_events.specs.Refusals.{GrowthRefused}
 use Rattle.velo_renew.specs.declared.renewal.NotRenewed.{NotRenewed}
 use Rattle.velo_renew.specs.declared.renewal.NotRenewed.TheVariants.{LogFull, Memory}
 
--- it is too long, or a growth was refused
+-- it is too long, or an allocation failed
 abbrev pub IsReasonToRefuse : Config → List Event → NotRenewed → Type 0
 IsReasonToRefuse config made LogFull = config.events < length made
 IsReasonToRefuse config made Memory = GrowthRefused

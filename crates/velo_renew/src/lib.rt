@@ -1,4 +1,4 @@
-//! A run that goes on after a cut: behind a log that leaves what it has, in a world of its own.
+//! A run that goes on after a cut: after a log that leaves what it has, in a world of its own.
 #![tactic(auto)]
 
 mod renewal;
@@ -6,5 +6,5 @@ mod stages;
 #[cfg(test)]
 mod tests;
 
-pub use renewal::{NotRenewed, renew};
+pub use renewal::{NotRenewed, renew, restart};
 pub use stages::prologue;

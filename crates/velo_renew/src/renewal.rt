@@ -1,14 +1,15 @@
 //! A world in which a run goes on, in a log of its own.
-ghost use Rattle.std.specs.Prelude.{◌≡◌, ◌↔◌, false, IfOk, IfErr, IfSome, IfNone, IsTrue};
+ghost use Rattle.std.specs.Prelude.{◌≡◌, ◌↔◌, List, false, IfOk, IfErr, IfSome, IfNone, IsTrue};
+ghost use Rattle.velo_events.specs.declared.event.Event.{Event as EventOf};
 ghost use Rattle.velo_events.specs.Graph.{HasCycle};
 ghost use Rattle.velo_events.specs.WellFormed.{IsWellFormed};
-ghost use Rattle.velo_heap.specs.Contents.{bounds_of, ForItsTraces};
+ghost use Rattle.velo_heap.specs.Contents.{bounds_of, ForItsTraces, IsHeapOf};
 ghost use Rattle.velo_laws.specs.Cut.{NoBlockOpen};
 ghost use Rattle.velo_laws.specs.Restart.{HasNoBegin};
 ghost use Rattle.velo_world.specs.Faults.{world_of};
 ghost use Rattle.velo_world.specs.World.{CompletesShares, HoldsLiveShares};
 ghost use Rattle.velo_renew.specs.Opening.{IsReasonToRefuse};
-ghost use Rattle.velo_renew.specs.Renewal.{IsFirstOpen, IsReasonAgainst, Renews};
+ghost use Rattle.velo_renew.specs.Renewal.{IsFirstOpen, IsReasonAgainst, Renews, Restarts, StandsInTheWay};
 
 use crate::stages::prologue;
 use std::alloc::Global;
@@ -31,7 +32,7 @@ pub enum NotRenewed {
     /// What stands for the run has more events than its log may have.
     #[error("log full")]
     LogFull,
-    /// A growth was refused.
+    /// An allocation failed.
     #[error("out of memory")]
     Memory,
 }
@@ -47,16 +48,17 @@ impl From<Memory> for NotRenewed {
     }
 }
 
-/// The world in which a run goes on, and the shares of its threads at their places. Its log is a prologue: it leaves what the
-/// world's log left, and whatever comes after is judged as it would be after all that came before. A thread that was joined is
-/// forgotten, and its number may be given anew.
+/// The world in which a run goes on, and the shares of its threads at their places. Its log is a
+/// prologue: it leaves what the world's log left, and whatever comes after is judged as it would be
+/// after all that came before. A thread that was joined is forgotten, and its number may be given
+/// anew.
 ///
-/// Positions count anew: the event that would be the k-th after the world's log is the k-th after the prologue. The world stays
-/// as it is, and is to be given up, since both are of one run. It must not be halted, and its configuration's `stop` has to be
-/// off.
+/// Positions count anew: the event that would be the k-th after the world's log is the k-th after
+/// the prologue. The world stays as it is, and is to be given up, since both are of one run. It
+/// must not be halted, and its configuration's `stop` has to be off.
 ///
 /// # Errors
-/// The first that applies, in the order of the variants; `Memory` where a growth was refused.
+/// The first that applies, in the order of the variants; `Memory` if an allocation failed.
 pub fn renew(alloc: Global, world: &World) -> Result<(World, Shares), NotRenewed>
     requires live { world.now.halted ≡ false }
     requires goes_on { world.now.config.stop ≡ false }
@@ -68,13 +70,30 @@ pub fn renew(alloc: Global, world: &World) -> Result<(World, Shares), NotRenewed
     if has_alarm(world) {
         return Err(NotRenewed::Alarm);
     }
-    let bounds = world.bounds();
-    let heap = world.heap();
+    restart(alloc, world.config(), world.heap())
+}
+
+/// The world in which a run goes on that has left the heap, for who knows that it has no cycle, and the shares of its threads at
+/// their places. It is what `renew` returns of a world of that heap.
+///
+/// # Errors
+/// The first that applies, in the order of the variants, but never `Alarm`; `Memory` where a growth was refused.
+pub fn restart(alloc: Global, config: Config, heap: &Heap) -> Result<(World, Shares), NotRenewed>
+    requires heap { (log : List EventOf) × IsHeapOf heap.now log }
+    requires bounds { bounds_of heap.now ≡ config.bounds }
+    requires goes_on { config.stop ≡ false }
+    ensures world { IfOk result (λ opened. opened.0 ≡ world_of config opened.0.log) }
+    ensures stands { IfOk result (λ opened. ForItsTraces heap.now (λ log. Restarts config.bounds log opened.0.log)) }
+    ensures ready { IfOk result (λ opened. HoldsLiveShares opened.0 opened.1) }
+    ensures complete { IfOk result (λ opened. CompletesShares opened.0 opened.1) }
+    ensures reason { IfErr result (λ reason. ForItsTraces heap.now (λ log. StandsInTheWay config log reason)) }
+{
+    let bounds = config.bounds;
     if let Some(thread) = first_open(bounds, heap) {
         return Err(NotRenewed::BlockOpen(thread));
     }
     let made = prologue(alloc, bounds, heap)?;
-    open_after(alloc, world.config(), made)
+    open_after(alloc, config, made)
 }
 
 /// Whether an alarm is kept.

@@ -10,13 +10,15 @@ use velo_events::{Bounds, Event, Kind, LockId, Memory, Status, ThreadId, VarId};
 use velo_heap::Heap;
 use velo_traces::Trace;
 
-/// A log that leaves what the heap has: its values, holders and sharers, and each thread as it is there, but for those that were
-/// joined. No block begins in it. It stands for every log that leaves the heap.
+/// A log that leaves what the heap has: its values, holders and sharers, and each thread as it is
+/// there, but for those that were joined. No block begins in it. It stands for every log that
+/// leaves the heap.
 ///
-/// Thread 0 forks and writes, each lock is acquired by those that hold it, and at last those that have exited exit.
+/// Thread 0 forks and writes, each lock is acquired by those that hold it, and at last those that
+/// have exited exit.
 ///
 /// # Errors
-/// `Memory` where a growth was refused.
+/// `Memory` if an allocation failed.
 pub fn prologue(alloc: Global, bounds: Bounds, heap: &Heap) -> Result<Trace, Memory>
     requires { bounds_of heap.now ≡ bounds }
     ensures stands { IfOk result (λ made. ForItsTraces heap.now (λ log.

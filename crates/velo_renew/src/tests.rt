@@ -1,4 +1,4 @@
-//! How long prologues are, and what stands in the way of one.
+//! How long prologues are, and what prevents one.
 use crate::{NotRenewed, renew};
 use std::alloc::Global;
 use std::process::Abort;

@@ -1,21 +1,27 @@
 -- The lines of a report, one after another.
-use Rattle.std.proofs.Common.{◌≡◌, ℕ, zero, suc, ◌+◌, ◌-◌, ◌<◌, List, [], ◌∷◌, ◌++◌, length, refl, sym, ap, ◌∙◌, subst, append_assoc, arith}
+use Rattle.std.proofs.Common.{◌≡◌, ℕ, zero, suc, ◌+◌, ◌-◌, ◌<◌, List, [], ◌∷◌, ◌++◌, length, get_or, refl, sym, ap, ◌∙◌, subst, append_assoc, arith}
 use Rattle.std.proofs.lemmas.Grind.{flat_map-append}
 use Rattle.std.proofs.lemmas.List.{append-nil}
-use Rattle.std.specs.Prelude.{Option, Some, None, IfSome, IfNone, codes, decimal}
+use Rattle.std.specs.Prelude.{Option, Some, None, IfSome, IfNone, codes, decimal, slice_get}
+use Rattle.std.proofs.lemmas.Option.{get_or_from_slice_get, slice_get_within, same_Some}
 use Rattle.std.specs.List.{flat_map, range_with_len}
 use Rattle.std.specs.Option.{option_copied}
 use Rattle.std.specs.Borrow.{Bor}
 use Rattle.std.specs.Io.KnownBytes.{Appends}
 use Rattle.velo_events.specs.declared.event.Event.{Event}
 use Rattle.velo_events.specs.Graph.{HasCycle}
+use Rattle.velo_events.specs.Tally.{events_of}
+use Rattle.velo_ledger.specs.declared.tally.Tally.{Tally}
+use Rattle.velo_ledger.specs.Logs.{tally_of}
+use Rattle.velo_ledger.specs.Views.{Accounts}
 use Rattle.velo_traces.specs.declared.block.Block.{Block}
 use Rattle.velo_bytes.specs.Device.{AppendsBeginning}
 use Rattle.velo_world.specs.declared.analysis.Alarm.{Alarm}
-use Rattle.velo_world.specs.World.{IsAlarm, AlarmOf}
+use Rattle.velo_world.specs.World.{IsAlarm, AlarmOf, IsBookOf, WorldState}
 use Rattle.velo_report.specs.declared.names.Names.{Names}
 use Rattle.velo_report.specs.Lines.{line_of}
-use Rattle.velo_report.specs.Report.{blame_line, blame_lines, thread_lines, verdict_lines, IsReport, AppendsReport, AppendsPartOfReport}
+use Rattle.velo_report.specs.Counted.{AreEventsOf}
+use Rattle.velo_report.specs.Report.{count_line, blame_line, blame_lines, thread_lines, verdict_lines, IsReport, AppendsReport, AppendsPartOfReport}
 
 -- what is read past the end of some blocks
 abbrev pub no_block : Block
@@ -59,6 +65,16 @@ module _ (line : ℕ → List ℕ) (t : ℕ) where
       ∙ ap (λ (u : List ℕ). u ++ later n) (sym threads-more)
       ∙ append_assoc (flat_map line (range_with_len 0 t)) (line t) (later n)
 
+-- a row of the book of a world says how many events the thread has
+pub tally_events : (w : WorldState) (book : Accounts) (t : ℕ) (row : Tally) → IsBookOf w book → slice_get book.rows t ≡ Some row → row.events ≡ events_of w.log t
+tally_events w book t row is here =
+    let same : Some row ≡ Some (tally_of w.log t) = sym here ∙ is.rows.each t (slice_get_within book.rows t row here) in
+    ap (λ (r : Tally). r.events) (same_Some row (tally_of w.log t) same)
+
+-- a count at its place is that of the thread
+pub counted_events : (log : List Event) (counts : List ℕ) (t : ℕ) → AreEventsOf log counts → t < length counts → get_or counts t 0 ≡ events_of log t
+counted_events log counts t are within = get_or_from_slice_get counts t (events_of log t) 0 (are.each t within)
+
 -- ---- the whole
 
 -- the alarm that a closed world tells is that of its log
@@ -68,6 +84,15 @@ told_alarm log (Some alarm) none some = some
 
 abbrev pub total_line : ℕ → List ℕ
 total_line total = line_of (codes "events") (decimal total ∷ [])
+
+-- and back
+pub alarm_none : (log : List Event) (told : Option (Bor Alarm)) → AlarmOf log (option_copied told) → IfNone told (¬ HasCycle log)
+alarm_none log None exact = exact
+alarm_none log (Some alarm) exact = tt
+
+pub alarm_some : (log : List Event) (told : Option (Bor Alarm)) → AlarmOf log (option_copied told) → IfSome told (λ alarm. IsAlarm log alarm.now)
+alarm_some log None exact = tt
+alarm_some log (Some alarm) exact = exact
 
 -- what is written of a closed world that tells this alarm and this count of events, behind what was gathered before
 module _ (names : Names) (threads : ℕ) (log : List Event) (told : Option (Bor Alarm)) (total : ℕ) (none : IfNone told (¬ HasCycle log)) (some : IfSome told (λ alarm. IsAlarm log alarm.now)) (count : total ≡ length log) where

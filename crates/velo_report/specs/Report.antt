@@ -10,6 +10,7 @@ use Rattle.velo_world.specs.declared.analysis.Alarm.{Alarm}
 use Rattle.velo_world.specs.World.{AlarmOf}
 use Rattle.velo_names.specs.declared.kind.NameKind.TheVariants.{Thread, Label}
 use Rattle.velo_report.specs.declared.names.Names.{Names}
+use Rattle.velo_report.specs.Counted.{AreEventsOf}
 use Rattle.velo_report.specs.Lines.{line_of}
 use Rattle.velo_report.specs.Names.{thread_name, label_word, name_behind}
 
@@ -21,8 +22,11 @@ thread_words (Some behind) between t count = decimal t ∷ decimal count ∷ beh
 thread_words None (Some between) t count = decimal t ∷ between ∷ decimal count ∷ []
 thread_words None None t count = decimal t ∷ decimal count ∷ []
 
+abbrev pub count_line : Names → ℕ → ℕ → List ℕ
+count_line names t count = line_of (codes "thread") (thread_words (name_behind names Thread t) (thread_name names t) t count)
+
 abbrev pub thread_line : Names → List Event → ℕ → List ℕ
-thread_line names log t = line_of (codes "thread") (thread_words (name_behind names Thread t) (thread_name names t) t (events_of log t))
+thread_line names log t = count_line names t (events_of log t)
 
 -- a line for each thread, from 0 on
 abbrev pub thread_lines : Names → List Event → ℕ → List ℕ
@@ -62,6 +66,12 @@ pub record IsReport (names : Names) (threads : ℕ) (log : List Event) (text : L
   pub alarm : Option Alarm
   pub exact : AlarmOf log alarm
   pub lines : text ≡ report_lines names threads log alarm
+
+-- the log has so many events, its threads have these counts of them, and this is its alarm
+pub record AreCountsOf (log : List Event) (events : ℕ) (counts : List ℕ) (alarm : Option Alarm) : Type 0 where
+  pub total : events ≡ length log
+  pub each : AreEventsOf log counts
+  pub exact : AlarmOf log alarm
 
 -- known bytes grow by the report
 pub record AppendsReport (old new : Option (List ℕ)) (names : Names) (threads : ℕ) (log : List Event) : Type 0 where

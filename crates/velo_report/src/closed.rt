@@ -3,7 +3,7 @@ ghost use Rattle.std.specs.Prelude.{◌≡◌, ◌<◌, ◌++◌, ◌∷◌, [],
 ghost use Rattle.std.specs.Option.{option_copied};
 ghost use Rattle.velo_bytes.specs.Device.{with_failure, AppendsBeginning};
 ghost use Rattle.velo_report.specs.Lines.{Buffers};
-ghost use Rattle.velo_report.specs.Report.{thread_line, thread_lines, blame_line, blame_lines, verdict_lines, AppendsReport, AppendsPartOfReport};
+ghost use Rattle.velo_report.specs.Report.{count_line, thread_lines, blame_line, blame_lines, verdict_lines, AppendsReport, AppendsPartOfReport};
 
 use crate::lines::{Lines, Word};
 use crate::names::Names;
@@ -13,24 +13,22 @@ use velo_names::NameKind;
 use velo_traces::Block;
 use velo_world::{Alarm, Closed, World};
 
-/// Adds the line of a thread.
-fn add_thread<S: Sink>(
+/// Adds the line of a thread that has so many events.
+pub(crate) fn add_thread<S: Sink>(
     lines: &mut Lines,
     sink: &mut S,
     names: &Names,
-    world: &World,
     thread: ThreadId,
+    count: u64,
 ) -> Result<(), WriteFault>
-    requires { thread.0 < world.now.config.bounds.threads }
     ensures ok { OnOk result (Buffers (S.contents sink.old) (S.contents sink.new)
-        lines.old lines.new (thread_line names.now world.now.log thread.0)) }
+        lines.old lines.new (count_line names.now thread.0 count)) }
     ensures err { OnErr result (AppendsBeginning (S.contents sink.old) (S.contents sink.new)
-        (lines.old ++ thread_line names.now world.now.log thread.0)) }
+        (lines.old ++ count_line names.now thread.0 count)) }
     ensures no_failure { OnOk result (S.failures sink.new ≡ S.failures sink.old) }
     ensures failure { OnErr result (S.failures sink.new ≡ with_failure (S.failures sink.old)) }
 {
     let number = u64::from(thread.0);
-    let count = world.book().tally(thread).events;
     if let Some(name) = names.behind(NameKind::Thread, u32::from(thread.0)) {
         return lines.add_line(
             sink,
@@ -63,7 +61,8 @@ fn add_threads<S: Sink>(
     ensures failure { OnErr result (S.failures sink.new ≡ with_failure (S.failures sink.old)) }
 {
     for t in 0..world.bounds().threads {
-        add_thread(lines, sink, names, world, ThreadId(t))?;
+        let count = world.book().tally(ThreadId(t)).events;
+        add_thread(lines, sink, names, ThreadId(t), count)?;
     }
     Ok(())
 }
@@ -149,7 +148,7 @@ fn add_alarm<S: Sink>(
 }
 
 /// Adds the verdict, and what belongs to an alarm.
-fn add_verdict<S: Sink>(
+pub(crate) fn add_verdict<S: Sink>(
     lines: &mut Lines,
     sink: &mut S,
     names: &Names,

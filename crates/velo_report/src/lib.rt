@@ -4,12 +4,14 @@
 mod alarm;
 mod certificate;
 mod closed;
+mod counted;
 mod lines;
 mod names;
 
 pub use alarm::alarm_line;
 pub use certificate::certificate_lines;
 pub use closed::{report, report_so_far};
+pub use counted::report_counts;
 pub use names::Names;
 
 #[cfg(test)]

@@ -1,6 +1,6 @@
-//! For tests that hold whichever single growth is refused.
+//! For tests that hold whichever single allocation fails.
 
-/// What the call answers, or where a growth is refused what the same call answers then.
+/// What the call returns, or if an allocation fails, what the same call then returns.
 macro_rules! again {
     ($refused:pat, $call:expr) => {
         match $call {

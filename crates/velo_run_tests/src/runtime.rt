@@ -38,7 +38,7 @@ fn config(run: u64, threads: u8, events: u32, stop: bool) -> Result<Config, BadC
     Config::new(run, bounds, events, 1024, stop)
 }
 
-/// Opens a run, and forks so many threads by the first one.
+/// Opens a run, and forks `forks` threads by the first one.
 fn open_with_forks<R: Wait>(
     rt: &R,
     alloc: Global,
@@ -56,7 +56,7 @@ fn open_with_forks<R: Wait>(
     }
 }
 
-/// Adds the first seat, and the seats of so many threads that it forks.
+/// Adds the first seat, and the seats of the threads that it forks.
 fn add_threads<R: Wait>(
     rt: &R,
     shared: &Shared,
@@ -95,7 +95,7 @@ fn errors_are_told_by_their_texts(rt: HostRuntime) -> Result<(), Fail> {
 
 // ---- two threads that follow scripts
 
-/// The value that was read, and whether an alarm is told of.
+/// The value that was read, and whether an alarm is reported.
 type Outcome = Result<(Option<u64>, bool), Refusal>;
 
 const DONE: Outcome = Ok((None, false));
@@ -108,7 +108,7 @@ enum Step {
     /// The call of its seat that has this outcome.
     Do(Action, Outcome),
     Halt,
-    /// Goes on once the log has so many events.
+    /// Goes on once the log has this many events.
     At(usize),
     /// Goes on once each other thread waits for it.
     IsAwaited,
@@ -127,8 +127,8 @@ struct Case<'a> {
     alarm: Option<(usize, usize)>,
 }
 
-/// A block that nothing spoils, one in which the second thread writes between the first one's read and write, and one
-/// after the alarm.
+/// A block that nothing spoils, one in which the second thread writes between the first one's read
+/// and write, and one after the alarm.
 const LOST_UPDATE: Case = Case {
     stop: false,
     first: &[
@@ -195,8 +195,8 @@ const RELEASE_AND_EXIT: Case = Case {
     alarm: None,
 };
 
-/// Two threads share a lock. The release of a share wakes a thread that waits for the lock alone, and a release one that waits
-/// for a share.
+/// Two threads share a lock. The release of a share wakes a thread that waits for the lock alone,
+/// and a release one that waits for a share.
 const SHARES: Case = Case {
     stop: false,
     first: &[
@@ -337,7 +337,8 @@ fn goes(rt: &(impl Wait + Clock), shared: &Shared, seat: &mut Seat, step: Step) 
     }
 }
 
-/// The first step that does not go as it should. Then the run is halted, so that the other thread does not wait forever.
+/// The first step that does not go as it should. Then the run is halted, so that the other thread
+/// does not wait forever.
 fn first_wrong(
     rt: &(impl Wait + Clock),
     shared: &Shared,
@@ -353,7 +354,8 @@ fn first_wrong(
     None
 }
 
-/// Has both threads follow their scripts at once, and returns the first step of each that goes wrong.
+/// Has both threads follow their scripts at once, and returns the first step of each that goes
+/// wrong.
 fn follow<R: Wait + Clock + Threads + Sync>(
     rt: &R,
     shared: &Shared,
@@ -391,7 +393,8 @@ fn pair<R: Wait>(rt: &R, alloc: Global, stop: bool) -> Result<(Shared, Seat, Sea
     }
 }
 
-/// Plays a case. The first step of each thread that goes wrong, and whether the run ends as it should.
+/// Plays a case. The first step of each thread that goes wrong, and whether the run ends as it
+/// should.
 fn play<R: Wait + Clock + Threads + Sync>(
     rt: &R,
     alloc: Global,
@@ -440,7 +443,8 @@ const LETS_GO: [Step; 3] = [
     Step::Do(Action::Release(LOCK), DONE),
 ];
 
-/// What each of the others does. Neither goes on before both share the lock, so the release has to wake both.
+/// What each of the others does. Neither goes on before both share the lock, so the release has to
+/// wake both.
 const SHARES_WITH_ANOTHER: [Step; 4] = [
     Step::At(3),
     Step::Do(Action::AcquireShared(LOCK), DONE),
@@ -461,7 +465,8 @@ fn first_wrong_of_three(
     }
 }
 
-/// Has three threads follow their scripts at once, and returns the first step of each that goes wrong.
+/// Has three threads follow their scripts at once, and returns the first step of each that goes
+/// wrong.
 fn all_wake<R: Wait + Clock + Threads + Sync>(
     rt: &R,
     alloc: Global,
@@ -501,7 +506,8 @@ const JOINED: Case = Case {
     alarm: Some((4, 1)),
 };
 
-/// Has a thread that is started for it follow a script, joins it, and returns the first step that goes wrong.
+/// Has a thread that is started for it follow a script, joins it, and returns the first step that
+/// goes wrong.
 fn first_wrong_apart<R: Wait + Clock + Threads + Sync>(
     rt: &R,
     shared: &Shared,
@@ -516,8 +522,8 @@ fn first_wrong_apart<R: Wait + Clock + Threads + Sync>(
     })
 }
 
-/// Plays the case of a thread that is joined. The first step of each part that goes wrong, and whether the run ends as it
-/// should.
+/// Plays the case of a thread that is joined. The first step of each part that goes wrong, and
+/// whether the run ends as it should.
 fn play_joined<R: Wait + Clock + Threads + Sync>(
     rt: &R,
     alloc: Global,
@@ -575,7 +581,7 @@ fn close_too_early(shared: Shared, mut seats: Vec<Seat>) -> Option<(Missing, Sea
     }
 }
 
-/// Whether the room is as it was, and the seats stand in their order.
+/// Whether the room is as it was, and the seats are in their order.
 fn is_as_before(rt: &impl Wait, missing: &Missing) -> bool {
     let threads = missing.seats.iter().map(|seat| seat.share().thread().0);
     threads.eq([0, 1, 2]) && !missing.shared.room.lock(rt).is_halted()
@@ -630,8 +636,8 @@ type Answer = Result<Option<usize>, Refusal>;
 
 const WAITS: Answer = Ok(None);
 
-/// A run, the actions of its seats in one hold, and what the room tells at the end. The first seat is there from the start, the
-/// second is that of another run, and a fork gives each that follows.
+/// A run, the actions of its seats in one hold, and what the room has at the end. The first seat is
+/// there from the start, the second is that of another run, and a fork gives each that follows.
 #[derive(Clone, Copy)]
 struct Hold<'a> {
     threads: u8,
@@ -703,8 +709,8 @@ const TURNS: Hold = Hold {
     end: (4, false, false),
 };
 
-/// Two threads share a lock, and a third waits for both: neither may wait for it then, and it goes on only once neither shares the
-/// lock. Then both wait for it, and it may not wait for them.
+/// Two threads share a lock, and a third waits for both: neither may wait for it then, and it goes
+/// on only once neither shares the lock. Then both wait for it, and it may not wait for them.
 const SHARERS: Hold = Hold {
     threads: 3,
     events: 100,
@@ -764,7 +770,7 @@ fn fork(room: &mut Room, seats: &mut Vec<Seat>, place: usize, child: ThreadId) -
     }
 }
 
-/// The first step that is not answered as it should be.
+/// The first step that does not return what it should.
 fn first_other_answer(
     room: &mut Room,
     seats: &mut Vec<Seat>,
@@ -784,7 +790,8 @@ fn first_other_answer(
     None
 }
 
-/// Does the actions of a hold. The first step that is answered otherwise, and what the room tells at the end.
+/// Does the actions of a hold. The first step that returns something else, and what the room has at
+/// the end.
 fn act_in_hold(
     rt: &impl Wait,
     shared: &Shared,
@@ -797,7 +804,7 @@ fn act_in_hold(
     (other, (room.count_events(), room.is_halted(), has_alarm))
 }
 
-/// Opens a run of so many threads.
+/// Opens a run of `threads` threads.
 fn open_of(
     rt: &impl Abort,
     alloc: Global,
@@ -875,7 +882,7 @@ fn close_with_foreign(
     }
 }
 
-/// Writes in the run, and closes it: the answer to the write, and how many events there are.
+/// Writes in the run, and closes it: the result of the write, and how many events there are.
 fn write_and_close(
     rt: &(impl Wait + Abort),
     alloc: Global,

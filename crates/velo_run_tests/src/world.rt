@@ -28,7 +28,8 @@ const MAIN: ThreadId = ThreadId(0);
 
 const OTHER: ThreadId = ThreadId(1);
 
-/// Two threads that update one variable: the second writes between the first one's read and write. Then both go on.
+/// Two threads that update one variable: the second writes between the first one's read and write.
+/// Then both go on.
 const LOST_UPDATE: [Step; 8] = [
     (MAIN, Action::Fork(OTHER)),
     (MAIN, Action::Begin(Label(7))),
@@ -40,7 +41,7 @@ const LOST_UPDATE: [Step; 8] = [
     (MAIN, Action::Begin(Label(2))),
 ];
 
-/// Whether the alarm is at the position, for which the block that begins at 1 is to blame.
+/// Whether the alarm is at the position, and blames the block that begins at 1.
 fn is_alarm_at(alarm: Option<&Alarm>, position: usize) -> bool {
     let blamed = [Block {
         first: 1,
@@ -74,7 +75,7 @@ fn new_world(rt: &impl Abort, alloc: Global, config: Config) -> (World, Share)
     again!(Memory, World::new(alloc, config)).expect(rt, "memory")
 }
 
-/// A world of so many threads, one variable and one lock, with thread 0's share at its place.
+/// A world of `threads` threads, one variable and one lock, with thread 0's share at its place.
 fn open_world(
     rt: &impl Abort,
     alloc: Global,
@@ -103,7 +104,7 @@ struct Played {
     used: u16,
 }
 
-/// What a world shows in which steps came to these outcomes.
+/// What a world shows after steps with these outcomes.
 fn played_in(world: &World, outcomes: Vec<Outcome>) -> Played {
     Played {
         outcomes,
@@ -299,8 +300,8 @@ fn times_full(outcomes: &[Outcome]) -> usize {
     times
 }
 
-/// Four nodes are enough for two threads, and three are not: of the blocks that read, each third finds none, as the reads of a
-/// refused one go into the block before.
+/// Four nodes are enough for two threads, and three are not: of the blocks that read, each third
+/// finds none, as the reads of a refused one go into the block before.
 #[test]
 fn enough_nodes_are_never_all_in_use(rt: HostRuntime) {
     for (nodes, full) in [(4, 0), (3, 3), (2, 4)] {
@@ -348,7 +349,8 @@ fn two_threads(rt: &impl Abort, events: u32, nodes: u16) -> Config
     Config::new(1, bounds, events, nodes, false).expect(rt, "a configuration")
 }
 
-/// Replays the recorded events, the one at the place changed, and returns whether the world has the alarm and the whole log.
+/// Replays the recorded events, the one at the place changed, and returns whether the world has the
+/// alarm and the whole log.
 fn replay_changed_at(
     rt: &impl Abort,
     alloc: Global,
@@ -427,7 +429,8 @@ fn a_recorded_log_is_replayed(rt: HostRuntime) {
     }
 }
 
-/// Replays the recorded events, lets the threads go on by the steps, and returns whether the alarm of the lost update comes.
+/// Replays the recorded events, lets the threads go on by the steps, and returns whether the alarm
+/// of the lost update comes.
 fn goes_on(rt: &impl Abort, alloc: Global, recorded: &[(ThreadId, Kind)], steps: &[Step]) -> bool {
     let mut log = Trace::new(alloc);
     for (thread, kind) in recorded {
@@ -477,7 +480,7 @@ fn events_at_its_end(world: World, shares: Shares) -> Option<u64> {
     }
 }
 
-/// Forks the other thread, reads, and returns what the read came to.
+/// Forks the other thread, reads, and returns the result of the read.
 fn forks_and_reads(world: &mut World, main: &mut Share) -> Outcome
     requires { FitsLog world.old main.old }
 {

@@ -1,4 +1,4 @@
--- What a turn of a thread comes to, by a caller that has the room.
+-- The result of a thread's turn, for a caller that has the room.
 use Rattle.std.specs.Prelude.{◌≡◌, ◌⊎◌, Option, Some, None, Result, Ok, Err, slice_set}
 use Rattle.velo_events.specs.declared.event.Action.{Action}
 use Rattle.velo_events.specs.declared.event.Action.TheVariants.{Acquire, AcquireShared, Join}
@@ -26,7 +26,8 @@ abbrev pub thread_wanted : Action → Option Wanted
 thread_wanted (Join u) = Some (Thread u)
 thread_wanted _ = None
 
--- what the action waits for, where this refusal may pass: the lock of a busy acquire, the thread of an early join
+-- what the action waits for, where this refusal may pass: the lock of a busy acquire, the thread of
+-- an early join
 abbrev pub wanted_by : Action → Refusal → Option Wanted
 wanted_by action Busy = lock_wanted action
 wanted_by action NotExited = thread_wanted action
@@ -42,7 +43,7 @@ abbrev pub RefusedFor : RoomState → ThreadId → Refusal → Option Wanted →
 RefusedFor room t refusal None turn wait = (turn ≡ Refused refusal) × (wait ≡ None)
 RefusedFor room t refusal (Some wanted) turn wait = WaitsFor room t wanted turn wait
 
--- what the turn answers after the step's outcome, and what the thread waits for then
+-- what the turn returns after the step's outcome, and what the thread waits for then
 abbrev pub IsTurnAfter : RoomState → ThreadId → Action → Result Reply Refusal → Turn → Option Wanted → Type 0
 IsTurnAfter room t action (Ok reply) turn wait = (turn ≡ Done reply) × (wait ≡ None)
 IsTurnAfter room t action (Err refusal) turn wait = RefusedFor room t refusal (wanted_by action refusal) turn wait

@@ -9,15 +9,16 @@ use Rattle.velo_runtime.specs.declared.wait.Wanted.{Wanted}
 use Rattle.velo_runtime.specs.declared.wait.Wanted.TheVariants.{Lock, LockShared, Thread}
 use Rattle.velo_runtime.specs.Rooms.{RoomState}
 
--- From what is wanted, a chain leads to the caller: the wanted thing leads to a thread, this waits for a thing, and so on.
--- `leads w t`: what is wanted, w, is given up by thread t, perhaps among others. `waits t`: what t waits for, if it waits.
+-- From what is wanted, a chain leads to the caller: the wanted thing leads to a thread, this waits
+-- for a thing, and so on. `leads w t`: what is wanted, w, is given up by thread t, perhaps among
+-- others. `waits t`: what t waits for, if it waits.
 abbrev pub ChainToCaller : {W : Type 0} → (W → ℕ → Type 0) → (ℕ → Option W) → ℕ → W → List ℕ → Type 0
 ChainToCaller leads waits caller wanted [] = leads wanted caller
 ChainToCaller {W} leads waits caller wanted (t ∷ ts) =
     leads wanted t × ((next : W) × (waits t ≡ Some next) × ChainToCaller leads waits caller next ts)
 
--- Some chain does. Who cites this says what a wanted thing leads to: a lock to each thread that keeps it from being had so,
--- and a thread to itself unless it has exited
+-- Some chain does. Who cites this says what a wanted thing leads to: a lock to each thread that
+-- keeps it from being had so, and a thread to itself unless it has exited
 pub record ComesBack {W : Type 0} (leads : W → ℕ → Type 0) (waits : ℕ → Option W) (caller : ℕ) (wanted : W) : Type 0 where
   pub threads : List ℕ
   pub chain : ChainToCaller leads waits caller wanted threads
@@ -29,14 +30,15 @@ has_exited Live = false
 has_exited Exited = true
 has_exited Joined = true
 
--- a lock that is wanted alone leads to the thread that holds it alone and to each that shares it, one that is wanted shared to
--- the first of these only, and a wanted thread to itself unless it has exited
+-- a lock that is wanted alone leads to the thread that holds it alone and to each that shares it,
+-- one that is wanted shared to the first of these only, and a wanted thread to itself unless it has
+-- exited
 abbrev pub Leads : List Event → Wanted → ℕ → Type 0
 Leads log (Lock m) t = (holder_in log m.0 ≡ Some t) ⊎ IsTrue (shares_in log m.0 t)
 Leads log (LockShared m) t = holder_in log m.0 ≡ Some t
 Leads log (Thread u) t = (t ≡ u.0) × IsFalse (has_exited (status_in log u.0))
 
--- what stands at a place, if the place is there
+-- what is at a place, if the place is there
 abbrev pub stands_at : Option (Option Wanted) → Option Wanted
 stands_at None = None
 stands_at (Some wait) = wait

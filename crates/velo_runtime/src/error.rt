@@ -6,7 +6,8 @@ use std::alloc::{AllocError, AllocFailed};
 use thiserror::Error;
 use velo_events::{BadConfig, Memory, Refusal};
 
-/// What may go wrong in a program whose threads share a world. Every error of such a program becomes one by `?`.
+/// What may go wrong in a program whose threads share a world. Every error of such a program
+/// becomes one by `?`.
 #[derive(Debug, Drop, Error)]
 pub enum RunError {
     /// A value of the configuration is out of its range.

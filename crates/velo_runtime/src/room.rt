@@ -35,7 +35,8 @@ pub struct Room {
     world: World,
     /// What each thread waits for.
     waits: Vec<Option<Wanted>>,
-    /// An empty place for each thread's share. They are there from the start, so that closing takes no memory.
+    /// An empty place for each thread's share. They are there from the start, so that closing takes
+    /// no memory.
     places: Shares,
 }
 
@@ -61,7 +62,7 @@ impl Room {
     /// A room without events, and the seat of thread 0.
     ///
     /// # Errors
-    /// `Memory` where a growth was refused.
+    /// `Memory` if an allocation failed.
     pub(crate) fn open(alloc: Global, config: Config) -> Result<(Room, Seat), Memory>
         ensures room { IfOk result (λ opened. opened.0 ≡ opening_room config) }
         ensures seat { IfOk result (λ opened. opened.1 ≡ opening_share config.run 0) }
@@ -77,7 +78,8 @@ impl Room {
         Ok((room, Seat { share }))
     }
 
-    /// The world, to be read while the caller has the room: its log with heap, alarm, graph and book.
+    /// The world, to be read while the caller has the room: its log with heap, alarm, graph and
+    /// book.
     pub fn world(&self) -> &World
         ensures { result.now ≡ self.now.world }
     {
@@ -91,7 +93,8 @@ impl Room {
         self.world.bounds()
     }
 
-    /// The alarm, if the log has a cycle so far. Without a cycle, and only then, some reordering of the log is serial.
+    /// The alarm, if the log has a cycle so far. Without a cycle, and only then, some reordering of
+    /// the log is serial.
     pub fn alarm(&self) -> Option<&Alarm>
         ensures none { IfNone result (¬ HasCycle self.now.world.log) }
         ensures some { IfSome result (λ alarm. IsAlarm self.now.world.log alarm.now) }
@@ -125,8 +128,8 @@ impl Room {
     /// Ends the run of a room that was opened with the configuration. It takes no memory.
     ///
     /// # Errors
-    /// Room and seats as they were, exactly where the room was opened with another configuration, or the seats are not one
-    /// fitting seat of each thread that was born.
+    /// Room and seats as they were, exactly where the room was opened with another configuration,
+    /// or the seats are not one fitting seat of each thread that was born.
     pub(crate) fn close_as(
         self,
         config: Config,
@@ -151,7 +154,8 @@ impl Room {
     /// Ends the run. It takes no memory.
     ///
     /// # Errors
-    /// Room and seats as they were, exactly where the seats are not one fitting seat of each thread that was born.
+    /// Room and seats as they were, exactly where the seats are not one fitting seat of each thread
+    /// that was born.
     fn close(self, mut seats: Vec<Seat>) -> Result<Closed, (Room, Vec<Seat>)>
         ensures closed { IfOk result (λ closed. closed ≡ self.world) }
         ensures all { IfOk result (λ closed. AreSeatsOf self.world seats.items) }
@@ -218,7 +222,7 @@ impl Room {
         turn
     }
 
-    /// What a turn answers after the outcome of its step, and what its thread waits for then.
+    /// What a turn returns after the outcome of its step, and what its thread waits for then.
     fn turn_after(
         &self,
         thread: ThreadId,
@@ -287,9 +291,10 @@ fn no_waits(alloc: Global, threads: u8) -> Result<Vec<Option<Wanted>>, Memory>
     filled(alloc, None, usize::from(threads))
 }
 
-/// Puts the seats' shares to their places, if they and those that are there are one fitting share of each thread that was
-/// born. Else all stays as it was. A call puts the last seat's share and has the rest done by one more call, so it knows
-/// without memory whose seat comes back at the end. Each fills a place, so they are few.
+/// Puts the seats' shares to their places, if they and those that are there are one fitting share
+/// of each thread that was born. Else all stays as it was. A call puts the last seat's share and
+/// has the rest done by one more call, so it knows without memory whose seat comes back at the end.
+/// Each fills a place, so they are few.
 fn put_all(world: &World, places: &mut Shares, seats: &mut Vec<Seat>) -> bool
     requires { length places.old ≡ world.now.config.bounds.threads }
     ensures all { IsTrue result ↔ AreTogether world.now places.old seats.old.items }
@@ -317,11 +322,12 @@ fn put_all(world: &World, places: &mut Shares, seats: &mut Vec<Seat>) -> bool
     false
 }
 
-/// Does one action of the seat's thread, where it is not a fork. The caller has the room, so this waits for nobody.
+/// Does one action of the seat's thread, where it is not a fork. The caller has the room, so this
+/// waits for nobody.
 ///
 /// # Errors
-/// `Foreign` (22) where the seat's share does not fit the room's book, and else the refusals of the world. Nothing
-/// changes then.
+/// `Foreign` (22) where the seat's share does not fit the room's book, and else the refusals of the
+/// world. Nothing changes then.
 pub fn step_in(room: &mut Room, seat: &mut Seat, action: Action) -> Result<Reply, Refusal>
     requires { IsNoFork action }
     ensures step { StepsIn room.old seat.old action result room.new seat.new }
@@ -351,11 +357,13 @@ pub fn fork_in(room: &mut Room, seat: &mut Seat, child: ThreadId) -> Result<(Rep
     room.fork(seat, child)
 }
 
-/// Does one action of the seat's thread, where it is not a fork, or has the thread wait. The caller has the room, so this
-/// call itself waits for nobody: where it answers `Wait`, the same call is to be made again after another thread has acted.
+/// Does one action of the seat's thread, where it is not a fork, or has the thread wait. The caller
+/// has the room, so this call itself waits for nobody: if it returns `Wait`, make the same call
+/// again after another thread has acted.
 ///
-/// In place of `Busy` (6) of an acquire of either kind and `NotExited` (13) of a join the thread waits, and the refusal is
-/// `WouldDeadlock` (20) where a chain of waits comes back to it. Every other refusal is that of `step_in`.
+/// In place of `Busy` (6) of an acquire of either kind and `NotExited` (13) of a join the thread
+/// waits, and the refusal is `WouldDeadlock` (20) where a chain of waits comes back to it. Every
+/// other refusal is that of `step_in`.
 pub fn turn_in(room: &mut Room, seat: &mut Seat, action: Action) -> Turn
     requires { IsNoFork action }
     ensures turn { TurnsIn room.old seat.old action result room.new seat.new }
@@ -369,9 +377,10 @@ pub fn turn_in(room: &mut Room, seat: &mut Seat, action: Action) -> Turn
     room.turn(seat, action)
 }
 
-/// Whether some chain of waits leads from what the caller wants back to the caller: a lock that is wanted alone leads to each
-/// thread that holds it, alone or with others, one that is wanted shared to the thread that holds it alone, a wanted thread to
-/// itself unless it has exited, and a thread to what it waits for.
+/// Whether some chain of waits leads from what the caller wants back to the caller: a lock that is
+/// wanted alone leads to each thread that holds it, alone or with others, one that is wanted shared
+/// to the thread that holds it alone, a wanted thread to itself unless it has exited, and a thread
+/// to what it waits for.
 pub fn comes_back(room: &Room, caller: ThreadId, wanted: Wanted) -> bool
     requires { IsThere room.now.world.config.bounds wanted }
     ensures { IsTrue result ↔ ComesBackIn room.now caller wanted }

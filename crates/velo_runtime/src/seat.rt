@@ -32,9 +32,9 @@ impl Model for Seat {
     ghost view = { λ seat. seat.share };
 }
 
-/// Each of the calls that are passed `rt` takes the room's lock, and does one action in one hold of it. A refusal is the one
-/// that is due for the call's own action, in the room as it was in that hold. `Memory` (19) is answered only where a growth was
-/// refused, and `RuntimeMemory` (21) never.
+/// Each of the calls that are passed `rt` takes the room's lock, and does one action in one hold of
+/// it. A refusal is the one that is due for the call's own action, in the room as it was in that
+/// hold. `Memory` (19) is returned only if an allocation failed, and `RuntimeMemory` (21) never.
 ///
 /// No call may be made by a thread that has the room's guard: it would wait for itself.
 impl Seat {
@@ -45,7 +45,7 @@ impl Seat {
         &self.share
     }
 
-    /// Reads a variable, and answers its value.
+    /// Reads a variable, and returns its value.
     ///
     /// # Errors
     /// The refusal of [`turn_in`]. The seat is as it was then.
@@ -83,7 +83,8 @@ impl Seat {
         self.turn(rt, shared, Action::Write(x, value))
     }
 
-    /// Acquires a lock. While another thread holds it, alone or with others, the call waits; it never answers `Busy` (6).
+    /// Acquires a lock. While another thread holds it, alone or with others, the call waits; it
+    /// never returns `Busy` (6).
     ///
     /// # Errors
     /// The refusal of [`turn_in`]. The seat is as it was then.
@@ -122,7 +123,8 @@ impl Seat {
         self.turn(rt, shared, Action::Release(lock))
     }
 
-    /// Acquires a share of a lock. While another thread holds it alone, the call waits; it never answers `Busy` (6).
+    /// Acquires a share of a lock. While another thread holds it alone, the call waits; it never
+    /// returns `Busy` (6).
     ///
     /// # Errors
     /// The refusal of [`turn_in`]. The seat is as it was then.
@@ -216,7 +218,7 @@ impl Seat {
         Ok(seat)
     }
 
-    /// Joins a thread. Until it has exited, the call waits; it never answers `NotExited` (13).
+    /// Joins a thread. Until it has exited, the call waits; it never returns `NotExited` (13).
     ///
     /// # Errors
     /// The refusal of [`turn_in`]. The seat is as it was then.
@@ -250,7 +252,7 @@ impl Seat {
         self.turn(rt, shared, Action::Exit)
     }
 
-    /// One action, by holds of the lock until one does not answer that the thread has to wait.
+    /// One action, in holds of the lock until one does not return that the thread has to wait.
     #[tactic(auto, using(std::proofs::lemmas::Grind::common_steps, crate::proofs::OnTurns::turns))]
     fn turn<R: Wait>(&mut self, rt: &R, shared: &Shared, action: Action) -> Result<Reply, Refusal>
         requires { IsNoFork action }

@@ -17,11 +17,13 @@ use velo_world::Closed;
 /// A room under its lock, for any number of threads.
 #[derive(Drop)]
 pub struct Shared {
-    /// Whoever has the guard may do several actions in one hold, by `step_in`, `fork_in` and `turn_in`. They wake nobody.
+    /// Whoever has the guard may do several actions in one hold, by `step_in`, `fork_in` and
+    /// `turn_in`. They wake nobody.
     pub room: Mutex<Room>,
     /// Notified when a waiting thread may go on.
     changed: Condvar,
-    /// What the room was opened with. It stands beside the lock, since no clause can name what a lock holds.
+    /// What the room was opened with. It is beside the lock, since no clause can name what a lock
+    /// holds.
     config: Config,
 }
 
@@ -34,11 +36,11 @@ impl Debug for Shared {
 impl Shared {
     /// Opens a room without events, and gives the seat of thread 0.
     ///
-    /// Runs that are alive together need numbers of their own in their configurations: a seat of one run fits another of
-    /// the same number where its thread has the same events there.
+    /// Runs that are alive together need numbers of their own in their configurations: a seat of
+    /// one run fits another of the same number where its thread has the same events there.
     ///
     /// # Errors
-    /// `RuntimeMemory` (21) where a growth was refused.
+    /// `RuntimeMemory` (21) if an allocation failed.
     pub fn open(alloc: Global, config: Config) -> Result<(Shared, Seat), Refusal>
         ensures config { IfOk result (λ opened. opened.0.config ≡ config) }
         ensures seat { IfOk result (λ opened. opened.1 ≡ opening_share config.run 0) }
@@ -100,11 +102,13 @@ impl Debug for Missing {
     }
 }
 
-/// Ends the run. It takes no memory. What is closed has the configuration with which the room was opened.
+/// Ends the run. It takes no memory. What is closed has the configuration with which the room was
+/// opened.
 ///
 /// # Errors
-/// `Missing` where the seats are not one fitting seat of each thread that was forked, and of thread 0; and where callers had
-/// the rooms of two runs change places, and the other run has another configuration.
+/// `Missing` where the seats are not one fitting seat of each thread that was forked, and of thread
+/// 0; and where callers had the rooms of two runs change places, and the other run has another
+/// configuration.
 pub fn close(shared: Shared, seats: Vec<Seat>) -> Result<Closed, Missing>
     ensures config { IfOk result (λ closed. closed.config ≡ shared.config) }
     ensures seats { IfOk result (λ closed. AreSeatsOf closed seats.items) }

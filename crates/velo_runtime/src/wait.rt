@@ -12,14 +12,15 @@ pub enum Wanted {
     Thread(ThreadId),
 }
 
-/// What a turn came to.
+/// The result of a turn.
 #[derive(Clone, Copy, Debug, PartialEq, Eq)]
 pub enum Turn {
     /// The action is an event of the log.
     Done(Reply),
-    /// Nothing was done, and the thread waits for nothing; but for a foreign share, whose thread's wait stays as it was.
+    /// Nothing was done, and the thread waits for nothing; but for a foreign share, whose thread's
+    /// wait stays as it was.
     Refused(Refusal),
-    /// Nothing was done yet: the thread waits until no other thread holds the lock in its way, or the thread to join has
-    /// exited.
+    /// Nothing was done yet: the thread waits until no other thread holds the lock in its way, or
+    /// the thread to join has exited.
     Wait,
 }

@@ -1,4 +1,4 @@
-//! The schedules that lead to first alarms, and what is told of the levels.
+//! The schedules that lead to first alarms, and what is reported of the levels.
 ghost use Rattle.std.specs.Prelude.{◌≡◌};
 
 use std::alloc::Global;
@@ -60,7 +60,7 @@ fn each_decision_that_closes_a_cycle_is_handed_out(rt: HostRuntime) {
     assert_eq!(rt; count_alarms(rt.alloc(), RACE, true), Some((0, 0)));
 }
 
-/// What it was told: how often, and the last numbers.
+/// The reports: how many, and the numbers of the last one.
 #[derive(Clone, Copy, Debug)]
 struct Heard {
     times: u64,
@@ -76,7 +76,8 @@ impl Progress for Heard {
     }
 }
 
-/// How often a level was told, how many there were at the end, and how many states then and in all.
+/// How often a level was reported, how many there were at the end, and how many states then and in
+/// all.
 fn told_levels(alloc: Global, text: &str) -> Option<(u64, u64, u64, u64)> {
     let workload = parse(alloc, text).ok()?;
     let config = Config::new(1, workload.bounds(), 10_000, 64, false).ok()?;

@@ -1,18 +1,19 @@
-//! Runs by chance.
+//! Random runs.
 use std::alloc::Global;
 use velo_chance::{Blamed, DEFAULT_SEED, Tally, explore_by_chance, try_all, try_by_chance};
 use velo_events::Config;
 use velo_turns::{append_turns, turns_of};
 use velo_workload::parse;
 
-/// What so many runs of a workload come to.
+/// The tally of `runs` random runs of a workload.
 fn tried(alloc: Global, text: &str, runs: u64, seed: u64) -> Option<Tally> {
     let workload = parse(alloc, text).ok()?;
     let config = Config::new(1, workload.bounds(), 100_000, 64, false).ok()?;
     try_by_chance(alloc, &workload, runs, seed, config).ok()
 }
 
-/// Of runs by chance: how many there were and have an alarm, and whether an alarm, a deadlock and a refusal are shown.
+/// Of random runs: how many there were and have an alarm, and whether an alarm, a deadlock and a
+/// refusal are shown.
 #[derive(Clone, Copy, Debug, PartialEq, Eq)]
 struct Findings {
     runs: u64,
@@ -62,7 +63,7 @@ fn words(text: &[u8]) -> usize {
     text.iter().filter(|byte| **byte == b' ').count()
 }
 
-/// The schedule of an alarm that is told, which is made simple.
+/// The schedule of an alarm that is reported, simplified.
 fn simple(alloc: Global, text: &str) -> Option<Vec<u8>> {
     let workload = parse(alloc, text).ok()?;
     let config = Config::new(1, workload.bounds(), 100_000, 64, false).ok()?;
@@ -77,7 +78,8 @@ fn simple(alloc: Global, text: &str) -> Option<Vec<u8>> {
     }
 }
 
-/// How many of the runs by these schedules have an alarm, how many labels are blamed, and in how many alarms the first is.
+/// How many of the runs by these schedules have an alarm, how many labels are blamed, and in how
+/// many alarms the first is.
 fn blamed_by(alloc: Global, text: &str, schedules: &[&str]) -> Option<(u64, usize, u64)> {
     let workload = parse(alloc, text).ok()?;
     let config = Config::new(1, workload.bounds(), 100_000, 64, false).ok()?;
@@ -148,7 +150,8 @@ fn a_seed_draws_the_same_schedules(rt: HostRuntime) {
     assert_eq!(rt; are_same(rt.alloc(), RACE, 7, 8), Some(false));
 }
 
-/// Whether both labels of a workload are blamed, the one of more alarms first, and neither by more runs than have an alarm.
+/// Whether both labels of a workload are blamed, the one of more alarms first, and neither by more
+/// runs than have an alarm.
 fn are_both_blamed(alloc: Global) -> Option<bool> {
     let (_, alarms, labels) = first_alarm(alloc, TWO, 200, DEFAULT_SEED)?;
     let first = labels.first()?;

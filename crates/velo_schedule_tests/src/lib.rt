@@ -1,4 +1,5 @@
-//! Tests of `velo_explore`, `velo_schedules`, `velo_shrink` and `velo_chance`, through their public calls.
+//! Tests of `velo_explore`, `velo_schedules`, `velo_shrink` and `velo_chance`, through their public
+//! calls.
 #![tactic(auto)]
 
 #[cfg(test)]

@@ -57,7 +57,7 @@ fn to_refusal(alloc: Global, text: &str) -> Option<Vec<ThreadId>> {
     }
 }
 
-/// Whether a schedule is found, and its short text is this one, each word behind a space.
+/// Whether a schedule is found, and its short text is this one, each word after a space.
 fn is_short(alloc: Global, schedule: Option<Vec<ThreadId>>, short: &[u8]) -> Option<bool> {
     let schedule = schedule?;
     let mut text = Vec::new(alloc);
@@ -74,7 +74,8 @@ fn switches(schedule: &[ThreadId]) -> usize {
         .count()
 }
 
-/// A workload with an alarm, and how many turns and switches of thread the simple schedule of a model has.
+/// A workload with an alarm, and how many turns and switches of thread the simple schedule of a
+/// model has.
 struct Row<'a> {
     text: &'a str,
     turns: usize,
@@ -150,7 +151,8 @@ static ROWS: [Row<'static>; 11] = [
     },
 ];
 
-/// Whether the simple schedule of the row's workload has no more turns and no more switches than that of the model.
+/// Whether the simple schedule of the row's workload has no more turns and no more switches than
+/// that of the model.
 fn is_simple(alloc: Global, row: &Row<'_>) -> Option<bool> {
     let schedule = to_alarm(alloc, row.text)?;
     Some(schedule.len() <= row.turns && switches(&schedule) <= row.switches)

@@ -1,4 +1,4 @@
-//! Workloads, and what all their schedules come to.
+//! Workloads, and what all their schedules lead to.
 use std::alloc::Global;
 use velo_events::Config;
 use velo_schedules::{Exploration, Finding, Quiet, RefusalFinding, explore};
@@ -12,8 +12,8 @@ enum Known {
     Open,
 }
 
-/// A workload, how many states a model of the search looked at, if it was tried there, and what is told of alarms,
-/// deadlocks and refusals.
+/// A workload, how many states a model of the search looked at, if it was tried there, and the
+/// findings of alarms, deadlocks and refusals.
 struct Row<'a> {
     text: &'a str,
     states: Option<u64>,
@@ -22,7 +22,7 @@ struct Row<'a> {
     refused: Known,
 }
 
-/// What was told, in numbers and words.
+/// The findings, in numbers and words.
 #[derive(Clone, Copy, Debug, PartialEq, Eq)]
 struct Told {
     states: u64,
@@ -226,7 +226,7 @@ static ROWS: [Row<'static>; 20] = [
     },
 ];
 
-/// Whether all schedules of the row's workload come to what it says.
+/// Whether all schedules of the row's workload lead to what it says.
 fn is_told(alloc: Global, row: &Row<'_>) -> Option<bool> {
     let told = explored(alloc, row.text, 100_000, false)?;
     let wanted = Told {
@@ -271,7 +271,7 @@ fn a_budget_leaves_open(rt: HostRuntime) {
     assert_eq!(rt; short.map(|told| told.refused), Some(Known::Open));
 }
 
-/// Whether a search that ends at the first finding shows this one, and tells the others as open.
+/// Whether a search that ends at the first finding shows this one, and reports the others as open.
 fn is_first(told: Option<Told>, alarm: Known, stuck: Known, refused: Known) -> bool {
     match told {
         Some(told) => told.alarm == alarm && told.stuck == stuck && told.refused == refused,

@@ -41,7 +41,22 @@ impl Trace {
     ///
     /// # Errors
     /// `Memory` where there was no room and a growth was refused. The trace is as it was then.
+    #[inline(always)]
     pub fn reserve_one(&mut self) -> Result<(), Memory>
+        ensures events { self.new.events ≡ self.old.events }
+        ensures ok { OnOk result (0 < self.new.room) }
+        ensures full { OnErr result (self.old.room ≡ 0) }
+        ensures err { OnErr result (self.new ≡ self.old) }
+    {
+        if self.len() < self.items.capacity() {
+            return Ok(());
+        }
+        self.grow()
+    }
+
+    /// Makes room for one more event. It stands out of line, for the few events that find none.
+    #[inline(never)]
+    fn grow(&mut self) -> Result<(), Memory>
         ensures events { self.new.events ≡ self.old.events }
         ensures ok { OnOk result (0 < self.new.room) }
         ensures full { OnErr result (self.old.room ≡ 0) }
@@ -51,6 +66,7 @@ impl Trace {
     }
 
     /// Appends an event. There is room for it, as after `reserve_one`, so it takes no memory.
+    #[inline(always)]
     pub fn push_reserved(&mut self, event: Event)
         requires { 0 < self.old.room }
         ensures { self.new.events ≡ self.old.events ++ event ∷ [] }
@@ -62,6 +78,7 @@ impl Trace {
     ///
     /// # Errors
     /// `Memory` where there was no room and a growth was refused. The trace is as it was then.
+    #[inline(always)]
     pub fn push(&mut self, event: Event) -> Result<(), Memory>
         ensures ok { OnOk result (self.new.events ≡ self.old.events ++ event ∷ []) }
         ensures full { OnErr result (self.old.room ≡ 0) }
@@ -73,6 +90,7 @@ impl Trace {
     }
 
     /// The number of events.
+    #[inline(always)]
     pub fn len(&self) -> usize
         ensures { result ≡ length self.now.events }
     {

@@ -10,7 +10,7 @@ use Rattle.velo_turns.specs.declared.schedule.ScheduleFault.TheVariants.{Bad, Me
 
 -- ---- thread numbers alone: `0 0 0 1 0`
 
--- the numbers of these threads, each behind a space
+-- the numbers of these threads, each after a space
 abbrev pub numbers : List ThreadId → List ℕ
 numbers [] = []
 numbers (t ∷ rest) = 32 ∷ (decimal t.0 ++ numbers rest)
@@ -43,7 +43,7 @@ pub record AreTurns (turns : Turns) : Type 0 where
   pub some : 1 ≤ turns.count
   pub few : turns.count ≤ MAX_TURNS
 
--- words, each behind a space
+-- words, each after a space
 abbrev pub spaced : List Turns → List ℕ
 spaced [] = []
 spaced (turns ∷ rest) = 32 ∷ (turns_text turns ++ spaced rest)

@@ -5,12 +5,12 @@ use Rattle.velo_bytes.specs.Parsing.{◌>>=◌, number_at, after_word}
 use Rattle.velo_turns.specs.declared.limits.TheConstants.{MAX_TURNS}
 use Rattle.velo_turns.specs.declared.turns.Turns.{Turns}
 
--- a count of two or more, with nothing behind it
+-- a count of two or more, with nothing after it
 abbrev pub many : ℕ → List ℕ → Option ℕ
 many n [] = if nat_le 2 n then Some n else None
 many n (b ∷ bs) = None
 
--- how many turns, by what stands behind the thread's number
+-- how many turns, by what follows the thread's number
 abbrev pub count_in : List ℕ → Option ℕ
 count_in [] = Some 1
 count_in (b ∷ bs) = do

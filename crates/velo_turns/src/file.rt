@@ -17,11 +17,11 @@ fn without_newline(text: &str) -> &str
     }
 }
 
-/// Reads the schedule that the bytes of a file say: its turns, as [`turns_of`] takes them, and at most one newline behind them.
-/// More bytes than [`MAX_SCHEDULE_BYTES`] say none.
+/// Reads the schedule that the bytes of a file say: its turns, as [`turns_of`] takes them, and at
+/// most one newline after them. More bytes than [`MAX_SCHEDULE_BYTES`] say none.
 ///
 /// # Errors
-/// `Bad` for other bytes, `Memory` where a growth was refused.
+/// `Bad` for other bytes, `Memory` if an allocation failed.
 pub fn schedule_in(alloc: Global, bytes: &[u8]) -> Result<Vec<ThreadId>, ScheduleFault>
     ensures schedule { IfOk result (λ schedule. IsScheduleIn bytes.now schedule.items) }
     ensures fault { IfErr result (IsFaultOfBytes bytes.now) }

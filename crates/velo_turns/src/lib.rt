@@ -1,5 +1,5 @@
-//! Schedules as text: `0 0 0 1 0`, or by turns `0*3 1 0`, is three turns of thread 0, one of thread 1 and one more of
-//! thread 0.
+//! Schedules as text: `0 0 0 1 0`, or by turns `0*3 1 0`, is three turns of thread 0, one of thread
+//! 1 and one more of thread 0.
 #![tactic(auto)]
 
 mod file;

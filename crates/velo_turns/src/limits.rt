@@ -1,5 +1,5 @@
 /// The most turns that a schedule has.
 pub const MAX_TURNS: usize = 1_000_000;
 
-/// The most bytes that the text of a schedule has with a newline behind it: three for each turn.
+/// The most bytes that the text of a schedule has with a newline after it: three for each turn.
 pub const MAX_SCHEDULE_BYTES: usize = 3_000_000;

@@ -17,7 +17,7 @@ pub enum ScheduleFault {
     /// It is the text of no schedule: see [`schedule_of`] and [`turns_of`].
     #[error("bad schedule")]
     Bad,
-    /// A growth was refused.
+    /// An allocation failed.
     #[error("out of memory")]
     Memory,
 }
@@ -39,13 +39,14 @@ fn push(schedule: &mut Vec<ThreadId>, turns: Turns) -> Result<(), ScheduleFault>
     }
 }
 
-/// Reads a schedule that is told by turns: the threads whose turns come one after another. The text has words parted by
-/// one space. A word is a thread's number, below [`MAX_THREADS`](velo_events::MAX_THREADS), for one turn, or such a
-/// number, a star and how many turns, 2 or more. Numbers have no leading zeros. There are at most [`MAX_TURNS`] turns in
-/// all; the empty text is the empty schedule.
+/// Reads a schedule of turns: the threads whose turns come one after another. The text has words
+/// separated by one space. A word is a thread's number, below
+/// [`MAX_THREADS`](velo_events::MAX_THREADS), for one turn, or such a number, a star and how many
+/// turns, 2 or more. Numbers have no leading zeros. There are at most [`MAX_TURNS`] turns in all;
+/// the empty text is the empty schedule.
 ///
 /// # Errors
-/// `Bad` for another text, `Memory` where a growth was refused.
+/// `Bad` for another text, `Memory` if an allocation failed.
 pub fn turns_of(alloc: Global, text: &str) -> Result<Vec<ThreadId>, ScheduleFault>
     ensures schedule { IfOk result (λ schedule. SaysTurns text.now schedule.items) }
     ensures fault { IfErr result (IsFaultOfTurns text.now) }
@@ -66,13 +67,13 @@ pub fn turns_of(alloc: Global, text: &str) -> Result<Vec<ThreadId>, ScheduleFaul
     Ok(schedule)
 }
 
-/// Reads a schedule that is told by thread numbers alone, one for each turn. They are below
-/// [`MAX_THREADS`](velo_events::MAX_THREADS), have no leading zeros and are parted by one space. There are at most
-/// [`MAX_TURNS`]; the empty text is the empty schedule. So these are the texts that [`turns_of`] takes and that have no
-/// star.
+/// Reads a schedule of thread numbers alone, one for each turn. They are below
+/// [`MAX_THREADS`](velo_events::MAX_THREADS), have no leading zeros and are separated by one space.
+/// There are at most [`MAX_TURNS`]; the empty text is the empty schedule. So these are the texts
+/// that [`turns_of`] takes and that have no star.
 ///
 /// # Errors
-/// `Bad` for another text, `Memory` where a growth was refused.
+/// `Bad` for another text, `Memory` if an allocation failed.
 pub fn schedule_of(alloc: Global, text: &str) -> Result<Vec<ThreadId>, ScheduleFault>
     ensures schedule { IfOk result (λ schedule. IsSchedule text.now schedule.items) }
     ensures fault { IfErr result (IsFaultOfSchedule text.now) }

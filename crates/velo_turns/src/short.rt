@@ -34,11 +34,11 @@ fn first_turns(schedule: &[ThreadId]) -> Turns
     Turns { thread, count }
 }
 
-/// Appends the short text of a schedule, each word behind a space: longest stretches of turns of one thread, a star
-/// from two turns on.
+/// Appends the short text of a schedule, each word after a space: longest stretches of turns of one
+/// thread, a star from two turns on.
 ///
 /// # Errors
-/// `Memory` where a growth was refused.
+/// `Memory` if an allocation failed.
 pub fn append_turns(text: &mut Vec<u8>, schedule: &[ThreadId]) -> Result<(), Memory>
     ensures { OnOk result (text.new.items ≡ text.old.items ++ spaced (longest schedule.now)) }
 {

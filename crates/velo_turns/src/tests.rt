@@ -3,7 +3,7 @@ use crate::{ScheduleFault, append_turns, schedule_of, turns_of};
 use std::alloc::Global;
 use std::test::Fail;
 
-/// Whether a text is read and written as this short one, each word behind a space.
+/// Whether a text is read and written as this short one, each word after a space.
 fn is_short(alloc: Global, text: &str, short: &[u8]) -> bool {
     let mut written = Vec::new(alloc);
     match turns_of(alloc, text) {

@@ -15,7 +15,7 @@ pub(crate) struct Turns {
     pub count: usize,
 }
 
-/// How many turns a word means, by what stands behind the thread's number.
+/// How many turns a word means, by what follows the thread's number.
 fn count_in(rest: &[u8]) -> Option<usize>
     ensures { result ≡ count_in rest.now }
 {

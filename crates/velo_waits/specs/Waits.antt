@@ -12,7 +12,8 @@ use Rattle.velo_workload.specs.Program.{Program}
 use Rattle.velo_worker.specs.Counts.{has_event}
 use Rattle.velo_worker.specs.Walk.{walk_of}
 
--- the statement that thread t does next after the log: that behind as many of its body's events as it did
+-- the statement that thread t does next after the log: that after as many of its body's events as
+-- it did
 abbrev pub next_of : Program → List Event → ℕ → Option Statement
 next_of program log t =
     option_and_then (λ body. slice_get (filter has_event (walk_of body)) (events_of log t)) (slice_get program.bodies t)
@@ -67,6 +68,7 @@ statement_text program log t statement = []
 abbrev pub wait_text : Program → List Event → ℕ → List ℕ
 wait_text program log t = if is_live (status_in log t) then statement_text program log t (next_of program log t) else []
 
--- a line for each thread that waits, where the run of this log is stuck: then each thread that lives waits at its next statement
+-- a line for each thread that waits, where the run of this log is stuck: then each thread that
+-- lives waits at its next statement
 abbrev pub waits_text : Program → List Event → List ℕ
 waits_text program log = texts_below (wait_text program log) program.bounds.threads

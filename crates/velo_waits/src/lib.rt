@@ -1,4 +1,4 @@
-//! A deadlock in words: who waits for which lock, held by whom, or for whose end.
+//! A deadlock in words: which thread waits for which lock, held by whom, or for whose end.
 #![tactic(auto)]
 
 mod standing;

@@ -1,4 +1,4 @@
-//! Where the threads of a run stand at its end.
+//! The next statement of each thread at the end of a run.
 ghost use Rattle.std.specs.Prelude.{◌≡◌, ◌<◌, Some, IfOk};
 ghost use Rattle.velo_events.specs.Event.{are_same};
 ghost use Rattle.velo_events.specs.Heap.{holder_in, shares_in, status_in};
@@ -38,10 +38,10 @@ pub fn shares(closed: &Closed, lock: LockId, thread: ThreadId) -> bool
     closed.heap().shares(lock, thread)
 }
 
-/// The statement that a thread does next, if one is left. It ends behind its last.
+/// The statement that a thread does next, if one is left. It ends after its last.
 ///
 /// # Errors
-/// `Memory` where a growth was refused.
+/// `Memory` if an allocation failed.
 pub fn next_statement(
     alloc: Global,
     workload: &Workload,

@@ -20,7 +20,7 @@ fn add_name(text: &mut Vec<u8>, names: &[String], number: u16) -> Result<(), Mem
     }
 }
 
-/// Adds words, and a thread's name behind them.
+/// Adds words, and a thread's name after them.
 fn add_thread(
     text: &mut Vec<u8>,
     words: &[u8],
@@ -132,11 +132,12 @@ fn add_wait(
     }
 }
 
-/// The lines of a deadlock, where a run of the workload that is stuck has left this world: who waits for which lock, held by
-/// whom, or for whose end. The world has to have the workload's bounds.
+/// The lines of a deadlock, where a stuck run of the workload has left this world: which thread
+/// waits for which lock, held by whom, or for whose end. The world has to have the workload's
+/// bounds.
 ///
 /// # Errors
-/// `Memory` where a growth was refused.
+/// `Memory` if an allocation failed.
 pub fn waits_of(alloc: Global, workload: &Workload, closed: &Closed) -> Result<Vec<u8>, Memory>
     requires { closed.now.config.bounds ≡ workload.now.bounds }
     ensures { IfOk result (λ text. text.items ≡ waits_text workload.now closed.now.log) }

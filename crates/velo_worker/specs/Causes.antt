@@ -1,4 +1,4 @@
--- Why a run ends for want of memory.
+-- Why a run ends out of memory.
 use Rattle.std.specs.Prelude.{◌⊎◌, ⊤}
 use Rattle.velo_events.specs.declared.refusal.Refusal.{Refusal}
 use Rattle.velo_events.specs.declared.refusal.Refusal.TheVariants.{Memory, RuntimeMemory}
@@ -9,8 +9,8 @@ use Rattle.velo_worker.specs.declared.outcome.Outcome.{Outcome}
 use Rattle.velo_worker.specs.declared.outcome.Outcome.TheVariants as worker
 pub use Rattle.velo_seal.specs.Start.{StartRefused}
 
--- of a refusal: an event is refused for want of memory only where a growth was. A thread that was born is left without its worker
--- for want of memory only where a growth or the start of a thread was refused
+-- of a refusal: an event is refused with `Memory` only if an allocation failed. A forked thread is
+-- left without its worker only if an allocation or the start of a thread failed
 abbrev pub HasCause : Refusal → Type 0
 HasCause Memory = GrowthRefused
 HasCause RuntimeMemory = GrowthRefused ⊎ StartRefused

@@ -1,4 +1,4 @@
--- Where a walk stands. Private contracts cite these words.
+-- The place of a walk. Private contracts cite these words.
 use Rattle.std.specs.Prelude.{◌≡◌, ◌≤◌, ◌<◌, ⊤, ℕ, zero, suc, ◌+◌, ◌-◌, List, [], ◌∷◌, ◌++◌, length, drop, IsTrue, slice_index_or}
 use Rattle.velo_workload.specs.declared.statement.Statement.{Statement}
 use Rattle.velo_workload.specs.declared.statement.Statement.TheVariants.{Repeat, Done}
@@ -46,8 +46,8 @@ left_in_levels body (r ∷ repeats) ls = first ls ++ Done ∷ repeated r.again (
 unfoldable pub left_at : List Statement → Cursor → List Statement
 left_at body at = left_in_levels body at.repeats (levels (drop at.position body))
 
--- each open repeat starts where as many repeats are open around it, and behind its end the same is left as behind the end that
--- comes from here
+-- each open repeat starts where as many repeats are open around it, and after its end the same is
+-- left as after the end that comes from here
 unfoldable pub AreOpen : List Statement → List OpenRepeat → List (List Statement) → Type 0
 AreOpen body [] ls = ⊤
 AreOpen body (r ∷ repeats) ls =
@@ -60,7 +60,7 @@ pub record StandsIn (body : List Statement) (at : Cursor) : Type 0 where
 
 -- ---- the ends of repeats
 
--- the statements behind the n-th end of a repeat that is open before them, counted from 0
+-- the statements after the n-th end of a repeat that is open before them, counted from 0
 unfoldable pub behind : ℕ → List Statement → List Statement
 behind n [] = []
 behind n (Repeat k ∷ rest) = behind (suc n) rest
@@ -68,18 +68,19 @@ behind zero (Done ∷ rest) = rest
 behind (suc n) (Done ∷ rest) = behind n rest
 behind n (statement ∷ rest) = behind n rest
 
--- the position behind the end of the repeat that is open at position i; behind the body where none is
+-- the position after the end of the repeat that is open at position i; after the body where none is
 pub record IsRepeatEnd (body : List Statement) (i end : ℕ) : Type 0 where
   pub within : end ≤ length body
   pub later : i ≤ end
   pub behind : drop end body ≡ behind 0 (drop i body)
 
--- of each statement, the end of the repeat that is open behind it
+-- of each statement, the end of the repeat that is open after it
 pub record AreRepeatEnds (body : List Statement) (ends : List ℕ) : Type 0 where
   pub count : length ends ≡ length body
   pub each : (i : ℕ) → i < length body → IsRepeatEnd body (i + 1) (slice_index_or ends i 0)
 
--- the end of the repeat that is open before the statement at position i, by the end of the one that is open behind it
+-- the end of the repeat that is open before the statement at position i, by the end of the one that
+-- is open after it
 abbrev pub end_before : Statement → ℕ → List ℕ → ℕ → ℕ
 end_before Done i ends end = i + 1
 end_before (Repeat n) i ends end = slice_index_or ends (end - 1) 0

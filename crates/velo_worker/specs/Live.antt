@@ -59,8 +59,9 @@ abbrev pub lesser : Option (ThreadId × Refusal) → ThreadId → Refusal → Th
 lesser None t r = (t, r)
 lesser (Some found) t r = if nat_le found.0.0 t.0 then found else (t, r)
 
--- Gated goes before all others. Else the least thread that met a refusal tells, which is Stuck where the refusal is that it would
--- wait for itself. Else a world that some worker found halted was halted by its alarm. Else all are done
+-- Gated goes before all others. Else the least thread that met a refusal decides: Stuck if the
+-- refusal is that it would wait for itself. Else a world that some worker found halted was halted
+-- by its alarm. Else all are done
 abbrev pub EndsAs : List WorkerEnd → Ending → Type 0
 EndsAs ended run.Gated = IsAnyGated ended
 EndsAs ended run.Stuck = (¬ IsAnyGated ended) × ((t : ThreadId) × IsLeastMet ended t WouldDeadlock)

@@ -23,7 +23,8 @@ progress_after p (e ∷ events) = progress_after (after_event (settled p) (value
 abbrev pub tried : Progress → Option Action
 tried p = if p.done then None else Some (wanted (settled p))
 
--- what a thread that starts so tries after these events of its own; nothing where there is no such thread
+-- what a thread that starts so tries after these events of its own; nothing where there is no such
+-- thread
 abbrev pub tried_after : Option Progress → List Event → Option Action
 tried_after (Some start) events = tried (progress_after start events)
 tried_after None events = None
@@ -36,7 +37,7 @@ pub record Follows (start : Option Progress) (events : List Event) : Type 0 wher
 pub record AllFollow (starts : List Progress) (log : List Event) : Type 0 where
   pub each : (t : ℕ) → Follows (slice_get starts t) (own t log)
 
--- the events come about one after another, and each thread's are those of its body
+-- the events happen one after another, and each thread's are those of its body
 pub record IsLogOf (program : Program) (log : List Event) : Type 0 where
   pub well : IsWellFormed program.bounds log
   pub bodies : AllFollow (map start_of program.bodies) log

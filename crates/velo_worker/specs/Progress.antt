@@ -1,4 +1,5 @@
--- What a thread does of its body up to its next event, the action that it tries then, and how it goes on after it.
+-- What a thread does of its body up to its next event, the action that it tries then, and how it
+-- goes on after it.
 use Rattle.std.specs.Prelude.{ℕ, ◌+◌, ◌%◌, ◌^◌, Bool, true, false, List, [], ◌∷◌, Option, Some, None, slice_get, if◌then◌else◌}
 use Rattle.velo_events.specs.declared.event.Action.{Action}
 use Rattle.velo_events.specs.declared.event.Action.TheVariants as action

@@ -1,4 +1,4 @@
--- What a workload comes to by a schedule: turns, rounds of turns, and how they end.
+-- What a workload does by a schedule: turns, rounds of turns, and how they end.
 use Rattle.std.specs.Prelude.{◌≡◌, ◌≢◌, ◌<◌, ◌↔◌, ◌⊎◌, ⊤, ℕ, zero, suc, ◌+◌, true, List, [], ◌∷◌, ◌++◌, length, map, Option, Some, None, Result, Ok, Err, IsOk, IsTrue, slice_get, slice_set}
 use Rattle.velo_events.specs.declared.config.Config.{Config}
 use Rattle.velo_events.specs.declared.event.Action.{Action}
@@ -19,7 +19,7 @@ use Rattle.velo_worker.specs.declared.ending.Ending.TheVariants.{Done, Stuck, Ha
 use Rattle.velo_worker.specs.declared.progress.Progress.{Progress}
 use Rattle.velo_worker.specs.Progress.{start_of, settled, wanted, after_event}
 
--- where a replay stands: a world, and how far each of its threads has come
+-- the state of a replay: a world, and how far each of its threads has come
 pub record ReplayState : Type 0 where
   pub world : WorldState
   pub threads : List Progress
@@ -31,7 +31,8 @@ abbrev pub IsIdle : List Event → ℕ → Option Progress → Type 0
 IsIdle log t None = ⊤
 IsIdle log t (Some p) = (p.done ≡ true) ⊎ (status_in log t ≡ Unborn)
 
--- the action of the thread is one event. A world that stops at an alarm is halted once its log has a cycle
+-- the action of the thread is one event. A world that stops at an alarm is halted once its log has
+-- a cycle
 pub record Happens (w : WorldState) (t : ThreadId) (action : Action) (e : Event) (w' : WorldState) : Type 0 where
   pub due : meaning w t action ≡ Ok e
   pub config : w'.config ≡ w.config
@@ -44,13 +45,14 @@ IsWait Busy = ⊤
 IsWait NotExited = ⊤
 IsWait r = ⊥
 
--- a refusal that ends the run: the one that is due; or an event is due, and a growth was refused for it or the graph is full
+-- a refusal that ends the run: the one that is due; or an event is due, and an allocation failed
+-- for it or the graph is full
 pub record EndsRun (w : WorldState) (due : Result Event Refusal) (r : Refusal) : Type 0 where
   pub goes_on : ¬ IsWait r
   pub cause : (due ≡ Err r) ⊎ (((r ≡ refusal.Memory) × (IsOk due × GrowthRefused)) ⊎ ((r ≡ GraphFull) × FillsGraph w due))
 
--- the thread does its statements without events up to the next event, and tries that: it happens; or the thread waits; or the
--- try ends the run
+-- the thread does its statements without events up to the next event, and tries that: it happens;
+-- or the thread waits; or the try ends the run
 abbrev pub Tries : WorldState → ThreadId → Progress → Option Ending → WorldState → Progress → Type 0
 Tries w t p None w' p' =
     ((e : Event) × Happens w t (wanted (settled p)) e w' × (p' ≡ after_event (settled p) (value_read e.kind)))

@@ -1,9 +1,9 @@
--- What the statements of a body come to, one after another, with its repeats written out.
+-- The statements of a body, one after another, with its repeats written out.
 use Rattle.std.specs.Prelude.{ℕ, zero, suc, List, [], ◌∷◌, ◌++◌}
 use Rattle.velo_workload.specs.declared.statement.Statement.{Statement}
 use Rattle.velo_workload.specs.declared.statement.Statement.TheVariants.{Repeat, Done}
 
--- the statements, so many times
+-- the statements, n times
 unfoldable pub repeated : ℕ → List Statement → List Statement
 repeated zero statements = []
 repeated (suc n) statements = statements ++ repeated n statements
@@ -25,14 +25,15 @@ with_statement statement levels = (statement ∷ first levels) ∷ others levels
 abbrev pub with_repeat : ℕ → List (List Statement) → List (List Statement)
 with_repeat n levels = (Repeat n ∷ repeated n (first levels ++ Done ∷ []) ++ first (others levels)) ∷ others (others levels)
 
--- What is to be done up to the end of the repeat that is open before the statements; then, behind that end, up to the end of the
--- repeat around it; and so on. Each repeat stands there as its own statement and then, so many times, what is repeated and its `Done`
+-- What is to be done up to the end of the repeat that is open before the statements; then, after
+-- that end, up to the end of the repeat around it; and so on. Each repeat is there as its own
+-- statement, and after it, n times, what is repeated and its `Done`
 unfoldable pub levels : List Statement → List (List Statement)
 levels [] = []
 levels (Repeat n ∷ rest) = with_repeat n (levels rest)
 levels (Done ∷ rest) = [] ∷ levels rest
 levels (statement ∷ rest) = with_statement statement (levels rest)
 
--- all that a body comes to
+-- all statements of a body, its repeats written out
 unfoldable pub walk_of : List Statement → List Statement
 walk_of body = first (levels body)

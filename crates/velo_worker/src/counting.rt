@@ -1,4 +1,4 @@
-//! How many events a body comes to, without a walk through its repeats.
+//! How many events a body has, counted without a walk through its repeats.
 ghost use Rattle.std.specs.Prelude.{◌≡◌, ◌≤◌, ◌^◌, ◌-◌, min, drop, length, count_by};
 ghost use Rattle.velo_worker.specs.Counts.{body_events, has_event};
 ghost use Rattle.velo_worker.specs.Walk.{first, others, levels};
@@ -6,7 +6,8 @@ ghost use Rattle.velo_worker.specs.Walk.{first, others, levels};
 use crate::progress::is_quiet;
 use velo_workload::Statement;
 
-/// How many events a body has, its repeats written out and the exit included; the largest number where there are more.
+/// How many events a body has, its repeats written out and the exit included; the largest number
+/// where there are more.
 pub fn count_events(body: &[Statement]) -> u64
     ensures { result ≡ min (body_events body.now) (2 ^ 64 - 1) }
 {
@@ -14,7 +15,8 @@ pub fn count_events(body: &[Statement]) -> u64
     count_level(body, &mut position).saturating_add(1)
 }
 
-/// The events from the position up to the end of the repeat that is open there, and the position behind that end.
+/// The events from the position up to the end of the repeat that is open there, and the position
+/// after that end.
 fn count_level(body: &[Statement], position: &mut usize) -> u64
     requires { position.old ≤ length body.now }
     ensures count { result ≡ min (count_by has_event (first (levels (drop position.old body.now)))) (2 ^ 64 - 1) }

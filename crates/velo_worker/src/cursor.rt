@@ -1,4 +1,4 @@
-//! Where a walk through a body stands.
+//! The place of a walk through a body.
 ghost use Rattle.std.specs.Prelude.{◌≡◌, ◌<◌, ◌+◌, [], length};
 ghost use Rattle.velo_worker.specs.Cursor.{moved_on, entered, repeated_or_left};
 
@@ -80,7 +80,8 @@ impl Cursor {
         self.depth += 1;
     }
 
-    /// Goes from the end of the innermost open repeat back to its start, or out of it where it was done often enough.
+    /// Goes from the end of the innermost open repeat back to its start, or out of it where it was
+    /// done often enough.
     pub fn repeat_or_leave(&mut self)
         requires within { self.old.position < usize.MAX }
         requires inside { 0 < length self.old.repeats }

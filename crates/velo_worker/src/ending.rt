@@ -5,8 +5,8 @@ use velo_events::{Refusal, ThreadId};
 pub enum Ending {
     /// Every thread has exited, or was never forked.
     Done,
-    /// Some thread is left, and none can go on; of a live run, that the least thread that was refused anything would have
-    /// waited for itself.
+    /// Some thread is left, and none can go on; of a live run, that the least thread that was
+    /// refused anything would have waited for itself.
     Stuck,
     /// The world was halted, as an alarm may do.
     Halted,

@@ -2,8 +2,9 @@ use velo_events::ThreadId;
 
 /// Decides when live threads go on.
 pub trait Gate {
-    /// Is asked before each event of a live thread, outside the world's lock. `step` is the number of its events so far. On
-    /// false the run ends as gated. A gate may wait, and then the thread waits.
+    /// Is asked before each event of a live thread, outside the world's lock. `step` is the number
+    /// of its events so far. On false the run ends as gated. A gate may wait, and then the thread
+    /// waits.
     fn pass(&self, thread: ThreadId, step: u64) -> bool;
 }
 

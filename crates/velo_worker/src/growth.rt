@@ -1,5 +1,5 @@
-//! The making of a channel and of a further sender, each with the fact that its refusal leaves. No other code of this crate
-//! can show this fact.
+//! The making of a channel and of a further sender, each with the fact that its refusal leaves. No
+//! other code of this crate can show this fact.
 
 use crossbeam_channel::{Receiver, Sender};
 use std::alloc::Global;
@@ -11,7 +11,7 @@ const PLACES: usize = 128;
 /// A channel with room for all messages of a run.
 ///
 /// # Errors
-/// `Memory` where a growth was refused.
+/// `Memory` if an allocation failed.
 pub fn channel<T: Drop>(alloc: Global) -> Result<(Sender<T>, Receiver<T>), Memory> {
     match crossbeam_channel::bounded(alloc, PLACES) {
         Ok(ends) => Ok(ends),
@@ -22,7 +22,7 @@ pub fn channel<T: Drop>(alloc: Global) -> Result<(Sender<T>, Receiver<T>), Memor
 /// A further sender of a channel.
 ///
 /// # Errors
-/// `Memory` where a growth was refused.
+/// `Memory` if an allocation failed.
 pub fn copy<T: Drop>(sender: &Sender<T>) -> Result<Sender<T>, Memory> {
     match sender.clone() {
         Ok(copy) => Ok(copy),

@@ -11,11 +11,11 @@ use velo_events::Memory;
 use velo_events::growth::reserve;
 use velo_workload::Statement;
 
-/// The statements of a body that are events, one after another, its repeats written out. [`count_events`](crate::count_events)
-/// tells how many there are, before any is listed.
+/// The statements of a body that are events, one after another, its repeats written out.
+/// [`count_events`](crate::count_events) returns how many there are, before any is listed.
 ///
 /// # Errors
-/// `Memory` where a growth was refused.
+/// `Memory` if an allocation failed.
 pub fn list_events(alloc: Global, body: &[Statement]) -> Result<Vec<Statement>, Memory>
     requires { IsBody body.now }
     ensures { IfOk result (λ events. events.items ≡ filter has_event (walk_of body.now)) }
@@ -29,7 +29,7 @@ pub fn list_events(alloc: Global, body: &[Statement]) -> Result<Vec<Statement>, 
     Ok(events)
 }
 
-/// Puts a statement behind the others, if it is an event.
+/// Appends a statement, if it is an event.
 fn note_event(events: &mut Vec<Statement>, statement: Statement) -> Result<(), Memory>
     ensures { OnOk result (events.new.items ≡ events.old.items ++ filter has_event (statement ∷ [])) }
 {
@@ -41,11 +41,11 @@ fn note_event(events: &mut Vec<Statement>, statement: Statement) -> Result<(), M
     Ok(())
 }
 
-/// The event of a body at a number, counted from 0, its repeats written out: none where it has no more. Those before it are
-/// passed over one by one.
+/// The event of a body at a number, counted from 0, its repeats written out: none where it has no
+/// more. Those before it are passed over one by one.
 ///
 /// # Errors
-/// `Memory` where a growth was refused.
+/// `Memory` if an allocation failed.
 pub fn event_at(alloc: Global, body: &[Statement], number: u64) -> Result<Option<Statement>, Memory>
     requires { IsBody body.now }
     ensures { IfOk result (λ event. event ≡ slice_get (filter has_event (walk_of body.now)) number) }

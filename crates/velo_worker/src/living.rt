@@ -33,10 +33,11 @@ use velo_world::Closed;
 /// Why a live run has no world to show.
 #[derive(Clone, Copy, Debug, PartialEq, Eq, Error)]
 pub enum LiveFault {
-    /// A growth was refused before the first event.
+    /// An allocation failed before the first event.
     #[error("out of memory")]
     Memory,
-    /// A seat did not come back, or is not that of a thread that did its body; or the log has an event that no body leads to.
+    /// A seat did not come back, or is not that of a thread that did its body; or the log has an
+    /// event that no body leads to.
     #[error("seat lost")]
     Lost,
 }
@@ -49,17 +50,19 @@ impl From<Memory> for LiveFault {
     }
 }
 
-/// Lets each thread of a workload do its body in a thread of its own, and closes the world after the last has ended. It answers
-/// that world, and how the run ended. The configuration has to have the workload's bounds. However the run ended, each thread's
-/// events are those that its body leads to, one after another: the log is retraced by the bodies at the end, in one pass.
+/// Lets each thread of a workload do its body in a thread of its own, and closes the world after
+/// the last has ended. Returns that world, and how the run ended. The configuration has to have the
+/// workload's bounds. However the run ended, each thread's events are those that its body leads to,
+/// one after another: the log is retraced by the bodies at the end, in one pass.
 ///
-/// Before each of its events a thread asks the gate. One that the gate does not let pass, or whose action is refused, halts the
-/// world: what the others try after that is refused. It may wait for locks, for threads to join, and for the gate.
+/// Before each of its events a thread asks the gate. One that the gate does not let pass, or whose
+/// action is refused, halts the world: what the others try after that is refused. It may wait for
+/// locks, for threads to join, and for the gate.
 ///
 /// # Errors
-/// `Memory` where a growth was refused before the first event; one that is refused later ends the run as `Refused`. `Lost` where
-/// a seat did not come back, or is not that of the body that its worker says was done; and where the log would have an event
-/// that no body leads to.
+/// `Memory` if an allocation failed before the first event; one that fails later ends the run as
+/// `Refused`. `Lost` where a seat did not come back, or is not that of the body that its worker
+/// says was done; and where the log would have an event that no body leads to.
 pub fn live<G: Gate + Sync, R: Threads + Wait + Sync>(
     rt: &R,
     alloc: Global,
@@ -102,7 +105,8 @@ pub fn live<G: Gate + Sync, R: Threads + Wait + Sync>(
     retraced(workload, threads, closed, ending)
 }
 
-/// The closed world and how its run ended, if each thread's events are those that its body leads to.
+/// The closed world and how its run ended, if each thread's events are those that its body leads
+/// to.
 fn retraced(
     workload: &Workload,
     threads: Vec<Progress>,
@@ -134,7 +138,8 @@ fn run<'a, G: Gate + Sync, R: Threads + Wait + Sync>(
     });
 }
 
-/// Starts a worker for each thread that is born, and enters those that end, until no worker is left to tell of either.
+/// Starts a worker for each thread that is born, and enters those that end, until no worker is left
+/// to report either.
 fn tend<'s, E, G: Gate + Sync, R: Wait + Sync>(
     scope: &Scope<'s, E>,
     rt: &'s R,
@@ -174,7 +179,8 @@ fn start<'s, E, G: Gate + Sync, R: Wait + Sync>(
     }
 }
 
-/// Enters a worker that has ended. There is room for all: a seat that found none would be missing at the end.
+/// Enters a worker that has ended. There is room for all: a seat that found none would be missing
+/// at the end.
 fn enter(ended: &mut Vec<Ended>, worker: Ended)
     ensures { vec_len ended.old < vec_capacity ended.old → ended.new.items ≡ ended.old.items ++ worker ∷ [] }
 {
@@ -205,7 +211,8 @@ fn finish(
     }
 }
 
-/// The seats of the workers, in the room that was made for them. None where a worker says that it is done, and its seat does not.
+/// The seats of the workers, in the room that was made for them. None where a worker says that it
+/// is done, and its seat does not.
 fn seats_of(workload: &Workload, mut ended: Vec<Ended>, mut seats: Vec<Seat>) -> Option<Vec<Seat>>
     requires { seats.items ≡ [] }
     ensures { IfSome result (λ seats.
@@ -243,7 +250,7 @@ fn has_done(workload: &Workload, seat: &Seat) -> bool
     if thread.0 >= workload.bounds().threads {
         return false;
     }
-    // A full count may stand for more events.
+    // A count at its maximum may mean more events.
     let count = count_events(workload.body(thread));
     let exit = Event {
         thread,

@@ -19,7 +19,8 @@ pub enum Outcome {
     Refused(Refusal),
 }
 
-/// What a worker hands back at its end. Where it was refused for want of memory, a growth or the start of a thread was refused.
+/// What a worker returns at its end. If it was refused with `Memory` or `RuntimeMemory`, an
+/// allocation or the start of a thread failed.
 #[derive(Debug, Drop)]
 pub struct Ended {
     /// Its seat.

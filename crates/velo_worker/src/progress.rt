@@ -24,7 +24,7 @@ impl<'a> Progress<'a> {
     /// A thread that has done nothing of its body.
     ///
     /// # Errors
-    /// `Memory` where a growth was refused.
+    /// `Memory` if an allocation failed.
     pub fn start(alloc: Global, body: &'a [Statement]) -> Result<Progress<'a>, Memory>
         requires { IsBody body.now }
         ensures { IfOk result (λ progress. progress ≡ start_of body.now) }
@@ -57,7 +57,8 @@ impl<'a> Progress<'a> {
         action_for(self.register, self.left.next())
     }
 
-    /// Goes on after the event that it tried, which may have read a value. After its exit it is done.
+    /// Goes on after the event that it tried, which may have read a value. After its exit it is
+    /// done.
     pub fn go_on(&mut self, read: Option<u64>)
         ensures { self.new ≡ after_event self.old read }
     {
@@ -75,7 +76,7 @@ impl<'a> Progress<'a> {
 /// The threads of a workload, each before its first statement.
 ///
 /// # Errors
-/// `Memory` where a growth was refused.
+/// `Memory` if an allocation failed.
 pub fn threads_of<'a>(alloc: Global, workload: &'a Workload) -> Result<Vec<Progress<'a>>, Memory>
     ensures threads { IfOk result (λ threads. threads.items ≡ map start_of workload.now.bodies) }
     ensures count { IfOk result (λ threads. length threads.items ≡ workload.now.bounds.threads) }

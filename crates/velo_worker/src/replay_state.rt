@@ -1,4 +1,4 @@
-//! Where a replay of a workload stands: its world, and how far each thread has come.
+//! The state of a replay of a workload: its world, and how far each thread has come.
 ghost use Rattle.std.specs.Prelude.{◌≡◌, ◌≢◌, ◌≤◌, ◌↔◌, true, false, length, slice_get, IfOk, IsTrue, ℕ};
 ghost use Rattle.velo_events.specs.Heap.{status_in};
 ghost use Rattle.velo_world.specs.World.{HoldsLiveShares, CompletesShares, opening};
@@ -37,7 +37,8 @@ impl<'a> Model for ReplayState<'a> {
 }
 
 impl<'a> ReplayState<'a> {
-    /// A turn of a thread: it passes where it is idle, else it tries its next event. Some ending where that ends the run.
+    /// A turn of a thread: it passes where it is idle, else it tries its next event. Some ending
+    /// where that ends the run.
     pub fn take_turn(&mut self, thread: ThreadId) -> Option<Ending>
         ensures { TurnOf self.old thread result self.new }
     {

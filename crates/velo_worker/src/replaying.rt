@@ -13,16 +13,18 @@ use velo_ledger::Shares;
 use velo_workload::Workload;
 use velo_world::{Closed, World};
 
-/// Lets the threads of a workload act in turn: first in the order of the schedule, then in rounds of all threads. It
-/// answers the world after its end, and how the run ended. The configuration has to have the workload's bounds.
+/// Lets the threads of a workload act in turn: first in the order of the schedule, then in rounds
+/// of all threads. Returns the world after its end, and how the run ended. The configuration has to
+/// have the workload's bounds.
 ///
-/// In its turn a thread does its statements without events up to its next event, and tries that. It passes where it has
-/// exited, was not forked yet or is no thread of the workload, and where it has to wait for a lock or for the end of
-/// another thread. The run is done once no thread is left that could try anything, and stuck after a round without an
-/// event.
+/// In its turn a thread does its statements without events up to its next event, and tries that. It
+/// passes where it has exited, was not forked yet or is no thread of the workload, and where it has
+/// to wait for a lock or for the end of another thread. The run is done once no thread is left that
+/// could try anything, and stuck after a round without an event.
 ///
 /// # Errors
-/// `Memory` where a growth was refused before the first turn. One that is refused later ends the run as `Refused`.
+/// `Memory` if an allocation failed before the first turn. One that fails later ends the run as
+/// `Refused`.
 pub fn replay(
     alloc: Global,
     workload: &Workload,

@@ -8,7 +8,8 @@ ghost use Rattle.velo_worker.specs.Progress.{after_event, settled};
 use crate::progress::Progress;
 use velo_events::{Event, Kind};
 
-/// Whether each thread's events are those that it tries one after another, where the threads start so. One pass over the log.
+/// Whether each thread's events are those that it tries one after another, where the threads start
+/// so. One pass over the log.
 pub fn all_follow(mut threads: Vec<Progress<'_>>, log: &[Event]) -> bool
     ensures { IsTrue result → AllFollow threads.entry.items log.now }
 {
@@ -21,7 +22,8 @@ pub fn all_follow(mut threads: Vec<Progress<'_>>, log: &[Event]) -> bool
     true
 }
 
-/// Goes past the next event of a thread, if that is what it tries. What becomes of its progress otherwise is not told.
+/// Goes past the next event of a thread, if that is what it tries. Otherwise its progress is
+/// undefined.
 fn follow(progress: &mut Progress<'_>, kind: Kind) -> bool
     ensures tries { IsTrue result → tried progress.old ≡ Some (action_of kind) }
     ensures after { IsTrue result → progress.new ≡ after_event (settled progress.old) (value_read kind) }

@@ -1,4 +1,5 @@
-//! The start of a worker's thread, with the fact that its refusal leaves. No other code can show this fact.
+//! The start of a worker's thread, with the fact that its refusal leaves. No other code can show
+//! this fact.
 ghost use Rattle.std.specs.Prelude.{OnErr};
 ghost use Rattle.velo_worker.specs.Causes.{StartRefused};
 

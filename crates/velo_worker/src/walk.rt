@@ -15,7 +15,7 @@ use velo_workload::Statement;
 #[derive(Drop)]
 pub struct Walk<'a> {
     body: &'a [Statement],
-    /// For each statement the position behind the end of the repeat that is open behind it.
+    /// For each statement the position after the end of the repeat that is open after it.
     ends: Vec<usize>,
     cursor: Cursor,
 }
@@ -36,7 +36,7 @@ impl<'a> Walk<'a> {
     /// The whole body.
     ///
     /// # Errors
-    /// `Memory` where a growth was refused.
+    /// `Memory` if an allocation failed.
     pub fn start(alloc: Global, body: &'a [Statement]) -> Result<Walk<'a>, Memory>
         requires { IsBody body.now }
         ensures { IfOk result (λ walk. walk ≡ walk_of body.now) }
@@ -86,7 +86,8 @@ fn go_past(statement: Statement, cursor: &mut Cursor, ends: &[usize])
     }
 }
 
-/// The end of the repeat that is open before the statement at a position, by the end of the one that is open behind it.
+/// The end of the repeat that is open before the statement at a position, by the end of the one
+/// that is open after it.
 fn end_before(statement: Statement, position: usize, ends: &[usize], end: usize) -> usize
     requires position { position < length ends.now }
     requires some { 0 < end }
@@ -100,7 +101,8 @@ fn end_before(statement: Statement, position: usize, ends: &[usize], end: usize)
     }
 }
 
-/// For each statement the position behind the end of the repeat that is open behind it, found from the last to the first.
+/// For each statement the position after the end of the repeat that is open after it, found from
+/// the last to the first.
 fn ends_of(alloc: Global, body: &[Statement]) -> Result<Vec<usize>, Memory>
     ensures { IfOk result (λ ends. AreRepeatEnds body.now ends.items) }
 {

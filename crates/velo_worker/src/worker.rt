@@ -14,7 +14,7 @@ use velo_events::{Action, Refusal, ThreadId};
 use velo_runtime::{Seat, Shared};
 use velo_workload::{Statement, Workload};
 
-/// What a worker tells the starter.
+/// What a worker reports to the starter.
 #[derive(Drop)]
 pub enum Message {
     /// A thread was born, and waits among the births for its worker.
@@ -30,7 +30,7 @@ pub enum Message {
 pub struct Birth {
     /// The seat.
     pub seat: Seat,
-    /// The sender for what its worker tells the starter.
+    /// The sender for what its worker reports to the starter.
     pub messages: Sender<Message>,
 }
 
@@ -104,7 +104,7 @@ fn body_of(workload: &Workload, thread: ThreadId) -> &[Statement]
     }
 }
 
-/// Does an action by the seat, and answers the value that it read, if it read one.
+/// Does an action by the seat, and returns the value that it read, if it read one.
 fn act<G: Gate, R: Wait>(
     rt: &R,
     site: &Site<'_, G>,

@@ -6,8 +6,8 @@ use Rattle.velo_workload.specs.declared.limits.TheConstants.{MAX_OPEN_REPEATS}
 use Rattle.velo_workload.specs.declared.statement.Statement.{Statement}
 use Rattle.velo_workload.specs.declared.statement.Statement.TheVariants.{Repeat, Done}
 
--- with so many repeats open before them, each `Done` has its `Repeat` and each `Repeat` its `Done`, and no more repeats are open
--- at one place than may be
+-- with n repeats open before them, each `Done` has its `Repeat` and each `Repeat` its `Done`, and
+-- no more repeats are open at one place than may be
 unfoldable pub is_nested : ℕ → List Statement → Bool
 is_nested open_before [] = open_before == 0
 is_nested open_before (Repeat times ∷ rest) = nat_lt open_before MAX_OPEN_REPEATS && is_nested (suc open_before) rest

@@ -8,8 +8,8 @@ use Rattle.velo_workload.specs.declared.nesting.Open.{Open}
 use Rattle.velo_workload.specs.declared.nesting.Nesting.{Nesting}
 use Rattle.velo_workload.specs.Phrase.{Spoken, Repeat, Done, Phrase, Thread, Body}
 
--- Its thread's line; its open repeats, outermost first, each with its line and how often it is done itself; how often the
--- next statement is done; and the cost so far.
+-- Its thread's line; its open repeats, outermost first, each with its line and how often it is done
+-- itself; how often the next statement is done; and the cost so far.
 pub record NestingState : Type 0 where
   pub thread_line : ℕ
   pub open_repeats : List Open
@@ -34,7 +34,7 @@ nesting_after_line b n (Thread name) = new_nesting n
 nesting_after_line b n (Body s) = nesting_after b n s
 nesting_after_line b n p = b
 
--- after so many lines and these
+-- after n lines and these
 abbrev pub nesting_from : NestingState → ℕ → List Phrase → NestingState
 nesting_from b n [] = b
 nesting_from b n (p ∷ ps) = nesting_from (nesting_after_line b (n + 1) p) (n + 1) ps

@@ -56,7 +56,7 @@ labels ps = insert_all bytes_eq [] (flat_map label_in ps)
 
 -- ---- what a body costs
 
--- from a repeat on, where these are the costs behind it, as below
+-- from a repeat on, where these are the costs after it, as below
 abbrev pub repeated : ℕ → List ℕ → List ℕ
 repeated times [] = (1 + times) ∷ []
 repeated times (body ∷ []) = (1 + times * (1 + body)) ∷ []
@@ -66,8 +66,9 @@ abbrev pub one_statement : List ℕ → List ℕ
 one_statement [] = 1 ∷ []
 one_statement (cost ∷ others) = (1 + cost) ∷ others
 
--- The cost of the statements up to the first `done` whose `repeat` is not among them, of those from there up to the next
--- such one, and so on. A statement costs 1; a repeat costs 1, and as many times as it is done 1 and its body.
+-- The cost of the statements up to the first `done` whose `repeat` is not among them, of those from
+-- there up to the next such one, and so on. A statement costs 1; a repeat costs 1, and as many
+-- times as it is done 1 and its body.
 abbrev pub costs : List Spoken → List ℕ
 costs [] = 0 ∷ []
 costs (Repeat times ∷ ss) = repeated times (costs ss)
@@ -102,7 +103,7 @@ line_read b n (Thread name) = new_body n
 line_read b n (Body s) = record { thread_line = b.thread_line; open_repeats = opened b.open_repeats n s; said = b.said ++ s ∷ [] }
 line_read b n p = b
 
--- after so many lines and these
+-- after n lines and these
 abbrev pub read_from : Reading → ℕ → List Phrase → Reading
 read_from b n [] = b
 read_from b n (p ∷ ps) = read_from (line_read b (n + 1) p) (n + 1) ps
@@ -148,7 +149,7 @@ first_of_two None other = other
 abbrev pub is_among : List Word → Word → Bool
 is_among names name = list_any (bytes_eq name) names
 
--- a name is declared, where so many may be
+-- a name is declared, where there may be at most this many
 abbrev pub declared_fault : List Word → ℕ → Word → ℕ → Option WorkFault
 declared_fault names most name n =
     if is_among names name then Some (Twice n)
@@ -184,9 +185,9 @@ fault_from before (p ∷ rest) = first_of_two (fault_of_line (known before) p (l
 abbrev pub first_fault : List Phrase → Option WorkFault
 first_fault ps = fault_from [] ps
 
--- ---- answers
+-- ---- results
 
--- the answer is this fault, or none, unless a growth was refused
+-- the result is this fault, or none, unless an allocation failed
 abbrev pub Judges : {X : Type 0} → Option WorkFault → Result X WorkFault → Type 0
 Judges fault (Ok x) = fault ≡ None
 Judges fault (Err Memory) = GrowthRefused

@@ -42,7 +42,7 @@ pub data Phrase : Type 0 where
   Thread : (name : Word) → Phrase
   Body : (s : Spoken) → Phrase
 
--- ---- what a word says that stands first
+-- ---- what the first word of a line says
 
 unfoldable pub declaring_verb : Word → Verb
 declaring_verb w =

@@ -43,7 +43,7 @@ abbrev pub unknown_in : Names → Phrase → ℕ → Option WorkFault
 unknown_in names (Body s) n = if is_some (statement_of names s) then None else Some (Unknown n)
 unknown_in names p n = None
 
--- the first such line of those behind line n
+-- the first such line of those after line n
 abbrev pub first_unknown : Names → ℕ → List Phrase → Option WorkFault
 first_unknown names n [] = None
 first_unknown names n (p ∷ ps) = first_of_two (unknown_in names p (n + 1)) (first_unknown names (n + 1) ps)
@@ -97,7 +97,7 @@ unless_fault (Some f) w = Err f
 unfoldable pub meaning_of : List ℕ → Result Program WorkFault
 meaning_of text = unless_fault (fault_in (phrases text)) (program (phrases text))
 
--- what a parser answers: what the text means, unless a growth was refused
+-- what a parser returns: what the text means, unless an allocation failed
 abbrev pub ParsesAs : Result Program WorkFault → Result Program WorkFault → Type 0
 ParsesAs meaning (Ok w) = meaning ≡ Ok w
 ParsesAs meaning (Err Memory) = GrowthRefused

@@ -1,5 +1,5 @@
--- The bodies as the first pass puts them down: the statements that are known where their lines are read, and the others.
--- Private contracts cite these words.
+-- The bodies as the first pass puts them down: the statements that are known where their lines are
+-- read, and the others. Private contracts cite these words.
 use Rattle.std.specs.Prelude.{ℕ, ◌≡◌, List, [], ◌∷◌, ◌++◌, length, map, slice_set, Option, Some, None}
 use Rattle.velo_workload.specs.declared.fault.WorkFault.{WorkFault}
 use Rattle.velo_workload.specs.declared.statement.Statement.{Statement}
@@ -11,7 +11,8 @@ use Rattle.velo_workload.specs.Phrase.{spoken, Spoken, Phrase, Thread, Body}
 use Rattle.velo_workload.specs.Outline.{Names, first_of_two}
 use Rattle.velo_workload.specs.Program.{statement_of, unknown_in, first_unknown, body_from, bodies}
 
--- a statement with a name that the lines up to its own do not declare: its line, and where it stands in its body
+-- a statement with a name that the lines up to its own do not declare: its line, and its place in
+-- its body
 pub record Put : Type 0 where
   pub spoken : Spoken
   pub line : ℕ
@@ -40,7 +41,8 @@ with_known d s n None = record { statements = d.statements ++ of_statement.Done 
 abbrev pub with_statement : Names → Sketch → Spoken → ℕ → Sketch
 with_statement names d s n = with_known d s n (statement_of names s)
 
--- the bodies that are whole, and the one that is read; the first is what stands before the first thread
+-- the bodies that are whole, and the one that is read; the first is what comes before the first
+-- thread
 pub record Sketches : Type 0 where
   pub whole : List Sketch
   pub current : Sketch

@@ -36,7 +36,7 @@ abbrev pub is_word : List ℕ → Bool
 is_word [] = false
 is_word (b ∷ bs) = true
 
--- what stands between blanks
+-- the words between spaces and tabs
 abbrev pub pieces : List ℕ → List Word
 pieces bytes = filter is_word (slice_split is_blank bytes)
 
@@ -44,18 +44,18 @@ pieces bytes = filter is_word (slice_split is_blank bytes)
 abbrev pub words : List ℕ → List Word
 words line = pieces (before_first is_hash line)
 
--- ---- what stands at the front of bytes
+-- ---- what is at the front of bytes
 
 -- what the first line says
 abbrev pub content : List ℕ → List ℕ
 content bytes = before_first is_end bytes
 
--- the lines behind the newline that stands in front
+-- the lines after the newline in front
 abbrev pub lines_behind : List ℕ → List (List ℕ)
 lines_behind [] = []
 lines_behind (b ∷ bs) = lines bs
 
--- the lines behind the first
+-- the lines after the first
 abbrev pub later_lines : List ℕ → List (List ℕ)
 later_lines bytes = lines_behind (drop (position_or_len is_newline bytes) bytes)
 

@@ -15,7 +15,7 @@ use std::mem::replace;
 use velo_events::Memory;
 use velo_events::growth::reserve;
 
-/// The bodies that are read. The first is what stands before the first thread.
+/// The bodies that are read. The first is what comes before the first thread.
 #[derive(Drop)]
 pub struct Bodies<'a> {
     alloc: Global,
@@ -39,7 +39,7 @@ impl<'a> Bodies<'a> {
     /// The current body is whole.
     ///
     /// # Errors
-    /// `Memory` where a growth was refused.
+    /// `Memory` if an allocation failed.
     pub fn finish(&mut self) -> Result<(), Memory>
         ensures { OnOk result
             (sketches_of self.new
@@ -58,7 +58,7 @@ impl<'a> Bodies<'a> {
     /// Takes in a line of this number.
     ///
     /// # Errors
-    /// `Memory` where a growth was refused.
+    /// `Memory` if an allocation failed.
     pub fn take(&mut self, outline: &Outline, phrase: Phrase<'a>, line: usize) -> Result<(), Memory>
         requires { AreFew (known_of outline.now) }
         ensures { OnOk result
@@ -76,7 +76,8 @@ impl<'a> Bodies<'a> {
 /// The bodies of drafts, by all names of the text.
 ///
 /// # Errors
-/// `Unknown` for the first line that uses a name that the text does not declare; `Memory` where a growth was refused.
+/// `Unknown` for the first line that uses a name that the text does not declare; `Memory` if an
+/// allocation failed.
 pub fn complete_bodies(
     alloc: Global,
     outline: &Outline,

@@ -22,7 +22,7 @@ pub struct Later<'a> {
     pub said: Spoken<'a>,
     /// Its line.
     pub line: usize,
-    /// Where it stands in the body.
+    /// Its place in the body.
     pub place: usize,
 }
 
@@ -76,7 +76,7 @@ impl<'a> Draft<'a> {
     /// Takes in the statement of a line.
     ///
     /// # Errors
-    /// `Memory` where a growth was refused.
+    /// `Memory` if an allocation failed.
     pub fn take(&mut self, outline: &Outline, said: Spoken<'a>, line: usize) -> Result<(), Memory>
         requires { AreFew (known_of outline.now) }
         ensures { OnOk result
@@ -102,7 +102,8 @@ fn set(statements: &mut Vec<Statement>, place: usize, statement: Statement)
 /// The body of a draft, by all names of the text.
 ///
 /// # Errors
-/// `Unknown` for the first line that uses a name that the text does not declare; `Memory` where a growth was refused.
+/// `Unknown` for the first line that uses a name that the text does not declare; `Memory` if an
+/// allocation failed.
 pub fn complete_body(outline: &Outline, draft: Draft) -> Result<Vec<Statement>, WorkFault>
     requires { AreFew (known_of outline.now) }
     ensures judged { Judges (unknown_later (names_in (known_of outline.now)) (sketch_of draft.entry).later) result }

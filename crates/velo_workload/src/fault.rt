@@ -4,10 +4,11 @@ ghost use Rattle.std.specs.Prelude.{◌≡◌};
 use thiserror::Error;
 use velo_events::Memory;
 
-/// Why a text is no workload. Lines are counted from 1; line 0 stands for the whole text.
+/// Why a text is no workload. Lines are counted from 1; line 0 means the whole text.
 #[derive(Clone, Copy, Debug, PartialEq, Eq, Error)]
 pub enum WorkFault {
-    /// This line is no statement, or one in a wrong place. Line 0: the text has no thread, or is no text.
+    /// This line is no statement, or one in a wrong place. Line 0: the text has no thread, or is no
+    /// text.
     #[error("bad line {0}")]
     BadLine(usize),
     /// This line uses a variable, a lock or a thread that the text does not declare.
@@ -19,10 +20,11 @@ pub enum WorkFault {
     /// This line's `repeat` has no `done`, or its `done` has no `repeat`.
     #[error("unmatched line {0}")]
     Unmatched(usize),
-    /// This line is one too many of its kind, or begins a thread whose body costs too much. Line 0: the text is too long.
+    /// This line is one too many of its kind, or begins a thread whose body costs too much. Line 0:
+    /// the text is too long.
     #[error("too many at line {0}")]
     TooMany(usize),
-    /// A growth was refused in this call.
+    /// An allocation failed in this call.
     #[error("out of memory")]
     Memory,
 }

@@ -1,5 +1,5 @@
-//! Growing calls of `indexmap` and of `String`, each with the fact that its refusal leaves. No other code of this crate can
-//! show this fact.
+//! Growing calls of `indexmap` and of `String`, each with the fact that its refusal leaves. No
+//! other code of this crate can show this fact.
 ghost use Rattle.std.specs.Prelude.{◌≡◌, not, map, IfOk};
 ghost use Rattle.std.specs.String.{string_bytes};
 ghost use Rattle.std.specs.Str.{bytes_eq};
@@ -11,10 +11,10 @@ use indexmap::IndexSet;
 use std::alloc::Global;
 use velo_events::Memory;
 
-/// Puts the name behind the others, unless it is among them.
+/// Appends the name, unless it is among the others.
 ///
 /// # Errors
-/// `Memory` where a growth was refused.
+/// `Memory` if an allocation failed.
 pub fn insert<'a>(names: &mut IndexSet<&'a str>, name: &'a str) -> Result<bool, Memory>
     ensures names { IfOk result (λ new. names_of names.new ≡ insert_key bytes_eq (names_of names.old) name.now) }
     ensures new { IfOk result (λ new. new ≡ not (is_among (names_of names.old) name.now)) }
@@ -28,7 +28,7 @@ pub fn insert<'a>(names: &mut IndexSet<&'a str>, name: &'a str) -> Result<bool, 
 /// A copy of a text.
 ///
 /// # Errors
-/// `Memory` where a growth was refused.
+/// `Memory` if an allocation failed.
 pub fn copy_of(alloc: Global, text: &str) -> Result<String, Memory>
     ensures { IfOk result (λ copy. string_bytes copy ≡ text.now) }
 {

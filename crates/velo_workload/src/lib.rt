@@ -1,4 +1,5 @@
-//! The workload language: a text that declares variables, locks and threads and says what each thread does.
+//! The workload language: a text that declares variables, locks and threads and says what each
+//! thread does.
 #![tactic(auto)]
 
 mod bodies;

@@ -29,11 +29,11 @@ pub fn number_of(names: &IndexSet<&str>, name: &str) -> Option<usize>
     names.get_index_of(name)
 }
 
-/// Takes in a name that a line declares, where there may be so many.
+/// Takes in a name that a line declares, where there may be at most `most`.
 ///
 /// # Errors
-/// `Twice` where it is among them, and else `TooMany` where there are as many as may be. `Memory` where a growth was
-/// refused.
+/// `Twice` where it is among them, and else `TooMany` where there are as many as may be. `Memory`
+/// if an allocation failed.
 pub fn declare<'a>(
     names: &mut IndexSet<&'a str>,
     name: &'a str,

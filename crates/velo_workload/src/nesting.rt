@@ -10,7 +10,8 @@ use std::alloc::Global;
 use velo_events::Memory;
 use velo_events::growth::reserve;
 
-/// What is kept of a number of rounds or of a cost: no more than one above the most that a body may cost.
+/// What is kept of a number of rounds or of a cost: no more than one above the most that a body may
+/// cost.
 const MAX_KEPT: u64 = MAX_COST + 1;
 
 /// An open repeat.
@@ -85,7 +86,7 @@ impl Nesting {
     /// Opens a repeat of this line.
     ///
     /// # Errors
-    /// `Memory` where a growth was refused.
+    /// `Memory` if an allocation failed.
     pub fn open_repeat(&mut self, times: u64, line: usize) -> Result<(), Memory>
         ensures thread_line { OnOk result ((nesting_of self.new).thread_line ≡ (nesting_of self.old).thread_line) }
         ensures open { OnOk result
@@ -142,7 +143,8 @@ impl Nesting {
     /// The fault of a body that ends here.
     ///
     /// # Errors
-    /// `Unmatched` for the innermost repeat that is open, and else `TooMany` where the body costs more than it may.
+    /// `Unmatched` for the innermost repeat that is open, and else `TooMany` where the body costs
+    /// more than it may.
     pub fn end(&self) -> Result<(), WorkFault>
         ensures { Judges (nesting_fault (nesting_of self.now)) result }
     {

@@ -161,7 +161,7 @@ impl<'a> Outline<'a> {
     /// Reads a text's lines, before any other, and puts down its bodies.
     ///
     /// # Errors
-    /// The first fault of the first pass; `Memory` where a growth was refused.
+    /// The first fault of the first pass; `Memory` if an allocation failed.
     pub fn read(&mut self, text: &'a [u8], bodies: &mut Bodies<'a>) -> Result<(), WorkFault>
         requires first { kept_of self.old ≡ whole [] }
         requires none { sketches_of bodies.old

@@ -89,7 +89,7 @@ pub enum Spoken<'a> {
     Fork(&'a str),
     /// `join` of a thread.
     Join(&'a str),
-    /// `repeat`, so many times.
+    /// `repeat`, with how many times.
     Repeat(u64),
     /// `done`.
     Done,
@@ -249,7 +249,7 @@ fn phrase_of_one_word(verb: Verb) -> Phrase<'static>
     }
 }
 
-/// A word with a name behind it.
+/// A word with a name after it.
 fn phrase_with_name<'a>(verb: Verb, name: &'a str) -> Phrase<'a>
     ensures { said result ≡ phrase_with_name verb name.now }
 {
@@ -270,7 +270,7 @@ fn phrase_with_name<'a>(verb: Verb, name: &'a str) -> Phrase<'a>
     }
 }
 
-/// A word with a number behind it.
+/// A word with a number after it.
 fn phrase_with_number(verb: Verb, n: u64) -> Phrase<'static>
     ensures { said result ≡ phrase_with_number verb n }
 {

@@ -29,7 +29,7 @@ pub enum Statement {
     Fork(ThreadId),
     /// An event; the thread joins this one.
     Join(ThreadId),
-    /// The statements up to the `Done` that matches it are done so many times.
+    /// The statements up to the matching `Done` are done this many times.
     Repeat(u64),
     /// The end of the innermost `Repeat` that is open there.
     Done,

@@ -1,10 +1,10 @@
-//! Finding the words of a line, and the line behind it.
+//! Finding the words of a line, and the next line.
 ghost use Rattle.std.specs.Prelude.{◌≡◌, ◌<◌, ◌≤◌, ◌∷◌, [], length, IfSome, option_copied};
 ghost use Rattle.std.specs.List.{position_or_len};
 ghost use Rattle.velo_workload.specs.Known.{lines_left};
 ghost use Rattle.velo_workload.specs.Words.{AreWords, is_newline, is_no_blank, ends_word, content, later_lines, pieces};
 
-/// Where the first newline stands, or the length.
+/// The index of the first newline, or the length.
 #[inline(always)]
 fn line_end(bytes: &[u8]) -> usize
     ensures value { result ≡ position_or_len is_newline bytes.now }
@@ -31,7 +31,7 @@ pub fn after_line(bytes: &[u8]) -> Option<&[u8]>
     }
 }
 
-/// Where the first byte that is no blank stands, or the length.
+/// The index of the first byte that is no space or tab, or the length.
 #[inline(always)]
 fn blanks_end(bytes: &[u8]) -> usize
     ensures value { result ≡ position_or_len is_no_blank bytes.now }
@@ -45,7 +45,7 @@ fn blanks_end(bytes: &[u8]) -> usize
     bytes.len()
 }
 
-/// Where the first byte that ends a word stands, or the length.
+/// The index of the first byte that ends a word, or the length.
 #[inline(always)]
 fn word_end(bytes: &[u8]) -> usize
     ensures value { result ≡ position_or_len ends_word bytes.now }

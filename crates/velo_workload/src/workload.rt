@@ -49,8 +49,9 @@ impl Model for Workload {
 }
 
 impl Workload {
-    /// How many threads, variables and locks it has: 1 to [`MAX_THREADS`](velo_events::MAX_THREADS) threads, at most
-    /// [`MAX_VARIABLES`](crate::MAX_VARIABLES) variables and at most [`MAX_LOCKS`](velo_events::MAX_LOCKS) locks.
+    /// How many threads, variables and locks it has: 1 to [`MAX_THREADS`](velo_events::MAX_THREADS)
+    /// threads, at most [`MAX_VARIABLES`](crate::MAX_VARIABLES) variables and at most
+    /// [`MAX_LOCKS`](velo_events::MAX_LOCKS) locks.
     pub fn bounds(&self) -> Bounds
         ensures bounds { result ≡ self.now.bounds }
         ensures bodies { length self.now.bodies ≡ result.threads }
@@ -187,12 +188,12 @@ fn parse_into<'a>(
 
 /// Parses a text to the program that it means.
 ///
-/// Its time and memory grow with the text. The text is read once: the second pass goes over the statements alone whose
-/// names are not declared up to their line.
+/// Its time and memory grow with the text. The text is read once: the second pass goes over the
+/// statements alone whose names are not declared up to their line.
 ///
 /// # Errors
-/// The first fault of the text: the first pass judges all but undeclared names, line by line, and the second pass
-/// these. `Memory` only where a growth was refused.
+/// The first fault of the text: the first pass judges all but undeclared names, line by line, and
+/// the second pass these. `Memory` only if an allocation failed.
 pub fn parse(alloc: Global, text: &str) -> Result<Workload, WorkFault>
     ensures { ParsesAs (meaning_of text.now) result }
 {
@@ -205,8 +206,9 @@ pub fn parse(alloc: Global, text: &str) -> Result<Workload, WorkFault>
 /// The text that a file's bytes are, for [`parse`].
 ///
 /// # Errors
-/// `TooMany(0)` exactly where there are more bytes than [`MAX_WORKLOAD_BYTES`](crate::MAX_WORKLOAD_BYTES), and else
-/// `BadLine(0)` where they are not UTF-8.
+/// `TooMany(0)` exactly where there are more bytes than
+/// [`MAX_WORKLOAD_BYTES`](crate::MAX_WORKLOAD_BYTES), and else `BadLine(0)` where they are not
+/// UTF-8.
 pub fn text_of(bytes: &[u8]) -> Result<&str, WorkFault>
     ensures text { IfOk result (λ text. text.now ≡ bytes.now) }
     ensures few { OnOk result (length bytes.now ≤ MAX_WORKLOAD_BYTES) }

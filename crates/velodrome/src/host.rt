@@ -1,10 +1,28 @@
 //! The files of the system.
 
 use std::fs::{self, File, Metadata};
-use std::io::Stdin;
+use std::io::{self, Read, Stdin};
 use std::os::unix::fs::MetadataExt;
 use velo_bytes::{ReaderSource, WriterSink};
 use velo_program::Files;
+
+/// A file, or standard input.
+#[derive(Drop)]
+pub enum HostInput {
+    /// A file.
+    File(File),
+    /// Standard input.
+    StandardInput(Stdin),
+}
+
+impl Read for HostInput {
+    fn read(&mut self, piece: &mut [u8]) -> io::Result<usize> {
+        match self {
+            HostInput::File(file) => file.read(piece),
+            HostInput::StandardInput(input) => input.read(piece),
+        }
+    }
+}
 
 /// The files of the system.
 #[derive(Drop)]
@@ -20,21 +38,19 @@ impl<'a> HostFiles<'a> {
 }
 
 impl Files for HostFiles<'_> {
-    type Input = ReaderSource<File>;
-
-    type StandardInput = ReaderSource<Stdin>;
+    type Input = ReaderSource<HostInput>;
 
     type Output = WriterSink<File>;
 
-    fn open(&self, path: &str) -> Option<ReaderSource<File>> {
+    fn open(&self, path: &str) -> Option<ReaderSource<HostInput>> {
         match File::open(self.rt, path) {
-            Ok(file) => Some(ReaderSource::new(file)),
+            Ok(file) => Some(ReaderSource::new(HostInput::File(file))),
             Err(_) => None,
         }
     }
 
-    fn standard_input(&self) -> ReaderSource<Stdin> {
-        ReaderSource::new(self.rt.stdin())
+    fn standard_input(&self) -> ReaderSource<HostInput> {
+        ReaderSource::new(HostInput::StandardInput(self.rt.stdin()))
     }
 
     fn are_one(&self, input: &str, target: &str) -> bool {

@@ -71,8 +71,6 @@ impl<'a> Folder<'a> {
 impl<'a> Files for Folder<'a> {
     type Input = Bytes<'a>;
 
-    type StandardInput = Bytes<'a>;
-
     type Output = Text;
 
     fn open(&self, path: &str) -> Option<Bytes<'a>> {

@@ -10,11 +10,11 @@
         ...
     assert run.outcome.clean, run.outcome.text
 
-An alarm says that no serial order of the blocks has the accesses of this run in their order, which is proved of what was told. What
-is told are the accesses of `field` and `Var`, `Lock` and `RLock`, and the start and join of `Thread`; `patched()` puts the last
+An alarm says that no serial order of the blocks has the accesses of this run in their order, which is proved of what was recorded.
+Recorded are the accesses of `field` and `Var`, `Lock` and `RLock`, and the start and join of `Thread`; `patched()` puts the last
 three in the place of threading's. A block that waits for another thread, by a join or a condition, is an alarm by definition.
 
-Nothing here fails the program: what cannot be told makes the session `incomplete`, and the program goes on.
+Nothing here fails the program: what cannot be recorded makes the session `incomplete`, and the program goes on.
 """
 from __future__ import annotations
 
@@ -45,14 +45,14 @@ class Alarm(AssertionError):
 
 @dataclasses.dataclass(frozen=True)
 class Outcome:
-    """What a session came to. The text of an alarm says which blocks, by which events and where; that of an incomplete one, why."""
+    """The outcome of a session. The text of an alarm says which blocks, by which events and where; that of an incomplete one, why."""
 
     verdict: Literal['clean', 'alarm', 'incomplete']
     text: str
 
     @property
     def clean(self) -> bool:
-        """Whether a serial order of the blocks explains all that was told."""
+        """Whether a serial order of the blocks explains all that was recorded."""
         return self.verdict == 'clean'
 
 
@@ -117,7 +117,7 @@ def session(*, events: int | None = None, noise: int | None = None, seed: int | 
     """Watches the program until the session is closed, as by `with velodrome.session() as run:`.
 
     events: the most in a stretch in which some block is open, up to 16,777,216 (0: 1,048,576); a longer one ends the recording.
-    noise: one event in so many waits for up to 200 us, so that more schedules come about (0: none). seed: which ones.
+    noise: one event in `noise` waits for up to 200 us, so that more schedules happen (0: none). seed: which ones.
     places: whether an event has its file and line, which costs a tenth of its time.
     What is not given is what VELODROME_EVENTS, VELODROME_NOISE and VELODROME_SEED say.
     """
@@ -227,7 +227,7 @@ def _task(loop: Any, coroutine: Any, **keywords: Any) -> Any:
 
 
 class Thread(threading.Thread):
-    """threading.Thread, whose start and join are told."""
+    """threading.Thread, whose start and join are recorded."""
 
     _velodrome: tuple[int, int] | None = None
 
@@ -254,7 +254,7 @@ class Thread(threading.Thread):
 
 
 def _run(thread: Thread, child: tuple[int, int], body: Callable[[], None]) -> None:
-    """What a thread does: its own `run`, told."""
+    """What a thread does: its own `run`, recorded."""
     thread.__dict__.pop('run', None)  # else the thread would be a cycle
     _session.born(*child)
     try:
@@ -268,7 +268,7 @@ _OURS = {'Lock': Lock, 'RLock': RLock, 'Thread': Thread}
 
 
 def _unwatch(thread: threading.Thread) -> None:
-    """The event by which `start` waits for the thread is none of the program's: it is not told."""
+    """The event by which `start` waits for the thread is none of the program's: it is not recorded."""
     started = getattr(thread, '_started', None)
     if isinstance(getattr(started, '_cond', None), threading.Condition):
         started._cond = threading.Condition(_REAL['Lock']())

@@ -22,7 +22,7 @@ def pytest_addoption(parser: pytest.Parser) -> None:
     group = parser.getgroup('velodrome', 'atomic blocks (velodrome)')
     group.addoption('--velodrome', action='store_true', help='watch the atomic blocks of every test')
     group.addoption('--velodrome-noise', type=int, metavar='N',
-                    help='one event in N waits, so that more schedules come about (else VELODROME_NOISE)')
+                    help='one event in N waits, so that more schedules happen (else VELODROME_NOISE)')
     group.addoption('--velodrome-repeat', type=int, metavar='N', help='run each watched test up to N times, until it fails', default=1)
     group.addoption('--velodrome-switch', type=float, metavar='SECONDS', help='switch threads so often (sys.setswitchinterval)')
     group.addoption('--velodrome-logs', metavar='FOLDER', help=f'folder for the logs of alarms (else {_LOGS}, else .velodrome)')

@@ -68,7 +68,7 @@ pub struct vs_options {
     pub variables: u16,
     /// Most locks between two cuts.
     pub locks: u16,
-    /// One event in so many waits.
+    /// One event in `noise` waits.
     pub noise: u32,
     /// Which ones.
     pub seed: u64,
@@ -140,13 +140,13 @@ extern "C" {
     pub fn vs_current() -> vs_session;
     /// Ends the recording of this thread's session.
     pub fn vs_stop(why: *const c_char);
-    /// Takes the session's lock, and tells nothing.
+    /// Takes the session's lock, and reports nothing.
     pub fn vs_hold(object: *const vs_object) -> c_uint;
-    /// Takes the session's lock, and tells an access.
+    /// Takes the session's lock, and reports an access.
     pub fn vs_before_at(object: *const vs_object, kind: vs_kind, place: *const vs_place) -> c_uint;
     /// Releases the session's lock.
     pub fn vs_after(token: c_uint);
-    /// Tells an event.
+    /// Reports an event.
     pub fn vs_tell_at(object: *const vs_object, kind: vs_kind, place: *const vs_place);
     /// A block begins.
     pub fn vs_begin(label: *const vs_object);

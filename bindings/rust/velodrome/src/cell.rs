@@ -7,7 +7,7 @@ use std::sync::{
     PoisonError, RwLock, RwLockReadGuard, RwLockWriteGuard, TryLockError, TryLockResult,
 };
 
-/// A variable whose reads and writes are told, each of which stands alone: a data race of the program is two accesses in some order.
+/// A variable whose reads and writes are recorded, each on its own: a data race of the program is two accesses in some order.
 ///
 /// Code of the user, such as `Clone`, `Drop` and the closures, runs while no lock of the session is held, so it may use
 /// other variables; a closure may not use its own, which waits for ever or panics as std's `RwLock` does.
@@ -48,7 +48,7 @@ impl<T> Var<T> {
         }
     }
 
-    /// The value. It is not told, as no thread shares it.
+    /// The value. This is not recorded, as no thread shares it.
     pub fn into_inner(self) -> T {
         self.value
             .into_inner()
@@ -111,12 +111,12 @@ impl<T: ?Sized> Var<T> {
         write(&mut value)
     }
 
-    /// The value. It is not told, as no other thread has it.
+    /// The value. This is not recorded, as no other thread has it.
     pub fn get_mut(&mut self) -> &mut T {
         self.value.get_mut().unwrap_or_else(PoisonError::into_inner)
     }
 
-    /// Takes the guard of the value, and tells the access in one hold of the session's lock; so conflicting accesses are told in
+    /// Takes the guard of the value, and reports the access in one hold of the session's lock; so conflicting accesses are recorded in
     /// the order in which they have the guard. Waits without that lock.
     fn alone<G>(
         &self,
@@ -155,7 +155,7 @@ impl<T> From<T> for Var<T> {
     }
 }
 
-/// It is not told.
+/// It is not recorded.
 impl<T: ?Sized + fmt::Debug> fmt::Debug for Var<T> {
     fn fmt(&self, f: &mut fmt::Formatter<'_>) -> fmt::Result {
         let mut text = f.debug_tuple("Var");

@@ -22,10 +22,10 @@
 //! ```
 //!
 //! A test fails at an alarm: no serial order of the blocks has the accesses of this run in their order. It prints which blocks, by
-//! which events, and where they stand in the source; the log is kept for `velodrome explain`. That an alarm is true of what was
-//! told is proved; these wrappers are tested. A run without an alarm says nothing of other schedules: repeat it, with `noise`.
+//! which events, and where they are in the source; the log is kept for `velodrome explain`. That an alarm is true of what was
+//! recorded is proved; these wrappers are tested. A run without an alarm says nothing of other schedules: repeat it, with `noise`.
 //!
-//! # What is told
+//! # What is recorded
 //!
 //! Each lock and unlock, atomic access, access of a [`Var`](cell::Var), start and join of a thread, message, barrier and once
 //! of these modules. A thread that no watched one started, such as one of a pool, is met where it uses a variable or lock that the
@@ -34,7 +34,7 @@
 //!
 //! # It never fails the program
 //!
-//! Without a session the types are std's own with a check of one number. What cannot be told, such as a block with more events
+//! Without a session the types are std's own with a check of one number. What cannot be recorded, such as a block with more events
 //! than there is room for, ends the recording with a [`Reason`]; the program goes on. Nothing here panics, except where std
 //! does, and [`check`].
 //!
@@ -54,7 +54,7 @@
 //!
 //! | Variable | |
 //! |---|---|
-//! | `VELODROME_NOISE=4` | one event in four waits for a while, so that more schedules come about |
+//! | `VELODROME_NOISE=4` | one event in four waits for a while, so that more schedules happen |
 //! | `VELODROME_SEED=7` | which ones |
 //! | `VELODROME_LOGS=target/velodrome` | the folder for the logs of alarms; else the working directory. `.cargo/config.toml` can set it |
 //! | `VELODROME_INCOMPLETE=fail` | a test that was not watched to its end fails; else it warns |
@@ -73,12 +73,12 @@ pub use velodrome_macros::{atomic, test};
 
 use session::{End, Session};
 
-/// What a run came to.
+/// The outcome of a run.
 #[derive(Clone, Debug, PartialEq, Eq)]
 #[must_use = "it says whether the blocks were atomic"]
 #[non_exhaustive]
 pub enum Outcome {
-    /// A serial order of the blocks explains all that was told.
+    /// A serial order of the blocks explains all that was recorded.
     Clean,
     /// No serial order does.
     Alarm(Alarm),
@@ -197,7 +197,7 @@ impl Builder {
         self
     }
 
-    /// One event in so many waits for up to 200 us before it happens, so that more schedules come about. 0, the default: none.
+    /// One event in `one_in` waits for up to 200 us before it happens, so that more schedules happen. 0, the default: none.
     pub fn noise(mut self, one_in: u32) -> Builder {
         self.noise = one_in;
         self

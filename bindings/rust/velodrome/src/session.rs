@@ -38,7 +38,7 @@ fn in_c(place: Place) -> sys::vs_place {
     }
 }
 
-/// What makes a variable, a lock or a label one that the session tells from all others.
+/// What makes a variable, a lock or a label one that the session distinguishes from all others.
 #[derive(Debug)]
 pub struct Object {
     raw: sys::vs_object,
@@ -82,7 +82,7 @@ impl Object {
         }
     }
 
-    /// Tells what has no place, as the end of a scope.
+    /// Reports what has no place, such as the end of a scope.
     pub(crate) fn tell_unplaced(&self, kind: Kind) {
         if !idle() {
             // SAFETY: the object outlives the call.
@@ -90,13 +90,13 @@ impl Object {
         }
     }
 
-    /// Tells an access, which is to be done before the value is dropped.
+    /// Reports an access, which is to be done before the value is dropped.
     pub(crate) fn access(&self, kind: Kind, place: Place) -> Hold {
         // SAFETY: as in `tell`.
         Hold::new(|| unsafe { sys::vs_before_at(self.raw(), kind as sys::vs_kind, &in_c(place)) })
     }
 
-    /// Tells nothing, and lets no other thread of the session tell anything before the value is dropped.
+    /// Reports nothing, and lets no other thread of the session report anything before the value is dropped.
     pub(crate) fn hold(&self) -> Hold {
         // SAFETY: the object outlives the call.
         Hold::new(|| unsafe { sys::vs_hold(self.raw()) })
@@ -111,7 +111,7 @@ const fn unmet(name: *mut c_char) -> sys::vs_object {
     }
 }
 
-/// The name of what was made at this place. It is kept for good: there are only so many places.
+/// The name of what was made at this place. It is kept for good: the number of places is bounded.
 fn name_of(what: &'static str, place: Place) -> &'static CStr {
     type Key = (&'static str, &'static str, u32);
     static NAMES: std::sync::Mutex<BTreeMap<Key, &'static CStr>> =
@@ -174,7 +174,7 @@ pub(crate) fn born(child: Child) -> Life {
     Life(child)
 }
 
-/// Tells the end of a child, also where its body panics.
+/// Reports the end of a child, also where its body panics.
 pub(crate) struct Life(Child);
 
 impl Drop for Life {

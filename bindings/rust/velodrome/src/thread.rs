@@ -1,4 +1,4 @@
-//! `std::thread`, told: start, end and join. Threads of other libraries are met at their first event.
+//! `std::thread`, recorded: start, end and join. Threads of other libraries are met at their first event.
 use crate::session::{self, Child, Place};
 use std::cell::OnceCell;
 use std::fmt;
@@ -40,7 +40,7 @@ where
     Builder::new().spawn(body).expect("failed to spawn thread")
 }
 
-/// [`std::thread::Builder`], told.
+/// [`std::thread::Builder`], recorded.
 #[derive(Debug)]
 #[must_use = "must eventually spawn the thread"]
 pub struct Builder {
@@ -116,7 +116,7 @@ impl Builder {
     }
 }
 
-/// [`std::thread::JoinHandle`], told.
+/// [`std::thread::JoinHandle`], recorded.
 pub struct JoinHandle<T> {
     child: Child,
     inner: real::JoinHandle<T>,
@@ -154,13 +154,13 @@ impl<T> fmt::Debug for JoinHandle<T> {
     }
 }
 
-/// [`std::thread::Scope`], told.
+/// [`std::thread::Scope`], recorded.
 pub struct Scope<'scope, 'env: 'scope> {
     inner: &'scope real::Scope<'scope, 'env>,
     children: Arc<Mutex<Vec<Child>>>,
 }
 
-/// As std's. The joins at its end are told.
+/// As std's. The joins at its end are recorded.
 ///
 /// What a thread borrows lives longer than the scope:
 ///
@@ -195,7 +195,7 @@ where
     })
 }
 
-/// The threads of a scope, whose joins are told where it is dropped; that also where the scope panics, since one of them did.
+/// The threads of a scope, whose joins are recorded when it is dropped, also if the scope panics because one of them did.
 struct Children {
     list: Arc<Mutex<Vec<Child>>>,
     place: Place,
@@ -233,7 +233,7 @@ impl fmt::Debug for Scope<'_, '_> {
     }
 }
 
-/// [`std::thread::ScopedJoinHandle`], told.
+/// [`std::thread::ScopedJoinHandle`], recorded.
 pub struct ScopedJoinHandle<'scope, T> {
     child: Child,
     inner: real::ScopedJoinHandle<'scope, T>,

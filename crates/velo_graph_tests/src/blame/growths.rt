@@ -1,11 +1,11 @@
-//! One growth is refused, whichever it is: the call tells it, and done again it answers as it would have. Without a refusal
-//! each call is done once.
+//! One allocation fails, whichever it is: the call reports it, and a second call returns what the
+//! first would have. Without a failure each call is done once.
 use super::{IN_ORDER, Known, block, checked};
 use crate::words::{begin, fork, read, write};
 use velo_blame::blamed;
 use velo_events::Memory;
 
-/// What the call answers, or where a growth is refused what the same call answers then.
+/// What the call returns, or if an allocation fails, what the same call then returns.
 macro_rules! again {
     ($refused:pat, $call:expr) => {
         match $call {

@@ -6,7 +6,8 @@ ghost use Rattle.velo_graph_tests.specs.Rising.{RisesAt, RiseInto};
 use velo_events::conflicts;
 use velo_traces::Trace;
 
-/// Whether the ranks rise from the transaction of i to that of j, if these are two and the events conflict.
+/// Whether the ranks rise from the transaction of i to that of j, if these are two and the events
+/// conflict.
 fn rises_at(trace: &Trace, ranks: &[usize], i: usize, j: usize) -> bool
     requires in_order { i < j }
     requires in_trace { j < length trace.now.events }

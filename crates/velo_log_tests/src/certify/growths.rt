@@ -1,5 +1,5 @@
-//! One growth is refused, whichever it is: the call tells it, and done again it answers as it would have. Without a refusal
-//! each call is done once.
+//! One allocation fails, whichever it is: the call reports it, and a second call returns what the
+//! first would have. Without a failure each call is done once.
 use super::{clean, two_blocks};
 use crate::growths::again;
 use crate::words::trace_of;

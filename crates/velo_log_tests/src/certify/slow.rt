@@ -1,4 +1,4 @@
-//! Certificates judged by all pairs of positions, and traces by chance.
+//! Certificates judged by all pairs of positions, and random traces.
 use crate::words::{
     acquire, acquire_shared, begin, end, exit, fork, join, read, release, release_shared, trace_of,
     write,
@@ -24,7 +24,8 @@ fn owner_at(trace: &Trace, i: usize) -> usize {
     }
 }
 
-/// Whether the list has each position, every conflicting pair in order, and no transaction in two pieces.
+/// Whether the list has each position, every conflicting pair in order, and no transaction in two
+/// pieces.
 pub fn is_serial(trace: &Trace, order: &[usize]) -> bool {
     let events = trace.as_slice();
     for i in 0..events.len() {
@@ -83,7 +84,7 @@ fn next_number(seed: &mut u64) -> u64 {
     *seed >> 33
 }
 
-/// An event by chance. Many of its traces can't come about, which the certificates don't ask for.
+/// A random event. Many of its traces cannot happen, which the certificates do not require.
 fn event_by_chance(seed: &mut u64) -> Event {
     let thread = (next_number(seed) % 3) as u8;
     let child = (next_number(seed) % 3) as u8;
@@ -103,7 +104,7 @@ fn event_by_chance(seed: &mut u64) -> Event {
     }
 }
 
-/// A trace of so many events by chance.
+/// A random trace of `count` events.
 pub fn trace_by_chance(alloc: Global, count: usize, seed: &mut u64) -> Result<Trace, Memory> {
     let mut trace = trace_of(alloc, &[])?;
     for _ in 0..count {

@@ -1,4 +1,5 @@
-//! The graph of a trace and its first closing event by brute force: all pairs of events, and a search from each edge.
+//! The graph of a trace and its first closing event by brute force: all pairs of events, and a
+//! search from each edge.
 use std::alloc::{AllocError, Global};
 use velo_events::conflicts;
 use velo_traces::Trace;

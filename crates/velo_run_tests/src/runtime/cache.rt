@@ -1,4 +1,4 @@
-//! The guide's cache under a reader-writer lock, as it stands there.
+//! The guide's cache under a reader-writer lock, as printed there.
 use super::{close_both, pair};
 use std::alloc::Global;
 use std::sync::Wait;

@@ -1,5 +1,5 @@
-//! One growth is refused, whichever it is: the call tells it, and done again it answers as it would have. Without a refusal
-//! each call is done once.
+//! One allocation fails, whichever it is: the call reports it, and a second call returns what the
+//! first would have. Without a failure each call is done once.
 use super::end_of_replay;
 use super::live::{THOUSANDS, end_of_live_run};
 use std::alloc::Global;
@@ -15,7 +15,8 @@ use velo_world::Closed;
 const COUNTERS: &str =
     "var x\nlock m\nthread main\nfork a\nacquire m\nread x\nadd 1\nwrite x\nrelease m\njoin a\nthread a\nacquire m\nread x\nadd 1\nwrite x\nrelease m";
 
-/// What a whole run comes to: how many threads there are, the value of the one variable, and the events of threads 0 and 1.
+/// The outcome of a whole run: how many threads there are, the value of the one variable, and the
+/// events of threads 0 and 1.
 #[derive(Clone, Copy)]
 struct Whole {
     threads: u8,
@@ -39,7 +40,7 @@ const OFTEN: Whole = Whole {
     second: 6_001,
 };
 
-/// The workload; none where a growth was refused.
+/// The workload; none if an allocation failed.
 fn parsed(rt: &impl Abort, alloc: Global, text: &str) -> Option<Workload> {
     match parse(alloc, text) {
         Ok(workload) => Some(workload),
@@ -67,7 +68,7 @@ fn is_whole(closed: &Closed, ending: Ending, whole: Whole) -> bool {
         && closed.alarm().is_none()
 }
 
-/// Whether a growth was refused to a thread of the run.
+/// Whether an allocation failed in a thread of the run.
 fn is_refused(ending: Ending) -> bool {
     matches!(
         ending,
@@ -75,7 +76,7 @@ fn is_refused(ending: Ending) -> bool {
     )
 }
 
-/// Whether the run is whole; none where a growth was refused.
+/// Whether the run is whole; none if an allocation failed.
 fn judged(closed: &Closed, ending: Ending, whole: Whole) -> Option<bool> {
     if is_refused(ending) {
         return None;
@@ -83,7 +84,7 @@ fn judged(closed: &Closed, ending: Ending, whole: Whole) -> Option<bool> {
     Some(is_whole(closed, ending, whole))
 }
 
-/// Whether a replay of the workload is whole; none where a growth was refused.
+/// Whether a replay of the workload is whole; none if an allocation failed.
 fn replay_of(alloc: Global, workload: &Workload) -> Option<bool> {
     let (closed, ending) = end_of_replay(alloc, workload, &[], false)?;
     judged(&closed, ending, ONCE)
@@ -101,7 +102,7 @@ fn a_refused_growth_of_a_replay(rt: HostRuntime) {
     assert_eq!(rt; last, Some(true));
 }
 
-/// Whether a live run of threads that add a thousand times is whole; none where a growth was refused.
+/// Whether a live run of threads that add a thousand times is whole; none if an allocation failed.
 fn live_run_of<R: Threads + Wait + Sync>(
     rt: &R,
     alloc: Global,

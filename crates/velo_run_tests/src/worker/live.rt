@@ -14,7 +14,8 @@ use velo_world::{Alarm, Closed};
 pub(super) const THOUSANDS: &str =
     "var x\nlock m\nthread main\nfork a\nfork b\njoin a\njoin b\nthread a\nrepeat 1000\nbegin inc\nacquire m\nread x\nadd 1\nwrite x\nrelease m\nend\ndone\nthread b\nrepeat 1000\nbegin inc\nacquire m\nread x\nadd 1\nwrite x\nrelease m\nend\ndone";
 
-/// The second thread writes between the read and the write of the first one's block, if the gate has it so.
+/// The second thread writes between the read and the write of the first one's block, if the gate
+/// has it so.
 const LOST_UPDATE: &str =
     "var x\nthread main\nfork a\nbegin inc\nread x\nadd 1\nwrite x\nend\njoin a\nthread a\nset 5\nwrite x";
 
@@ -53,7 +54,8 @@ const LOST_ORDER: [Turn; 3] = [turn!(1, 0, 3), turn!(0, 3, 1), turn!(1, 1, 4)];
 /// Each thread tries its second lock only once both hold their first.
 const BOTH_HOLD: [Turn; 3] = [turn!(0, 2, 1), turn!(1, 1, 2), turn!(1, 1, 2)];
 
-/// The second thread shares the lock while the first does, and the first lets go of it only after that.
+/// The second thread shares the lock while the first does, and the first lets go of it only after
+/// that.
 const BOTH_SHARE: [Turn; 3] = [turn!(1, 0, 3), turn!(0, 3, 1), turn!(0, 3, 1)];
 
 /// A gate that has two threads take turns.
@@ -221,7 +223,7 @@ fn looks_as(closed: &Closed, labels: &[String], shown: &Shown<'_>) -> bool {
     has_alarm && has_counts && first == shown.first
 }
 
-/// The end of a live run of the workload, with so many nodes.
+/// The end of a live run of the workload, with `nodes` nodes.
 pub(super) fn end_of_live_run<G: Gate + Sync, R: Threads + Wait + Sync>(
     rt: &R,
     alloc: Global,

@@ -1,4 +1,5 @@
-//! Worlds with too few nodes for all that is live: from the square of the threads on blocks give way to earlier ones.
+//! Worlds with too few nodes for all that is live: from the square of the threads on blocks give
+//! way to earlier ones.
 ghost use Rattle.std.specs.Prelude.{◌≡◌, false};
 ghost use Rattle.velo_world.specs.World.{HoldsLiveShares};
 
@@ -17,7 +18,7 @@ const Y: VarId = VarId(1);
 
 const Z: VarId = VarId(2);
 
-/// A run of so many threads, three variables and one lock that goes on after an alarm.
+/// A run of `threads` threads, three variables and one lock that goes on after an alarm.
 fn config_of(rt: &impl Abort, threads: u8, nodes: u16) -> Config
     ensures { result.stop ≡ false }
 {
@@ -41,7 +42,7 @@ fn open(rt: &impl Abort, alloc: Global, threads: u8, nodes: u16) -> (World, Shar
     opened.expect(rt, "a world")
 }
 
-/// What steps came to.
+/// The outcomes of steps.
 #[derive(Drop)]
 struct Played {
     outcomes: Vec<Outcome>,
@@ -50,7 +51,7 @@ struct Played {
     used: u16,
 }
 
-/// What a world shows in which steps came to these outcomes.
+/// What a world shows after steps with these outcomes.
 fn played_in(world: &World, outcomes: Vec<Outcome>) -> Played {
     let alarm = match world.alarm() {
         Some(alarm) => Some((alarm.position, alarm.transaction, alarm.blamed.len())),
@@ -63,7 +64,7 @@ fn played_in(world: &World, outcomes: Vec<Outcome>) -> Played {
     }
 }
 
-/// Does the steps in a world of so many threads and nodes.
+/// Does the steps in a world of `threads` threads and `nodes` nodes.
 fn play(rt: &impl Abort, alloc: Global, threads: u8, nodes: u16, steps: &[Step]) -> Played {
     let (mut world, mut shares) = open(rt, alloc, threads, nodes);
     let outcomes = world.run(&mut shares, steps).expect(rt, "memory");
@@ -72,8 +73,8 @@ fn play(rt: &impl Abort, alloc: Global, threads: u8, nodes: u16, steps: &[Step])
     played
 }
 
-/// Three blocks that one open block reaches, four that a second one reaches too, the last of which writes, and one more. Then
-/// the second open block reads what was written.
+/// Three blocks that one open block reaches, four that a second one reaches too, the last of which
+/// writes, and one more. Then the second open block reads what was written.
 const READ_BY_EIGHT: [Step; 31] = [
     (MAIN, Action::Fork(OTHER)),
     (MAIN, Action::Fork(THIRD)),
@@ -108,8 +109,8 @@ const READ_BY_EIGHT: [Step; 31] = [
     (THIRD, Action::Read(Z)),
 ];
 
-/// With nine nodes the first of the three blocks and the first of the four stay, since one more open block reaches the latter.
-/// With ten all stay, and the alarm is the same.
+/// With nine nodes the first of the three blocks and the first of the four stay, since one more
+/// open block reaches the latter. With ten all stay, and the alarm is the same.
 #[test]
 fn a_block_that_one_more_reaches_stays(rt: HostRuntime) {
     for (nodes, used) in [(9, 5), (10, 10)] {
@@ -178,7 +179,7 @@ fn step_by(throw: usize) -> Step {
     }
 }
 
-/// Steps by chance, of which the first two fork.
+/// Random steps, of which the first two fork.
 fn steps_by_chance(seed: u64) -> [Step; 200] {
     let mut steps = [(MAIN, Action::Fork(OTHER)); 200];
     let mut state = seed;
@@ -189,7 +190,7 @@ fn steps_by_chance(seed: u64) -> [Step; 200] {
     steps
 }
 
-/// With nine nodes for three threads, each action comes to what it comes to with a node for each.
+/// With nine nodes for three threads, each action has the outcome that it has with a node for each.
 #[test]
 fn worlds_with_few_nodes_answer_as_large_ones(rt: HostRuntime) {
     for seed in 0..300 {
@@ -206,7 +207,8 @@ fn worlds_with_few_nodes_answer_as_large_ones(rt: HostRuntime) {
     }
 }
 
-/// Two threads with four nodes. The log grows for the 17th event, before which blocks give way; the last one closes a cycle.
+/// Two threads with four nodes. The log grows for the 17th event, before which blocks give way; the
+/// last one closes a cycle.
 const GROWING: [Step; 24] = [
     (MAIN, Action::Fork(OTHER)),
     (MAIN, Action::Begin(Label(7))),
@@ -242,7 +244,8 @@ fn values_in(world: &World) -> (u64, u64) {
     (world.heap().value(X), world.heap().value(Y))
 }
 
-/// What a refusal has to leave: the length of the log, two values, whether there is an alarm, and whether the shares fit.
+/// What a refusal has to leave: the length of the log, two values, whether there is an alarm, and
+/// whether the shares fit.
 fn shown_by(world: &World, shares: &Shares) -> (usize, (u64, u64), bool, bool) {
     (
         world.log().len(),
@@ -252,7 +255,7 @@ fn shown_by(world: &World, shares: &Shares) -> (usize, (u64, u64), bool, bool) {
     )
 }
 
-/// Does a step, and once more where a growth is refused.
+/// Does a step, and once more if an allocation fails.
 fn act_again(rt: &impl Abort, world: &mut World, shares: &mut Shares, step: Step) -> Outcome
     requires { HoldsLiveShares world.old shares.old }
     ensures { HoldsLiveShares world.new shares.new }
@@ -267,7 +270,7 @@ fn act_again(rt: &impl Abort, world: &mut World, shares: &mut Shares, step: Step
     }
 }
 
-/// What the action at the place comes to.
+/// The outcome of the action at the place.
 fn growing_outcome(place: usize, action: Action) -> Outcome {
     let value = match action {
         Action::Read(Y) => Some(5),

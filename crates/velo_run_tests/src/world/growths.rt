@@ -1,5 +1,5 @@
-//! One growth is refused, whichever it is: the call tells it and leaves no trace, and done again it answers as it would have.
-//! Without a refusal each call is done once.
+//! One allocation fails, whichever it is: the call reports it and leaves no trace, and a second
+//! call returns what the first would have. Without a refusal each call is done once.
 ghost use Rattle.std.specs.Prelude.{◌≤◌};
 
 use super::{
@@ -37,7 +37,7 @@ fn traces_in(world: &World) -> (usize, u16, bool) {
     )
 }
 
-/// Does an action by the thread's share, and once more where a growth is refused.
+/// Does an action by the thread's share, and once more if an allocation fails.
 fn act_again(
     rt: &impl Abort,
     world: &mut World,
@@ -55,15 +55,15 @@ fn act_again(
     }
 }
 
-/// The value that is read, and whether an alarm is told of.
+/// The value that is read, and whether an alarm is reported.
 type Told = Result<(Option<u64>, bool), Refusal>;
 
 const DONE: Told = Ok((None, false));
 
 const ALARMED: Told = Ok((None, true));
 
-/// Each kind of action, two that have to wait, and an alarm, after which the run goes on. The fork is the fifth event, and so
-/// one of those for which the log grows.
+/// Each kind of action, two that have to wait, and an alarm, after which the run goes on. The fork
+/// is the fifth event, and so one of those that make the log grow.
 const STEPS: [(ThreadId, Action, Told); 21] = [
     (MAIN, Action::Write(X, 4), DONE),
     (MAIN, Action::Begin(Label(7)), DONE),
@@ -133,7 +133,7 @@ const TALLIES: [Tally; 2] = [
     },
 ];
 
-/// Does the steps, and compares what each comes to.
+/// Does the steps, and compares the outcome of each.
 fn play(rt: &impl Abort, world: &mut World, shares: &mut Shares) {
     for (thread, action, told) in &STEPS {
         let position = world.log().len();

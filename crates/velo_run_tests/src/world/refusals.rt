@@ -152,7 +152,7 @@ static REFUSED: [Refused<'static>; 32] = [
     ),
 ];
 
-/// What heap and book tell of a thread, and what its share says.
+/// What heap, book and share say of a thread.
 #[derive(Clone, Copy, PartialEq)]
 struct ThreadTold {
     status: Status,
@@ -162,7 +162,7 @@ struct ThreadTold {
     share: Option<Tally>,
 }
 
-/// What a world of two threads, one variable and one lock tells beside its log.
+/// What a world of two threads, one variable and one lock has besides its log.
 #[derive(Clone, Copy, PartialEq)]
 struct Told {
     value: u64,

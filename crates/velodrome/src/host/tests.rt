@@ -39,8 +39,6 @@ struct Linked {
 impl Files for Linked {
     type Input = Bytes<'static>;
 
-    type StandardInput = Bytes<'static>;
-
     type Output = Text;
 
     fn open(&self, path: &str) -> Option<Bytes<'static>> {

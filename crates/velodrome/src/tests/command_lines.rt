@@ -331,19 +331,19 @@ fn help_goes_to_standard_output(rt: HostRuntime) {
 /// The words of a command's help before a limit and after it.
 const LIMITS: [(&str, &str, u32, &str); 14] = [
     ("check", "have, 1 to ", MAX_EVENTS, " ["),
-    ("check", "one time, 1 to ", MAX_NODES as u32, " ["),
+    ("check", "at once, 1 to ", MAX_NODES as u32, " ["),
     ("replay", "have, 1 to ", MAX_EVENTS, " ["),
-    ("replay", "one time, 1 to ", MAX_NODES as u32, " ["),
+    ("replay", "at once, 1 to ", MAX_NODES as u32, " ["),
     ("replay", "from 0 to ", MAX_THREADS as u32 - 1, ","),
     ("run", "have, 1 to ", MAX_EVENTS, " ["),
-    ("run", "one time, 1 to ", MAX_NODES as u32, " ["),
+    ("run", "at once, 1 to ", MAX_NODES as u32, " ["),
     ("explore", "have, 1 to ", MAX_EVENTS, " ["),
     ("explore", "look at, 1 to ", MAX_STATES, " ["),
     ("explore", "search, 1 to ", MAX_RUNS, "\n"),
     ("explore", "615 [default: ", DEFAULT_SEED as u32, "]"),
     ("watch", "have, 1 to ", MAX_EVENTS, " ["),
     ("audit", "have, 1 to ", MAX_EVENTS, " ["),
-    ("audit", "one time, 1 to ", MAX_NODES as u32, " ["),
+    ("audit", "at once, 1 to ", MAX_NODES as u32, " ["),
 ];
 
 /// Whether these words stand in what went to standard output.

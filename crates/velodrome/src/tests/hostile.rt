@@ -41,8 +41,6 @@ impl<'a> Devices<'a> {
 impl<'a> Files for Devices<'a> {
     type Input = Bytes<'a>;
 
-    type StandardInput = Bytes<'a>;
-
     type Output = Text;
 
     fn open(&self, _path: &str) -> Option<Bytes<'a>> {

@@ -64,8 +64,6 @@ fn is_one(path: &str, other: &str) -> bool {
 impl Files for Shelf {
     type Input = Bytes<'static>;
 
-    type StandardInput = Bytes<'static>;
-
     type Output = Text;
 
     fn open(&self, path: &str) -> Option<Bytes<'static>> {
@@ -412,8 +410,6 @@ struct Saved<'a> {
 impl<'a> Files for Saved<'a> {
     type Input = Bytes<'a>;
 
-    type StandardInput = Bytes<'a>;
-
     type Output = WriterSink<Nowhere>;
 
     fn open(&self, path: &str) -> Option<Bytes<'a>> {
@@ -481,8 +477,6 @@ struct Opened(u32);
 
 impl Files for Opened {
     type Input = Bytes<'static>;
-
-    type StandardInput = Bytes<'static>;
 
     type Output = WriterSink<Nowhere>;
 

@@ -163,8 +163,6 @@ struct Watched<'a> {
 impl<'a> Files for Watched<'a> {
     type Input = Bytes<'a>;
 
-    type StandardInput = Bytes<'a>;
-
     type Output = Text;
 
     fn open(&self, _path: &str) -> Option<Bytes<'a>> {

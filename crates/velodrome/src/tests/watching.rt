@@ -48,8 +48,6 @@ struct Pipe<'a> {
 impl<'a> Files for Pipe<'a> {
     type Input = Bytes<'a>;
 
-    type StandardInput = Bytes<'a>;
-
     type Output = Text;
 
     fn open(&self, _path: &str) -> Option<Bytes<'a>> {

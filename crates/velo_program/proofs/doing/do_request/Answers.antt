@@ -1,5 +1,5 @@
 use Rattle.std.proofs.Common.{refl}
-use Rattle.velo_program.specs.declared.request.Request.TheVariants.{Audit, Carry, Check, Explain, Explore, Replay, Run, Watch}
+use Rattle.velo_request.specs.declared.request.Request.TheVariants.{Audit, Carry, Check, Explain, Explore, Replay, Run, Watch}
 use Rattle.velo_delivery.specs.Disk.{store}
 use Rattle.velo_delivery.specs.Writing.{writing}
 use Rattle.velo_program.proofs.OnCauses.{of_done}

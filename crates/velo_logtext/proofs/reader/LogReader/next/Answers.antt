@@ -17,6 +17,7 @@ loop-event-preserved g c =
     record {
       given = λ bytes events h. given_read bytes events c.loop-event.self _ _ _ (so_far.given bytes events h) (ap (λ (v : ReaderState). v.shares) same) (ap (λ (v : ReaderState). v.bounds) same) (ap (λ (v : ReaderState). v.given) same) kept read.known_end;
       bounds = ap (λ (v : ReaderState). v.bounds) same ∙ so_far.bounds;
+      version = ap (λ (v : ReaderState). v.shares) same ∙ so_far.version;
       count = ap (λ (v : ReaderState). v.given) same ∙ so_far.count;
       held = λ whole. absurd (not_open _ whole (ap is_whole (sym (so_far.held whole)) ∙ stays.2));
       unread = λ whole. absurd (not_open _ whole (ap is_whole (sym (so_far.held whole)) ∙ stays.2));

@@ -10,6 +10,7 @@ invariant-loop-event g l =
     record {
       given : (bytes : Option (List ℕ)) (events : List Event) → HasGiven bytes events l.fn.self (remaining l.fn.source) → HasGiven bytes events l.self (remaining l.source);
       bounds : l.self.bounds ≡ l.fn.self.bounds;
+      version : l.self.shares ≡ l.fn.self.shares;
       count : l.self.given ≡ l.fn.self.given;
       held : HasWholeLine l.fn.self.held → l.self.held ≡ l.fn.self.held;
       unread : HasWholeLine l.fn.self.held → l.source ≡ l.fn.source;

@@ -24,7 +24,7 @@ returns-in-Some c =
     let after : left ≡ c.take_to.new.self = sym (c.take_to.ensures ∙ ap (λ (t : List ℕ). record { bytes = t; ended = r.window.ended }) (event_left r.shares held c.in-Some.event rest is)) in
     let room : r.given < MAX_EVENTS = omega (arith, c.if-self.false, c.self.invariant) in
     record {
-      takes = ap (λ (v : ReaderState). v.bounds) c.self.view_is;
+      takes = (ap (λ (v : ReaderState). v.bounds) c.self.view_is, ap (λ (v : ReaderState). v.shares) c.self.view_is);
       finds = λ bytes remaining events h.
           let old = subst (λ (v : ReaderState). HasGiven bytes events v remaining) (sym c.self.view_is) h in
           subst (λ (w : Window). HasGiven bytes (events ++ c.in-Some.event ∷ []) (record { shares = r.shares; bounds = r.bounds; given = r.given + 1; held = w.bytes; ended = w.ended }) remaining) after

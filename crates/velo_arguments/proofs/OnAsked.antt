@@ -1,0 +1,134 @@
+-- What the getters of `clap` give, by the rows of the matches.
+use Rattle.std.proofs.Common.{◌≡◌, ◌∙◌, ap, sym, refl, subst, ℕ, Bool, true, false, not, List, map, Option, Some, None, Result, Ok, Err, codes, inl, inr, Bor}
+use Rattle.std.specs.Prelude.{[], IfNone, IfSome, option_map, unwrap_or}
+use Rattle.std.specs.Str.Parse.{ParsesUnsigned}
+use Rattle.clap.specs.Words.{ReadsOne, Row, Text, all_of, first_of, first_value, matched_of, one_of, one_text, raw_values, rows_of}
+use Rattle.clap.specs.declared.parser.matches.Found.{Found}
+use Rattle.clap.proofs.WalkLemmas.{first_value-rows, one_text-rows, raw_values-rows}
+use Rattle.velo_request.specs.declared.request.RandomRuns.{RandomRuns}
+use Rattle.velo_arguments.specs.Asked.{AreRandomRuns, IsFlag, IsSeed, WritesNumber}
+
+pub option_read : (f : Found) (id : Text) (r : Option (Bor Text)) → option_map (λ s. s.now) r ≡ first_value f id
+    → first_of id (rows_of f) ≡ option_map (λ s. s.now) r
+option_read f id r read = sym (first_value-rows f id) ∙ sym read
+
+pub word_read : (f : Found) (id : Text) (r : Option (Bor Text)) (word : Bor Text) → option_map (λ s. s.now) r ≡ first_value f id
+    → r ≡ Some word → first_of id (rows_of f) ≡ Some word.now
+word_read f id r word read is = option_read f id r read ∙ ap (option_map (λ s. s.now)) is
+
+pub flag_read : (f : Found) (id : Text) (flag : Bool) → (one_text f id ≡ None → flag ≡ false)
+    → (one_text f id ≡ Some (codes "true") → flag ≡ true) → (one_text f id ≡ Some (codes "false") → flag ≡ false)
+    → IsFlag (one_of id (rows_of f)) flag
+flag_read f id flag none set unset =
+    (λ e. set (one_text-rows f id ∙ e), λ e. unset (one_text-rows f id ∙ e), λ e. none (one_text-rows f id ∙ e))
+
+-- a flag that says the opposite
+pub flag_turned : (f : Found) (id : Text) (flag : Bool) → (one_text f id ≡ None → flag ≡ false)
+    → (one_text f id ≡ Some (codes "true") → flag ≡ true) → (one_text f id ≡ Some (codes "false") → flag ≡ false)
+    → IsFlag (one_of id (rows_of f)) (not (not flag))
+flag_turned f id flag none set unset = subst (IsFlag (one_of id (rows_of f))) (not_not flag) (flag_read f id flag none set unset)
+  where
+    not_not : (b : Bool) → b ≡ not (not b)
+    not_not true = refl
+    not_not false = refl
+
+pub number_read : (E : Type 0) (G : List ℕ → Result ℕ E → Type 0) (bits : ℕ) (f : Found) (id : Text) (r : Option ℕ) (n : ℕ)
+    → ((t : List ℕ) (x : Result ℕ E) → G t x → ParsesUnsigned bits 10 t x)
+    → (one_text f id ≡ None → r ≡ None) → ((t : List ℕ) → one_text f id ≡ Some t → ReadsOne G t r)
+    → r ≡ Some n → WritesNumber bits (one_of id (rows_of f)) n
+number_read E G bits f id r n only none value is =
+    subst (λ (t : Option Text). WritesNumber bits t n) (one_text-rows f id) (go (one_text f id) refl)
+  where
+    of_text : (t : Text) → ReadsOne G t r → WritesNumber bits (Some t) n
+    of_text t read =
+        let given : ReadsOne G t (Some n) = rw is at read in
+        let parsed = only t (Ok n) given in
+        (parsed.0.0, parsed.0.1, parsed.1)
+
+    go : (t : Option Text) → one_text f id ≡ t → WritesNumber bits t n
+    go None e =
+        let bad : Some n ≡ None = sym is ∙ none e in
+        cc
+    go (Some t) e = of_text t (value t e)
+
+or_empty : (r : Option (Bor Text)) (empty : Bor Text) → empty.now ≡ [] → unwrap_or (option_map (λ s. s.now) r) [] ≡ (unwrap_or r empty).now
+or_empty None empty none = sym none
+or_empty (Some word) empty none = refl
+
+-- a word, or an empty one
+pub word_or_empty : (f : Found) (id : Text) (r : Option (Bor Text)) (empty word : Bor Text) → option_map (λ s. s.now) r ≡ first_value f id
+    → word ≡ unwrap_or r empty → empty.now ≡ [] → unwrap_or (first_of id (rows_of f)) [] ≡ word.now
+word_or_empty f id r empty word read is none =
+    ap (λ (t : Option Text). unwrap_or t []) (option_read f id r read) ∙ or_empty r empty none ∙ ap (λ (s : Bor Text). s.now) (sym is)
+
+or_none : (r : Option (Bor (List (Bor Text)))) (none : Bor (List (Bor Text))) → none.now ≡ []
+    → unwrap_or (option_map (λ s. map (λ w. w.now) s.now) r) [] ≡ map (λ w. w.now) (unwrap_or r none).now
+or_none None none empty = ap (map (λ (w : Bor Text). w.now)) (sym empty)
+or_none (Some words) none empty = refl
+
+-- the words of an option that may be given again and again
+pub words_read : (f : Found) (id : Text) (r : Option (Bor (List (Bor Text)))) (none words : Bor (List (Bor Text)))
+    → option_map (λ s. map (λ w. w.now) s.now) r ≡ option_map raw_values (matched_of f id)
+    → words ≡ unwrap_or r none → none.now ≡ [] → unwrap_or (all_of id (rows_of f)) [] ≡ map (λ w. w.now) words.now
+words_read f id r none words read is empty =
+    ap (λ (t : Option (List Text)). unwrap_or t []) (sym (raw_values-rows f id) ∙ sym read) ∙ or_none r none empty
+    ∙ ap (λ (s : Bor (List (Bor Text))). map (λ w. w.now) s.now) (sym is)
+
+-- a word that is not given
+pub no_word_read : (f : Found) (id : Text) (r : Option (Bor Text)) → option_map (λ s. s.now) r ≡ first_value f id → r ≡ None → first_of id (rows_of f) ≡ None
+no_word_read f id r read none = option_read f id r read ∙ ap (option_map (λ s. s.now)) none
+
+-- ---- where nothing is asked for
+
+pub if_some : {T : Type 0} (r : Option T) (P : T → Type 0) → ((x : T) → r ≡ Some x → P x) → IfSome r P
+if_some None P holds = tt
+if_some (Some x) P holds = holds x refl
+
+pub if_none : {T : Type 0} (r : Option T) (P : Type 0) → (r ≡ None → P) → IfNone r P
+if_none None P holds = holds refl
+if_none (Some x) P holds = tt
+
+-- what asks for nothing asks for nothing where there is no value
+pub on_none : {T X : Type 0} (r : Option T) (Asks : X → Type 0) → ((x : X) → ¬ Asks x) → IfNone r ((x : X) → ¬ Asks x)
+on_none None Asks nothing = nothing
+on_none (Some value) Asks nothing = tt
+
+-- a word that the getter does not give is none of the values
+pub no_word : (f : Found) (id : Text) (r : Option (Bor Text)) (word : Text) → option_map (λ s. s.now) r ≡ first_value f id
+    → r ≡ None → ¬ (first_of id (rows_of f) ≡ Some word)
+no_word f id r word read none given =
+    let bad : None ≡ Some word = sym (option_read f id r read ∙ ap (option_map (λ s. s.now)) none) ∙ given in
+    cc
+
+-- nor does a text write a number that the getter does not give
+pub no_number : (E : Type 0) (G : List ℕ → Result ℕ E → Type 0) (bits : ℕ) (f : Found) (id : Text) (r : Option ℕ) (n : ℕ)
+    → ((t : List ℕ) (x : Result ℕ E) → G t x → ParsesUnsigned bits 10 t x)
+    → ((t : List ℕ) → one_text f id ≡ Some t → ReadsOne G t r) → r ≡ None → ¬ WritesNumber bits (one_of id (rows_of f)) n
+no_number E G bits f id r n only value none =
+    subst (λ (t : Option Text). ¬ WritesNumber bits t n) (one_text-rows f id) (go (one_text f id) refl)
+  where
+    go : (t : Option Text) → one_text f id ≡ t → ¬ WritesNumber bits t n
+    go None e written = written
+    go (Some t) e written =
+        let read : ReadsOne G t None = rw none at (value t e) in
+        only t (Err read.0) read.1 (written.0, written.1)
+
+-- a text writes one number
+pub one_number : (bits : ℕ) (text : Option Text) (m n : ℕ) → WritesNumber bits text m → WritesNumber bits text n → m ≡ n
+one_number bits None m n first second = absurd first
+one_number bits (Some text) m n first second = first.2 ∙ sym second.2
+
+-- a seed that is given is no number
+pub no_seed : (rows : List Row) (word : Text) (n : ℕ) → first_of (codes "seed") rows ≡ Some word → ¬ WritesNumber 64 (one_of (codes "seed") rows) n → ¬ IsSeed rows n
+no_seed rows word n given none (inl absent) =
+    let bad : None ≡ Some word = sym absent.0 ∙ given in
+    cc
+no_seed rows word n given none (inr written) = none written
+
+-- runs by chance that are asked for are none
+pub no_runs : (rows : List Row) (word : Text) → first_of (codes "random") rows ≡ Some word → ((random : RandomRuns) → ¬ AreRandomRuns rows (Some random))
+    → (random : Option RandomRuns) → ¬ AreRandomRuns rows random
+no_runs rows word given none None absent =
+    let bad : None ≡ Some word = sym absent ∙ given in
+    cc
+no_runs rows word given none (Some random) asks = none random asks

@@ -1,0 +1,305 @@
+-- What some command lines ask for, and why others ask for nothing: by computing.
+use Rattle.std.proofs.Common.{◌≡◌, ◌^◌, ◌∷◌, [], ℕ, Bool, arith, refl, subst, sym, ap, codes, true, false, List, get_or, map, nat_lt, rules, Bor}
+use Rattle.std.specs.Prelude.{Some, None, option_map}
+use Rattle.std.specs.Str.Parse.{digits_value, without_leading_plus}
+use Rattle.std.proofs.lemmas.Bool.{ltb-true}
+use Rattle.clap.specs.Faults.{defaults_fault, walk_fault}
+use Rattle.clap.specs.Walk.{walked}
+use Rattle.clap.specs.ValueTests.{accepts}
+use Rattle.clap.specs.Words.{Text}
+use Rattle.clap.specs.declared.builder.value_parser.ValueParser.TheVariants.{Unsigned}
+use Rattle.clap.proofs.ValueTestLemmas.{accepts-Accepts}
+use Rattle.clap.specs.declared.error.kind.ErrorKind.TheVariants.{ArgumentConflict, DisplayHelp, DisplayVersion, InvalidSubcommand, MissingRequiredArgument, MissingSubcommand, UnknownArgument, ValueValidation}
+use Rattle.velo_request.specs.declared.request.AuditOptions.{AuditOptions}
+use Rattle.velo_request.specs.declared.request.CarryOptions.{CarryOptions}
+use Rattle.velo_request.specs.declared.request.CheckOptions.{CheckOptions}
+use Rattle.velo_request.specs.declared.request.ExplainOptions.{ExplainOptions}
+use Rattle.velo_request.specs.declared.request.ReplayOptions.{ReplayOptions}
+use Rattle.velo_request.specs.declared.request.RunOptions.{RunOptions}
+use Rattle.velo_request.specs.declared.request.ExploreOptions.{ExploreOptions}
+use Rattle.velo_request.specs.declared.request.ScheduleSource.TheVariants as source
+use Rattle.velo_request.specs.declared.request.WatchOptions.{WatchOptions}
+use Rattle.velo_request.specs.declared.request.Request.TheVariants.{Audit, Carry, Check, Explain, Explore, Replay, Run, Watch}
+use Rattle.velo_arguments.specs.Asked.{AreTurns, AsksFor, IsFlag, IsSchedule, WritesNumber}
+use Rattle.velo_arguments.specs.CommandLine.{asked_by, faults_of}
+use Rattle.velo_arguments.specs.Together.{given_by}
+
+-- ---- right words
+
+-- a log alone, with the limits that are there by default
+abbrev check_words : List Text
+check_words = codes "velodrome" ∷ codes "check" ∷ codes "a" ∷ []
+
+check_is_right : faults_of check_words ≡ []
+unfolding faults_of walk_fault walked defaults_fault
+check_is_right = refl
+
+check_asks : (options : CheckOptions) → options.input.now ≡ codes "a" → options.limits.events ≡ 1048576 → options.limits.nodes ≡ 1024 → options.certificate ≡ false
+    → options.names ≡ None → AsksFor (asked_by check_words) (Check options)
+unfolding asked_by walked
+check_asks options log events nodes certificate names =
+    (refl, (ap Some (sym log), search rules, search rules, ap (option_map (λ path. path.now)) (sym names)))
+
+-- a workload with all options
+abbrev run_words : List Text
+run_words = codes "velodrome" ∷ codes "run" ∷ codes "--events=5" ∷ codes "w" ∷ codes "--nodes" ∷ codes "+2" ∷ codes "--log" ∷ codes "o" ∷ codes "--stop" ∷ codes "--names-out=n" ∷ codes "--certificate" ∷ []
+
+run_is_right : faults_of run_words ≡ []
+unfolding faults_of walk_fault walked defaults_fault
+run_is_right = refl
+
+run_asks : (options : RunOptions) → options.input.now ≡ codes "w" → options.stop ≡ true → option_map (λ path. path.now) options.target ≡ Some (codes "o")
+    → option_map (λ path. path.now) options.names_target ≡ Some (codes "n") → options.limits.events ≡ 5 → options.limits.nodes ≡ 2 → options.certificate ≡ true
+    → AsksFor (asked_by run_words) (Run options)
+unfolding asked_by walked
+run_asks options file stop log names events nodes certificate =
+    (refl, (ap Some (sym file), search rules, sym log, sym names, search rules, search rules))
+
+-- a schedule is one word, whatever it says
+abbrev replay_words : List Text
+replay_words = codes "velodrome" ∷ codes "replay" ∷ codes "-" ∷ codes "--schedule" ∷ codes "@s" ∷ []
+
+replay_is_right : faults_of replay_words ≡ []
+unfolding faults_of walk_fault walked defaults_fault
+replay_is_right = refl
+
+replay_asks : (options : ReplayOptions) (text : Bor Text) → options.schedule ≡ source.Text text → text.now ≡ codes "@s" → options.run.input.now ≡ codes "-" → options.run.stop ≡ false
+    → options.run.target ≡ None → options.run.names_target ≡ None → options.run.limits.events ≡ 1048576 → options.run.limits.nodes ≡ 1024 → options.run.certificate ≡ false
+    → AsksFor (asked_by replay_words) (Replay options)
+unfolding asked_by walked
+replay_asks options text schedule says file stop log names events nodes certificate = (
+  refl,
+  (
+    subst (IsSchedule None (Some (codes "@s"))) (sym schedule) (sym says),
+    (ap Some (sym file), search rules, ap (option_map (λ path. path.now)) (sym log), ap (option_map (λ path. path.now)) (sym names), search rules, search rules),
+  ),
+)
+
+replay_gives : given_by (asked_by replay_words) ≡ record { states = false; seed = false; schedule = true }
+unfolding asked_by walked
+replay_gives = refl
+
+-- none is the empty one
+abbrev bare_words : List Text
+bare_words = codes "velodrome" ∷ codes "replay" ∷ codes "w" ∷ []
+
+bare_is_right : faults_of bare_words ≡ []
+unfolding faults_of walk_fault walked defaults_fault
+bare_is_right = refl
+
+bare_asks : (options : ReplayOptions) (text : Bor Text) → options.schedule ≡ source.Text text → text.now ≡ [] → options.run.input.now ≡ codes "w" → options.run.stop ≡ false
+    → options.run.target ≡ None → options.run.names_target ≡ None → options.run.limits.events ≡ 1048576 → options.run.limits.nodes ≡ 1024 → options.run.certificate ≡ false
+    → AsksFor (asked_by bare_words) (Replay options)
+unfolding asked_by walked
+bare_asks options text schedule says file stop log names events nodes certificate = (
+  refl,
+  (
+    subst (IsSchedule None None) (sym schedule) (sym says),
+    (ap Some (sym file), search rules, ap (option_map (λ path. path.now)) (sym log), ap (option_map (λ path. path.now)) (sym names), search rules, search rules),
+  ),
+)
+
+-- turns
+abbrev replay_turns_words : List Text
+replay_turns_words = codes "velodrome" ∷ codes "replay" ∷ codes "w" ∷ codes "--turns=0*2 1" ∷ []
+
+replay_turns_is_right : faults_of replay_turns_words ≡ []
+unfolding faults_of walk_fault walked defaults_fault
+replay_turns_is_right = refl
+
+zero_is_no_at : ◌≡◌ {A = ℕ} 48 64 → ⊥
+zero_is_no_at e = omega (arith, e)
+
+replay_turns_asks : (options : ReplayOptions) (turns : Bor Text) → options.schedule ≡ source.Turns turns → turns.now ≡ codes "0*2 1" → options.run.input.now ≡ codes "w" → options.run.stop ≡ false
+    → options.run.target ≡ None → options.run.names_target ≡ None → options.run.limits.events ≡ 1048576 → options.run.limits.nodes ≡ 1024 → options.run.certificate ≡ false
+    → AsksFor (asked_by replay_turns_words) (Replay options)
+unfolding asked_by walked
+replay_turns_asks options turns schedule says file stop log names events nodes certificate = (
+  refl,
+  (
+    subst (AreTurns (codes "0*2 1")) (sym schedule) (sym says, λ path e. zero_is_no_at (ap (λ xs. get_or xs 0 0) e)),
+    (ap Some (sym file), search rules, ap (option_map (λ path. path.now)) (sym log), ap (option_map (λ path. path.now)) (sym names), search rules, search rules),
+  ),
+)
+
+-- turns of a file
+abbrev replay_file_words : List Text
+replay_file_words = codes "velodrome" ∷ codes "replay" ∷ codes "w" ∷ codes "--turns" ∷ codes "@s" ∷ []
+
+replay_file_is_right : faults_of replay_file_words ≡ []
+unfolding faults_of walk_fault walked defaults_fault
+replay_file_is_right = refl
+
+replay_file_asks : (options : ReplayOptions) (path : Bor Text) → options.schedule ≡ source.File path → path.now ≡ codes "s" → options.run.input.now ≡ codes "w" → options.run.stop ≡ false
+    → options.run.target ≡ None → options.run.names_target ≡ None → options.run.limits.events ≡ 1048576 → options.run.limits.nodes ≡ 1024 → options.run.certificate ≡ false
+    → AsksFor (asked_by replay_file_words) (Replay options)
+unfolding asked_by walked
+replay_file_asks options path schedule says file stop log names events nodes certificate = (
+  refl,
+  (
+    subst (AreTurns (codes "@s")) (sym schedule) (ap (λ rest. 64 ∷ rest) (sym says)),
+    (ap Some (sym file), search rules, ap (option_map (λ path. path.now)) (sym log), ap (option_map (λ path. path.now)) (sym names), search rules, search rules),
+  ),
+)
+
+-- a log and a picture
+abbrev explain_words : List Text
+explain_words = codes "velodrome" ∷ codes "explain" ∷ codes "a" ∷ codes "--dot" ∷ codes "p" ∷ codes "--names=n" ∷ []
+
+explain_is_right : faults_of explain_words ≡ []
+unfolding faults_of walk_fault walked defaults_fault
+explain_is_right = refl
+
+explain_asks : (options : ExplainOptions) → options.input.now ≡ codes "a" → option_map (λ path. path.now) options.target ≡ Some (codes "p")
+    → option_map (λ path. path.now) options.names ≡ Some (codes "n") → AsksFor (asked_by explain_words) (Explain options)
+unfolding asked_by walked
+explain_asks options log dot names = (refl, (ap Some (sym log), sym dot, sym names))
+
+-- a log, and the file for it
+abbrev carry_words : List Text
+carry_words = codes "velodrome" ∷ codes "carry" ∷ codes "a" ∷ codes "--log" ∷ codes "b" ∷ []
+
+carry_is_right : faults_of carry_words ≡ []
+unfolding faults_of walk_fault walked defaults_fault
+carry_is_right = refl
+
+carry_asks : (options : CarryOptions) → options.input.now ≡ codes "a" → options.target.now ≡ codes "b" → AsksFor (asked_by carry_words) (Carry options)
+unfolding asked_by walked
+carry_asks options log out = (refl, (ap Some (sym log), ap Some (sym out)))
+
+-- a number by its digits
+writes : (text : Text) (bits n : ℕ) → accepts false (Unsigned 0 18446744073709551615) text ≡ true → nat_lt (digits_value 10 (without_leading_plus text)) (2 ^ bits) ≡ true
+    → n ≡ digits_value 10 (without_leading_plus text) → WritesNumber bits (Some text) n
+writes text bits n numeral fits is = ((accepts-Accepts false (Unsigned 0 18446744073709551615) text numeral).0, ltb-true _ _ fits, is)
+
+-- a flag that is not given
+is_unset : (flag : Bool) → flag ≡ false → IsFlag (Some (codes "false")) flag
+is_unset flag is = (λ e. cc, λ e. is, λ e. is)
+
+-- a workload, with the states and limits that are there by default
+abbrev explore_words : List Text
+explore_words = codes "velodrome" ∷ codes "explore" ∷ codes "w" ∷ []
+
+explore_is_right : faults_of explore_words ≡ []
+unfolding faults_of walk_fault walked defaults_fault
+explore_is_right = refl
+
+explore_asks : (options : ExploreOptions) → options.input.now ≡ codes "w" → options.states ≡ 2097152 → options.first ≡ false → options.progress ≡ false → options.random ≡ None
+    → options.target ≡ None → options.names_target ≡ None → options.limits.events ≡ 1048576 → options.limits.nodes ≡ 1024 → options.certificate ≡ false → AsksFor (asked_by explore_words) (Explore options)
+unfolding asked_by walked
+explore_asks options file states first progress random log names events nodes certificate = (
+  refl,
+  (
+    ap Some (sym file),
+    writes (codes "2097152") 32 options.states refl refl states,
+    is_unset options.first first,
+    is_unset options.progress progress,
+    rw random refl,
+    ap (option_map (λ path. path.now)) (sym log),
+    ap (option_map (λ path. path.now)) (sym names),
+    (writes (codes "1048576") 32 options.limits.events refl refl events, writes (codes "1024") 16 options.limits.nodes refl refl nodes),
+    is_unset options.certificate certificate,
+  ),
+)
+
+explore_gives : given_by (asked_by explore_words) ≡ record { states = false; seed = false; schedule = false }
+unfolding asked_by walked
+explore_gives = refl
+
+-- runs by chance
+abbrev chance_words : List Text
+chance_words = codes "velodrome" ∷ codes "explore" ∷ codes "w" ∷ codes "--random=9" ∷ codes "--seed" ∷ codes "18446744073709551615" ∷ []
+
+chance_is_right : faults_of chance_words ≡ []
+unfolding faults_of walk_fault walked defaults_fault
+chance_is_right = refl
+
+chance_gives : given_by (asked_by chance_words) ≡ record { states = false; seed = true; schedule = false }
+unfolding asked_by walked
+chance_gives = refl
+
+-- a log that is watched
+abbrev watch_words : List Text
+watch_words = codes "velodrome" ∷ codes "watch" ∷ codes "--stop" ∷ codes "-" ∷ []
+
+watch_is_right : faults_of watch_words ≡ []
+unfolding faults_of walk_fault walked defaults_fault
+watch_is_right = refl
+
+watch_asks : (options : WatchOptions) → options.input.now ≡ codes "-" → options.stop ≡ true → options.limits.events ≡ 1048576 → options.limits.nodes ≡ 1024
+    → options.certificate ≡ false → options.names ≡ None → AsksFor (asked_by watch_words) (Watch options)
+unfolding asked_by walked
+watch_asks options log stop events nodes certificate names =
+    (refl, (ap Some (sym log), search rules, search rules, search rules, ap (option_map (λ path. path.now)) (sym names)))
+
+-- a log that is audited, without two locks; the limits are the greatest ones by default
+abbrev audit_words : List Text
+audit_words = codes "velodrome" ∷ codes "audit" ∷ codes "a" ∷ codes "--ignore-lock" ∷ codes "3" ∷ codes "--no-witness" ∷ codes "--ignore-lock=m" ∷ codes "--not-atomic" ∷ codes "l" ∷ []
+
+audit_is_right : faults_of audit_words ≡ []
+unfolding faults_of walk_fault walked defaults_fault
+audit_is_right = refl
+
+audit_asks : (options : AuditOptions) → options.input.now ≡ codes "a" → options.names ≡ None → option_map (λ path. path.now) options.known ≡ Some (codes "l")
+    → map (λ w. w.now) options.ignored_locks.now ≡ codes "3" ∷ codes "m" ∷ [] → map (λ w. w.now) options.ignored_variables.now ≡ [] → options.witness ≡ false
+    → options.limits.events ≡ 16777216 → options.limits.nodes ≡ 4096 → AsksFor (asked_by audit_words) (Audit options)
+unfolding asked_by walked
+audit_asks options log names known locks variables witness events nodes = (
+  refl,
+  (ap Some (sym log), ap (option_map (λ path. path.now)) (sym names), sym known, sym locks, sym variables, search rules, search rules),
+)
+
+-- ---- wrong words, and words that ask for help
+
+no_file_to_carry_to : faults_of (codes "velodrome" ∷ codes "carry" ∷ codes "a" ∷ []) ≡ MissingRequiredArgument ∷ []
+unfolding faults_of walk_fault walked defaults_fault
+no_file_to_carry_to = refl
+
+no_subcommand : faults_of (codes "velodrome" ∷ []) ≡ MissingSubcommand ∷ []
+unfolding faults_of walk_fault walked defaults_fault
+no_subcommand = refl
+
+no_such_subcommand : faults_of (codes "velodrome" ∷ codes "race" ∷ []) ≡ UnknownArgument ∷ InvalidSubcommand ∷ []
+unfolding faults_of walk_fault walked defaults_fault
+no_such_subcommand = refl
+
+no_log : faults_of (codes "velodrome" ∷ codes "check" ∷ []) ≡ MissingRequiredArgument ∷ []
+unfolding faults_of walk_fault walked defaults_fault
+no_log = refl
+
+no_such_option : faults_of (codes "velodrome" ∷ codes "check" ∷ codes "a" ∷ codes "--stop" ∷ []) ≡ UnknownArgument ∷ []
+unfolding faults_of walk_fault walked defaults_fault
+no_such_option = refl
+
+too_many_nodes : faults_of (codes "velodrome" ∷ codes "check" ∷ codes "a" ∷ codes "--nodes" ∷ codes "4097" ∷ []) ≡ ValueValidation ∷ []
+unfolding faults_of walk_fault walked defaults_fault
+too_many_nodes = refl
+
+too_many_states : faults_of (codes "velodrome" ∷ codes "explore" ∷ codes "w" ∷ codes "--states" ∷ codes "16777217" ∷ []) ≡ ValueValidation ∷ []
+unfolding faults_of walk_fault walked defaults_fault
+too_many_states = refl
+
+too_many_runs : faults_of (codes "velodrome" ∷ codes "explore" ∷ codes "w" ∷ codes "--random" ∷ codes "1000001" ∷ []) ≡ ValueValidation ∷ []
+unfolding faults_of walk_fault walked defaults_fault
+too_many_runs = refl
+
+too_great_a_seed : faults_of (codes "velodrome" ∷ codes "explore" ∷ codes "w" ∷ codes "--random=1" ∷ codes "--seed=18446744073709551616" ∷ []) ≡ ValueValidation ∷ []
+unfolding faults_of walk_fault walked defaults_fault
+too_great_a_seed = refl
+
+names_twice : faults_of (codes "velodrome" ∷ codes "audit" ∷ codes "a" ∷ codes "--names" ∷ codes "m" ∷ codes "--names" ∷ codes "n" ∷ []) ≡ ArgumentConflict ∷ []
+unfolding faults_of walk_fault walked defaults_fault
+names_twice = refl
+
+help : faults_of (codes "velodrome" ∷ codes "check" ∷ codes "--help" ∷ []) ≡ DisplayHelp ∷ []
+unfolding faults_of walk_fault walked defaults_fault
+help = refl
+
+-- help on a subcommand, if there is one of this name
+help_on_a_subcommand : faults_of (codes "velodrome" ∷ codes "help" ∷ codes "check" ∷ []) ≡ DisplayHelp ∷ InvalidSubcommand ∷ []
+unfolding faults_of walk_fault walked defaults_fault
+help_on_a_subcommand = refl
+
+version : faults_of (codes "velodrome" ∷ codes "--version" ∷ []) ≡ DisplayVersion ∷ []
+unfolding faults_of walk_fault walked defaults_fault
+version = refl

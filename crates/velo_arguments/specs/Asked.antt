@@ -1,0 +1,150 @@
+-- What the matches of the command line ask for: the values of a subcommand, by the names of its arguments.
+use Rattle.std.specs.Prelude.{◌≡◌, ◌≢◌, ◌⊎◌, ◌<◌, ◌^◌, ◌++◌, ℕ, Bool, true, false, not, List, [], map, Option, Some, None, codes, option_map, unwrap_or}
+use Rattle.std.specs.Borrow.{Bor}
+use Rattle.std.specs.Str.Parse.{IsNumeral, digits_value, without_leading_plus}
+use Rattle.clap.specs.Words.{Row, Text, all_of, first_of, one_of}
+use Rattle.velo_request.specs.declared.request.Limits.{Limits}
+use Rattle.velo_request.specs.declared.request.AuditOptions.{AuditOptions}
+use Rattle.velo_request.specs.declared.request.CarryOptions.{CarryOptions}
+use Rattle.velo_request.specs.declared.request.CheckOptions.{CheckOptions}
+use Rattle.velo_request.specs.declared.request.ExploreOptions.{ExploreOptions}
+use Rattle.velo_request.specs.declared.request.RandomRuns.{RandomRuns}
+use Rattle.velo_request.specs.declared.request.RunOptions.{RunOptions}
+use Rattle.velo_request.specs.declared.request.ReplayOptions.{ReplayOptions}
+use Rattle.velo_request.specs.declared.request.ScheduleSource.{ScheduleSource}
+use Rattle.velo_request.specs.declared.request.ScheduleSource.TheVariants as schedule
+use Rattle.velo_request.specs.declared.request.TheConstants.{DEFAULT_SEED}
+use Rattle.velo_request.specs.declared.request.ExplainOptions.{ExplainOptions}
+use Rattle.velo_request.specs.declared.request.WatchOptions.{WatchOptions}
+use Rattle.velo_request.specs.declared.request.Request.{Request}
+use Rattle.velo_request.specs.declared.request.Request.TheVariants.{Audit, Carry, Check, Explain, Explore, Replay, Run, Watch}
+
+-- the text writes this number, which an unsigned type of so many bits holds; a plus may stand before it
+abbrev pub WritesNumber : ℕ → Option Text → ℕ → Type 0
+WritesNumber bits None n = ⊥
+WritesNumber bits (Some text) n =
+    IsNumeral 10 (without_leading_plus text)
+    × (digits_value 10 (without_leading_plus text) < 2 ^ bits)
+    × (n ≡ digits_value 10 (without_leading_plus text))
+
+-- the flag is set where its text says so, and not where it has none
+abbrev pub IsFlag : Option Text → Bool → Type 0
+IsFlag text flag =
+    (text ≡ Some (codes "true") → flag ≡ true) × (text ≡ Some (codes "false") → flag ≡ false)
+    × (text ≡ None → flag ≡ false)
+
+-- the path is the value of this option, if it is given
+abbrev pub IsPath : Text → List Row → Option (Bor Text) → Type 0
+IsPath option rows path = first_of option rows ≡ option_map (λ p. p.now) path
+
+-- the words are the values of this option, in the order in which they are given
+abbrev pub AreWords : Text → List Row → List (Bor Text) → Type 0
+AreWords option rows words = unwrap_or (all_of option rows) [] ≡ map (λ w. w.now) words
+
+abbrev pub AreLimits : List Row → Limits → Type 0
+AreLimits rows limits =
+    WritesNumber 32 (one_of (codes "events") rows) limits.events
+    × WritesNumber 16 (one_of (codes "nodes") rows) limits.nodes
+
+abbrev pub IsCheck : List Row → CheckOptions → Type 0
+IsCheck rows options =
+    (first_of (codes "LOG") rows ≡ Some options.input.now) × AreLimits rows options.limits
+    × IsFlag (one_of (codes "certificate") rows) options.certificate
+    × IsPath (codes "names") rows options.names
+
+abbrev pub IsRun : List Row → RunOptions → Type 0
+IsRun rows options =
+    (first_of (codes "FILE") rows ≡ Some options.input.now)
+    × IsFlag (one_of (codes "stop") rows) options.stop
+    × IsPath (codes "log") rows options.target
+    × IsPath (codes "names-out") rows options.names_target
+    × AreLimits rows options.limits × IsFlag (one_of (codes "certificate") rows) options.certificate
+
+-- what stands behind an @ is the path of turns, and any other word is turns
+abbrev pub AreTurns : Text → ScheduleSource → Type 0
+AreTurns word (schedule.Text text) = ⊥
+AreTurns word (schedule.Turns turns) =
+    (word ≡ turns.now) × ((path : Text) → word ≢ codes "@" ++ path)
+AreTurns word (schedule.File path) = word ≡ codes "@" ++ path.now
+
+-- the turns, where they are given; else the text, and without one the empty one
+abbrev pub IsSchedule : Option Text → Option Text → ScheduleSource → Type 0
+IsSchedule (Some turns) text source = AreTurns turns source
+IsSchedule None text (schedule.Text found) = unwrap_or text [] ≡ found.now
+IsSchedule None text source = ⊥
+
+abbrev pub IsReplay : List Row → ReplayOptions → Type 0
+IsReplay rows options =
+    IsSchedule (first_of (codes "turns") rows) (first_of (codes "schedule") rows) options.schedule
+    × IsRun rows options.run
+
+abbrev pub IsExplanation : List Row → ExplainOptions → Type 0
+IsExplanation rows options =
+    (first_of (codes "LOG") rows ≡ Some options.input.now)
+    × IsPath (codes "dot") rows options.target
+    × IsPath (codes "names") rows options.names
+
+abbrev pub IsCarrying : List Row → CarryOptions → Type 0
+IsCarrying rows options =
+    (first_of (codes "LOG") rows ≡ Some options.input.now)
+    × (first_of (codes "log") rows ≡ Some options.target.now)
+
+-- the seed that is given, or the one by default
+abbrev pub IsSeed : List Row → ℕ → Type 0
+IsSeed rows seed =
+    ((first_of (codes "seed") rows ≡ None) × (seed ≡ DEFAULT_SEED))
+    ⊎ WritesNumber 64 (one_of (codes "seed") rows) seed
+
+-- so many runs by chance are asked for, or none
+abbrev pub AreRandomRuns : List Row → Option RandomRuns → Type 0
+AreRandomRuns rows None = first_of (codes "random") rows ≡ None
+AreRandomRuns rows (Some random) =
+    WritesNumber 32 (one_of (codes "random") rows) random.runs × IsSeed rows random.seed
+
+abbrev pub IsExploring : List Row → ExploreOptions → Type 0
+IsExploring rows options =
+    (first_of (codes "FILE") rows ≡ Some options.input.now)
+    × WritesNumber 32 (one_of (codes "states") rows) options.states
+    × IsFlag (one_of (codes "first") rows) options.first
+    × IsFlag (one_of (codes "progress") rows) options.progress
+    × AreRandomRuns rows options.random
+    × IsPath (codes "log") rows options.target
+    × IsPath (codes "names-out") rows options.names_target
+    × AreLimits rows options.limits × IsFlag (one_of (codes "certificate") rows) options.certificate
+
+abbrev pub IsWatch : List Row → WatchOptions → Type 0
+IsWatch rows options =
+    (first_of (codes "LOG") rows ≡ Some options.input.now)
+    × IsFlag (one_of (codes "stop") rows) options.stop
+    × AreLimits rows options.limits × IsFlag (one_of (codes "certificate") rows) options.certificate
+    × IsPath (codes "names") rows options.names
+
+abbrev pub IsAudit : List Row → AuditOptions → Type 0
+IsAudit rows options =
+    (first_of (codes "LOG") rows ≡ Some options.input.now)
+    × IsPath (codes "names") rows options.names
+    × IsPath (codes "not-atomic") rows options.known
+    × AreWords (codes "ignore-lock") rows options.ignored_locks.now
+    × AreWords (codes "ignore-variable") rows options.ignored_variables.now
+    × IsFlag (one_of (codes "no-witness") rows) (not options.witness)
+    × AreLimits rows options.limits
+
+-- a subcommand by its name, with the values of its arguments
+abbrev pub Asked : Type 0
+Asked = Option (Text × List Row)
+
+-- the subcommand of this name, with these values, asks for the request
+abbrev pub AsksFor : Asked → Request → Type 0
+AsksFor None request = ⊥
+AsksFor (Some found) (Check options) = (found.0 ≡ codes "check") × IsCheck found.1 options
+AsksFor (Some found) (Replay options) = (found.0 ≡ codes "replay") × IsReplay found.1 options
+AsksFor (Some found) (Run options) = (found.0 ≡ codes "run") × IsRun found.1 options
+AsksFor (Some found) (Explain options) = (found.0 ≡ codes "explain") × IsExplanation found.1 options
+AsksFor (Some found) (Carry options) = (found.0 ≡ codes "carry") × IsCarrying found.1 options
+AsksFor (Some found) (Explore options) = (found.0 ≡ codes "explore") × IsExploring found.1 options
+AsksFor (Some found) (Watch options) = (found.0 ≡ codes "watch") × IsWatch found.1 options
+AsksFor (Some found) (Audit options) = (found.0 ≡ codes "audit") × IsAudit found.1 options
+
+-- no request is asked for
+abbrev pub AsksForNothing : Asked → Type 0
+AsksForNothing asked = (request : Request) → ¬ AsksFor asked request

@@ -1,0 +1,160 @@
+-- What the command line of the program is.
+use Rattle.std.specs.Prelude.{◌≡◌, List, [], ◌∷◌, Option, Some, true, false, pos, codes, fold}
+use Rattle.clap.specs.Words.{App, Kinds, Row, Rule, Shape, Text, app_of, fault_of, new_rule, rule_of, shape_of, subcommand_of, with_rule}
+use Rattle.clap.specs.Simple.{new_shape}
+use Rattle.clap.specs.declared.builder.action.ArgAction.TheVariants.{Append, Set, SetTrue}
+use Rattle.clap.specs.declared.builder.arg.Arg.{Arg}
+use Rattle.clap.specs.declared.builder.command.Command.{Command}
+use Rattle.clap.specs.declared.builder.command.Command.TheViews.{out-Command}
+use Rattle.clap.specs.declared.builder.value_parser.ValueParser.TheVariants.{Signed, Unsigned}
+use Rattle.velo_events.specs.declared.limits.TheConstants.{MAX_EVENTS, MAX_NODES}
+use Rattle.velo_request.specs.declared.request.TheConstants.{MAX_RUNS, MAX_STATES}
+
+-- ---- the arguments
+
+-- a word that has to be there
+abbrev pub word : Text → Rule
+word name = record (new_rule name) { action = Some Set; required = true }
+
+-- an option with a value, under its name
+abbrev pub valued : Text → Rule
+valued name = record (new_rule name) { long = Some name; value_names = 1 }
+
+-- an option with a value that has to be there
+abbrev pub needed : Text → Rule
+needed name = record (valued name) { required = true }
+
+-- an option with a value that may be given again and again
+abbrev pub repeated : Text → Rule
+repeated name = record (valued name) { action = Some Append }
+
+-- an option without a value, under its name
+abbrev pub flag : Text → Rule
+flag name = record (new_rule name) { long = Some name; action = Some SetTrue }
+
+-- the most events of a log, so many by default
+abbrev pub events : Text → Rule
+events default = record (valued (codes "events")) {
+  parser = Some (Signed (pos 1) (pos MAX_EVENTS));
+  defaults = default ∷ [];
+}
+
+-- the most nodes of a graph, so many by default
+abbrev pub nodes : Text → Rule
+nodes default = record (valued (codes "nodes")) {
+  parser = Some (Signed (pos 1) (pos MAX_NODES));
+  defaults = default ∷ [];
+}
+
+-- the most states of a search
+abbrev pub states : Rule
+states = record (valued (codes "states")) {
+  parser = Some (Signed (pos 1) (pos MAX_STATES));
+  defaults = codes "2097152" ∷ [];
+}
+
+-- how many runs by chance, where they are asked for
+abbrev pub random : Rule
+random = record (valued (codes "random")) { parser = Some (Signed (pos 1) (pos MAX_RUNS)) }
+
+-- the seed of runs by chance, which 64 bits hold
+abbrev pub seed : Rule
+seed = record (valued (codes "seed")) { parser = Some (Unsigned 0 18446744073709551615) }
+
+-- the options of each command that keeps a graph
+abbrev pub graph_options : List Rule
+graph_options =
+    events (codes "1048576") ∷ nodes (codes "1024") ∷ flag (codes "certificate") ∷ []
+
+-- the options of each command that saves a run
+abbrev pub saved_options : List Rule
+saved_options = valued (codes "log") ∷ valued (codes "names-out") ∷ graph_options
+
+-- the options of each command that runs a workload
+abbrev pub run_options : List Rule
+run_options = flag (codes "stop") ∷ saved_options
+
+-- the options of each command that searches
+abbrev pub search_options : List Rule
+search_options =
+    states ∷ flag (codes "first") ∷ flag (codes "progress") ∷ random ∷ seed ∷ saved_options
+
+-- ---- the subcommands
+
+abbrev pub subcommand : Text → List Rule → Shape
+subcommand name rules = record (new_shape name) { rules = rules }
+
+abbrev pub check : Shape
+check = subcommand (codes "check") (word (codes "LOG") ∷ valued (codes "names") ∷ graph_options)
+
+abbrev pub replay : Shape
+replay = subcommand (codes "replay")
+    (word (codes "FILE") ∷ valued (codes "schedule") ∷ valued (codes "turns") ∷ run_options)
+
+abbrev pub run : Shape
+run = subcommand (codes "run") (word (codes "FILE") ∷ run_options)
+
+abbrev pub explain : Shape
+explain = subcommand (codes "explain")
+    (word (codes "LOG") ∷ valued (codes "dot") ∷ valued (codes "names") ∷ [])
+
+abbrev pub carry : Shape
+carry = subcommand (codes "carry") (word (codes "LOG") ∷ needed (codes "log") ∷ [])
+
+abbrev pub explore : Shape
+explore = subcommand (codes "explore") (word (codes "FILE") ∷ search_options)
+
+abbrev pub watch : Shape
+watch = subcommand (codes "watch")
+    (word (codes "LOG") ∷ valued (codes "names") ∷ flag (codes "stop") ∷ graph_options)
+
+-- the greatest limits by default
+abbrev pub audit : Shape
+audit = subcommand (codes "audit")
+    (word (codes "LOG") ∷ valued (codes "names") ∷ valued (codes "not-atomic")
+    ∷ repeated (codes "ignore-lock") ∷ repeated (codes "ignore-variable")
+    ∷ flag (codes "no-witness")
+    ∷ events (codes "16777216") ∷ nodes (codes "4096") ∷ [])
+
+-- the program before it has its subcommands
+abbrev pub bare : App
+bare = record {
+  top = record (new_shape (codes "velodrome")) { has_version = true; subcommand_required = true };
+  subs = [];
+}
+
+-- the program: one of its subcommands has to be named, and it has a version
+abbrev pub command_line : App
+command_line = record {
+  top = record (new_shape (codes "velodrome")) {
+    is_leaf = false;
+    has_version = true;
+    subcommand_required = true;
+  };
+  subs = check ∷ replay ∷ run ∷ explain ∷ carry ∷ explore ∷ watch ∷ audit ∷ [];
+}
+
+-- ---- what it makes of words
+
+-- the kinds of fault that the words may be refused with: none where they are right
+unfoldable pub faults_of : List Text → Kinds
+faults_of words = fault_of command_line words
+
+-- the subcommand that the words name, with the values of its arguments
+unfoldable pub asked_by : List Text → Option (Text × List Row)
+asked_by words = subcommand_of command_line words
+
+-- ---- what the code builds of these
+
+-- the argument looks so, for the one command that it is given to
+abbrev pub IsArgument : Rule → Arg → Type 0
+IsArgument rule a = (rule_of a ≡ rule) × (a.global ≡ false)
+
+-- the command looks so, and has no argument that reaches another command
+abbrev pub IsSubcommand : Shape → Command → Type 0
+IsSubcommand shape c = (shape_of c ≡ shape) × ((out-Command c).has_globals ≡ false)
+
+-- `new` is `old` with these arguments more, behind its own
+abbrev pub AddsRules : List Rule → Command → Command → Type 0
+AddsRules rules old new = (app_of new ≡ fold with_rule (app_of old) rules)
+    × ((out-Command new).has_globals ≡ (out-Command old).has_globals)

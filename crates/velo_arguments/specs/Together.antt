@@ -1,0 +1,105 @@
+-- Which options of a request do not go together, and the line that says so.
+use Rattle.std.specs.Prelude.{◌||◌, List, [], ◌∷◌, ◌++◌, ℕ, Bool, false, Option, Some, None, codes, count_by, nat_lt, if◌then◌else◌}
+use Rattle.std.specs.Borrow.{Bor}
+use Rattle.std.specs.Option.{option_or}
+use Rattle.std.specs.Str.{bytes_eq}
+use Rattle.clap.specs.Takes.{is_given}
+use Rattle.velo_request.specs.declared.request.ExploreOptions.{ExploreOptions}
+use Rattle.velo_request.specs.declared.request.RandomRuns.{RandomRuns}
+use Rattle.velo_request.specs.declared.request.ReplayOptions.{ReplayOptions}
+use Rattle.velo_request.specs.declared.request.Request.{Request}
+use Rattle.velo_request.specs.declared.request.Request.TheVariants.{Audit, Carry, Check, Explain, Explore, Replay, Run, Watch}
+use Rattle.velo_request.specs.declared.request.ScheduleSource.{ScheduleSource}
+use Rattle.velo_request.specs.declared.request.ScheduleSource.TheVariants as schedule
+use Rattle.velo_arguments.specs.Asked.{Asked}
+use Rattle.velo_arguments.specs.declared.together.Clash.{Clash}
+use Rattle.velo_arguments.specs.declared.together.Clash.TheVariants.{InputTwice, NamesWithoutLog, OnePath, SearchByChance, SeedAlone, TwoSchedules}
+use Rattle.velo_arguments.specs.declared.together.Given.{Given}
+
+-- ---- paths
+
+-- the path of an option, if it is given
+abbrev pub path_if : Option (Bor (List ℕ)) → List (List ℕ)
+path_if None = []
+path_if (Some path) = path.now ∷ []
+
+-- the path of a schedule, if it stands in a file
+abbrev pub schedule_path_if : ScheduleSource → List (List ℕ)
+schedule_path_if (schedule.Text text) = []
+schedule_path_if (schedule.Turns turns) = []
+schedule_path_if (schedule.File path) = path.now ∷ []
+
+-- more than one of the paths that are read is that of standard input
+abbrev pub clash_of_inputs : List (List ℕ) → Option Clash
+clash_of_inputs paths =
+    if nat_lt 1 (count_by (λ path. bytes_eq path (codes "-")) paths) then Some InputTwice else None
+
+-- the names of a run are saved without its log, or at the path of its log
+abbrev pub clash_of_targets : Option (Bor (List ℕ)) → Option (Bor (List ℕ)) → Option Clash
+clash_of_targets log None = None
+clash_of_targets None (Some names) = Some NamesWithoutLog
+clash_of_targets (Some log) (Some names) =
+    if bytes_eq log.now names.now then Some OnePath else None
+
+-- ---- what the words give
+
+-- which of the options that a request does not show are given
+abbrev pub given_by : Asked → Given
+given_by None = record { states = false; seed = false; schedule = false }
+given_by (Some found) = record {
+  states = is_given (codes "states") found.1;
+  seed = is_given (codes "seed") found.1;
+  schedule = is_given (codes "schedule") found.1;
+}
+
+-- ---- a replay
+
+-- turns, and a text of a schedule beside them
+abbrev pub clash_of_schedule : ScheduleSource → Bool → Option Clash
+clash_of_schedule (schedule.Text text) has_text = None
+clash_of_schedule (schedule.Turns turns) has_text = if has_text then Some TwoSchedules else None
+clash_of_schedule (schedule.File path) has_text = if has_text then Some TwoSchedules else None
+
+-- it has two schedules, or standard input is read twice, or by what it saves
+abbrev pub clash_of_replay : ReplayOptions → Bool → Option Clash
+clash_of_replay options has_text =
+    option_or
+    (option_or (clash_of_schedule options.schedule has_text)
+    (clash_of_inputs (options.run.input.now ∷ schedule_path_if options.schedule)))
+    (clash_of_targets options.run.target options.run.names_target)
+
+-- ---- an exploration
+
+-- runs by chance with an option that a search alone has; or a seed without them
+abbrev pub clash_of_chance : Option RandomRuns → Bool → Bool → Option Clash
+clash_of_chance (Some random) searches seeds = if searches then Some SearchByChance else None
+clash_of_chance None searches seeds = if seeds then Some SeedAlone else None
+
+abbrev pub clash_of_search : ExploreOptions → Given → Option Clash
+clash_of_search options given =
+    clash_of_chance options.random (given.states || (options.first || options.progress)) given.seed
+
+-- ---- any request
+
+-- why the options of a request do not go together, if they do not, where the words give these
+abbrev pub clash_of : Request → Given → Option Clash
+clash_of (Check options) given = clash_of_inputs (options.input.now ∷ path_if options.names)
+clash_of (Replay options) given = clash_of_replay options given.schedule
+clash_of (Run options) given = clash_of_targets options.target options.names_target
+clash_of (Explain options) given = clash_of_inputs (options.input.now ∷ path_if options.names)
+clash_of (Carry options) given = None
+clash_of (Explore options) given =
+    option_or (clash_of_search options given)
+    (clash_of_targets options.target options.names_target)
+clash_of (Watch options) given = clash_of_inputs (options.input.now ∷ path_if options.names)
+clash_of (Audit options) given =
+    clash_of_inputs (options.input.now ∷ path_if options.names ++ path_if options.known)
+
+abbrev pub line_of_clash : Clash → List ℕ
+line_of_clash InputTwice = codes "error: standard input can be read once\n"
+line_of_clash NamesWithoutLog = codes "error: --names-out goes only with --log\n"
+line_of_clash OnePath = codes "error: OUT and NAMES are one file\n"
+line_of_clash SearchByChance =
+    codes "error: --random goes with neither --states nor --first nor --progress\n"
+line_of_clash TwoSchedules = codes "error: --schedule does not go with --turns\n"
+line_of_clash SeedAlone = codes "error: --seed goes only with --random\n"

@@ -1,0 +1,13 @@
+//! What the words of the command line ask for.
+#![tactic(auto)]
+
+mod arguments;
+mod growth;
+pub mod help;
+mod requests;
+mod together;
+
+pub use arguments::command;
+pub use growth::{matches_of, text_of};
+pub use requests::request_of;
+pub use together::{Clash, Given, clash_of, given_by, line_of_clash};

@@ -1,0 +1,240 @@
+//! What the matches of the command line ask for.
+ghost use Rattle.std.specs.Prelude.{◌≤◌, ℕ, Option, Some, codes, IfNone, IfSome};
+ghost use Rattle.clap.specs.Words.{first_of, found_of, one_of, rows_of, subcommand_rows_of};
+ghost use Rattle.velo_request.specs.declared.request.Limits.{Limits};
+ghost use Rattle.velo_request.specs.declared.request.AuditOptions.{AuditOptions};
+ghost use Rattle.velo_request.specs.declared.request.CarryOptions.{CarryOptions};
+ghost use Rattle.velo_request.specs.declared.request.CheckOptions.{CheckOptions};
+ghost use Rattle.velo_request.specs.declared.request.ExplainOptions.{ExplainOptions};
+ghost use Rattle.velo_request.specs.declared.request.ExploreOptions.{ExploreOptions};
+ghost use Rattle.velo_request.specs.declared.request.RandomRuns.{RandomRuns};
+ghost use Rattle.velo_request.specs.declared.request.ReplayOptions.{ReplayOptions};
+ghost use Rattle.velo_request.specs.declared.request.RunOptions.{RunOptions};
+ghost use Rattle.velo_request.specs.declared.request.TheConstants.{MAX_STATES};
+ghost use Rattle.velo_request.specs.declared.request.WatchOptions.{WatchOptions};
+ghost use Rattle.velo_arguments.specs.Asked.{AreLimits, AreRandomRuns, AreTurns, AsksFor, AsksForNothing, IsAudit, IsCarrying, IsCheck, IsExplanation, IsExploring, IsReplay, IsRun, IsSchedule, IsSeed, IsWatch, WritesNumber};
+
+use clap::ArgMatches;
+use velo_events::{MAX_EVENTS, MAX_NODES};
+use velo_request::{
+    AuditOptions, CarryOptions, CheckOptions, DEFAULT_SEED, ExplainOptions, ExploreOptions, Limits,
+    MAX_RUNS, MAX_STATES, RandomRuns, ReplayOptions, Request, RunOptions, ScheduleSource,
+    WatchOptions,
+};
+
+/// Reads the limits from the matches of a subcommand; none where one is out of its range.
+fn limits_of<'a>(found: &ArgMatches<'a>) -> Option<Limits>
+    ensures some { IfSome result (AreLimits (rows_of (found_of found.now))) }
+    ensures none { IfNone result ((limits : Limits)
+        → ¬ AreLimits (rows_of (found_of found.now)) limits) }
+{
+    let events = found.get_one::<u32>("events")?;
+    let nodes = found.get_one::<u16>("nodes")?;
+    if events < 1 || events > MAX_EVENTS || nodes < 1 || nodes > MAX_NODES {
+        return None;
+    }
+    Some(Limits { events, nodes })
+}
+
+fn check_options<'a>(found: &ArgMatches<'a>) -> Option<CheckOptions<'a>>
+    ensures some { IfSome result (IsCheck (rows_of (found_of found.now))) }
+    ensures none { IfNone result ((options : CheckOptions)
+        → ¬ IsCheck (rows_of (found_of found.now)) options) }
+{
+    Some(CheckOptions {
+        input: found.get_str("LOG")?,
+        limits: limits_of(found)?,
+        certificate: found.get_flag("certificate"),
+        names: found.get_str("names"),
+    })
+}
+
+/// Where the turns of this word stand: what stands behind an `@` is a path.
+fn turns_source<'a>(word: &'a str) -> ScheduleSource<'a>
+    ensures { AreTurns word.entry.now result }
+{
+    match word.strip_prefix('@') {
+        Some(path) => ScheduleSource::File(path),
+        None => ScheduleSource::Turns(word),
+    }
+}
+
+/// Where the schedule stands: the turns that are given, or else the text.
+fn schedule_source<'a>(found: &ArgMatches<'a>) -> ScheduleSource<'a>
+    ensures { IsSchedule (first_of (codes "turns") (rows_of (found_of found.now)))
+        (first_of (codes "schedule") (rows_of (found_of found.now))) result }
+{
+    match found.get_str("turns") {
+        Some(turns) => turns_source(turns),
+        None => ScheduleSource::Text(found.get_str("schedule").unwrap_or("")),
+    }
+}
+
+fn replay_options<'a>(found: &ArgMatches<'a>) -> Option<ReplayOptions<'a>>
+    ensures some { IfSome result (IsReplay (rows_of (found_of found.now))) }
+    ensures none { IfNone result ((options : ReplayOptions)
+        → ¬ IsReplay (rows_of (found_of found.now)) options) }
+{
+    Some(ReplayOptions {
+        schedule: schedule_source(found),
+        run: run_options(found)?,
+    })
+}
+
+fn run_options<'a>(found: &ArgMatches<'a>) -> Option<RunOptions<'a>>
+    ensures some { IfSome result (IsRun (rows_of (found_of found.now))) }
+    ensures none { IfNone result ((options : RunOptions)
+        → ¬ IsRun (rows_of (found_of found.now)) options) }
+{
+    Some(RunOptions {
+        input: found.get_str("FILE")?,
+        stop: found.get_flag("stop"),
+        target: found.get_str("log"),
+        names_target: found.get_str("names-out"),
+        limits: limits_of(found)?,
+        certificate: found.get_flag("certificate"),
+    })
+}
+
+fn explain_options<'a>(found: &ArgMatches<'a>) -> Option<ExplainOptions<'a>>
+    ensures some { IfSome result (IsExplanation (rows_of (found_of found.now))) }
+    ensures none { IfNone result ((options : ExplainOptions)
+        → ¬ IsExplanation (rows_of (found_of found.now)) options) }
+{
+    Some(ExplainOptions {
+        input: found.get_str("LOG")?,
+        target: found.get_str("dot"),
+        names: found.get_str("names"),
+    })
+}
+
+fn carry_options<'a>(found: &ArgMatches<'a>) -> Option<CarryOptions<'a>>
+    ensures some { IfSome result (IsCarrying (rows_of (found_of found.now))) }
+    ensures none { IfNone result ((options : CarryOptions)
+        → ¬ IsCarrying (rows_of (found_of found.now)) options) }
+{
+    Some(CarryOptions {
+        input: found.get_str("LOG")?,
+        target: found.get_str("log")?,
+    })
+}
+
+/// Reads the most states of a search; none where it is out of its range.
+fn states_of(found: &ArgMatches) -> Option<u32>
+    ensures some { IfSome result (λ states. (1 ≤ states) × (states ≤ MAX_STATES)
+        × WritesNumber 32 (one_of (codes "states") (rows_of (found_of found.now))) states) }
+    ensures none { IfNone result ((states : ℕ) → 1 ≤ states → states ≤ MAX_STATES
+        → ¬ WritesNumber 32 (one_of (codes "states") (rows_of (found_of found.now))) states) }
+{
+    let states = found.get_one::<u32>("states")?;
+    if states < 1 || states > MAX_STATES {
+        return None;
+    }
+    Some(states)
+}
+
+/// Reads the seed of runs by chance; none where it is no number that 64 bits hold.
+fn seed_of(found: &ArgMatches) -> Option<u64>
+    ensures some { IfSome result (IsSeed (rows_of (found_of found.now))) }
+    ensures none { IfNone result ((seed : ℕ) → ¬ IsSeed (rows_of (found_of found.now)) seed) }
+{
+    match found.get_str("seed") {
+        Some(_) => found.get_one::<u64>("seed"),
+        None => Some(DEFAULT_SEED),
+    }
+}
+
+/// Reads the runs by chance; none where one of their numbers is missing or out of its range.
+fn random_of(found: &ArgMatches) -> Option<RandomRuns>
+    ensures some { IfSome result (λ random.
+        AreRandomRuns (rows_of (found_of found.now)) (Some random)) }
+    ensures none { IfNone result ((random : RandomRuns)
+        → ¬ AreRandomRuns (rows_of (found_of found.now)) (Some random)) }
+{
+    let runs = found.get_one::<u32>("random")?;
+    let seed = seed_of(found)?;
+    if runs < 1 || runs > MAX_RUNS {
+        return None;
+    }
+    Some(RandomRuns { runs, seed })
+}
+
+/// Reads the runs by chance, if they are asked for; none where one of their numbers is out of its range.
+fn random_if(found: &ArgMatches) -> Option<Option<RandomRuns>>
+    ensures some { IfSome result (AreRandomRuns (rows_of (found_of found.now))) }
+    ensures none { IfNone result ((random : Option RandomRuns)
+        → ¬ AreRandomRuns (rows_of (found_of found.now)) random) }
+{
+    match found.get_str("random") {
+        Some(_) => Some(Some(random_of(found)?)),
+        None => Some(None),
+    }
+}
+
+fn explore_options<'a>(found: &ArgMatches<'a>) -> Option<ExploreOptions<'a>>
+    ensures some { IfSome result (IsExploring (rows_of (found_of found.now))) }
+    ensures none { IfNone result ((options : ExploreOptions)
+        → ¬ IsExploring (rows_of (found_of found.now)) options) }
+{
+    Some(ExploreOptions {
+        input: found.get_str("FILE")?,
+        states: states_of(found)?,
+        first: found.get_flag("first"),
+        progress: found.get_flag("progress"),
+        random: random_if(found)?,
+        target: found.get_str("log"),
+        names_target: found.get_str("names-out"),
+        limits: limits_of(found)?,
+        certificate: found.get_flag("certificate"),
+    })
+}
+
+fn watch_options<'a>(found: &ArgMatches<'a>) -> Option<WatchOptions<'a>>
+    ensures some { IfSome result (IsWatch (rows_of (found_of found.now))) }
+    ensures none { IfNone result ((options : WatchOptions)
+        → ¬ IsWatch (rows_of (found_of found.now)) options) }
+{
+    Some(WatchOptions {
+        input: found.get_str("LOG")?,
+        stop: found.get_flag("stop"),
+        limits: limits_of(found)?,
+        certificate: found.get_flag("certificate"),
+        names: found.get_str("names"),
+    })
+}
+
+fn audit_options<'a>(found: &'a ArgMatches) -> Option<AuditOptions<'a>>
+    ensures some { IfSome result (IsAudit (rows_of (found_of found.now))) }
+    ensures none { IfNone result ((options : AuditOptions)
+        → ¬ IsAudit (rows_of (found_of found.now)) options) }
+{
+    Some(AuditOptions {
+        input: found.get_str("LOG")?,
+        names: found.get_str("names"),
+        known: found.get_str("not-atomic"),
+        ignored_locks: found.get_strs("ignore-lock").unwrap_or(&[]),
+        ignored_variables: found.get_strs("ignore-variable").unwrap_or(&[]),
+        witness: !found.get_flag("no-witness"),
+        limits: limits_of(found)?,
+    })
+}
+
+/// What the matches of the command ask for; none where a word is missing or a number is out of its range, which the
+/// command has refused already.
+pub fn request_of<'a>(matches: &'a ArgMatches) -> Option<Request<'a>>
+    ensures some { IfSome result (AsksFor (subcommand_rows_of matches.now)) }
+    ensures none { IfNone result (AsksForNothing (subcommand_rows_of matches.now)) }
+{
+    let (name, found) = matches.subcommand()?;
+    match name {
+        "check" => Some(Request::Check(check_options(found)?)),
+        "replay" => Some(Request::Replay(replay_options(found)?)),
+        "run" => Some(Request::Run(run_options(found)?)),
+        "explain" => Some(Request::Explain(explain_options(found)?)),
+        "carry" => Some(Request::Carry(carry_options(found)?)),
+        "explore" => Some(Request::Explore(explore_options(found)?)),
+        "watch" => Some(Request::Watch(watch_options(found)?)),
+        "audit" => Some(Request::Audit(audit_options(found)?)),
+        _ => None,
+    }
+}

@@ -1,0 +1,197 @@
+//! Options of a request that do not go together.
+ghost use Rattle.std.specs.Prelude.{◌≡◌, ◌∷◌, ◌++◌, codes, false};
+ghost use Rattle.std.specs.Option.{option_map_or};
+ghost use Rattle.std.specs.Str.{bytes_eq};
+ghost use Rattle.clap.specs.Takes.{is_given};
+ghost use Rattle.clap.specs.Words.{found_of, rows_of, subcommand_rows_of};
+ghost use Rattle.velo_arguments.specs.Together.{clash_of, clash_of_chance, clash_of_inputs, clash_of_replay, clash_of_schedule, clash_of_search, clash_of_targets, given_by, line_of_clash, path_if, schedule_path_if};
+
+use clap::ArgMatches;
+use clap::parser::ValueSource;
+use velo_request::{ExploreOptions, RandomRuns, ReplayOptions, Request, ScheduleSource};
+
+/// Why the options of a request do not go together.
+#[derive(Clone, Copy, Debug, PartialEq, Eq)]
+pub enum Clash {
+    /// Both inputs are standard input.
+    InputTwice,
+    /// The names of a run are to be saved, and its log is not.
+    NamesWithoutLog,
+    /// The log and the names of a run are to be saved at one path.
+    OnePath,
+    /// Runs by chance are asked for, and what a search alone has.
+    SearchByChance,
+    /// A seed is given, and no runs by chance are asked for.
+    SeedAlone,
+    /// A schedule is given as text and as turns.
+    TwoSchedules,
+}
+
+/// Which of the options the words give that a request does not show.
+#[derive(Clone, Copy, Debug, PartialEq, Eq)]
+pub struct Given {
+    /// `--states`.
+    pub states: bool,
+    /// `--seed`.
+    pub seed: bool,
+    /// `--schedule`.
+    pub schedule: bool,
+}
+
+/// Whether the words give this option: a value by default does not count.
+fn is_given(found: &ArgMatches, option: &str) -> bool
+    ensures { result ≡ is_given option.now (rows_of (found_of found.now)) }
+{
+    match found.value_source(option) {
+        Some(ValueSource::CommandLine) => true,
+        Some(ValueSource::DefaultValue) => false,
+        None => found.contains_id(option),
+    }
+}
+
+/// Which of the options the words give that a request does not show.
+pub fn given_by(matches: &ArgMatches) -> Given
+    ensures { result ≡ given_by (subcommand_rows_of matches.now) }
+{
+    match matches.subcommand() {
+        Some((_, found)) => Given {
+            states: is_given(found, "states"),
+            seed: is_given(found, "seed"),
+            schedule: is_given(found, "schedule"),
+        },
+        None => Given {
+            states: false,
+            seed: false,
+            schedule: false,
+        },
+    }
+}
+
+/// Why the options of the request do not go together, if they do not, where the words give these.
+pub fn clash_of(request: &Request, given: Given) -> Option<Clash>
+    ensures { result ≡ clash_of request.now given }
+{
+    match request {
+        Request::Check(options) => clash_of_inputs(options.input, options.names),
+        Request::Replay(options) => clash_of_replay(options, given.schedule),
+        Request::Run(options) => clash_of_targets(options.target, options.names_target),
+        Request::Explain(options) => clash_of_inputs(options.input, options.names),
+        Request::Carry(_) => None,
+        Request::Explore(options) => clash_of_search(options, given).or(clash_of_targets(
+            options.target,
+            options.names_target,
+        )),
+        Request::Watch(options) => clash_of_inputs(options.input, options.names),
+        Request::Audit(options) => clash_of_audit(options.input, options.names, options.known),
+    }
+}
+
+/// A replay has one schedule, and no clash of its paths.
+fn clash_of_replay(options: &ReplayOptions, has_text: bool) -> Option<Clash>
+    ensures { result ≡ clash_of_replay options.now has_text }
+{
+    clash_of_schedule(options.schedule, has_text)
+        .or(clash_of_inputs(options.run.input, path_of_schedule(options.schedule)))
+        .or(clash_of_targets(options.run.target, options.run.names_target))
+}
+
+/// A schedule is given as text or as turns.
+fn clash_of_schedule(schedule: ScheduleSource, has_text: bool) -> Option<Clash>
+    ensures { result ≡ clash_of_schedule schedule.entry has_text }
+{
+    match schedule {
+        ScheduleSource::Turns(_) | ScheduleSource::File(_) if has_text => Some(Clash::TwoSchedules),
+        _ => None,
+    }
+}
+
+/// Standard input can be read once: an input and what is read beside it are not to be both there.
+fn clash_of_inputs(input: &str, other: Option<&str>) -> Option<Clash>
+    ensures { result ≡ clash_of_inputs (input.now ∷ path_if other.entry) }
+{
+    if input == "-" && is_standard_input(other) {
+        Some(Clash::InputTwice)
+    } else {
+        None
+    }
+}
+
+/// The path of a schedule, if it stands in a file.
+fn path_of_schedule<'a>(schedule: ScheduleSource<'a>) -> Option<&'a str>
+    ensures { path_if result ≡ schedule_path_if schedule.entry }
+{
+    match schedule {
+        ScheduleSource::Text(_) | ScheduleSource::Turns(_) => None,
+        ScheduleSource::File(path) => Some(path),
+    }
+}
+
+/// A log, its names and a list of labels are not to be there twice either.
+fn clash_of_audit(log: &str, names: Option<&str>, known: Option<&str>) -> Option<Clash>
+    ensures { result ≡ clash_of_inputs (log.now ∷ path_if names.entry ++ path_if known.entry) }
+{
+    let (log, names, known) = (
+        log == "-",
+        is_standard_input(names),
+        is_standard_input(known),
+    );
+    if log && names || log && known || names && known {
+        Some(Clash::InputTwice)
+    } else {
+        None
+    }
+}
+
+/// Whether this is the path of standard input.
+fn is_standard_input(path: Option<&str>) -> bool
+    ensures { result ≡ option_map_or (λ p. bytes_eq p.now (codes "-")) path.entry false }
+{
+    matches!(path, Some("-"))
+}
+
+/// The names of a run are saved beside its log, and at another path.
+fn clash_of_targets(log: Option<&str>, names: Option<&str>) -> Option<Clash>
+    ensures { result ≡ clash_of_targets log.entry names.entry }
+{
+    match (log, names) {
+        (_, None) => None,
+        (None, Some(_)) => Some(Clash::NamesWithoutLog),
+        (Some(log), Some(names)) if log == names => Some(Clash::OnePath),
+        (Some(_), Some(_)) => None,
+    }
+}
+
+/// A search is by every schedule or by chance, and either has its own options.
+fn clash_of_search(options: &ExploreOptions, given: Given) -> Option<Clash>
+    ensures { result ≡ clash_of_search options.now given }
+{
+    let searches = given.states || options.first || options.progress;
+    clash_of_chance(options.random, searches, given.seed)
+}
+
+/// Runs by chance have a seed, and nothing that a search alone has.
+fn clash_of_chance(random: Option<RandomRuns>, searches: bool, seeds: bool) -> Option<Clash>
+    ensures { result ≡ clash_of_chance random searches seeds }
+{
+    match random {
+        Some(_) if searches => Some(Clash::SearchByChance),
+        None if seeds => Some(Clash::SeedAlone),
+        _ => None,
+    }
+}
+
+/// The line that tells why the options of a request do not go together.
+pub fn line_of_clash(clash: Clash) -> &'static [u8]
+    ensures { result.now ≡ line_of_clash clash }
+{
+    match clash {
+        Clash::InputTwice => b"error: standard input can be read once\n",
+        Clash::NamesWithoutLog => b"error: --names-out goes only with --log\n",
+        Clash::OnePath => b"error: OUT and NAMES are one file\n",
+        Clash::SearchByChance => {
+            b"error: --random goes with neither --states nor --first nor --progress\n"
+        }
+        Clash::SeedAlone => b"error: --seed goes only with --random\n",
+        Clash::TwoSchedules => b"error: --schedule does not go with --turns\n",
+    }
+}

@@ -1,0 +1,107 @@
+//! Where in the source the events happened that an explanation mentions.
+ghost use Rattle.std.specs.Prelude.{◌≡◌, ◌≤◌, ◌<◌, ◌++◌, length, map, IfOk, OnOk};
+ghost use Rattle.std.specs.List.{flat_map};
+ghost use Rattle.velo_events.specs.declared.limits.TheConstants.{MAX_EVENTS};
+ghost use Rattle.velo_explain.specs.declared.spans.Span.{Span};
+ghost use Rattle.velo_explain.specs.Lanes.{AreBelow, among_below};
+ghost use Rattle.velo_explain.specs.Places.{mentioned, place_text, places_text};
+
+use crate::evidence::Evidence;
+use crate::fitting::add_right;
+use crate::marks::{cycle_marks, other_marks};
+use crate::order::{in_order, push};
+use crate::pieces::Page;
+use crate::spans::Span as SpanOf;
+use crate::words::line_of;
+use std::alloc::Global;
+use velo_events::Memory;
+use velo_sites::Sites;
+
+/// Adds some positions.
+fn add_positions(positions: &mut Vec<usize>, others: &[usize]) -> Result<(), Memory>
+    ensures { OnOk result (positions.new.items ≡ positions.old.items ++ others.now) }
+{
+    for position in others {
+        push(positions, *position)?;
+    }
+    Ok(())
+}
+
+/// Adds the last events of the transactions.
+fn add_lasts(positions: &mut Vec<usize>, spans: &[SpanOf]) -> Result<(), Memory>
+    ensures { OnOk result (positions.new.items
+        ≡ positions.old.items ++ map (λ (s : Span). s.last) spans.now) }
+{
+    for span in spans {
+        push(positions, span.last)?;
+    }
+    Ok(())
+}
+
+/// The positions that the explanation of an alarm mentions.
+fn mentioned(alloc: Global, position: usize, evidence: &Evidence) -> Result<Vec<usize>, Memory>
+    ensures { IfOk result (λ positions. positions.items ≡ mentioned position evidence.now) }
+{
+    let mut positions = cycle_marks(alloc, &evidence.edges)?;
+    let others = other_marks(alloc, evidence)?;
+    add_positions(&mut positions, &others)?;
+    add_lasts(&mut positions, &evidence.spans)?;
+    push(&mut positions, position)?;
+    Ok(positions)
+}
+
+/// Adds the place of an event, if it is known.
+fn add_place(page: &mut Page, sites: &Sites, position: usize) -> Result<(), Memory>
+    requires { position < MAX_EVENTS }
+    ensures { OnOk result (page.new ≡ page.old ++ place_text sites.now position) }
+{
+    let Some(place) = sites.place_of(position) else {
+        return Ok(());
+    };
+    add_right(page, line_of(position))?;
+    page.add_bytes(b"  ")?;
+    page.add_bytes(place)?;
+    page.add_bytes(b"\n")
+}
+
+/// Adds a line for each of some events whose place is known.
+fn add_lines(page: &mut Page, sites: &Sites, shown: &[usize]) -> Result<(), Memory>
+    requires { AreBelow MAX_EVENTS shown.now }
+    ensures { OnOk result (page.new ≡ page.old ++ flat_map (place_text sites.now) shown.now) }
+{
+    for position in shown {
+        add_place(page, sites, *position)?;
+    }
+    Ok(())
+}
+
+/// Adds the places of some events.
+fn add_shown(page: &mut Page, sites: &Sites, shown: &[usize]) -> Result<(), Memory>
+    requires { AreBelow MAX_EVENTS shown.now }
+    ensures { OnOk result (page.new ≡ page.old ++ places_text sites.now shown.now) }
+{
+    page.add_bytes(b"In the source:\n")?;
+    add_lines(page, sites, shown)?;
+    Ok(())
+}
+
+/// Adds the places of the events that the explanation of an alarm mentions, in the order of a log with so many events.
+///
+/// # Errors
+/// `Memory` if an allocation failed; the page is then no longer to be used.
+pub(crate) fn add_places(
+    page: &mut Page,
+    alloc: Global,
+    sites: &Sites,
+    events: usize,
+    position: usize,
+    evidence: &Evidence,
+) -> Result<(), Memory>
+    requires { events ≤ MAX_EVENTS }
+    ensures { OnOk result (page.new
+        ≡ page.old ++ places_text sites.now (among_below events (mentioned position evidence.now))) }
+{
+    let positions = mentioned(alloc, position, evidence)?;
+    let shown = in_order(alloc, &positions, events)?;
+    add_shown(page, sites, &shown)
+}

@@ -1,0 +1,4 @@
+pub mod OnDelivery
+pub mod OnFormats
+pub mod OnSaving
+pub mod OnVerdicts

@@ -1,0 +1,63 @@
+-- A file that means a value, or has a fault: of names, of labels, of a schedule, a workload.
+use Rattle.std.specs.Prelude.{◌≡◌, ◌⊎◌, ⊤, ℕ, List, Option, Some, None}
+use Rattle.std.specs.Borrow.{Bor}
+use Rattle.velo_delivery.specs.Disk.{Disk, FailsToOpen}
+use Rattle.velo_delivery.specs.Reading.{IsReadOf, Reading}
+use Rattle.velo_events.specs.Refusals.{GrowthRefused}
+use Rattle.velo_fate.specs.declared.fate.Fate.{Fate}
+use Rattle.velo_fate.specs.declared.fate.Fate.TheVariants.{CannotOpen, Memory, ReadFailed}
+use Rattle.velo_fate.specs.Failures.{FailuresAsTold}
+
+-- Which value the bytes of a file mean, and what they come to where they mean none; where the bytes
+-- are not known, what is said all the same.
+pub record Format (X : Type 0) : Type 1 where
+  pub says : Option (List ℕ) → X → Type 0
+  pub lacks : Option (List ℕ) → Fate → Type 0
+
+-- Why there is no value: by the format, or the source failed, or a growth was refused. That the
+-- source failed stands in `FailuresAsTold`.
+abbrev pub SaysNone : {X : Type 0} → Format X → Option (List ℕ) → Fate → Type 0
+SaysNone format read ReadFailed = ⊤
+SaysNone format read Memory = GrowthRefused
+SaysNone format read f = format.lacks read f
+
+-- ---- by its path
+
+-- the value that was read at the path
+pub record Reads {X : Type 0} (format : Format X) (disk : Disk) (path : List ℕ) (x : X)
+    : Type 0 where
+  pub read : Reading
+  pub given : disk.gives path read
+  pub said : format.says read.bytes x
+  pub no_failure : read.failures_after ≡ read.failures_before
+
+-- why none was
+pub record ReadsNone {X : Type 0} (format : Format X) (disk : Disk) (path : List ℕ) (f : Fate)
+    : Type 0 where
+  pub read : Reading
+  pub given : disk.gives path read
+  pub unsaid : SaysNone format read.bytes f
+  pub failures : FailuresAsTold read f
+
+-- the file does not open, or by what it gives
+abbrev pub LacksAt : {X : Type 0} → Format X → Disk → List ℕ → Fate → Type 0
+LacksAt format disk path f =
+    ((f ≡ CannotOpen) × FailsToOpen disk path) ⊎ ReadsNone format disk path f
+
+-- ---- by an option
+
+-- the value of the file, or this one where no path was given
+abbrev pub ReadsOr : {X : Type 0} → X → Format X → Disk → Option (Bor (List ℕ)) → X → Type 0
+ReadsOr default format disk None x = x ≡ default
+ReadsOr default format disk (Some path) x = Reads format disk path.now x
+
+-- why there is none
+abbrev pub LacksGiven : {X : Type 0} → Format X → Disk → Option (Bor (List ℕ)) → Fate → Type 0
+LacksGiven format disk None f = ⊥
+LacksGiven format disk (Some path) f = LacksAt format disk path.now f
+
+-- ---- the plainest
+
+-- its bytes; or where there are more than the most that are wanted, more than so many of them
+abbrev pub bytes_up_to : ℕ → Format (List ℕ)
+bytes_up_to most = record { says = IsReadOf most; lacks = λ read f. ⊥ }

@@ -1,0 +1,31 @@
+-- What is saved at a path.
+use Rattle.std.specs.Prelude.{ℕ, List, ◌≡◌, Option, Some, Result, Ok, Err}
+use Rattle.velo_logtext.specs.Text.{log_text}
+use Rattle.velo_world.specs.World.{WorldState}
+use Rattle.std.specs.Borrow.{Bor}
+use Rattle.velo_fate.specs.declared.fate.Fate.{Fate}
+use Rattle.velo_fate.specs.declared.saved.Saved.{Saved}
+use Rattle.velo_fate.specs.declared.saved.Saved.TheVariants as saved
+use Rattle.velo_fate.specs.Delivery.{FailsSaving, Saves}
+use Rattle.velo_delivery.specs.Disk.{Store}
+
+-- the text of the world's log
+abbrev pub text_of_log : WorldState → List ℕ
+text_of_log w = log_text w.config.bounds w.log
+
+-- the bytes of a text that is saved
+abbrev pub is_text_saved : Saved → List ℕ → Type 0
+is_text_saved (saved.Log closed) text = text ≡ text_of_log closed.now
+is_text_saved (saved.Bytes bytes) text = text ≡ bytes.now
+
+-- what writing the file came to
+abbrev pub IsSaved : {X : Type 0} → Store → Option (Bor (List ℕ)) → List ℕ → Result X Fate
+    → Type 0
+IsSaved store target text (Ok x) = Saves store target (Some text)
+IsSaved store target text (Err f) = FailsSaving store target (Some text) f
+
+-- writing the file failed
+abbrev pub IsUnsaved : {X : Type 0} → Store → Option (Bor (List ℕ)) → List ℕ → Result X Fate
+    → Type 0
+IsUnsaved store target text (Ok x) = ⊥
+IsUnsaved store target text (Err f) = FailsSaving store target (Some text) f

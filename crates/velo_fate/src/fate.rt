@@ -1,0 +1,430 @@
+//! How the program ends: its status, and the line on standard error.
+ghost use Rattle.std.specs.Prelude.{◌≡◌, ◌≢◌, ◌≤◌, ◌+◌, ◌++◌, [], length, take, IfOk, OnOk, OnErr};
+ghost use Rattle.velo_list.specs.Fault.{fault_line as line_of_list_fault, fault_number as number_of_list_fault};
+ghost use Rattle.velo_names.specs.Fault.{fault_line, fault_number};
+ghost use Rattle.velo_delivery.specs.Writing.{BreaksOff, Writes, writing};
+ghost use Rattle.velo_fate.specs.Fate.{Ends, fate_of_failure, number_of, status_of, status_of_check, status_of_list, status_of_log, status_of_refused, status_of_ending, status_of_names, status_of_schedule, status_of_work, place_of_work, line_of, line_of_check, line_of_log, line_of_ending, line_of_ignored, line_of_list, line_of_names, line_of_one_file, line_of_refused, line_of_schedule, line_of_work, word_of};
+
+use crate::fault::CheckFault;
+use velo_bytes::{Sink, WriteFault, put_bytes, put_number, write_all};
+use velo_delivery::{Failure, Operand};
+use velo_events::{Refusal, ThreadId};
+use velo_list::ListFault;
+use velo_logtext::LogFault;
+use velo_names::NamesFault;
+use velo_request::Ignorable;
+use velo_request::status::{ALARM, BAD_INPUT, DONE, FAILED, INCOMPLETE};
+use velo_turns::ScheduleFault;
+use velo_worker::Ending;
+use velo_workload::WorkFault;
+
+/// Room that is enough for a line on standard error.
+const LINE_ROOM: usize = 64;
+
+/// What a run of the program came to.
+#[derive(Clone, Copy, Debug, PartialEq, Eq)]
+pub enum Fate {
+    /// It came to an end, with or without an alarm. A check is done.
+    Finished { ending: Ending, alarm: bool },
+    /// The text is no schedule.
+    Schedule(ScheduleFault),
+    /// The text is no workload.
+    Work(WorkFault),
+    /// The file of names says none.
+    Names(NamesFault),
+    /// The file is no list of labels.
+    List(ListFault),
+    /// Nothing is meant by what was to be ignored.
+    Ignored(Ignorable),
+    /// The check met a fault.
+    Check(CheckFault),
+    /// A file could not be opened.
+    CannotOpen,
+    /// The file that was to be written is the one that the operand names. It is untouched.
+    OneFile(Operand),
+    /// The file that the names were to be written to is the workload. It is untouched.
+    NamesAtInput,
+    /// The file that the names were to be written to is the one of the log. It is untouched.
+    NamesAtTarget,
+    /// A file could not be read.
+    ReadFailed,
+    /// A file, a report or help could not be written.
+    WriteFailed,
+    /// A growth was refused.
+    Memory,
+    /// A seat was not given back.
+    Lost,
+    /// Not every schedule was tried, and nothing was found.
+    Open,
+}
+
+/// What a failure comes to.
+pub fn fate_of_failure(failure: Failure) -> Fate
+    ensures { result ≡ fate_of_failure failure }
+{
+    match failure {
+        Failure::CannotOpen(_) => Fate::CannotOpen,
+        Failure::ReadFailed(_) => Fate::ReadFailed,
+        Failure::WriteFailed(_) | Failure::PrintFailed => Fate::WriteFailed,
+        Failure::Memory(_) => Fate::Memory,
+    }
+}
+
+/// The number of a refusal.
+pub fn number_of(refusal: Refusal) -> u8
+    ensures { result ≡ number_of refusal }
+{
+    refusal as u8
+}
+
+fn status_of_log(fault: LogFault) -> u8
+    ensures { result ≡ status_of_log fault }
+{
+    match fault {
+        LogFault::BadHeader | LogFault::BadLine(_) | LogFault::Truncated(_) | LogFault::TooLong =>
+            BAD_INPUT,
+        LogFault::Read | LogFault::Memory => FAILED,
+    }
+}
+
+/// The status of a check whose log has an event that is refused.
+fn status_of_refused(refusal: Refusal) -> u8
+    ensures { result ≡ status_of_refused refusal }
+{
+    match refusal {
+        Refusal::LogFull | Refusal::GraphFull => INCOMPLETE,
+        _ => BAD_INPUT,
+    }
+}
+
+fn status_of_check(fault: CheckFault) -> u8
+    ensures { result ≡ status_of_check fault }
+{
+    match fault {
+        CheckFault::Log(fault) => status_of_log(fault),
+        CheckFault::Refused { refusal, .. } => status_of_refused(refusal),
+        CheckFault::WrongValue { .. } => BAD_INPUT,
+        CheckFault::Write | CheckFault::Memory => FAILED,
+    }
+}
+
+fn status_of_ending(ending: Ending, alarm: bool) -> u8
+    ensures { result ≡ status_of_ending ending alarm }
+{
+    match ending {
+        Ending::Refused(_, Refusal::Memory | Refusal::RuntimeMemory) => FAILED,
+        Ending::Stuck | Ending::Refused(..) => INCOMPLETE,
+        Ending::Done | Ending::Halted | Ending::Gated => { if alarm { ALARM } else { DONE } }
+    }
+}
+
+fn status_of_schedule(fault: ScheduleFault) -> u8
+    ensures { result ≡ status_of_schedule fault }
+{
+    match fault {
+        ScheduleFault::Bad => BAD_INPUT,
+        ScheduleFault::Memory => FAILED,
+    }
+}
+
+fn status_of_work(fault: WorkFault) -> u8
+    ensures { result ≡ status_of_work fault }
+{
+    match fault {
+        WorkFault::Memory => FAILED,
+        _ => BAD_INPUT,
+    }
+}
+
+fn status_of_names(fault: NamesFault) -> u8
+    ensures { result ≡ status_of_names fault }
+{
+    match fault {
+        NamesFault::Memory => FAILED,
+        _ => BAD_INPUT,
+    }
+}
+
+fn status_of_list(fault: ListFault) -> u8
+    ensures { result ≡ status_of_list fault }
+{
+    match fault {
+        ListFault::Memory => FAILED,
+        _ => BAD_INPUT,
+    }
+}
+
+fn status_of(fate: Fate) -> u8
+    ensures { result ≡ status_of fate }
+{
+    match fate {
+        Fate::Finished { ending, alarm } => status_of_ending(ending, alarm),
+        Fate::Schedule(fault) => status_of_schedule(fault),
+        Fate::Work(fault) => status_of_work(fault),
+        Fate::Names(fault) => status_of_names(fault),
+        Fate::List(fault) => status_of_list(fault),
+        Fate::Check(fault) => status_of_check(fault),
+        Fate::Ignored(_) => BAD_INPUT,
+        Fate::OneFile(_) | Fate::NamesAtInput | Fate::NamesAtTarget => BAD_INPUT,
+        Fate::Open => INCOMPLETE,
+        Fate::CannotOpen | Fate::ReadFailed | Fate::WriteFailed | Fate::Memory | Fate::Lost => {
+            FAILED
+        }
+    }
+}
+
+/// Puts the line of a log's fault at the front of a buffer, and returns where it ends.
+fn put_log_fault(buffer: &mut [u8], fault: LogFault) -> usize
+    requires { 64 ≤ length buffer.old }
+    ensures text { take result buffer.new ≡ line_of_log fault }
+    ensures end { result ≤ length buffer.new }
+{
+    match fault {
+        LogFault::BadHeader => put_bytes(buffer, 0, b"log fault 1\n"),
+        LogFault::BadLine(line) => {
+            let at = put_bytes(buffer, 0, b"log fault 2 line ");
+            let at = put_number(buffer, at, line as u64);
+            put_bytes(buffer, at, b"\n")
+        }
+        LogFault::Truncated(line) => {
+            let at = put_bytes(buffer, 0, b"log fault 3 line ");
+            let at = put_number(buffer, at, line as u64);
+            put_bytes(buffer, at, b"\n")
+        }
+        LogFault::TooLong => put_bytes(buffer, 0, b"log fault 4\n"),
+        LogFault::Read => put_bytes(buffer, 0, b"read failed\n"),
+        LogFault::Memory => put_bytes(buffer, 0, b"out of memory\n"),
+    }
+}
+
+/// Puts the line of a check's fault at the front of a buffer, and returns where it ends.
+fn put_check_fault(buffer: &mut [u8], fault: CheckFault) -> usize
+    requires { 64 ≤ length buffer.old }
+    ensures text { take result buffer.new ≡ line_of_check fault }
+    ensures end { result ≤ length buffer.new }
+{
+    match fault {
+        CheckFault::Log(fault) => put_log_fault(buffer, fault),
+        CheckFault::Refused { position, refusal } => {
+            let at = put_bytes(buffer, 0, b"refused ");
+            let at = put_number(buffer, at, u64::from(number_of(refusal)));
+            let at = put_bytes(buffer, at, b" at ");
+            let at = put_number(buffer, at, position as u64);
+            put_bytes(buffer, at, b"\n")
+        }
+        CheckFault::WrongValue { position } => {
+            let at = put_bytes(buffer, 0, b"wrong value at ");
+            let at = put_number(buffer, at, position as u64);
+            put_bytes(buffer, at, b"\n")
+        }
+        CheckFault::Write => put_bytes(buffer, 0, b"write failed\n"),
+        CheckFault::Memory => put_bytes(buffer, 0, b"out of memory\n"),
+    }
+}
+
+/// Puts the line of an ending at the front of a buffer, and returns where it ends: at 0 if there is none.
+fn put_ending(buffer: &mut [u8], ending: Ending) -> usize
+    requires { 64 ≤ length buffer.old }
+    ensures text { take result buffer.new ≡ line_of_ending ending }
+    ensures end { result ≤ length buffer.new }
+{
+    match ending {
+        Ending::Refused(_, Refusal::Memory | Refusal::RuntimeMemory) => {
+            put_bytes(buffer, 0, b"out of memory\n")
+        }
+        Ending::Refused(thread, refusal) => put_refused(buffer, thread, refusal),
+        Ending::Stuck => put_bytes(buffer, 0, b"stuck\n"),
+        Ending::Done | Ending::Halted | Ending::Gated => 0,
+    }
+}
+
+/// Puts the line of a refusal that ended a run at the front of a buffer, and returns where it ends.
+fn put_refused(buffer: &mut [u8], thread: ThreadId, refusal: Refusal) -> usize
+    requires { 64 ≤ length buffer.old }
+    ensures text { take result buffer.new ≡ line_of_refused thread refusal }
+    ensures end { result ≤ length buffer.new }
+{
+    let at = put_bytes(buffer, 0, b"refused ");
+    let at = put_number(buffer, at, u64::from(number_of(refusal)));
+    let at = put_bytes(buffer, at, b" thread ");
+    let at = put_number(buffer, at, u64::from(thread.0));
+    put_bytes(buffer, at, b"\n")
+}
+
+/// Puts the line of a schedule's fault at the front of a buffer, and returns where it ends.
+fn put_schedule_fault(buffer: &mut [u8], fault: ScheduleFault) -> usize
+    requires { 64 ≤ length buffer.old }
+    ensures text { take result buffer.new ≡ line_of_schedule fault }
+    ensures end { result ≤ length buffer.new }
+{
+    match fault {
+        ScheduleFault::Bad => put_bytes(buffer, 0, b"bad schedule\n"),
+        ScheduleFault::Memory => put_bytes(buffer, 0, b"out of memory\n"),
+    }
+}
+
+/// The number of a workload's fault and its line; none for want of memory.
+fn place_of_work(fault: WorkFault) -> Option<(u64, usize)>
+    ensures { result ≡ place_of_work fault }
+{
+    match fault {
+        WorkFault::BadLine(line) => Some((1, line)),
+        WorkFault::Unknown(line) => Some((2, line)),
+        WorkFault::Twice(line) => Some((3, line)),
+        WorkFault::Unmatched(line) => Some((4, line)),
+        WorkFault::TooMany(line) => Some((5, line)),
+        WorkFault::Memory => None,
+    }
+}
+
+/// Puts the line of a workload's fault at the front of a buffer, and returns where it ends.
+fn put_work_fault(buffer: &mut [u8], fault: WorkFault) -> usize
+    requires { 64 ≤ length buffer.old }
+    ensures text { take result buffer.new ≡ line_of_work (place_of_work fault) }
+    ensures end { result ≤ length buffer.new }
+{
+    match place_of_work(fault) {
+        Some((number, line)) => {
+            let at = put_bytes(buffer, 0, b"workload fault ");
+            let at = put_number(buffer, at, number);
+            let at = put_bytes(buffer, at, b" line ");
+            let at = put_number(buffer, at, line as u64);
+            put_bytes(buffer, at, b"\n")
+        }
+        None => put_bytes(buffer, 0, b"out of memory\n"),
+    }
+}
+
+/// Puts the line of a fault of names at the front of a buffer, and returns where it ends.
+fn put_names_fault(buffer: &mut [u8], fault: NamesFault) -> usize
+    requires { 64 ≤ length buffer.old }
+    ensures text { take result buffer.new ≡ line_of_names (fault_number fault) (fault_line fault) }
+    ensures end { result ≤ length buffer.new }
+{
+    match fault.number() {
+        Some(number) => {
+            let at = put_bytes(buffer, 0, b"names fault ");
+            let at = put_number(buffer, at, u64::from(number));
+            let at = put_bytes(buffer, at, b" line ");
+            let at = put_number(buffer, at, fault.line() as u64);
+            put_bytes(buffer, at, b"\n")
+        }
+        None => put_bytes(buffer, 0, b"out of memory\n"),
+    }
+}
+
+/// Puts the line of a fault of a list at the front of a buffer, and returns where it ends.
+fn put_list_fault(buffer: &mut [u8], fault: ListFault) -> usize
+    requires { 64 ≤ length buffer.old }
+    ensures text { take result buffer.new
+        ≡ line_of_list (number_of_list_fault fault) (line_of_list_fault fault) }
+    ensures end { result ≤ length buffer.new }
+{
+    match fault.number() {
+        Some(number) => {
+            let at = put_bytes(buffer, 0, b"list fault ");
+            let at = put_number(buffer, at, u64::from(number));
+            let at = put_bytes(buffer, at, b" line ");
+            let at = put_number(buffer, at, fault.line() as u64);
+            put_bytes(buffer, at, b"\n")
+        }
+        None => put_bytes(buffer, 0, b"out of memory\n"),
+    }
+}
+
+/// Puts the line of what was to be ignored and means nothing at the front of a buffer, and returns where it ends.
+fn put_ignored(buffer: &mut [u8], what: Ignorable) -> usize
+    requires { 64 ≤ length buffer.old }
+    ensures text { take result buffer.new ≡ line_of_ignored what }
+    ensures end { result ≤ length buffer.new }
+{
+    match what {
+        Ignorable::Lock => put_bytes(buffer, 0, b"ignored fault 1\n"),
+        Ignorable::Variable => put_bytes(buffer, 0, b"ignored fault 2\n"),
+    }
+}
+
+/// Puts the word of an operand at a place of a buffer, and returns the place behind it.
+fn put_operand(buffer: &mut [u8], at: usize, operand: Operand) -> usize
+    requires { at + 5 ≤ length buffer.old }
+    ensures text { take result buffer.new ≡ take at buffer.old ++ word_of operand }
+    ensures end { result ≤ at + 5 }
+{
+    match operand {
+        Operand::Log => put_bytes(buffer, at, b"LOG"),
+        Operand::File => put_bytes(buffer, at, b"FILE"),
+        Operand::List => put_bytes(buffer, at, b"LIST"),
+        Operand::Turns => put_bytes(buffer, at, b"TURNS"),
+        Operand::Out => put_bytes(buffer, at, b"OUT"),
+        Operand::Names | Operand::NamesOut => put_bytes(buffer, at, b"NAMES"),
+    }
+}
+
+/// Puts the line of an input that is the file to be written at the front of a buffer, and returns where it ends.
+fn put_one_file(buffer: &mut [u8], operand: Operand) -> usize
+    requires { 64 ≤ length buffer.old }
+    ensures text { take result buffer.new ≡ line_of_one_file operand }
+    ensures end { result ≤ length buffer.new }
+{
+    let at = put_bytes(buffer, 0, b"error: ");
+    let at = put_operand(buffer, at, operand);
+    put_bytes(buffer, at, b" and OUT are one file\n")
+}
+
+/// Puts the line that tells how a run ended at the front of a buffer, and returns where it ends: at 0 if there is none.
+fn put_line(buffer: &mut [u8], fate: Fate) -> usize
+    requires { 64 ≤ length buffer.old }
+    ensures text { take result buffer.new ≡ line_of fate }
+    ensures end { result ≤ length buffer.new }
+{
+    match fate {
+        Fate::Finished { ending, .. } => put_ending(buffer, ending),
+        Fate::Schedule(fault) => put_schedule_fault(buffer, fault),
+        Fate::Work(fault) => put_work_fault(buffer, fault),
+        Fate::Names(fault) => put_names_fault(buffer, fault),
+        Fate::List(fault) => put_list_fault(buffer, fault),
+        Fate::Ignored(what) => put_ignored(buffer, what),
+        Fate::Check(fault) => put_check_fault(buffer, fault),
+        Fate::CannotOpen => put_bytes(buffer, 0, b"cannot open\n"),
+        Fate::OneFile(operand) => put_one_file(buffer, operand),
+        Fate::NamesAtInput => put_bytes(buffer, 0, b"error: FILE and NAMES are one file\n"),
+        Fate::NamesAtTarget => put_bytes(buffer, 0, b"error: OUT and NAMES are one file\n"),
+        Fate::ReadFailed => put_bytes(buffer, 0, b"read failed\n"),
+        Fate::Lost => put_bytes(buffer, 0, b"seat lost\n"),
+        Fate::WriteFailed => put_bytes(buffer, 0, b"write failed\n"),
+        Fate::Memory => put_bytes(buffer, 0, b"out of memory\n"),
+        Fate::Open => put_bytes(buffer, 0, b"open\n"),
+    }
+}
+
+/// Writes the line that tells how a run ended, if there is one, in one piece, and returns the status to end with, 0 to 5
+/// (see [`status`](velo_request::status)). It takes no memory.
+///
+/// # Errors
+/// `WriteFault` where the sink failed; the program ends with [`FAILED`] then.
+pub fn end_line<S: Sink>(fate: &Fate, sink: &mut S) -> Result<u8, WriteFault>
+    ensures status { IfOk result (λ status. status ≡ status_of fate.now) }
+    ensures text { OnOk result (Writes
+        (writing S.contents S.failures sink.old sink.new) (line_of fate.now)) }
+    ensures err { OnErr result (BreaksOff
+        (writing S.contents S.failures sink.old sink.new) (line_of fate.now)) }
+    ensures line { OnErr result (line_of fate.now ≢ []) }
+{
+    let mut buffer = [0u8; LINE_ROOM];
+    let end = put_line(&mut buffer, *fate);
+    if end > 0 {
+        write_all(sink, &buffer[..end])?;
+    }
+    Ok(status_of(*fate))
+}
+
+/// Tells how a run ended, and returns the status to end with: that of `end_line`, or [`FAILED`] where the line could not be
+/// written.
+pub fn end_with<S: Sink>(fate: &Fate, sink: &mut S) -> u8
+    ensures { Ends fate.now (writing S.contents S.failures sink.old sink.new) result }
+{
+    match end_line(fate, sink) {
+        Ok(status) => status,
+        Err(WriteFault) => FAILED,
+    }
+}

@@ -1,0 +1,7 @@
+mod OnAuditing
+mod OnChecks
+mod OnExplaining
+mod OnIgnoring
+mod OnListing
+mod OnNaming
+mod OnWatching

@@ -1,0 +1,85 @@
+-- What an explanation comes to.
+use Rattle.std.proofs.Common.{◌≡◌, ap, inl, inr, refl, sym, subst, take}
+use Rattle.std.specs.Prelude.{ℕ, Bool, false, List, Option, Some, None, Err, ◌⊎◌}
+use Rattle.std.specs.Borrow.{Bor}
+use Rattle.velo_events.specs.declared.event.Event.{Event}
+use Rattle.velo_events.specs.Graph.{HasCycle}
+use Rattle.velo_traces.specs.declared.block.Block.{Block}
+use Rattle.velo_world.specs.declared.analysis.Alarm.{Alarm}
+use Rattle.velo_world.specs.World.{IsAlarm}
+use Rattle.velo_names.specs.Names.{NameLists}
+use Rattle.velo_explain.specs.declared.evidence.Evidence.{Evidence}
+use Rattle.velo_explain.specs.Evidence.{IsEvidence, HaveReasons}
+use Rattle.velo_worker.specs.declared.ending.Ending.TheVariants as ending
+use Rattle.velo_fate.specs.declared.fate.Fate.{Fate}
+use Rattle.velo_fate.specs.declared.fate.Fate.TheVariants as fate
+use Rattle.velo_fate.specs.Delivery.{Answer, IsDelivered, IsPrinted, LacksMemory, Saves, printing, silent}
+use Rattle.velo_delivery.specs.Disk.{Store}
+use Rattle.velo_log_commands.specs.Explaining.{ExplainsAlarm, ExplainsVerdict, counted, explained}
+use Rattle.velo_fate.specs.Failures.{failures_told}
+use Rattle.velo_delivery.specs.Writing.{Writing, WritesNothing}
+use Rattle.velo_log_commands.specs.Steps.{DeliversOrLacks, Explains, PrintsOrLacks}
+use Rattle.velo_fate.specs.Saving.{IsSaved}
+use Rattle.velo_fate.proofs.OnDelivery.{delivered_reads, printed_put, same_fate}
+use Rattle.velo_fate.proofs.OnVerdicts.{no_cycle_before}
+
+module _ (store : Store) (target : Option (Bor (List ℕ))) (stdout : Writing) where
+  -- where the picture is not saved nothing goes out
+  undrawn_so : (drawing words : List ℕ) (end f : Fate) → IsSaved {X = ℕ} store target drawing (Err f) → WritesNothing stdout
+      → IsDelivered store target stdout (record { saved = Some drawing; printed = Some words; fate = end }) f
+  undrawn_so drawing words end fate.CannotOpen h nothing = (h, nothing)
+  undrawn_so drawing words end fate.WriteFailed h nothing = inl (h, nothing)
+  undrawn_so drawing words end f h nothing = absurd h
+
+  pub undrawn : (drawn drawing words : List ℕ) (end f : Fate) → drawn ≡ drawing → IsSaved {X = ℕ} store target drawn (Err f) → WritesNothing stdout
+      → IsDelivered store target stdout (record { saved = Some drawing; printed = Some words; fate = end }) f
+  undrawn drawn drawing words end f is h nothing = undrawn_so drawing words end f (subst (λ (t : List ℕ). IsSaved {X = ℕ} store target t (Err f)) is h) nothing
+
+  -- what was made is the text that was to be saved
+  pub saved_text : (drawn drawing : List ℕ) → drawn ≡ drawing → Saves store target (Some drawn) → Saves store target (Some drawing)
+  saved_text drawn drawing is h = subst (λ (t : List ℕ). Saves store target (Some t)) is h
+
+  -- where it is, the words are printed
+  pub words_put : (saved : Option (List ℕ)) (words text : List ℕ) (alarm : Bool) → words ≡ text → Saves store target saved → (f : Fate)
+      → IsPrinted stdout (printing words (fate.Finished ending.Done alarm)) f → IsDelivered store target stdout (record { saved = saved; printed = Some text; fate = fate.Finished ending.Done alarm }) f
+  words_put saved words text alarm is kept f told =
+      printed_put store target stdout saved None (Some text) _ kept (λ e. cc) f (subst (λ (t : List ℕ). IsPrinted stdout (printing t (fate.Finished ending.Done alarm)) f) is told)
+
+  -- no explanation is told as a failed read
+  pub explains_reads : (names : NameLists) (log : List Event) (answer : Answer) (n : ℕ) → ExplainsVerdict names log answer ⊎ LacksMemory answer → (f : Fate) → IsDelivered store target stdout answer f → failures_told f n ≡ n
+  explains_reads names log answer n is f h = delivered_reads store target stdout answer n (by_fate is) f h
+    where
+      by_fate : ExplainsVerdict names log answer ⊎ LacksMemory answer → failures_told answer.fate n ≡ n
+      by_fate (inl (inl alarm)) = same_fate answer _ n alarm.said refl
+      by_fate (inl (inr clean)) = same_fate answer _ n clean.1 refl
+      by_fate (inr lacks) = same_fate answer _ n lacks.1 refl
+
+  -- this answer explains the log; or memory was wanting, and nothing is said
+  pub explains_by : (names : NameLists) (log : List Event) (answer : Answer) (f : Fate) → ExplainsVerdict names log answer → DeliversOrLacks answer store target stdout f → Explains names log store target stdout f
+  explains_by names log answer f explains (inl put) = (answer, inl explains, put)
+  explains_by names log answer f explains (inr lacks) =
+      (silent fate.Memory, inr (lacks.0, refl), subst (λ (f : Fate). IsDelivered store target stdout (silent fate.Memory) f) (sym lacks.1) (refl, lacks.2, lacks.3))
+
+  -- words alone leave the files as they were
+  pub explains_clean : (names : NameLists) (log : List Event) (f : Fate) → ¬ HasCycle log → store.is_kept → PrintsOrLacks (counted log) stdout f → Explains names log store target stdout f
+  explains_clean names log f none kept (inl told) = (counted log, inl (inr (none, refl)), printed_put store target stdout None None (counted log).printed (fate.Finished ending.Done false) kept (λ e. cc) f told)
+  explains_clean names log f none kept (inr lacks) =
+      (silent fate.Memory, inr (lacks.0, refl), subst (λ (f : Fate). IsDelivered store target stdout (silent fate.Memory) f) (sym lacks.1) (refl, kept, lacks.2))
+
+-- an alarm is explained by its evidence, whichever list of its events the evidence is of
+pub of_evidence : (names : NameLists) (events log : List Event) → events ≡ log → (a : Alarm) (blamed : List Block) → blamed ≡ a.blamed.items → (evidence : Evidence)
+    → IsAlarm log a → IsEvidence events a.position blamed evidence
+    → (¬ HasCycle (take a.position events) → HaveReasons events a.position blamed evidence)
+    → ExplainsAlarm names log (explained names events a.position evidence)
+of_evidence names events log is a blamed same evidence is_alarm is_evidence reasons =
+    record {
+      alarm = a;
+      is_alarm = is_alarm;
+      evidence = evidence;
+      is_evidence = subst (λ (l : List Event). IsEvidence l a.position a.blamed.items evidence) is
+          (subst (λ (b : List Block). IsEvidence events a.position b evidence) same is_evidence);
+      reasons = subst (λ (l : List Event). HaveReasons l a.position a.blamed.items evidence) is
+          (subst (λ (b : List Block). HaveReasons events a.position b evidence) same
+          (reasons (subst (λ (l : List Event). ¬ HasCycle (take a.position l)) (sym is) (no_cycle_before log a.position is_alarm.closing))));
+      said = ap (λ (l : List Event). explained names l a.position evidence) is;
+    }

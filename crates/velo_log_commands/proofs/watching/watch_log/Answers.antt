@@ -1,0 +1,17 @@
+use Rattle.std.proofs.Common.{refl}
+use Rattle.velo_delivery.specs.Writing.{writing}
+use Rattle.velo_log_commands.proofs.OnWatching.{shown}
+use Rattle.velo_log_commands.proofs.watching.watch_log.Goals as goal
+use Rattle.velo_log_commands.proofs.watching.watch_log.Goals.{in-Ok, in-Err}
+
+pub returns-clause-told : goal.returns-clause-told
+returns-clause-told g c =
+    let wrote = writing g.O.Sink.contents g.O.Sink.failures in
+    let between = c.watch_input.new.out in
+    rw c.fate_of.ensures
+    (elim c.match-watch_input.branch [
+      | in-Ok w ↦ rw (w.out-is, w.answer-is)
+          (shown c.args.names.now c.args.options.now (g.I.Source.remaining c.args.log.now) w.in-Ok.closed (wrote c.args.out.now between) (wrote between w.finish-answer.new.sink) (wrote c.args.out.now w.finish-answer.new.sink) w.finish-answer.result
+          w.in-Ok.ensures.ok w.finish-answer.ensures refl refl refl refl refl refl)
+      | in-Err w ↦ rw (w.out-is, w.answer-is) (w.in-Err.ensures.err c.args.names.now)
+    ])

@@ -1,0 +1,159 @@
+-- What each command on a recorded log does: one definition a command, whose lines are its steps.
+--
+-- The store is the files that the command finds and leaves, stdout is standard output before and
+-- after, and f is what the command comes to. Each command names in parentheses the page that says
+-- how it answers the bytes of its input.
+use Rattle.std.specs.Prelude.{◌≡◌, ◌⊎◌, ℕ, List, Option, Some, None}
+use Rattle.std.specs.Borrow.{Bor}
+use Rattle.velo_names.specs.Names.{NameLists}
+use Rattle.velo_audit_text.specs.declared.words.Asked.{Asked}
+use Rattle.velo_report.specs.declared.names.Names.{Names}
+use Rattle.velo_fate.specs.declared.fate.Fate.{Fate}
+use Rattle.velo_fate.specs.declared.fate.Fate.TheVariants.{CannotOpen}
+use Rattle.velo_request.specs.declared.request.AuditOptions.{AuditOptions}
+use Rattle.velo_request.specs.declared.request.CarryOptions.{CarryOptions}
+use Rattle.velo_request.specs.declared.request.CheckOptions.{CheckOptions}
+use Rattle.velo_request.specs.declared.request.ExplainOptions.{ExplainOptions}
+use Rattle.velo_delivery.specs.declared.failure.Operand.TheVariants.{Log}
+use Rattle.velo_request.specs.declared.request.WatchOptions.{WatchOptions}
+use Rattle.velo_log_commands.specs.Auditing.{IsAuditAnswer}
+use Rattle.velo_log_commands.specs.Carrying.{IsCarryAnswer, IsPut}
+use Rattle.velo_log_commands.specs.Check.{IsCheckAnswer}
+use Rattle.velo_fate.specs.Delivery.{Answer, IsDelivered}
+use Rattle.velo_fate.specs.Barred.{WritesNowhere, DoesNotRead}
+use Rattle.velo_delivery.specs.Disk.{IsWritten, Store}
+use Rattle.velo_log_commands.specs.Explaining.{IsExplanation}
+use Rattle.velo_log_commands.specs.Ignoring.{AsksInVain, IsAsked}
+use Rattle.velo_log_commands.specs.Listing.{AreLabelsOf, LacksLabels}
+use Rattle.velo_log_commands.specs.Naming.{AreNamesOf, AreShown, LacksNames}
+use Rattle.velo_fate.specs.Failures.{FailuresAsTold}
+use Rattle.velo_delivery.specs.Reading.{Reading}
+use Rattle.velo_log_commands.specs.Watching.{Watches}
+use Rattle.velo_delivery.specs.Writing.{Writing, WritesNothing}
+
+-- ---- what they share
+
+-- the file of names at the path is not read, or says none; no file was opened to be written, nothing
+-- was printed
+abbrev pub DoesNotName : Store → Option (Bor (List ℕ)) → Writing → Fate → Type 0
+DoesNotName store path stdout f = LacksNames store.disk path f × WritesNowhere store stdout
+
+-- ---- velodrome check LOG [--names FILE] [--events N] [--nodes N] [--certificate]
+
+-- LOG is read whole. The report by these names goes to standard output, and the certificate behind
+-- it; or nothing, for a reason (`Check`).
+abbrev pub ChecksLog : Names → CheckOptions → Store → Writing → Fate → Type 0
+ChecksLog shown options store stdout f =
+    DoesNotRead store Log options.input.now None stdout f
+    ⊎ ((read : Reading) × (answer : Answer)
+    × store.disk.gives options.input.now read × FailuresAsTold read f
+    × IsCheckAnswer shown options.limits.events options.limits.nodes options.certificate
+    read.bytes answer
+    × IsDelivered store None stdout answer f)
+
+-- where a file of names is given its report is by these names, and else by numbers
+abbrev pub ChecksBy : NameLists → CheckOptions → Store → Writing → Fate → Type 0
+ChecksBy names options store stdout f =
+    (shown : Names) × AreShown options.names names shown × ChecksLog shown options store stdout f
+
+-- The names are read first (`Naming`), where a file of them is given, and then LOG is checked.
+abbrev pub DoesCheck : CheckOptions → Store → Writing → Fate → Type 0
+DoesCheck options store stdout f =
+    DoesNotName store options.names stdout f
+    ⊎ ((names : NameLists) × AreNamesOf store.disk options.names names
+    × ChecksBy names options store stdout f)
+
+-- ---- velodrome explain LOG [--names FILE] [--dot OUT]
+
+-- LOG is read whole. The picture of the cycle is saved at OUT, if there is a cycle, and then the
+-- explanation goes to standard output, both by these names; or nothing, for a reason
+-- (`Explaining`). Behind a log without a cycle OUT is untouched.
+abbrev pub ExplainsLog : NameLists → ExplainOptions → Store → Writing → Fate → Type 0
+ExplainsLog names options store stdout f =
+    DoesNotRead store Log options.input.now options.target stdout f
+    ⊎ ((read : Reading) × (answer : Answer)
+    × store.disk.gives options.input.now read × FailuresAsTold read f
+    × IsExplanation names read.bytes answer
+    × IsDelivered store options.target stdout answer f)
+
+-- The names are read first, where a file of them is given, and else there are none.
+abbrev pub DoesExplain : ExplainOptions → Store → Writing → Fate → Type 0
+DoesExplain options store stdout f =
+    DoesNotName store options.names stdout f
+    ⊎ ((names : NameLists) × AreNamesOf store.disk options.names names
+    × ExplainsLog names options store stdout f)
+
+-- ---- velodrome carry LOG --log OUT
+
+-- OUT is opened to be written, and LOG is read whole. Its text of version 2 goes to OUT; or
+-- nothing, for a reason, and then OUT stays as it opened (`Carrying`). Nothing goes to standard
+-- output. Where OUT does not open nothing is written anywhere.
+abbrev pub DoesCarry : CarryOptions → Store → Writing → Fate → Type 0
+DoesCarry options store stdout f =
+    DoesNotRead store Log options.input.now (Some options.target) stdout f
+    ⊎ ((f ≡ CannotOpen) × store.disk.fails_to_write options.target.now × WritesNowhere store stdout)
+    ⊎ ((read : Reading) × (answer : Answer) × (file : Writing)
+    × store.disk.gives options.input.now read × FailuresAsTold read f
+    × IsCarryAnswer read.bytes answer
+    × IsWritten store options.target.now file × IsPut file answer f × WritesNothing stdout)
+
+-- ---- velodrome watch LOG [--names FILE] [--stop] [--events N] [--nodes N] [--certificate]
+
+-- LOG is read line by line, to its end, or with --stop up to the event that raises the alarm. The
+-- line of the alarm goes to standard output, by numbers, then the report by these names of the events
+-- that were read, and the certificate behind it; or behind the line of the alarm nothing, for a reason, which is the first
+-- in the order of the text (`Watching`). No file is opened to be written.
+abbrev pub WatchesLog : Names → WatchOptions → Store → Writing → Fate → Type 0
+WatchesLog shown options store stdout f =
+    DoesNotRead store Log options.input.now None stdout f
+    ⊎ ((read : Reading)
+    × store.disk.gives options.input.now read × FailuresAsTold read f
+    × Watches shown options read.bytes stdout f × store.is_kept)
+
+-- where a file of names is given its report is by these names, and else by numbers
+abbrev pub WatchesBy : NameLists → WatchOptions → Store → Writing → Fate → Type 0
+WatchesBy names options store stdout f =
+    (shown : Names) × AreShown options.names names shown × WatchesLog shown options store stdout f
+
+-- The names are read first, where a file of them is given, and then LOG is watched.
+abbrev pub DoesWatch : WatchOptions → Store → Writing → Fate → Type 0
+DoesWatch options store stdout f =
+    DoesNotName store options.names stdout f
+    ⊎ ((names : NameLists) × AreNamesOf store.disk options.names names
+    × WatchesBy names options store stdout f)
+
+-- ---- velodrome audit LOG [--names FILE] [--not-atomic FILE] [--ignore-lock N].. [--ignore-variable N]..
+-- ---- [--no-witness] [--events N] [--nodes N]
+
+-- LOG is read whole and judged as by a check, and then audited, where this is left out. What the
+-- rounds tell goes to standard output, by these names; or nothing, for a reason (`Auditing`).
+abbrev pub AuditsLog : NameLists → Asked → AuditOptions → Store → Writing → Fate → Type 0
+AuditsLog names asked options store stdout f =
+    DoesNotRead store Log options.input.now None stdout f
+    ⊎ ((read : Reading) × (answer : Answer)
+    × store.disk.gives options.input.now read × FailuresAsTold read f
+    × IsAuditAnswer names asked options read.bytes answer
+    × IsDelivered store None stdout answer f)
+
+-- What is to be ignored is judged by these names (`Ignoring`) before LOG is opened. It is left out,
+-- and so are the labels that are known.
+abbrev pub AuditsKnown : NameLists → List ℕ → AuditOptions → Store → Writing → Fate → Type 0
+AuditsKnown names known options store stdout f =
+    (AsksInVain names options f × WritesNowhere store stdout)
+    ⊎ ((asked : Asked) × IsAsked names known options asked
+    × AuditsLog names asked options store stdout f)
+
+-- The list of the labels that are known is read by these names (`Listing`), where one is given, and
+-- else none is.
+abbrev pub AuditsNamed : NameLists → AuditOptions → Store → Writing → Fate → Type 0
+AuditsNamed names options store stdout f =
+    (LacksLabels names store.disk options.known f × WritesNowhere store stdout)
+    ⊎ ((known : List ℕ) × AreLabelsOf names store.disk options.known known
+    × AuditsKnown names known options store stdout f)
+
+-- The names are read first, where a file of them is given, and else there are none.
+abbrev pub DoesAudit : AuditOptions → Store → Writing → Fate → Type 0
+DoesAudit options store stdout f =
+    DoesNotName store options.names stdout f
+    ⊎ ((names : NameLists) × AreNamesOf store.disk options.names names
+    × AuditsNamed names options store stdout f)

@@ -1,0 +1,11 @@
+pub mod Auditing
+pub mod Carrying
+pub mod Check
+pub mod Commands
+pub mod Explaining
+pub mod Faults
+pub mod Ignoring
+pub mod Listing
+pub mod Naming
+pub mod Steps
+pub mod Watching

@@ -1,0 +1,71 @@
+-- Words of the contracts within the crate: how far each step has come. What the commands do is
+-- said without them.
+use Rattle.std.specs.Borrow.{Bor}
+use Rattle.std.specs.Prelude.{◌≡◌, ◌⊎◌, ℕ, Bool, List, Option, Result, Ok, Err}
+use Rattle.velo_events.specs.Refusals.{GrowthRefused}
+use Rattle.velo_events.specs.declared.event.Event.{Event}
+use Rattle.velo_names.specs.Names.{NameLists}
+use Rattle.velo_report.specs.declared.names.Names.{Names}
+use Rattle.velo_world.specs.World.{WorldState}
+use Rattle.velo_fate.specs.declared.fault.CheckFault.{CheckFault}
+use Rattle.velo_fate.specs.declared.fault.CheckFault.TheVariants as check_fault
+use Rattle.velo_fate.specs.declared.verdict.Verdict.{Verdict}
+use Rattle.velo_fate.specs.declared.fate.Fate.{Fate}
+use Rattle.velo_fate.specs.declared.fate.Fate.TheVariants.{CannotOpen, Memory}
+use Rattle.velo_log_commands.specs.Carrying.{Carries}
+use Rattle.velo_fate.specs.Verdict.{IsOutputOf, IsVerdict}
+use Rattle.velo_fate.specs.Delivery.{Answer, IsDelivered, IsPrinted, LacksMemory}
+use Rattle.velo_delivery.specs.Disk.{IsWritten, Store}
+use Rattle.velo_log_commands.specs.Explaining.{ExplainsVerdict, IsExplanation}
+use Rattle.velo_fate.specs.Failures.{FailuresAsTold}
+use Rattle.velo_delivery.specs.Reading.{Reading}
+use Rattle.velo_delivery.specs.Writing.{BreaksOff, Writes, WritesNothing, Writing}
+
+-- ---- a check
+
+-- what a world shows by these names, and its verdict; or a growth was refused
+abbrev pub Shows : Names → Bool → WorldState → Writing → Result Verdict CheckFault → Type 0
+Shows names certificate w stdout (Ok verdict) =
+    IsVerdict w.log verdict
+    × ((text : List ℕ) × IsOutputOf names certificate w text × Writes stdout text)
+Shows names certificate w stdout (Err check_fault.Write) =
+    ((verdict : Verdict) × IsVerdict w.log verdict)
+    × ((text : List ℕ) × IsOutputOf names certificate w text × BreaksOff stdout text)
+Shows names certificate w stdout (Err check_fault.Memory) = GrowthRefused × WritesNothing stdout
+Shows names certificate w stdout (Err fault) = ⊥
+
+-- ---- an explanation
+
+-- this answer was delivered, or printed; or a growth was refused, and nothing was written
+abbrev pub DeliversOrLacks : Answer → Store → Option (Bor (List ℕ)) → Writing → Fate → Type 0
+DeliversOrLacks answer store target stdout f =
+    IsDelivered store target stdout answer f
+    ⊎ (GrowthRefused × (f ≡ Memory) × store.is_kept × WritesNothing stdout)
+
+abbrev pub PrintsOrLacks : Answer → Writing → Fate → Type 0
+PrintsOrLacks answer stdout f =
+    IsPrinted stdout answer f ⊎ (GrowthRefused × (f ≡ Memory) × WritesNothing stdout)
+
+-- what was made of a verdict was delivered: its explanation, or that memory was wanting
+abbrev pub Explains : NameLists → List Event → Store → Option (Bor (List ℕ)) → Writing → Fate
+    → Type 0
+Explains names log store target stdout f =
+    (answer : Answer) × (ExplainsVerdict names log answer ⊎ LacksMemory answer)
+    × IsDelivered store target stdout answer f
+
+-- what was made of an input was delivered
+abbrev pub ExplainsInput : NameLists → Option (Bor (List ℕ)) → Store → Reading → Writing → Fate
+    → Type 0
+ExplainsInput names target store read stdout f =
+    FailuresAsTold read f
+    × ((answer : Answer) × IsExplanation names read.bytes answer
+    × IsDelivered store target stdout answer f)
+
+-- ---- carrying over
+
+-- no file opened at the path; or what was read was carried over to it
+abbrev pub CarriesTo : Store → List ℕ → Reading → Fate → Type 0
+CarriesTo store target read f =
+    ((f ≡ CannotOpen) × store.disk.fails_to_write target × store.is_kept)
+    ⊎ ((file : Writing) × IsWritten store target file × Carries read.bytes file f
+    × FailuresAsTold read f)

@@ -1,0 +1,99 @@
+//! `velodrome carry`.
+ghost use Rattle.std.specs.Prelude.{◌≡◌};
+ghost use Rattle.velo_log_commands.specs.Carrying.{Carries, fate_of_carrying};
+ghost use Rattle.velo_log_commands.specs.Commands.{DoesCarry};
+ghost use Rattle.velo_fate.specs.Failures.{failures_told};
+ghost use Rattle.velo_delivery.specs.Reading.{reading};
+ghost use Rattle.velo_delivery.specs.Disk.{store};
+ghost use Rattle.velo_delivery.specs.Writing.{Writing, WritesNothing, writing};
+ghost use Rattle.velo_log_commands.specs.Steps.{CarriesTo};
+
+use std::alloc::Global;
+use thiserror::Error;
+use velo_bytes::{Sink, Source, WriteFault};
+use velo_delivery::{Files, Operand};
+use velo_fate::{CheckFault, Fate, open_input};
+use velo_logtext::{LogFault, read_log, write_log};
+use velo_request::CarryOptions;
+use velo_worker::Ending;
+
+/// Why a log was not carried over.
+#[derive(Clone, Copy, Debug, PartialEq, Eq, Error)]
+pub enum CarryFault {
+    /// The log could not be read.
+    #[error(transparent)]
+    Log(LogFault),
+    /// The sink failed; a beginning of the log was written.
+    #[error("write failed")]
+    Write,
+}
+
+/// Reads a whole log of either version, and writes its text of version 2. Whether its events can come about is not judged.
+///
+/// # Errors
+/// `Log` where the log could not be read; nothing was written then. `Write` where the sink failed; a beginning of the text was
+/// written.
+pub fn carry_run<I: Source, O: Sink>(
+    alloc: Global,
+    source: &mut I,
+    sink: &mut O,
+) -> Result<(), CarryFault>
+    ensures answer { Carries (I.remaining source.old)
+        (writing O.contents O.failures sink.old sink.new) (fate_of_carrying result) }
+    ensures read { I.failures source.new ≡ failures_told (fate_of_carrying result)
+        (I.failures source.old) }
+{
+    let (bounds, log) = match read_log(alloc, source) {
+        Ok(read) => read,
+        Err(fault) => return Err(CarryFault::Log(fault)),
+    };
+    let written = write_log(bounds, &log, sink);
+    drop(log);
+    match written {
+        Ok(()) => Ok(()),
+        Err(WriteFault) => Err(CarryFault::Write),
+    }
+}
+
+/// What carrying a log over came to.
+fn fate_of_carrying(answer: Result<(), CarryFault>) -> Fate
+    ensures { result ≡ fate_of_carrying answer }
+{
+    match answer {
+        Ok(()) => Fate::Finished {
+            ending: Ending::Done,
+            alarm: false,
+        },
+        Err(CarryFault::Log(fault)) => Fate::Check(CheckFault::Log(fault)),
+        Err(CarryFault::Write) => Fate::WriteFailed,
+    }
+}
+
+/// Carries a log over to the file that was asked for, which is emptied before the log is read.
+fn carry_log<I: Source, F: Files>(
+    alloc: Global,
+    options: &CarryOptions,
+    source: &mut I,
+    files: &mut F,
+) -> Fate
+    ensures { CarriesTo (store F.disk files.old files.new) options.now.target.now
+        (reading I.remaining I.failures source.old source.new) result }
+{
+    let Some(mut file) = files.create(options.target) else {
+        return Fate::CannotOpen;
+    };
+    let answer = carry_run(alloc, source, &mut file);
+    files.close(options.target, file);
+    fate_of_carrying(answer)
+}
+
+/// Carries the log that was asked for over.
+pub fn carry_file<F: Files>(alloc: Global, options: &CarryOptions, files: &mut F) -> Fate
+    ensures { (stdout : Writing) → WritesNothing stdout
+        → DoesCarry options.now (store F.disk files.old files.new) stdout result }
+{
+    match open_input(files, Operand::Log, options.input, Some(options.target)) {
+        Ok(mut log) => carry_log(alloc, options, &mut log, files),
+        Err(fate) => fate,
+    }
+}

@@ -1,0 +1,300 @@
+//! `velodrome check`, and what all commands on logs ask of a recorded log.
+ghost use Rattle.std.specs.Prelude.{◌≡◌, ◌≤◌, false, IfOk, IfErr, IfSome, OnOk, is_some, length};
+ghost use Rattle.velo_events.specs.WellFormed.{IsWellFormed};
+ghost use Rattle.velo_events.specs.declared.limits.TheConstants.{MAX_EVENTS, MAX_NODES};
+ghost use Rattle.velo_logtext.specs.Text.{AreBounds};
+ghost use Rattle.velo_report.specs.declared.names.Names.TheVariants.{Numbers};
+ghost use Rattle.velo_world.specs.Faults.{world_of};
+ghost use Rattle.velo_log_commands.specs.Check.{Checks, ComesAbout, IsFaultOfInput, fate_of};
+ghost use Rattle.velo_fate.specs.Verdict.{IsOrderOrCycle, is_alarm};
+ghost use Rattle.velo_log_commands.specs.Commands.{ChecksBy, ChecksLog, DoesCheck};
+ghost use Rattle.velo_fate.specs.Failures.{failures_told};
+ghost use Rattle.velo_delivery.specs.Disk.{store};
+ghost use Rattle.velo_log_commands.specs.Faults.{check_fault_of, IsFaultOfLog};
+ghost use Rattle.velo_delivery.specs.Writing.{writing};
+ghost use Rattle.velo_fate.specs.declared.fate.Fate.TheVariants as fate;
+ghost use Rattle.velo_log_commands.specs.Steps.{Shows};
+
+use crate::naming::{names_in, read_given, shown_by};
+use std::alloc::Global;
+use velo_bytes::{Sink, Source, WriteFault};
+use velo_delivery::{Files, Operand};
+use velo_events::{Bounds, Config, Memory};
+use velo_fate::{
+    CheckFault, Fate, Verdict, is_alarm, open_input, order_or_cycle_of, verdict_of, write_output,
+};
+use velo_logtext::read_log;
+use velo_names::MAX_NAMES_BYTES;
+use velo_report::Names;
+use velo_request::{CheckOptions, Limits};
+use velo_traces::Trace;
+use velo_worker::Ending;
+use velo_world::{Closed, LogReplayFault, World};
+
+/// The same fault of a check.
+pub fn fault_of(fault: LogReplayFault) -> CheckFault
+    ensures { result ≡ check_fault_of fault }
+{
+    match fault {
+        LogReplayFault::Refused { position, refusal } => CheckFault::Refused { position, refusal },
+        LogReplayFault::WrongValue { position } => CheckFault::WrongValue { position },
+        LogReplayFault::Memory => CheckFault::Memory,
+    }
+}
+
+/// The world of a log, all of whose events came about again in it, after its end. The log becomes the world's. The
+/// configuration has to go on after an alarm.
+///
+/// # Errors
+/// `Refused` or `WrongValue` at the first event that can't come about, by the rule of `check_run`; `Memory` where a growth was
+/// refused.
+pub fn do_log(alloc: Global, config: Config, log: Trace) -> Result<Closed, CheckFault>
+    requires goes_on { config.stop ≡ false }
+    ensures ok { IfOk result (λ closed. closed ≡ world_of config log.events) }
+    ensures well_formed { IfOk result (λ closed. IsWellFormed closed.config.bounds closed.log) }
+    ensures short { IfOk result (λ closed. length closed.log ≤ closed.config.events) }
+    ensures err { IfErr result (λ fault. IsFaultOfLog config log.events fault) }
+{
+    let (world, shares) = match World::from_log(alloc, config, log) {
+        Ok(replayed) => replayed,
+        Err(fault) => return Err(fault_of(fault)),
+    };
+    match world.close(shares) {
+        Ok(closed) => {
+            prove!(closed.log().len() <= config.events as usize);
+            Ok(closed)
+        }
+        Err(_) => unreachable!(),
+    }
+}
+
+/// The configuration of a check, which goes on after an alarm: the bounds of the log, the most events that it may have,
+/// 1 to [`MAX_EVENTS`](velo_events::MAX_EVENTS), and the most nodes that the graph may have at one time, 1 to
+/// [`MAX_NODES`](velo_events::MAX_NODES).
+pub fn config_of(bounds: Bounds, events: u32, nodes: u16) -> Config
+    requires bounds { AreBounds bounds }
+    requires events { (1 ≤ events) × (events ≤ MAX_EVENTS) }
+    requires nodes { (1 ≤ nodes) × (nodes ≤ MAX_NODES) }
+    ensures bounds { result.bounds ≡ bounds }
+    ensures events { result.events ≡ events }
+    ensures nodes { result.nodes ≡ nodes }
+    ensures goes_on { result.stop ≡ false }
+{
+    match Config::new(0, bounds, events, nodes, false) {
+        Ok(config) => config,
+        Err(_) => unreachable!(),
+    }
+}
+
+/// Writes what a closed world shows by the names, and returns its verdict.
+fn show<O: Sink>(
+    closed: &Closed,
+    names: &Names,
+    list: Option<&[usize]>,
+    sink: &mut O,
+) -> Result<Verdict, CheckFault>
+    requires { IfSome list (λ list. IsOrderOrCycle closed.now.log list.now) }
+    ensures { Shows names.now (is_some list.entry) closed.now
+        (writing O.contents O.failures sink.old sink.new) result }
+{
+    let verdict = verdict_of(closed);
+    match write_output(closed, names, list, sink) {
+        Ok(()) => Ok(verdict),
+        Err(WriteFault) => Err(CheckFault::Write),
+    }
+}
+
+/// Writes what a closed world shows. The certificate, if it is asked for, is made before the first byte goes out.
+fn write_answer<O: Sink>(
+    alloc: Global,
+    closed: &Closed,
+    names: &Names,
+    certificate: bool,
+    sink: &mut O,
+) -> Result<Verdict, CheckFault>
+    ensures { Shows names.now certificate closed.now
+        (writing O.contents O.failures sink.old sink.new) result }
+{
+    if !certificate {
+        return show(closed, names, None, sink);
+    }
+    match order_or_cycle_of(alloc, closed) {
+        Ok(list) => show(closed, names, Some(list.as_slice()), sink),
+        Err(Memory) => Err(CheckFault::Memory),
+    }
+}
+
+/// Writes what a closed world shows, and lets go of it.
+pub fn finish<O: Sink>(
+    alloc: Global,
+    closed: Closed,
+    names: &Names,
+    certificate: bool,
+    sink: &mut O,
+) -> Result<Verdict, CheckFault>
+    ensures { Shows names.now certificate closed
+        (writing O.contents O.failures sink.old sink.new) result }
+{
+    let answer = write_answer(alloc, &closed, names, certificate, sink);
+    drop(closed);
+    answer
+}
+
+/// The world of the log that a source gives, all of whose events came about again in it, after its end.
+///
+/// # Errors
+/// As `check_run`, but for `Write`.
+pub fn do_input<I: Source>(
+    alloc: Global,
+    source: &mut I,
+    events: u32,
+    nodes: u16,
+) -> Result<Closed, CheckFault>
+    requires events { (1 ≤ events) × (events ≤ MAX_EVENTS) }
+    requires nodes { (1 ≤ nodes) × (nodes ≤ MAX_NODES) }
+    ensures ok { IfOk result (λ closed. ComesAbout events (I.remaining source.old)
+        closed.config.bounds closed.log) }
+    ensures err { IfErr result (IsFaultOfInput events nodes (I.remaining source.old)) }
+    ensures read { OnOk result (I.failures source.new ≡ I.failures source.old) }
+    ensures failure { IfErr result (λ fault. I.failures source.new
+        ≡ failures_told (fate.Check fault) (I.failures source.old)) }
+{
+    let (bounds, log) = match read_log(alloc, source) {
+        Ok(read) => read,
+        Err(fault) => return Err(CheckFault::Log(fault)),
+    };
+    match do_log(alloc, config_of(bounds, events, nodes), log) {
+        Ok(closed) => Ok(closed),
+        Err(fault) => Err(fault),
+    }
+}
+
+/// Reads a whole log, does its events one after another, and writes the report, and behind it, if it is asked for, the
+/// certificate of the verdict: the lines of a serial order, or with an alarm the line of a shortest cycle at its position.
+///
+/// The limits are the most events that the log may have, 1 to [`MAX_EVENTS`](velo_events::MAX_EVENTS), and the most nodes
+/// that the graph may have at one time, 1 to [`MAX_NODES`](velo_events::MAX_NODES).
+///
+/// # Errors
+/// A fault of the text comes before any other; else the first event that can't come about decides, and a refusal there
+/// comes before a wrong value, and this before the limits of events and of nodes. Every fault but `Write` has written nothing; after
+/// `Write` a beginning of the report, or of the certificate behind it, was written.
+pub fn check_run<I: Source, O: Sink>(
+    alloc: Global,
+    source: &mut I,
+    sink: &mut O,
+    events: u32,
+    nodes: u16,
+    certificate: bool,
+) -> Result<Verdict, CheckFault>
+    requires events { (1 ≤ events) × (events ≤ MAX_EVENTS) }
+    requires nodes { (1 ≤ nodes) × (nodes ≤ MAX_NODES) }
+    ensures answer { Checks Numbers events nodes certificate (I.remaining source.old)
+        (writing O.contents O.failures sink.old sink.new) (fate_of result) }
+    ensures read { I.failures source.new ≡ failures_told (fate_of result) (I.failures source.old) }
+{
+    let limits = Limits { events, nodes };
+    check_source(alloc, source, sink, limits, &Names::Numbers, certificate)
+}
+
+/// As `check_run`, by these names.
+///
+/// # Errors
+/// As `check_run`.
+fn check_source<I: Source, O: Sink>(
+    alloc: Global,
+    source: &mut I,
+    sink: &mut O,
+    limits: Limits,
+    names: &Names,
+    certificate: bool,
+) -> Result<Verdict, CheckFault>
+    ensures answer { Checks names.now limits.events limits.nodes certificate
+        (I.remaining source.old) (writing O.contents O.failures sink.old sink.new)
+        (fate_of result) }
+    ensures read { I.failures source.new ≡ failures_told (fate_of result) (I.failures source.old) }
+{
+    match do_input(alloc, source, limits.events, limits.nodes) {
+        Ok(closed) => finish(alloc, closed, names, certificate, sink),
+        Err(fault) => Err(fault),
+    }
+}
+
+/// What a check came to.
+pub fn fate_of(answer: Result<Verdict, CheckFault>) -> Fate
+    ensures { result ≡ fate_of answer }
+{
+    match answer {
+        Ok(verdict) => Fate::Finished {
+            ending: Ending::Done,
+            alarm: is_alarm(verdict),
+        },
+        Err(CheckFault::Write) => Fate::WriteFailed,
+        Err(fault) => Fate::Check(fault),
+    }
+}
+
+/// Checks the log that was asked for, and tells it by the names.
+fn check_named<F: Files, O: Sink>(
+    alloc: Global,
+    options: &CheckOptions,
+    names: &Names,
+    files: &F,
+    out: &mut O,
+) -> Fate
+    ensures { ChecksLog names.now options.now (store F.disk files.now files.now)
+        (writing O.contents O.failures out.old out.new) result }
+{
+    match open_input(files, Operand::Log, options.input, None) {
+        Ok(mut log) => fate_of(check_source(
+            alloc,
+            &mut log,
+            out,
+            options.limits,
+            names,
+            options.certificate,
+        )),
+        Err(fate) => fate,
+    }
+}
+
+/// Checks the log that was asked for, and tells it by the names of a file, if one was given.
+fn check_by<F: Files, O: Sink>(
+    alloc: Global,
+    options: &CheckOptions,
+    names: &velo_names::Names,
+    files: &F,
+    out: &mut O,
+) -> Fate
+    ensures { ChecksBy names.now options.now (store F.disk files.now files.now)
+        (writing O.contents O.failures out.old out.new) result }
+{
+    let shown = shown_by(options.names, names);
+    check_named(alloc, options, &shown, files, out)
+}
+
+/// Checks the log that was asked for. The names are read first.
+pub fn check_file<F: Files, O: Sink>(
+    alloc: Global,
+    options: &CheckOptions,
+    files: &mut F,
+    out: &mut O,
+) -> Fate
+    ensures { DoesCheck options.now (store F.disk files.old files.new)
+        (writing O.contents O.failures out.old out.new) result }
+{
+    let bytes = match read_given(alloc, options.names, MAX_NAMES_BYTES, files) {
+        Ok(bytes) => bytes,
+        Err(fate) => return fate,
+    };
+    let fate = match names_in(alloc, options.names, &bytes) {
+        Ok(names) => {
+            let fate = check_by(alloc, options, &names, files, out);
+            drop(names);
+            fate
+        }
+        Err(fate) => fate,
+    };
+    drop(bytes);
+    fate
+}

@@ -1,0 +1,205 @@
+//! `velodrome explain`.
+ghost use Rattle.std.specs.Prelude.{◌≤◌, Some, length};
+ghost use Rattle.velo_events.specs.Graph.{HasCycle};
+ghost use Rattle.velo_events.specs.declared.limits.TheConstants.{MAX_EVENTS};
+ghost use Rattle.velo_explain.specs.Evidence.{IsEvidenceAt};
+ghost use Rattle.velo_worker.specs.declared.ending.Ending.TheVariants.{Done};
+ghost use Rattle.velo_fate.specs.Delivery.{IsPrinted, printing};
+ghost use Rattle.velo_log_commands.specs.Explaining.{counted, explained};
+ghost use Rattle.velo_log_commands.specs.Commands.{DoesExplain, ExplainsLog};
+ghost use Rattle.velo_delivery.specs.Reading.{reading};
+ghost use Rattle.velo_delivery.specs.Disk.{store};
+ghost use Rattle.velo_delivery.specs.Writing.{writing};
+ghost use Rattle.velo_fate.specs.declared.fate.Fate.TheVariants.{Finished};
+ghost use Rattle.velo_log_commands.specs.Steps.{DeliversOrLacks, Explains, ExplainsInput, PrintsOrLacks};
+ghost use Rattle.velo_fate.specs.Saving.{IsSaved};
+
+use crate::check::do_input;
+use crate::naming::{names_in, read_given};
+use std::alloc::Global;
+use velo_bytes::{Sink, Source, WriteFault, write_all};
+use velo_certify::CertFault;
+use velo_delivery::{Files, Operand, Save, save_all};
+use velo_events::{MAX_EVENTS, MAX_NODES, Memory};
+use velo_explain::{Evidence, evidence_of, explain_clean, explain_named, picture_named};
+use velo_fate::{Fate, Saved, fate_of_failure, open_input};
+use velo_names::{MAX_NAMES_BYTES, Names};
+use velo_request::ExplainOptions;
+use velo_traces::Trace;
+use velo_worker::Ending;
+use velo_world::Closed;
+
+/// Saves a text at a path.
+///
+/// # Errors
+/// `CannotOpen` where no file opens there; `WriteFailed` where it failed, behind a beginning.
+fn save_text<F: Files>(text: &[u8], path: &str, files: &mut F) -> Result<(), Fate>
+    ensures { IsSaved (store F.disk files.old files.new) (Some path.entry) text.now result }
+{
+    let saves = [Save {
+        operand: Operand::Out,
+        path: Some(path),
+        text: Saved::Bytes(text),
+    }];
+    match save_all(&saves, files) {
+        Ok(()) => Ok(()),
+        Err(failure) => Err(fate_of_failure(failure)),
+    }
+}
+
+/// Prints the words of a verdict.
+pub fn print<O: Sink>(words: &[u8], alarm: bool, out: &mut O) -> Fate
+    ensures { IsPrinted (writing O.contents O.failures out.old out.new)
+        (printing words.now (Finished Done alarm)) result }
+{
+    match write_all(out, words) {
+        Ok(()) => Fate::Finished {
+            ending: Ending::Done,
+            alarm,
+        },
+        Err(WriteFault) => Fate::WriteFailed,
+    }
+}
+
+/// Explains an alarm by its evidence and the names: the picture is saved at the target, if there is one, and then the words are printed.
+/// Both are made before.
+fn explain_by<F: Files, O: Sink>(
+    alloc: Global,
+    log: &Trace,
+    position: usize,
+    evidence: &Evidence,
+    names: &Names,
+    target: Option<&str>,
+    files: &mut F,
+    out: &mut O,
+) -> Fate
+    requires few { length log.now.events ≤ MAX_EVENTS }
+    requires evidence { IsEvidenceAt log.now.events position evidence.now }
+    ensures { DeliversOrLacks (explained names.now log.now.events position evidence.now)
+        (store F.disk files.old files.new) target.entry
+        (writing O.contents O.failures out.old out.new) result }
+{
+    let words = match explain_named(alloc, log, position, evidence, names) {
+        Ok(words) => words,
+        Err(Memory) => return Fate::Memory,
+    };
+    let Some(path) = target else {
+        return print(words.as_slice(), true, out);
+    };
+    let drawing = match picture_named(alloc, log, position, evidence, names) {
+        Ok(drawing) => drawing,
+        Err(Memory) => return Fate::Memory,
+    };
+    match save_text(drawing.as_slice(), path, files) {
+        Ok(()) => print(words.as_slice(), true, out),
+        Err(fate) => fate,
+    }
+}
+
+/// Explains that a log has no cycle.
+fn explain_without<O: Sink>(alloc: Global, log: &Trace, out: &mut O) -> Fate
+    requires { ¬ HasCycle log.now.events }
+    ensures { PrintsOrLacks (counted log.now.events)
+        (writing O.contents O.failures out.old out.new) result }
+{
+    match explain_clean(alloc, log) {
+        Ok(words) => print(words.as_slice(), false, out),
+        Err(Memory) => Fate::Memory,
+    }
+}
+
+/// Explains what a closed world shows.
+fn explain_closed<F: Files, O: Sink>(
+    alloc: Global,
+    closed: &Closed,
+    names: &Names,
+    target: Option<&str>,
+    files: &mut F,
+    out: &mut O,
+) -> Fate
+    requires { length closed.now.log ≤ MAX_EVENTS }
+    ensures { Explains names.now closed.now.log (store F.disk files.old files.new) target.entry
+        (writing O.contents O.failures out.old out.new) result }
+{
+    let log = closed.log();
+    let Some(alarm) = closed.alarm() else {
+        return explain_without(alloc, log, out);
+    };
+    let position = alarm.position;
+    match evidence_of(alloc, log, position, alarm.blamed.as_slice()) {
+        Ok(evidence) => {
+            let fate = explain_by(alloc, log, position, &evidence, names, target, files, out);
+            drop(evidence);
+            fate
+        }
+        Err(CertFault::Memory) => Fate::Memory,
+        Err(CertFault::NoCycle) => unreachable!(),
+        Err(CertFault::HasCycle | CertFault::NotThere) => unreachable!(),
+    }
+}
+
+/// Reads a whole log, does its events, and explains what they show.
+fn explain_log<I: Source, F: Files, O: Sink>(
+    alloc: Global,
+    options: &ExplainOptions,
+    names: &Names,
+    source: &mut I,
+    files: &mut F,
+    out: &mut O,
+) -> Fate
+    ensures { ExplainsInput names.now options.now.target (store F.disk files.old files.new)
+        (reading I.remaining I.failures source.old source.new)
+        (writing O.contents O.failures out.old out.new) result }
+{
+    match do_input(alloc, source, MAX_EVENTS, MAX_NODES) {
+        Ok(closed) => {
+            let fate = explain_closed(alloc, &closed, names, options.target, files, out);
+            drop(closed);
+            fate
+        }
+        Err(fault) => Fate::Check(fault),
+    }
+}
+
+/// Explains the log that was asked for by the names.
+fn explain_input<F: Files, O: Sink>(
+    alloc: Global,
+    options: &ExplainOptions,
+    names: &Names,
+    files: &mut F,
+    out: &mut O,
+) -> Fate
+    ensures { ExplainsLog names.now options.now (store F.disk files.old files.new)
+        (writing O.contents O.failures out.old out.new) result }
+{
+    match open_input(files, Operand::Log, options.input, options.target) {
+        Ok(mut log) => explain_log(alloc, options, names, &mut log, files, out),
+        Err(fate) => fate,
+    }
+}
+
+/// Explains the log that was asked for. The names are read first.
+pub fn explain_file<F: Files, O: Sink>(
+    alloc: Global,
+    options: &ExplainOptions,
+    files: &mut F,
+    out: &mut O,
+) -> Fate
+    ensures { DoesExplain options.now (store F.disk files.old files.new)
+        (writing O.contents O.failures out.old out.new) result }
+{
+    let bytes = match read_given(alloc, options.names, MAX_NAMES_BYTES, files) {
+        Ok(bytes) => bytes,
+        Err(fate) => return fate,
+    };
+    let fate = match names_in(alloc, options.names, &bytes) {
+        Ok(names) => {
+            let fate = explain_input(alloc, options, &names, files, out);
+            drop(names);
+            fate
+        }
+        Err(fate) => fate,
+    };
+    drop(bytes);
+    fate
+}

@@ -1,0 +1,17 @@
+//! What each command on a recorded log does, whatever its files and its output are.
+#![tactic(auto)]
+
+mod auditing;
+mod carrying;
+mod check;
+mod explaining;
+mod ignoring;
+mod listing;
+mod naming;
+mod watching;
+
+pub use auditing::audit_file;
+pub use carrying::{CarryFault, carry_file, carry_run};
+pub use check::{check_file, check_run, config_of, do_log};
+pub use explaining::explain_file;
+pub use watching::watch_file;

@@ -1,0 +1,56 @@
+//! Files of names.
+ghost use Rattle.std.specs.Prelude.{IfErr, IfOk};
+ghost use Rattle.velo_fate.specs.Format.{LacksGiven, bytes_up_to};
+ghost use Rattle.velo_log_commands.specs.Naming.{AreBytesOf, AreNamesIn, AreNoNamesIn, AreShown};
+
+use std::alloc::Global;
+use velo_delivery::Files;
+use velo_fate::{Fate, read_file};
+use velo_names::Names;
+use velo_report::Names as ReportNames;
+
+/// The bytes of the file at a path, as `read_file`; none without a path.
+///
+/// # Errors
+/// As `read_file`.
+pub fn read_given<F: Files>(
+    alloc: Global,
+    path: Option<&str>,
+    most: usize,
+    files: &F,
+) -> Result<Vec<u8>, Fate>
+    ensures bytes { IfOk result (λ bytes. AreBytesOf (F.disk files.now) most path.entry bytes.items) }
+    ensures unread { IfErr result (LacksGiven (bytes_up_to most) (F.disk files.now) path.entry) }
+{
+    match path {
+        Some(path) => read_file(alloc, path, most, files),
+        None => Ok(Vec::new(alloc)),
+    }
+}
+
+/// The names that the bytes of a file say, if one was given, and else none.
+///
+/// # Errors
+/// `Names` with the fault for which they say none.
+pub fn names_in<'a>(alloc: Global, path: Option<&str>, bytes: &'a [u8]) -> Result<Names<'a>, Fate>
+    ensures names { IfOk result (AreNamesIn path.entry bytes.now) }
+    ensures fault { IfErr result (AreNoNamesIn path.entry bytes.now) }
+{
+    if path.is_none() {
+        return Ok(Names::new(alloc));
+    }
+    match Names::parse(alloc, bytes) {
+        Ok(names) => Ok(names),
+        Err(fault) => Err(Fate::Names(fault)),
+    }
+}
+
+/// What a report calls threads and labels by the names of a file, if one was given.
+pub fn shown_by<'a>(path: Option<&str>, names: &'a Names<'a>) -> ReportNames<'a>
+    ensures { AreShown path.entry names.now result }
+{
+    match path {
+        Some(_) => ReportNames::Listed(names),
+        None => ReportNames::Numbers,
+    }
+}

@@ -1,0 +1,11 @@
+//! What the program can be asked for, and the statuses that it ends with.
+#![tactic(auto)]
+
+mod request;
+pub mod status;
+
+pub use request::{
+    AuditOptions, CarryOptions, CheckOptions, DEFAULT_SEED, ExplainOptions, ExploreOptions,
+    Ignorable, Limits, MAX_RUNS, MAX_STATES, RandomRuns, ReplayOptions, Request, RunOptions,
+    ScheduleSource, WatchOptions,
+};

@@ -1,0 +1,196 @@
+//! What the program can be asked for.
+ghost use Rattle.std.specs.Prelude.{◌≤◌};
+ghost use Rattle.velo_events.specs.declared.limits.TheConstants.{MAX_EVENTS, MAX_NODES};
+ghost use Rattle.velo_request.specs.declared.request.TheConstants.{MAX_RUNS, MAX_STATES};
+
+/// The limits of a run.
+#[derive(Clone, Copy, Debug)]
+pub struct Limits {
+    /// The most events that the log may have, 1 to [`MAX_EVENTS`](velo_events::MAX_EVENTS).
+    pub events: u32,
+    /// The most nodes that the graph may have at one time, 1 to [`MAX_NODES`](velo_events::MAX_NODES).
+    pub nodes: u16,
+    ghost some_event: { 1 ≤ events },
+    ghost few_events: { events ≤ MAX_EVENTS },
+    ghost some_node: { 1 ≤ nodes },
+    ghost few_nodes: { nodes ≤ MAX_NODES },
+}
+
+/// What `velodrome check` was asked for.
+#[derive(Clone, Copy, Debug)]
+pub struct CheckOptions<'a> {
+    /// The path of the log, or `-`.
+    pub input: &'a str,
+    /// The limits within which the log is checked.
+    pub limits: Limits,
+    /// Whether the certificate of the verdict is written behind the report.
+    pub certificate: bool,
+    /// The path of the names that the report tells, or `-`.
+    pub names: Option<&'a str>,
+}
+
+/// What a run of a workload was asked for; `velodrome run` is asked for nothing else.
+#[derive(Clone, Copy, Debug)]
+pub struct RunOptions<'a> {
+    /// The path of the workload, or `-`.
+    pub input: &'a str,
+    /// Whether the event that closes the first cycle ends the run.
+    pub stop: bool,
+    /// The path where the log of the run is saved.
+    pub target: Option<&'a str>,
+    /// The path where the names of the workload are saved.
+    pub names_target: Option<&'a str>,
+    /// The limits of the run.
+    pub limits: Limits,
+    /// Whether the certificate of the verdict is written behind the report.
+    pub certificate: bool,
+}
+
+/// Where a schedule stands, and in which form.
+#[derive(Clone, Copy, Debug)]
+pub enum ScheduleSource<'a> {
+    /// This is its text, as [`schedule_of`](velo_turns::schedule_of) takes it.
+    Text(&'a str),
+    /// These are its turns, as [`turns_of`](velo_turns::turns_of) takes them.
+    Turns(&'a str),
+    /// Its turns are in the file at this path, or on standard input with `-`.
+    File(&'a str),
+}
+
+/// What `velodrome replay` was asked for.
+#[derive(Clone, Copy, Debug)]
+pub struct ReplayOptions<'a> {
+    /// Where the schedule stands.
+    pub schedule: ScheduleSource<'a>,
+    /// The rest, which is as for `velodrome run`.
+    pub run: RunOptions<'a>,
+}
+
+/// What `velodrome explain` was asked for.
+#[derive(Clone, Copy, Debug)]
+pub struct ExplainOptions<'a> {
+    /// The path of the log, or `-`.
+    pub input: &'a str,
+    /// The path where the picture of the cycle is saved.
+    pub target: Option<&'a str>,
+    /// The path of the names that the words tell, or `-`.
+    pub names: Option<&'a str>,
+}
+
+/// What `velodrome carry` was asked for.
+#[derive(Clone, Copy, Debug)]
+pub struct CarryOptions<'a> {
+    /// The path of the log, or `-`.
+    pub input: &'a str,
+    /// The path where it is saved.
+    pub target: &'a str,
+}
+
+/// The most states that a search may look at.
+pub const MAX_STATES: u32 = 16_777_216;
+
+/// The most runs by chance: each is a whole replay.
+pub const MAX_RUNS: u32 = 1_000_000;
+
+/// The seed of runs by chance where none is given.
+pub const DEFAULT_SEED: u64 = 1;
+
+/// Runs of a workload whose turns are drawn by chance.
+#[derive(Clone, Copy, Debug)]
+pub struct RandomRuns {
+    /// How many runs there are, 1 to [`MAX_RUNS`].
+    pub runs: u32,
+    /// The seed that the turns are drawn by.
+    pub seed: u64,
+    ghost some_run: { 1 ≤ runs },
+    ghost few_runs: { runs ≤ MAX_RUNS },
+}
+
+/// What `velodrome explore` was asked for.
+#[derive(Clone, Copy, Debug)]
+pub struct ExploreOptions<'a> {
+    /// The path of the workload, or `-`.
+    pub input: &'a str,
+    /// The most states that are looked at, 1 to [`MAX_STATES`].
+    pub states: u32,
+    /// Whether the first finding ends the search.
+    pub first: bool,
+    /// The path where the log of the replay that is told is saved.
+    pub target: Option<&'a str>,
+    /// The path where the names of the workload are saved, behind that log.
+    pub names_target: Option<&'a str>,
+    /// The limits of a replay.
+    pub limits: Limits,
+    /// Whether the certificate of the verdict is written behind the report.
+    pub certificate: bool,
+    /// Whether the progress of the search is told wherever standard error goes.
+    pub progress: bool,
+    /// The runs by chance that stand for the search, if they are asked for.
+    pub random: Option<RandomRuns>,
+    ghost some_state: { 1 ≤ states },
+    ghost few_states: { states ≤ MAX_STATES },
+}
+
+/// What `velodrome watch` was asked for.
+#[derive(Clone, Copy, Debug)]
+pub struct WatchOptions<'a> {
+    /// The path of the log, or `-`.
+    pub input: &'a str,
+    /// Whether the event that closes the first cycle ends the watch.
+    pub stop: bool,
+    /// The limits within which the log is checked.
+    pub limits: Limits,
+    /// Whether the certificate of the verdict is written behind the report.
+    pub certificate: bool,
+    /// The path of the names that the report tells, or `-`.
+    pub names: Option<&'a str>,
+}
+
+/// What `velodrome audit` was asked for.
+#[derive(Clone, Copy, Debug)]
+pub struct AuditOptions<'a> {
+    /// The path of the log, or `-`.
+    pub input: &'a str,
+    /// The path of the names that are told, or `-`.
+    pub names: Option<&'a str>,
+    /// The path of the list of labels that are known already, or `-`.
+    pub known: Option<&'a str>,
+    /// The locks that are left out, each a number or a name.
+    pub ignored_locks: &'a [&'a str],
+    /// The variables that are left out, each a number or a name.
+    pub ignored_variables: &'a [&'a str],
+    /// Whether the witness of each round is told.
+    pub witness: bool,
+    /// The limits within which the log is checked.
+    pub limits: Limits,
+}
+
+/// What events can be ignored by.
+#[derive(Clone, Copy, Debug, PartialEq, Eq)]
+pub enum Ignorable {
+    /// A lock.
+    Lock,
+    /// A variable.
+    Variable,
+}
+
+/// What the program was asked for.
+#[derive(Clone, Copy, Debug)]
+pub enum Request<'a> {
+    /// To check a recorded log.
+    Check(CheckOptions<'a>),
+    /// To run a workload by a schedule.
+    Replay(ReplayOptions<'a>),
+    /// To run a workload by threads of its own.
+    Run(RunOptions<'a>),
+    /// To explain the verdict of a recorded log.
+    Explain(ExplainOptions<'a>),
+    /// To carry a recorded log over to the newest version of its text.
+    Carry(CarryOptions<'a>),
+    /// To try every schedule of a workload.
+    Explore(ExploreOptions<'a>),
+    /// To check a log as it comes.
+    Watch(WatchOptions<'a>),
+    /// To list the labels of a recorded log whose blocks are not atomic.
+    Audit(AuditOptions<'a>),
+}

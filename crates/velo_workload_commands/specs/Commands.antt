@@ -1,0 +1,73 @@
+-- What each command on a workload does: one definition a command, whose lines are its steps.
+--
+-- The store is the files that the command finds and leaves, stdout is standard output before and
+-- after, and f is what the command comes to. Each command names in parentheses the page that says
+-- how it answers the bytes of its input.
+use Rattle.std.specs.Prelude.{◌⊎◌, ℕ, List, Option}
+use Rattle.std.specs.Borrow.{Bor}
+use Rattle.velo_events.specs.declared.event.ThreadId.{ThreadId}
+use Rattle.velo_fate.specs.declared.fate.Fate.{Fate}
+use Rattle.velo_request.specs.declared.request.ExploreOptions.{ExploreOptions}
+use Rattle.velo_request.specs.declared.request.ReplayOptions.{ReplayOptions}
+use Rattle.velo_request.specs.declared.request.RunOptions.{RunOptions}
+use Rattle.velo_fate.specs.Delivery.{Answer, IsDeliveredInTurn}
+use Rattle.velo_fate.specs.Barred.{IsBarredRun, WritesNowhere}
+use Rattle.velo_delivery.specs.Disk.{Store}
+use Rattle.velo_workload_commands.specs.Exploring.{IsExploreAnswer}
+use Rattle.velo_workload_commands.specs.Playing.{ByThreads, ByTurns, IsPlayAnswer, Play}
+use Rattle.velo_fate.specs.Failures.{FailuresAsTold}
+use Rattle.velo_delivery.specs.Reading.{Reading}
+use Rattle.velo_workload_commands.specs.Scheduling.{IsScheduleOf, LacksSchedule}
+use Rattle.velo_delivery.specs.Writing.{Writing}
+
+-- ---- what they share
+
+-- the workload does not open, or two of the files are one; no file was opened to be written, nothing
+-- was printed
+abbrev pub DoesNotPlay : Store → List ℕ → Option (Bor (List ℕ)) → Option (Bor (List ℕ)) → Writing
+    → Fate → Type 0
+DoesNotPlay store input target names stdout f =
+    IsBarredRun store.disk input target names f × WritesNowhere store stdout
+
+-- ---- velodrome run FILE [--stop] [--log OUT] [--names-out NAMES] [--events N] [--nodes N]
+-- ---- [--certificate]
+
+-- FILE is read whole, and its threads are played. The log of the run is saved at OUT, then the names
+-- of the workload at NAMES, and then the report goes to standard output, and the certificate behind
+-- it; or nothing, for a reason (`Playing`).
+abbrev pub DoesPlay : Play → RunOptions → Store → Writing → Fate → Type 0
+DoesPlay play options store stdout f =
+    DoesNotPlay store options.input.now options.target options.names_target stdout f
+    ⊎ ((read : Reading) × (answer : Answer) × (names : List ℕ)
+    × store.disk.gives options.input.now read × FailuresAsTold read f
+    × IsPlayAnswer play options read.bytes answer names
+    × IsDeliveredInTurn store options.target options.names_target names stdout answer f)
+
+abbrev pub DoesRun : RunOptions → Store → Writing → Fate → Type 0
+DoesRun options store stdout f = DoesPlay ByThreads options store stdout f
+
+-- ---- velodrome replay FILE [--schedule TEXT | --turns TEXT|@PATH] and the options of run
+
+-- The schedule is that of the text, or of the file at the path, which is read first. There is none,
+-- and no file was opened to be written; or FILE is played by its turns (`Scheduling`, `Playing`).
+abbrev pub DoesReplay : ReplayOptions → Store → Writing → Fate → Type 0
+DoesReplay options store stdout f =
+    (LacksSchedule store.disk options.schedule f × WritesNowhere store stdout)
+    ⊎ ((schedule : List ThreadId) × IsScheduleOf store.disk options.schedule schedule
+    × DoesPlay (ByTurns schedule) options.run store stdout f)
+
+-- ---- velodrome explore FILE [--states N] [--first] [--random N] [--seed S] [--log OUT]
+-- ---- [--names-out NAMES] [--events N] [--nodes N] [--certificate]
+
+-- FILE is read whole, and all its schedules are tried; or with --random so many that are drawn by
+-- chance (`ByChance`). Where one of them was found to have an alarm, a deadlock or a refusal, the log
+-- of its replay is saved at OUT, and then the names of the workload at NAMES. What was found and who
+-- is to blame goes to standard output, and then the report of this replay, and its certificate, and
+-- behind that of a deadlock who waits for what; or nothing, for a reason (`Exploring`).
+abbrev pub DoesExplore : ExploreOptions → Store → Writing → Fate → Type 0
+DoesExplore options store stdout f =
+    DoesNotPlay store options.input.now options.target options.names_target stdout f
+    ⊎ ((read : Reading) × (answer : Answer) × (names : List ℕ)
+    × store.disk.gives options.input.now read × FailuresAsTold read f
+    × IsExploreAnswer options read.bytes answer names
+    × IsDeliveredInTurn store options.target options.names_target names stdout answer f)

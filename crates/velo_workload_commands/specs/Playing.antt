@@ -1,0 +1,200 @@
+-- What a run of a workload has to say, by the bytes of its text and by the definitions.
+use Rattle.std.specs.Prelude.{◌≡◌, ◌⊎◌, ◌≤◌, ◌<◌, ◌+◌, ℕ, Bool, true, false, List, length, map, string_bytes, Option, Some, IfSome, Ok, Err}
+use Rattle.std.specs.Str.{IsUtf8}
+use Rattle.velo_events.specs.declared.config.Config.{Config}
+use Rattle.velo_events.specs.declared.event.ThreadId.{ThreadId}
+use Rattle.velo_events.specs.declared.refusal.Refusal.TheVariants as refusal
+use Rattle.velo_events.specs.Refusals.{GrowthRefused}
+use Rattle.velo_names.specs.declared.limits.TheConstants.{MAX_NAME_LINES, MAX_NAMES_BYTES}
+use Rattle.velo_names.specs.Names.{NameLists, by_place, names_text}
+use Rattle.velo_report.specs.declared.names.Names.{Names}
+use Rattle.velo_report.specs.declared.names.Names.TheVariants.{Listed, Numbers, Words}
+use Rattle.velo_worker.specs.declared.ending.Ending.{Ending}
+use Rattle.velo_worker.specs.declared.ending.Ending.TheVariants as ending
+use Rattle.velo_worker.specs.Causes.{EndsByGrowth, EndsWithCause}
+use Rattle.velo_worker.specs.Live.{AllDone}
+use Rattle.velo_worker.specs.Logs.{IsLogOf}
+use Rattle.velo_worker.specs.Schedule.{Replays}
+use Rattle.velo_workload.specs.declared.fault.WorkFault.{WorkFault}
+use Rattle.velo_workload.specs.declared.fault.WorkFault.TheVariants as work_fault
+use Rattle.velo_workload.specs.declared.limits.TheConstants.{MAX_WORKLOAD_BYTES}
+use Rattle.velo_workload.specs.Program.{Program, ParsesAs, meaning_of}
+use Rattle.velo_world.specs.World.{WorldState}
+use Rattle.velo_fate.specs.declared.verdict.Verdict.{Verdict}
+use Rattle.velo_fate.specs.declared.fate.Fate.{Fate}
+use Rattle.velo_fate.specs.declared.fate.Fate.TheVariants.{Finished, Lost, Work}
+use Rattle.velo_request.specs.declared.request.RunOptions.{RunOptions}
+use Rattle.velo_fate.specs.Verdict.{IsOutput, IsVerdict, is_alarm}
+use Rattle.velo_fate.specs.Delivery.{Answer, LacksMemory, silent}
+use Rattle.velo_fate.specs.Format.{Format, SaysNone}
+use Rattle.velo_fate.specs.Saving.{text_of_log}
+
+-- ---- the workload of an input
+
+-- the bytes are the text of this program; where they are not known nothing is said
+abbrev pub IsTextOf : Option (List ℕ) → Program → Type 0
+IsTextOf read program =
+    IfSome read (λ bytes. (length bytes ≤ MAX_WORKLOAD_BYTES) × (meaning_of bytes ≡ Ok program))
+
+-- there are more bytes than a workload may have
+abbrev pub IsTooLong : List ℕ → WorkFault → Type 0
+IsTooLong bytes fault =
+    (MAX_WORKLOAD_BYTES < length bytes) × (fault ≡ work_fault.TooMany 0)
+
+-- they are not UTF-8; or this is the fault of the text that they are
+abbrev pub HasFault : List ℕ → WorkFault → Type 0
+HasFault bytes fault =
+    ((¬ IsUtf8 bytes) × (fault ≡ work_fault.BadLine 0)) ⊎ ParsesAs (meaning_of bytes) (Err fault)
+
+-- why bytes are the text of no workload: there are too many; else by what they are
+abbrev pub IsFaultOfText : List ℕ → WorkFault → Type 0
+IsFaultOfText bytes fault =
+    IsTooLong bytes fault ⊎ ((length bytes ≤ MAX_WORKLOAD_BYTES) × HasFault bytes fault)
+
+abbrev pub IsFaultOfWork : Option (List ℕ) → WorkFault → Type 0
+IsFaultOfWork read work_fault.Memory = GrowthRefused
+IsFaultOfWork read fault = IfSome read (λ bytes. IsFaultOfText bytes fault)
+
+-- what comes of bytes that are the text of none
+abbrev pub HaveNoWorkload : Option (List ℕ) → Fate → Type 0
+HaveNoWorkload read (Work fault) = IsFaultOfWork read fault
+HaveNoWorkload read f = ⊥
+
+-- a file of a workload
+abbrev pub workload_file : Format Program
+workload_file = record { says = IsTextOf; lacks = HaveNoWorkload }
+
+-- why there is no workload
+abbrev pub IsUnread : Option (List ℕ) → Fate → Type 0
+IsUnread read f = SaysNone workload_file read f
+
+-- ---- its runs
+
+-- how a workload is played: by the turns of a schedule, or by threads of its own
+pub data Play : Type 0 where
+  ByTurns : (schedule : List ThreadId) → Play
+  ByThreads : Play
+
+-- the run has the bounds of the workload, and the limits and the stop that were asked for
+pub record IsConfigOf (program : Program) (options : RunOptions) (config : Config) : Type 0 where
+  pub bounds : config.bounds ≡ program.bounds
+  pub events : config.events ≡ options.limits.events
+  pub nodes : config.nodes ≡ options.limits.nodes
+  pub stop : config.stop ≡ options.stop
+
+-- a replay of the program by a schedule
+pub record IsReplayOf (schedule : List ThreadId) (options : RunOptions) (program : Program)
+    (ended : Ending) (w : WorldState) : Type 0 where
+  pub config : Config
+  pub configured : IsConfigOf program options config
+  pub replays : Replays program schedule config ended w
+  pub cause : EndsByGrowth ended
+
+-- a run of the program by threads of its own: it is configured as was asked for, and its log is one
+-- of the program's; where it is done, each thread that was born did its body
+pub record IsLiveRunOf (options : RunOptions) (program : Program) (ended : Ending) (w : WorldState)
+    : Type 0 where
+  pub configured : IsConfigOf program options w.config
+  pub log : IsLogOf program w.log
+  pub done : ended ≡ ending.Done → AllDone program w
+  pub cause : EndsWithCause ended
+
+abbrev pub IsRunOf : Play → RunOptions → Program → Ending → WorldState → Type 0
+IsRunOf (ByTurns schedule) options program ended w = IsReplayOf schedule options program ended w
+IsRunOf ByThreads options program ended w = IsLiveRunOf options program ended w
+
+-- ---- what a run has to say
+
+-- a run that ends so has no report: memory, or the start of a thread, was refused
+abbrev pub is_unreported : Ending → Bool
+is_unreported (ending.Refused t refusal.Memory) = true
+is_unreported (ending.Refused t refusal.RuntimeMemory) = true
+is_unreported _ = false
+
+-- the names of threads and labels are the program's
+abbrev pub AreNamesOf : Program → Names → Type 0
+AreNamesOf program Numbers = ⊥
+AreNamesOf program (Listed _) = ⊥
+AreNamesOf program (Words threads labels) =
+    (map string_bytes threads.now ≡ program.thread_names)
+    × (map string_bytes labels.now ≡ program.label_names)
+
+-- the names of its threads, variables, locks and labels, each by its number
+abbrev pub listed : Program → NameLists
+listed program =
+    record {
+      threads = by_place program.thread_names;
+      variables = by_place program.variable_names;
+      locks = by_place program.lock_names;
+      labels = by_place program.label_names;
+    }
+
+-- the file of names that says them
+abbrev pub text_of_names : Program → List ℕ
+text_of_names program = names_text (listed program)
+
+-- it is no longer than a file of names may be
+pub record FitsNames (program : Program) : Type 0 where
+  pub few_lines : length program.thread_names + (length program.variable_names
+      + (length program.lock_names + length program.label_names)) ≤ MAX_NAME_LINES
+  pub few_bytes : length (text_of_names program) ≤ MAX_NAMES_BYTES
+
+-- what is said of the log of a world by this report and this verdict: the text of the log is to be
+-- saved, the report printed
+abbrev pub reported : Ending → WorldState → List ℕ → Verdict → Answer
+reported ended w text verdict =
+    record {
+      saved = Some (text_of_log w);
+      printed = Some text;
+      fate = Finished ended (is_alarm verdict);
+    }
+
+-- the text is the report by these names, with its certificate if that is asked for, and the verdict
+-- is that of the log
+pub record IsReported (names : Names) (certificate : Bool) (ended : Ending) (w : WorldState)
+    (answer : Answer) : Type 0 where
+  pub text : List ℕ
+  pub output : IsOutput names certificate w.config.bounds.threads w.log text
+  pub verdict : Verdict
+  pub is_verdict : IsVerdict w.log verdict
+  pub said : answer ≡ reported ended w text verdict
+
+-- only the ending is said
+abbrev pub IsSilentEnding : Ending → Answer → Type 0
+IsSilentEnding ended answer = answer ≡ silent (Finished ended false)
+
+-- the log is reported by the program's names
+abbrev pub IsRunReport : Program → Bool → Ending → WorldState → Answer → Type 0
+IsRunReport program certificate ended w answer =
+    (names : Names) × AreNamesOf program names × IsReported names certificate ended w answer
+
+-- what is said of a run, by whether its ending has a report
+abbrev pub IsSaidOfRun : Program → Bool → Ending → WorldState → Answer → Type 0
+IsSaidOfRun program certificate ended w answer =
+    ((is_unreported ended ≡ true) × IsSilentEnding ended answer)
+    ⊎ ((is_unreported ended ≡ false) × IsRunReport program certificate ended w answer)
+
+-- a run that came to an end, and what is said of it
+pub record IsPlayed (play : Play) (options : RunOptions) (program : Program) (answer : Answer)
+    : Type 0 where
+  pub ended : Ending
+  pub world : WorldState
+  pub is_run : IsRunOf play options program ended world
+  pub says : IsSaidOfRun program options.certificate ended world answer
+
+-- a run by threads may lose a seat; nothing is said of why
+abbrev pub LosesSeat : Play → Answer → Type 0
+LosesSeat (ByTurns schedule) answer = ⊥
+LosesSeat ByThreads answer = answer ≡ silent Lost
+
+abbrev pub IsRunAnswer : Play → RunOptions → Program → Answer → Type 0
+IsRunAnswer play options program answer =
+    IsPlayed play options program answer ⊎ (LosesSeat play answer ⊎ LacksMemory answer)
+
+-- What a run of the workload that was read has to say, and the text of its names; or nothing, for the
+-- reason that there is none.
+abbrev pub IsPlayAnswer : Play → RunOptions → Option (List ℕ) → Answer → List ℕ → Type 0
+IsPlayAnswer play options read answer names =
+    ((program : Program) × IsTextOf read program × (names ≡ text_of_names program)
+    × IsRunAnswer play options program answer)
+    ⊎ ((f : Fate) × IsUnread read f × (answer ≡ silent f))

@@ -1,0 +1,60 @@
+-- The schedule that a replay is given: by its text, by its turns or by the path of a file with these.
+use Rattle.std.specs.Prelude.{◌≡◌, List, ℕ, Option, IfSome}
+use Rattle.velo_events.specs.declared.event.ThreadId.{ThreadId}
+use Rattle.velo_events.specs.Refusals.{GrowthRefused}
+use Rattle.velo_turns.specs.File.{IsScheduleIn}
+use Rattle.velo_turns.specs.Schedule.{IsFaultOfSchedule, IsFaultOfTurns, IsSchedule, SaysTurns}
+use Rattle.velo_turns.specs.declared.schedule.ScheduleFault.{ScheduleFault}
+use Rattle.velo_turns.specs.declared.schedule.ScheduleFault.TheVariants as schedule_fault
+use Rattle.velo_fate.specs.declared.fate.Fate.{Fate}
+use Rattle.velo_fate.specs.declared.fate.Fate.TheVariants as fate
+use Rattle.velo_request.specs.declared.request.ScheduleSource.{ScheduleSource}
+use Rattle.velo_request.specs.declared.request.ScheduleSource.TheVariants as source
+use Rattle.velo_delivery.specs.Disk.{Disk}
+use Rattle.velo_fate.specs.Format.{Format, LacksAt, Reads}
+
+-- ---- by the bytes of the file
+
+-- the bytes say this schedule; where they are not known nothing is said
+abbrev pub SaySchedule : Option (List ℕ) → List ThreadId → Type 0
+SaySchedule read schedule = IfSome read (λ bytes. IsScheduleIn bytes schedule)
+
+-- the fault for which they say none
+abbrev pub HaveFaultOfSchedule : Option (List ℕ) → ScheduleFault → Type 0
+HaveFaultOfSchedule read schedule_fault.Memory = GrowthRefused
+HaveFaultOfSchedule read schedule_fault.Bad =
+    IfSome read (λ bytes. (schedule : List ThreadId) → ¬ IsScheduleIn bytes schedule)
+
+-- what comes of bytes that say none
+abbrev pub HaveNoSchedule : Option (List ℕ) → Fate → Type 0
+HaveNoSchedule read (fate.Schedule fault) = HaveFaultOfSchedule read fault
+HaveNoSchedule read f = ⊥
+
+-- a file of turns
+abbrev pub turns_file : Format (List ThreadId)
+turns_file = record { says = SaySchedule; lacks = HaveNoSchedule }
+
+-- ---- by the option
+
+-- the schedule of the text, of the turns, or of the file
+abbrev pub IsScheduleOf : Disk → ScheduleSource → List ThreadId → Type 0
+IsScheduleOf disk (source.Text text) schedule = IsSchedule text.now schedule
+IsScheduleOf disk (source.Turns text) schedule = SaysTurns text.now schedule
+IsScheduleOf disk (source.File path) schedule = Reads turns_file disk path.now schedule
+
+-- why there is none
+abbrev pub LacksSchedule : Disk → ScheduleSource → Fate → Type 0
+LacksSchedule disk (source.Text text) f =
+    (fault : ScheduleFault) × IsFaultOfSchedule text.now fault × (f ≡ fate.Schedule fault)
+LacksSchedule disk (source.Turns text) f =
+    (fault : ScheduleFault) × IsFaultOfTurns text.now fault × (f ≡ fate.Schedule fault)
+LacksSchedule disk (source.File path) f = LacksAt turns_file disk path.now f
+
+-- ---- on the way. Contracts within the crate cite these words
+
+-- the schedule that these bytes say, or the fault for which they say none
+abbrev pub IsNoScheduleIn : List ℕ → Fate → Type 0
+IsNoScheduleIn bytes (fate.Schedule schedule_fault.Memory) = GrowthRefused
+IsNoScheduleIn bytes (fate.Schedule schedule_fault.Bad) =
+    (schedule : List ThreadId) → ¬ IsScheduleIn bytes schedule
+IsNoScheduleIn bytes f = ⊥

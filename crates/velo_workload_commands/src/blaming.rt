@@ -1,0 +1,44 @@
+//! Who is to blame for the alarms that a search finds.
+ghost use Rattle.std.specs.Prelude.{◌≡◌, IfOk, map, take};
+ghost use Rattle.velo_workload_commands.specs.ByChance.{IsBlameOf};
+ghost use Rattle.velo_workload_commands.specs.Exploring.{most_to_blame};
+
+use crate::told::ToBlame;
+use std::alloc::Global;
+use velo_chance::{Tally, try_all};
+use velo_events::{Config, Memory, ThreadId};
+use velo_workload::Workload;
+
+/// The most replays that are asked whom they blame.
+pub const MAX_BLAMING: usize = 100;
+
+/// The most replays that are asked, where the first finding ends the search or does not.
+fn most_to_blame(first: bool) -> usize
+    ensures { result ≡ most_to_blame first }
+{
+    if first { 0 } else { MAX_BLAMING }
+}
+
+/// Whom the replays by these schedules blame, each made once. Behind the most of them the others are left out; where the first
+/// finding ends the search all are.
+///
+/// # Errors
+/// `Memory` where a growth was refused.
+pub fn blame_of(
+    alloc: Global,
+    workload: &Workload,
+    schedules: &[Vec<ThreadId>],
+    first: bool,
+    config: Config,
+) -> Result<ToBlame, Memory>
+    requires { config.bounds ≡ workload.now.bounds }
+    ensures { IfOk result (IsBlameOf workload.now config
+        (map (λ schedule. schedule.items) (take (most_to_blame first) schedules.now))) }
+{
+    let most = most_to_blame(first).min(schedules.len());
+    let Tally { alarms, blamed, .. } = try_all(alloc, workload, &schedules[..most], config)?;
+    Ok(ToBlame {
+        alarms,
+        labels: blamed,
+    })
+}

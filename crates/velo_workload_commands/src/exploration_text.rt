@@ -1,0 +1,157 @@
+//! The text of what is told of the schedules of a workload.
+ghost use Rattle.std.specs.Prelude.{◌≡◌, ◌++◌, slice_get, IfOk, OnOk};
+ghost use Rattle.velo_workload_commands.specs.Exploring.{blame_text, blamed_text, finding_text, found_text, label_text, name_text, refused_text, refusal_text, told_text, tried_text};
+
+use crate::told::{Found, ToBlame, Told, Tried};
+use std::alloc::Global;
+use velo_bytes::{append, append_number};
+use velo_chance::Blamed;
+use velo_events::{Label, Memory, ThreadId};
+use velo_fate::number_of;
+use velo_schedules::{Finding, RefusalFinding, RefusedRun};
+use velo_turns::append_turns;
+use velo_workload::Workload;
+
+/// Adds what stands behind the word of a finding.
+fn add_finding(text: &mut Vec<u8>, finding: &Finding) -> Result<(), Memory>
+    ensures { OnOk result (text.new.items ≡ text.old.items ++ finding_text finding.now) }
+{
+    match finding {
+        Finding::Shown(schedule) => append_turns(text, schedule),
+        Finding::Never => append(text, b" none"),
+        Finding::Open => append(text, b" open"),
+    }
+}
+
+/// Adds the name of a thread behind a space, if it has one.
+fn add_name(text: &mut Vec<u8>, workload: &Workload, thread: ThreadId) -> Result<(), Memory>
+    ensures { OnOk result (text.new.items
+        ≡ text.old.items ++ name_text (slice_get workload.now.thread_names thread.0)) }
+{
+    match workload.thread_names().get(usize::from(thread.0)) {
+        Some(name) => {
+            append(text, b" ")?;
+            append(text, name.as_bytes())
+        }
+        None => Ok(()),
+    }
+}
+
+/// Adds the number of a refusal, its thread, and its schedule.
+fn add_refused(text: &mut Vec<u8>, workload: &Workload, run: &RefusedRun) -> Result<(), Memory>
+    ensures { OnOk result (text.new.items
+        ≡ text.old.items ++ refused_text workload.now run.now) }
+{
+    append(text, b" ")?;
+    append_number(text, u64::from(number_of(run.refusal)))?;
+    append(text, b" thread ")?;
+    append_number(text, u64::from(run.thread.0))?;
+    add_name(text, workload, run.thread)?;
+    append_turns(text, &run.schedule)
+}
+
+/// Adds what stands behind the word of refusals.
+fn add_refusal(
+    text: &mut Vec<u8>,
+    workload: &Workload,
+    finding: &RefusalFinding,
+) -> Result<(), Memory>
+    ensures { OnOk result (text.new.items
+        ≡ text.old.items ++ refusal_text workload.now finding.now) }
+{
+    match finding {
+        RefusalFinding::Shown(run) => add_refused(text, workload, run),
+        RefusalFinding::Never => append(text, b" none"),
+        RefusalFinding::Open => append(text, b" open"),
+    }
+}
+
+/// Adds how schedules were tried.
+fn add_tried(text: &mut Vec<u8>, tried: Tried) -> Result<(), Memory>
+    ensures { OnOk result (text.new.items ≡ text.old.items ++ tried_text tried) }
+{
+    match tried {
+        Tried::All { events, states } => {
+            append(text, b"events ")?;
+            append_number(text, events)?;
+            append(text, b"\nstates ")?;
+            append_number(text, states)
+        }
+        Tried::ByChance { seed, runs } => {
+            append(text, b"seed ")?;
+            append_number(text, seed)?;
+            append(text, b"\nruns ")?;
+            append_number(text, runs)
+        }
+    }
+}
+
+/// Adds the lines of what was found.
+fn add_found(text: &mut Vec<u8>, workload: &Workload, found: &Found) -> Result<(), Memory>
+    ensures { OnOk result (text.new.items
+        ≡ text.old.items ++ found_text workload.now found.now) }
+{
+    append(text, b"\nalarm")?;
+    add_finding(text, &found.alarm)?;
+    append(text, b"\nstuck")?;
+    add_finding(text, &found.stuck)?;
+    append(text, b"\nrefused")?;
+    add_refusal(text, workload, &found.refused)?;
+    append(text, b"\n")
+}
+
+/// Adds the name of a label, or its number, if it has none.
+fn add_label(text: &mut Vec<u8>, workload: &Workload, label: Label) -> Result<(), Memory>
+    ensures { OnOk result (text.new.items
+        ≡ text.old.items ++ label_text workload.now label.0) }
+{
+    match workload.label_names().get(label.0 as usize) {
+        Some(name) => append(text, name.as_bytes()),
+        None => append_number(text, u64::from(label.0)),
+    }
+}
+
+/// Adds the line of a label that is to blame for some of so many alarms.
+fn add_blamed(
+    text: &mut Vec<u8>,
+    workload: &Workload,
+    alarms: u64,
+    blamed: Blamed,
+) -> Result<(), Memory>
+    ensures { OnOk result (text.new.items
+        ≡ text.old.items ++ blamed_text workload.now alarms blamed) }
+{
+    append(text, b"to blame ")?;
+    add_label(text, workload, blamed.label)?;
+    append(text, b" (")?;
+    append_number(text, blamed.alarms)?;
+    append(text, b" of ")?;
+    append_number(text, alarms)?;
+    append(text, b" alarms)\n")
+}
+
+/// Adds the lines of the labels that are to blame.
+fn add_blame(text: &mut Vec<u8>, workload: &Workload, blame: &ToBlame) -> Result<(), Memory>
+    ensures { OnOk result (text.new.items
+        ≡ text.old.items ++ blame_text workload.now blame.now) }
+{
+    let labels = blame.labels.as_slice();
+    for place in 0..labels.len() {
+        add_blamed(text, workload, blame.alarms, labels[place])?;
+    }
+    Ok(())
+}
+
+/// The text of what is told of the schedules of a workload.
+///
+/// # Errors
+/// `Memory` where a growth was refused.
+pub fn text_of_told(alloc: Global, workload: &Workload, told: &Told) -> Result<Vec<u8>, Memory>
+    ensures { IfOk result (λ text. text.items ≡ told_text workload.now told.now) }
+{
+    let mut text = Vec::new(alloc);
+    add_tried(&mut text, told.tried)?;
+    add_found(&mut text, workload, &told.found)?;
+    add_blame(&mut text, workload, &told.blame)?;
+    Ok(text)
+}

@@ -1,0 +1,22 @@
+//! What each command on a workload does, whatever its files and its output are.
+#![tactic(auto)]
+
+mod blaming;
+mod exploration_text;
+mod exploring;
+mod findings;
+mod laws;
+mod progress;
+mod replaying;
+mod running;
+mod saving;
+mod scheduling;
+mod told;
+mod work;
+
+pub use blaming::MAX_BLAMING;
+pub use exploring::explore_file;
+pub use laws::names_read_back;
+pub use progress::ExploreProgress;
+pub use replaying::replay_file;
+pub use running::run_file;

@@ -1,0 +1,79 @@
+//! `velodrome replay`.
+ghost use Rattle.velo_workload_commands.specs.Playing.{ByTurns};
+ghost use Rattle.velo_workload_commands.specs.Commands.{DoesPlay, DoesReplay};
+ghost use Rattle.velo_delivery.specs.Disk.{store};
+ghost use Rattle.velo_delivery.specs.Writing.{writing};
+ghost use Rattle.velo_workload_commands.specs.Steps.{Plays};
+
+use crate::scheduling::schedule_of_source;
+use crate::work::{config_of_run, finish_run, open_workload};
+use std::alloc::Global;
+use velo_bytes::Sink;
+use velo_delivery::Files;
+use velo_events::{Memory, ThreadId};
+use velo_fate::Fate;
+use velo_request::{ReplayOptions, RunOptions};
+use velo_worker::replay;
+use velo_workload::Workload;
+
+/// Replays a workload by a schedule, and writes what it shows.
+fn replay_workload<F: Files, O: Sink>(
+    alloc: Global,
+    workload: &Workload,
+    schedule: &[ThreadId],
+    options: &RunOptions,
+    files: &mut F,
+    out: &mut O,
+) -> Fate
+    ensures { Plays (ByTurns schedule.now) options.now workload.now
+        (store F.disk files.old files.new)
+        (writing O.contents O.failures out.old out.new) result }
+{
+    let config = config_of_run(workload, options);
+    match replay(alloc, workload, schedule, config) {
+        Ok(ended) => finish_run(alloc, workload, ended, options, files, out),
+        Err(Memory) => Fate::Memory,
+    }
+}
+
+/// Replays the workload that was asked for by its schedule, and writes what it shows.
+fn replay_by<F: Files, O: Sink>(
+    alloc: Global,
+    schedule: &[ThreadId],
+    options: &RunOptions,
+    files: &mut F,
+    out: &mut O,
+) -> Fate
+    ensures { DoesPlay (ByTurns schedule.now) options.now (store F.disk files.old files.new)
+        (writing O.contents O.failures out.old out.new) result }
+{
+    match open_workload(alloc, options, files) {
+        Ok(workload) => {
+            let fate = replay_workload(alloc, &workload, schedule, options, files, out);
+            drop(workload);
+            fate
+        }
+        Err(fate) => fate,
+    }
+}
+
+/// Replays the workload that was asked for, and writes what it shows. The schedule is read before the workload, and where it is
+/// none that is told.
+pub fn replay_file<F: Files, O: Sink>(
+    alloc: Global,
+    options: &ReplayOptions,
+    files: &mut F,
+    out: &mut O,
+) -> Fate
+    ensures { DoesReplay options.now (store F.disk files.old files.new)
+        (writing O.contents O.failures out.old out.new) result }
+{
+    match schedule_of_source(alloc, options.schedule, files) {
+        Ok(schedule) => {
+            let fate = replay_by(alloc, &schedule, &options.run, files, out);
+            drop(schedule);
+            fate
+        }
+        Err(fate) => fate,
+    }
+}

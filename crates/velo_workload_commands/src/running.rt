@@ -1,0 +1,58 @@
+//! `velodrome run`.
+ghost use Rattle.velo_workload_commands.specs.Playing.{ByThreads};
+ghost use Rattle.velo_workload_commands.specs.Commands.{DoesRun};
+ghost use Rattle.velo_delivery.specs.Disk.{store};
+ghost use Rattle.velo_delivery.specs.Writing.{writing};
+ghost use Rattle.velo_workload_commands.specs.Steps.{Plays};
+
+use crate::work::{config_of_run, finish_run, open_workload};
+use std::alloc::Global;
+use std::sync::Wait;
+use std::thread::Threads;
+use velo_bytes::Sink;
+use velo_delivery::Files;
+use velo_fate::Fate;
+use velo_request::RunOptions;
+use velo_worker::{LiveFault, OpenGate, live};
+use velo_workload::Workload;
+
+/// Runs a workload by threads of its own, and writes what the run shows.
+fn run_workload<R: Threads + Wait + Sync, F: Files, O: Sink>(
+    rt: &R,
+    alloc: Global,
+    workload: &Workload,
+    options: &RunOptions,
+    files: &mut F,
+    out: &mut O,
+) -> Fate
+    ensures { Plays ByThreads options.now workload.now (store F.disk files.old files.new)
+        (writing O.contents O.failures out.old out.new) result }
+{
+    let config = config_of_run(workload, options);
+    match live(rt, alloc, workload, config, &OpenGate) {
+        Ok(ended) => finish_run(alloc, workload, ended, options, files, out),
+        Err(LiveFault::Memory) => Fate::Memory,
+        Err(LiveFault::Lost) => Fate::Lost,
+    }
+}
+
+/// Runs the workload that was asked for, and writes what the run shows.
+pub fn run_file<R: Threads + Wait + Sync, F: Files, O: Sink>(
+    rt: &R,
+    alloc: Global,
+    options: &RunOptions,
+    files: &mut F,
+    out: &mut O,
+) -> Fate
+    ensures { DoesRun options.now (store F.disk files.old files.new)
+        (writing O.contents O.failures out.old out.new) result }
+{
+    match open_workload(alloc, options, files) {
+        Ok(workload) => {
+            let fate = run_workload(rt, alloc, &workload, options, files, out);
+            drop(workload);
+            fate
+        }
+        Err(fate) => fate,
+    }
+}

@@ -1,0 +1,57 @@
+//! The schedule of a replay.
+ghost use Rattle.std.specs.Prelude.{IfErr, IfOk};
+ghost use Rattle.velo_turns.specs.File.{IsScheduleIn};
+ghost use Rattle.velo_fate.specs.Format.{LacksAt, Reads};
+ghost use Rattle.velo_workload_commands.specs.Scheduling.{IsNoScheduleIn, IsScheduleOf, LacksSchedule, turns_file};
+
+use std::alloc::Global;
+use velo_delivery::Files;
+use velo_events::ThreadId;
+use velo_fate::{Fate, read_file};
+use velo_request::ScheduleSource;
+use velo_turns::{MAX_SCHEDULE_BYTES, schedule_in, schedule_of, turns_of};
+
+/// The schedule that the bytes of a file say.
+///
+/// # Errors
+/// `Schedule` with the fault for which they say none.
+fn schedule_of_bytes(alloc: Global, bytes: &[u8]) -> Result<Vec<ThreadId>, Fate>
+    ensures schedule { IfOk result (λ schedule. IsScheduleIn bytes.now schedule.items) }
+    ensures fault { IfErr result (IsNoScheduleIn bytes.now) }
+{
+    schedule_in(alloc, bytes).map_err(Fate::Schedule)
+}
+
+/// The schedule of the file at a path.
+fn schedule_at<F: Files>(alloc: Global, path: &str, files: &F) -> Result<Vec<ThreadId>, Fate>
+    ensures schedule { IfOk result (λ schedule. Reads turns_file (F.disk files.now) path.now
+        schedule.items) }
+    ensures none { IfErr result (LacksAt turns_file (F.disk files.now) path.now) }
+{
+    let bytes = match read_file(alloc, path, MAX_SCHEDULE_BYTES, files) {
+        Ok(bytes) => bytes,
+        Err(fate) => return Err(fate),
+    };
+    schedule_of_bytes(alloc, &bytes)
+}
+
+/// The schedule that a replay is given: by its text, by its turns or by the path of a file with these.
+///
+/// # Errors
+/// `Schedule` where there is none; for a file also `CannotOpen` where it does not open, `ReadFailed` where it failed, `Memory`
+/// where a growth was refused.
+pub fn schedule_of_source<F: Files>(
+    alloc: Global,
+    source: ScheduleSource,
+    files: &F,
+) -> Result<Vec<ThreadId>, Fate>
+    ensures schedule { IfOk result (λ schedule. IsScheduleOf (F.disk files.now) source.entry
+        schedule.items) }
+    ensures none { IfErr result (LacksSchedule (F.disk files.now) source.entry) }
+{
+    match source {
+        ScheduleSource::Text(text) => schedule_of(alloc, text).map_err(Fate::Schedule),
+        ScheduleSource::Turns(text) => turns_of(alloc, text).map_err(Fate::Schedule),
+        ScheduleSource::File(path) => schedule_at(alloc, path, files),
+    }
+}

@@ -1,0 +1,54 @@
+//! What is told of the schedules of a workload.
+
+use velo_chance::Blamed;
+use velo_schedules::{Finding, RefusalFinding};
+
+/// How the schedules of a workload were tried.
+#[derive(Clone, Copy, Debug, PartialEq, Eq)]
+pub enum Tried {
+    /// All of them, by a search of states.
+    All {
+        /// How many events all bodies have together; the largest number where there are more.
+        events: u64,
+        /// How many states were looked at.
+        states: u64,
+    },
+    /// Some of them, drawn by chance.
+    ByChance {
+        /// The seed that they were drawn by.
+        seed: u64,
+        /// How many runs were made.
+        runs: u64,
+    },
+}
+
+/// What the schedules show.
+#[derive(Debug, Drop)]
+pub struct Found {
+    /// Logs that are not serializable.
+    pub alarm: Finding,
+    /// Replays that end as stuck.
+    pub stuck: Finding,
+    /// Replays that end as refused.
+    pub refused: RefusalFinding,
+}
+
+/// Who is to blame for the alarms of some runs.
+#[derive(Debug, Drop)]
+pub struct ToBlame {
+    /// How many of the runs have an alarm.
+    pub alarms: u64,
+    /// The labels that these alarms blame, those of most alarms first.
+    pub labels: Vec<Blamed>,
+}
+
+/// What is told of the schedules of a workload.
+#[derive(Debug, Drop)]
+pub struct Told {
+    /// How they were tried.
+    pub tried: Tried,
+    /// What they show.
+    pub found: Found,
+    /// Who is to blame.
+    pub blame: ToBlame,
+}
