@@ -3,6 +3,8 @@
 
 mod finder;
 mod leaving;
+#[cfg(test)]
+mod tests;
 
 pub use finder::repeats;
 pub use leaving::without_repeats;
