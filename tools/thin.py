@@ -30,11 +30,11 @@ def thin(program, log, out, places):
 
 
 def report_of(text):
-    """The verdict, the position of the alarm, and the lines of the blame."""
-    lines = text.splitlines()
-    verdict = next(line.split() for line in lines if line.startswith("verdict"))
-    blame = [line for line in lines if line.startswith("blame")]
-    return verdict[1], int(verdict[2]) if len(verdict) > 2 else None, blame
+    """The verdict, the position of the alarm, and the blocks to blame, each by its position and its label."""
+    lines = [line.split() for line in text.splitlines()]
+    verdict = next(words for words in lines if words[0] == "verdict")
+    blame = [(int(words[1]), words[2:]) for words in lines if words[0] == "blame" and words[1] != "none"]
+    return verdict[1], [int(word) for word in verdict[2:]], blame
 
 
 def compare(program, log, folder, name):
@@ -51,10 +51,9 @@ def compare(program, log, folder, name):
     limits = ("--events", "16777216", "--nodes", "4096")
     (one, first, _), (two, second, _) = (run(program, "check", path, *limits) for path in (log, out))
     (verdict, at, blame), (verdict_left, at_left, blame_left) = report_of(first), report_of(second)
-    if (one, verdict, blame) != (two, verdict_left, blame_left):
-        sys.exit(f"{name}: {verdict} {blame} becomes {verdict_left} {blame_left}")
-    if at is not None and position[at_left] != at:
-        sys.exit(f"{name}: an alarm at {at} becomes one at {position[at_left]}")
+    left = verdict_left, [position[p] for p in at_left], [(position[p], label) for p, label in blame_left]
+    if (one, (verdict, at, blame)) != (two, left):
+        sys.exit(f"{name}: {verdict} {at} {blame} becomes {left}")
     audits = [run(program, "audit", path, "--no-witness") for path in (log, out)]
     if audits[0] != audits[1]:
         sys.exit(f"{name}: another audit")
