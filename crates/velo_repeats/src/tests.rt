@@ -47,9 +47,23 @@ fn judge(
 fn a_thread_does_it_again(rt: HostRuntime) -> Result<(), Fail> {
     let alloc = rt.alloc();
     let three = [read(0, 0), read(0, 0), read(0, 0)];
-    judge(&rt, alloc, "three reads", &three, &[false, true, true], &[0])?;
+    judge(
+        &rt,
+        alloc,
+        "three reads",
+        &three,
+        &[false, true, true],
+        &[0],
+    )?;
     let written = [write(0, 1), write(0, 1), write(0, 2)];
-    judge(&rt, alloc, "three writes", &written, &[false, true, false], &[0, 2])?;
+    judge(
+        &rt,
+        alloc,
+        "three writes",
+        &written,
+        &[false, true, false],
+        &[0, 2],
+    )?;
     let apart = [read(0, 0), read(0, 1), read(0, 0)];
     judge(&rt, alloc, "another read", &apart, &[false; 3], &[0, 1, 2])?;
     let block = [
@@ -68,13 +82,34 @@ fn a_thread_does_it_again(rt: HostRuntime) -> Result<(), Fail> {
 fn another_thread_comes_between(rt: HostRuntime) -> Result<(), Fail> {
     let alloc = rt.alloc();
     let reads = [read(0, 0), read(1, 0), read(0, 0), read(1, 0)];
-    judge(&rt, alloc, "reads", &reads, &[false, false, true, true], &[0, 1])?;
+    judge(
+        &rt,
+        alloc,
+        "reads",
+        &reads,
+        &[false, false, true, true],
+        &[0, 1],
+    )?;
     let written = [read(0, 0), write(1, 0), read(0, 0)];
     judge(&rt, alloc, "a write", &written, &[false; 3], &[0, 1, 2])?;
     let elsewhere = [read(0, 0), by(1, Kind::Write(VarId(1), 5)), read(0, 0)];
-    judge(&rt, alloc, "a write elsewhere", &elsewhere, &[false, false, true], &[0, 1])?;
+    judge(
+        &rt,
+        alloc,
+        "a write elsewhere",
+        &elsewhere,
+        &[false, false, true],
+        &[0, 1],
+    )?;
     let overread = [write(0, 1), read(1, 0), write(0, 1)];
-    judge(&rt, alloc, "a read between writes", &overread, &[false; 3], &[0, 1, 2])?;
+    judge(
+        &rt,
+        alloc,
+        "a read between writes",
+        &overread,
+        &[false; 3],
+        &[0, 1, 2],
+    )?;
     let forked = [read(0, 0), by(1, Kind::Fork(ThreadId(0))), read(0, 0)];
     judge(&rt, alloc, "a fork", &forked, &[false; 3], &[0, 1, 2])
 }

@@ -1,20 +1,19 @@
 -- A log without what is in order, and then without repeats.
-use Rattle.std.proofs.Common.{◌≡◌, ℕ, zero, suc, ◌+◌, ◌<◌, ◌≤◌, Bool, not, Some, List, length, map, get_or, refl, sym, ap, ◌∙◌, subst, arith, ⊎_elim}
-use Rattle.std.specs.Prelude.{IsTrue, All, slice_get, slice_index}
+use Rattle.std.proofs.Common.{◌≡◌, ℕ, zero, suc, ◌<◌, ◌≤◌, Bool, not, Some, List, length, map, get_or, sym, ap, ◌∙◌, subst, arith, ⊎_elim}
+use Rattle.std.specs.Prelude.{All, slice_get, slice_index}
 use Rattle.std.proofs.lemmas.Bool.{cases_Bool}
 use Rattle.std.proofs.lemmas.Option.{get_or_from_slice_get}
-use Rattle.std.proofs.lemmas.List.{get_or-map, get_or_default, length-map}
+use Rattle.std.proofs.lemmas.List.{get_or-map, length-map}
 use Rattle.velo_events.specs.declared.config.Bounds.{Bounds}
 use Rattle.velo_events.specs.declared.event.Event.{Event}
-use Rattle.velo_events.specs.Block.{positions}
 use Rattle.velo_events.specs.WellFormed.{IsWellFormed}
-use Rattle.velo_thin.specs.Left.{rest_of, places_of, place_of}
+use Rattle.velo_thin.specs.Left.{places_of, place_of}
 use Rattle.velo_thin.specs.declared.thinned.Thinned.{Thinned}
 use Rattle.velo_thin.proofs.OnRanks.{rank, rank-zero, rank-stays, rank-goes, rank-from, staying, staying-at, length-staying, length-events_staying}
 use Rattle.velo_thin.proofs.OnLeft.{stays, rest_of-is, length-sub}
 use Rattle.velo_thin.proofs.OnTurns.{IsWellFormed-rest}
 use Rattle.velo_laws.specs.Ordered.{only}
-use Rattle.velo_laws.specs.Repeats.{AreRepeats, AreEqualAccesses, without, place_with}
+use Rattle.velo_laws.specs.Repeats.{without, place_with}
 use Rattle.velo_laws.specs.Judged.{IsJudgedBy}
 use Rattle.velo_laws.proofs.OnJudged.{judged_through_law}
 use Rattle.velo_laws.proofs.OnJudgedOperations.{judged_operations_law}

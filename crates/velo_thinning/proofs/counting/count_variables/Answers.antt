@@ -1,4 +1,4 @@
-use Rattle.std.proofs.Common.{◌≡◌, ◌+◌, ◌++◌, ◌∷◌, [], length, get_or, take, refl, sym, ap, ◌∙◌, subst, arith}
+use Rattle.std.proofs.Common.{◌≡◌, ◌+◌, length, get_or, take, refl, sym, ap, ◌∙◌, subst, arith}
 use Rattle.std.proofs.Math.Seq.{take-length}
 use Rattle.std.proofs.lemmas.List.{take_more}
 use Rattle.velo_laws.specs.Length.{counted}
@@ -36,4 +36,4 @@ returns c =
     c.count_marked.ensures
     ∙ (ap (λ marks. counted 65536 (marked marks)) c.deref.ensures.value
     ∙ variables-marked events c.loop-event.marks.items
-        (subst (λ es. AreMarked es c.loop-event.marks.items) (ap (λ n. take n events) at ∙ take-length events) c.loop-event.invariant.marks))
+    (subst (λ es. AreMarked es c.loop-event.marks.items) (ap (λ n. take n events) at ∙ take-length events) c.loop-event.invariant.marks))

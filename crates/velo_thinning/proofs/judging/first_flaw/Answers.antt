@@ -1,9 +1,9 @@
-use Rattle.std.proofs.Common.{◌≡◌, ◌+◌, ◌++◌, ◌∷◌, [], Some, None, length, get_or, take, sym, ap, ◌∙◌, subst, arith}
+use Rattle.std.proofs.Common.{◌≡◌, length, get_or, take, sym, ap, ◌∙◌, subst, arith}
 use Rattle.std.proofs.Math.Seq.{take-length}
 use Rattle.std.proofs.lemmas.List.{take_more}
 use Rattle.std.proofs.lemmas.Option.{slice_get-get_or}
 use Rattle.velo_events.specs.WellFormed.{IsWellFormed}
-use Rattle.velo_traces.specs.Flaws.{flaw_of, IsFirstFlaw}
+use Rattle.velo_traces.specs.Flaws.{IsFirstFlaw}
 use Rattle.velo_traces.proofs.Past.{past}
 use Rattle.velo_traces.proofs.OnFlaws.{MayFollow-from_no_flaw, flaw-not_MayFollow}
 use Rattle.velo_heap.specs.Contents.{bounds_of, IsHeapOf}

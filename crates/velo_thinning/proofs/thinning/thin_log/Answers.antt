@@ -1,6 +1,5 @@
-use Rattle.std.proofs.Common.{◌≡◌, ◌<◌, ◌≤◌, ℕ, List, length, map, refl, sym, ap, ◌∙◌, subst, arith}
+use Rattle.std.proofs.Common.{◌<◌, length, map, refl, sym, ap, ◌∙◌, subst, arith}
 use Rattle.std.specs.Prelude.{All, slice_index}
-use Rattle.velo_thin.specs.declared.thinned.Thinned.{Thinned}
 use Rattle.velo_thinning.proofs.OnThinning.{rest-le, second-within, thinned_law}
 use Rattle.velo_thinning.proofs.thinning.thin_log.Goals as goal
 
