@@ -1,3 +1,4 @@
+pub mod OnAtOnce
 pub mod OnJudging
 pub mod OnThinning
 pub mod OnCounting

@@ -1,5 +1,5 @@
 -- A log without what is in order, and then without repeats.
-use Rattle.std.proofs.Common.{◌≡◌, ℕ, zero, suc, ◌<◌, ◌≤◌, Bool, not, Some, List, length, map, get_or, sym, ap, ◌∙◌, subst, arith, ⊎_elim}
+use Rattle.std.proofs.Common.{◌≡◌, ℕ, zero, suc, ◌<◌, ◌≤◌, Bool, false, not, Some, List, length, map, get_or, sym, ap, ◌∙◌, subst, arith, ⊎_elim}
 use Rattle.std.specs.Prelude.{All, slice_get, slice_index}
 use Rattle.std.proofs.lemmas.Bool.{cases_Bool}
 use Rattle.std.proofs.lemmas.Option.{get_or_from_slice_get}
@@ -21,6 +21,7 @@ use Rattle.velo_laws.proofs.OnJudgedRepeats.{judged_repeats_law}
 use Rattle.velo_laws.proofs.OnRepeatsRuns.{repeat_run_law}
 use Rattle.velo_races.specs.Races.{no_lock, IsThinned}
 use Rattle.velo_repeats.specs.Repeating.{IsWithoutRepeats}
+use Rattle.velo_thinning.proofs.OnAtOnce.{at_once}
 use Rattle.velo_thinning.specs.Thinning.{without_variables, place_in, IsThinnedLog}
 
 -- how many pass below a number is no more than that
@@ -85,6 +86,11 @@ module _ (bounds : Bounds) (log : List Event) (first second : Thinned) (well : I
         ∙ (ap (λ places. get_or places (get_or second.places.items k 0) 0) w.places
         ∙ ap (λ places. get_or (places_of (only no_lock w.variables) log) (get_or places k 0) 0) u.places))
 
+    judged-is : (labels : ℕ → Bool) → IsJudgedBy labels log result.trace.events (place_in w.variables u.goes log)
+    judged-is labels = subst (λ es. IsJudgedBy labels log es (place_in w.variables u.goes log)) (sym events-are)
+        (judged_through_law labels log R (without u.goes R) (place_of (only no_lock w.variables) log) (place_with u.goes R)
+        (judged_operations_law labels no_lock w.variables bounds log well w.ordered) (judged_repeats_law labels u.goes R u.repeats))
+
     pub thinned_law : IsThinnedLog bounds log result
     thinned_law = record {
       variables = w.variables;
@@ -101,7 +107,6 @@ module _ (bounds : Bounds) (log : List Event) (first second : Thinned) (well : I
       count = count-is;
       places = place-is;
       well_formed = subst (IsWellFormed bounds) (sym events-are) (repeat_run_law u.goes bounds R u.repeats u.equal (IsWellFormed-rest (only no_lock w.variables) bounds log well));
-      judged = λ labels. subst (λ es. IsJudgedBy labels log es (place_in w.variables u.goes log)) (sym events-are)
-          (judged_through_law labels log R (without u.goes R) (place_of (only no_lock w.variables) log) (place_with u.goes R)
-          (judged_operations_law labels no_lock w.variables bounds log well w.ordered) (judged_repeats_law labels u.goes R u.repeats));
+      judged_at_once = at_once log result.trace.events (place_in w.variables u.goes log) (judged-is (λ l. false));
+      judged = judged-is;
     }

@@ -1,7 +1,11 @@
 -- A log without what adds nothing.
-use Rattle.std.specs.Prelude.{◌≡◌, ℕ, ◌<◌, ◌≤◌, Bool, List, length, slice_index, IsTrue}
+use Rattle.std.specs.Prelude.{◌≡◌, ℕ, ◌+◌, ◌<◌, ◌≤◌, Bool, List, length, map, take, slice_index, IsTrue, ◌↔◌}
 use Rattle.velo_events.specs.declared.config.Bounds.{Bounds}
 use Rattle.velo_events.specs.declared.event.Event.{Event}
+use Rattle.velo_events.specs.Event.{is_by}
+use Rattle.velo_events.specs.Block.{passes_at}
+use Rattle.velo_events.specs.Graph.{HasCycle, IsClosing}
+use Rattle.velo_events.specs.Reordering.{AreBlamed}
 use Rattle.velo_events.specs.WellFormed.{IsWellFormed}
 use Rattle.velo_thin.specs.Left.{rest_of, place_of}
 use Rattle.velo_thin.specs.declared.thinned.Thinned.{Thinned}
@@ -20,8 +24,17 @@ abbrev pub place_in : (ℕ → Bool) → (ℕ → Bool) → List Event → ℕ �
 place_in variables goes log k =
     place_of (only no_lock variables) log (place_with goes (without_variables variables log) k)
 
+-- With every block there, the events have a cycle exactly where the log has one, the same event closes the first one, and the
+-- blocks to blame at one of the events begin at the positions of the log for which theirs stand
+pub record IsJudgedAtOnce (log events : List Event) (place : ℕ → ℕ) : Type 0 where
+  pub cycles : HasCycle log ↔ HasCycle events
+  pub closes : (p : ℕ) → IsClosing log p → (k : ℕ) × IsClosing events k × (place k ≡ p)
+  pub blame : (k t : ℕ) (blamed : List ℕ) → IsTrue (passes_at events (is_by t) k)
+      → AreBlamed (take (k + 1) events) t blamed
+      → AreBlamed (take (place k + 1) log) t (map place blamed)
+
 -- First the accesses to some variables went, among them those to each that is free of races; then just the accesses that repeat
--- one just before them. What is left can come about, and whichever labels are left out, the log is judged by it
+-- one just before them. What is left can come about, and the log is judged by it, at once and whichever labels are left out
 pub record IsThinnedLog (bounds : Bounds) (log : List Event) (thinned : Thinned) : Type 0 where
   pub variables : ℕ → Bool
   pub free : (x : ℕ) → x < bounds.variables → IsFreeOfRaces log x → IsTrue (variables x)
@@ -33,4 +46,5 @@ pub record IsThinnedLog (bounds : Bounds) (log : List Event) (thinned : Thinned)
   pub places : (k : ℕ) → k < length thinned.trace.events
       → slice_index thinned.places.items k ≡ place_in variables goes log k
   pub well_formed : IsWellFormed bounds thinned.trace.events
+  pub judged_at_once : IsJudgedAtOnce log thinned.trace.events (place_in variables goes log)
   pub judged : (labels : ℕ → Bool) → IsJudgedBy labels log thinned.trace.events (place_in variables goes log)
