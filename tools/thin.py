@@ -4,8 +4,10 @@
     tools/thin.py PROGRAM [LOG ..]            every small log, random logs, and each LOG (.log or .log.xz)
     tools/thin.py PROGRAM --times LOG ..      only figures: events and variables before and after, and seconds
 
+With THIN=OTHER in the environment `OTHER LOG OUT MAP` thins a log in place of `PROGRAM thin LOG --log OUT --map MAP`.
+
 A log is thinned into a folder of its own. `check` has the same verdict and blame of both, and the position of an alarm is the one
-that the map says; `audit --no-witness` prints the same. No access to a variable stays where another one went.
+that the map says; `audit --no-witness` prints the same.
 """
 import lzma
 import os
