@@ -1,5 +1,5 @@
 use Rattle.std.proofs.Common.{inl, inr, refl}
-use Rattle.velo_log_commands.proofs.explaining.explain_input.Goals as goal
+use Rattle.velo_log_commands.proofs.explaining.ExplainOptionsByNames.do_by.Goals as goal
 
 pub returns-in-Ok : goal.returns-in-Ok
 returns-in-Ok g c =
