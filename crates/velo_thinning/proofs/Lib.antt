@@ -1,0 +1,4 @@
+pub mod OnJudging
+pub mod OnThinning
+pub mod OnCounting
+pub mod OnReading

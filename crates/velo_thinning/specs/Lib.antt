@@ -1,0 +1,3 @@
+pub mod Thinning
+pub mod Counting
+pub mod Reading
