@@ -2,11 +2,13 @@
 #![tactic(auto)]
 
 mod counting;
+mod delivering;
 mod judging;
 mod outcome;
 mod reading;
 mod thinning;
 
+pub use delivering::{Counts, Outgoing, Targets, deliver_thinned};
 pub use judging::first_flaw;
 pub use outcome::ThinnedLog;
 pub use reading::{ThinFault, read_thinned, thinned_log};

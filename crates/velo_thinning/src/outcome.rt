@@ -18,5 +18,6 @@ pub struct ThinnedLog {
     pub variables: u32,
     /// How many those that are left access.
     pub variables_left: u32,
+    ghost few_variables: { config.bounds.variables ≤ 65535 },
     ghost few: { length left.trace.events ≤ MAX_EVENTS },
 }

@@ -49,6 +49,7 @@ fn config_of(bounds: Bounds) -> Config
 /// # Errors
 /// `Memory` where a growth was refused.
 fn thin_counted(alloc: Global, config: &Config, log: &Trace) -> Result<ThinnedLog, Memory>
+    requires few_variables { config.now.bounds.variables ≤ 65535 }
     requires few { length log.now.events ≤ MAX_EVENTS }
     requires well_formed { IsWellFormed config.now.bounds log.now.events }
     ensures { IfOk result (IsThinning config.now.bounds log.now.events) }
