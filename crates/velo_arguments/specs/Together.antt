@@ -1,5 +1,5 @@
 -- Which options of a request do not go together, and the line that says so.
-use Rattle.std.specs.Prelude.{◌||◌, List, [], ◌∷◌, ◌++◌, ℕ, Bool, false, Option, Some, None, codes, count_by, nat_lt, if◌then◌else◌}
+use Rattle.std.specs.Prelude.{◌≡◌, ◌||◌, List, [], ◌∷◌, ◌++◌, ℕ, Bool, false, Option, Some, None, codes, count_by, nat_lt, if◌then◌else◌}
 use Rattle.std.specs.Borrow.{Bor}
 use Rattle.std.specs.Option.{option_or}
 use Rattle.std.specs.Str.{bytes_eq}
@@ -11,7 +11,7 @@ use Rattle.velo_request.specs.declared.request.Request.{Request}
 use Rattle.velo_request.specs.declared.request.Request.TheVariants.{Audit, Carry, Check, Explain, Explore, Replay, Run, Watch}
 use Rattle.velo_request.specs.declared.request.ScheduleSource.{ScheduleSource}
 use Rattle.velo_request.specs.declared.request.ScheduleSource.TheVariants as schedule
-use Rattle.velo_arguments.specs.Asked.{Asked}
+use Rattle.velo_arguments.specs.Asked.{Asked, AsksFor}
 use Rattle.velo_arguments.specs.declared.together.Clash.{Clash}
 use Rattle.velo_arguments.specs.declared.together.Clash.TheVariants.{InputTwice, NamesWithoutLog, OnePath, SearchByChance, SeedAlone, TwoSchedules}
 use Rattle.velo_arguments.specs.declared.together.Given.{Given}
@@ -94,6 +94,17 @@ clash_of (Explore options) given =
 clash_of (Watch options) given = clash_of_inputs (options.input.now ∷ path_if options.names)
 clash_of (Audit options) given =
     clash_of_inputs (options.input.now ∷ path_if options.names ++ path_if options.known)
+
+-- the request that is asked for, whose options go together
+pub record IsTogether (asked : Asked) (request : Request) : Type 0 where
+  pub asks : AsksFor asked request
+  pub together : clash_of request (given_by asked) ≡ None
+
+-- a request is asked for whose options do not go together, for this reason
+pub record IsApart (asked : Asked) (clash : Clash) : Type 0 where
+  pub request : Request
+  pub asks : AsksFor asked request
+  pub apart : clash_of request (given_by asked) ≡ Some clash
 
 abbrev pub line_of_clash : Clash → List ℕ
 line_of_clash InputTwice = codes "error: standard input can be read once\n"

@@ -9,5 +9,4 @@ mod together;
 
 pub use arguments::command;
 pub use growth::{matches_of, text_of};
-pub use requests::request_of;
-pub use together::{Clash, Given, clash_of, given_by, line_of_clash};
+pub use together::{Clash, line_of_clash, read_request};

@@ -1,11 +1,13 @@
 //! Options of a request that do not go together.
-ghost use Rattle.std.specs.Prelude.{◌≡◌, ◌∷◌, ◌++◌, codes, false};
+ghost use Rattle.std.specs.Prelude.{◌≡◌, ◌∷◌, ◌++◌, IfErr, IfOk, codes, false};
 ghost use Rattle.std.specs.Option.{option_map_or};
 ghost use Rattle.std.specs.Str.{bytes_eq};
 ghost use Rattle.clap.specs.Takes.{is_given};
 ghost use Rattle.clap.specs.Words.{found_of, rows_of, subcommand_rows_of};
-ghost use Rattle.velo_arguments.specs.Together.{clash_of, clash_of_chance, clash_of_inputs, clash_of_replay, clash_of_schedule, clash_of_search, clash_of_targets, given_by, line_of_clash, path_if, schedule_path_if};
+ghost use Rattle.velo_arguments.specs.Asked.{AsksForNothing};
+ghost use Rattle.velo_arguments.specs.Together.{IsApart, IsTogether, clash_of, clash_of_chance, clash_of_inputs, clash_of_replay, clash_of_schedule, clash_of_search, clash_of_targets, given_by, line_of_clash, path_if, schedule_path_if};
 
+use crate::requests::request_of;
 use clap::ArgMatches;
 use clap::parser::ValueSource;
 use velo_request::{ExploreOptions, RandomRuns, ReplayOptions, Request, ScheduleSource};
@@ -50,7 +52,7 @@ fn is_given(found: &ArgMatches, option: &str) -> bool
 }
 
 /// Which of the options the words give that a request does not show.
-pub fn given_by(matches: &ArgMatches) -> Given
+fn given_by(matches: &ArgMatches) -> Given
     ensures { result ≡ given_by (subcommand_rows_of matches.now) }
 {
     match matches.subcommand() {
@@ -68,7 +70,7 @@ pub fn given_by(matches: &ArgMatches) -> Given
 }
 
 /// Why the options of the request do not go together, if they do not, where the words give these.
-pub fn clash_of(request: &Request, given: Given) -> Option<Clash>
+fn clash_of(request: &Request, given: Given) -> Option<Clash>
     ensures { result ≡ clash_of request.now given }
 {
     match request {
@@ -177,6 +179,24 @@ fn clash_of_chance(random: Option<RandomRuns>, searches: bool, seeds: bool) -> O
         Some(_) if searches => Some(Clash::SearchByChance),
         None if seeds => Some(Clash::SeedAlone),
         _ => None,
+    }
+}
+
+/// What the matches ask for, if its options go together. Behind words without a fault they ask for something.
+///
+/// # Errors
+/// Why its options do not go together.
+pub fn read_request<'a>(matches: &'a ArgMatches) -> Result<Request<'a>, Clash>
+    requires { ¬ AsksForNothing (subcommand_rows_of matches.now) }
+    ensures together { IfOk result (IsTogether (subcommand_rows_of matches.now)) }
+    ensures apart { IfErr result (IsApart (subcommand_rows_of matches.now)) }
+{
+    match request_of(matches) {
+        Some(request) => match clash_of(&request, given_by(matches)) {
+            Some(clash) => Err(clash),
+            None => Ok(request),
+        },
+        None => unreachable!(),
     }
 }
 

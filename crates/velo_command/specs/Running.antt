@@ -1,5 +1,5 @@
 -- What the program does with the words of its command line.
-use Rattle.std.specs.Prelude.{◌≡◌, ◌⊎◌, ℕ, List, [], Some, None}
+use Rattle.std.specs.Prelude.{◌≡◌, ◌⊎◌, ℕ, List, []}
 use Rattle.clap.specs.Words.{IsAmong, Text}
 use Rattle.clap.specs.declared.error.kind.ErrorKind.{ErrorKind}
 use Rattle.velo_program.specs.Causes.{AnswersWithCause}
@@ -8,9 +8,9 @@ use Rattle.velo_fate.specs.Fate.{Closes, Ends}
 use Rattle.velo_program.specs.Program.{Does}
 use Rattle.velo_fate.specs.declared.fate.Fate.{Fate}
 use Rattle.velo_request.specs.declared.request.Request.{Request}
-use Rattle.velo_arguments.specs.Asked.{AsksFor, Asked}
+use Rattle.velo_arguments.specs.Asked.{Asked}
 use Rattle.velo_arguments.specs.CommandLine.{asked_by, faults_of}
-use Rattle.velo_arguments.specs.Together.{clash_of, given_by, line_of_clash}
+use Rattle.velo_arguments.specs.Together.{IsApart, IsTogether, line_of_clash}
 use Rattle.velo_command.specs.Usage.{Console, LacksMemory, TellsError, bad_usage}
 use Rattle.velo_arguments.specs.declared.together.Clash.{Clash}
 
@@ -19,8 +19,7 @@ use Rattle.velo_arguments.specs.declared.together.Clash.{Clash}
 pub record DoesRequest (asked : Asked) (store : Store) (console : Console) : Type 0 where
   pub request : Request
   pub fate : Fate
-  pub asks : AsksFor asked request
-  pub together : clash_of request (given_by asked) ≡ None
+  pub asked_for : IsTogether asked request
   pub done : Does store request console.stdout fate
   pub cause : AnswersWithCause request fate
   pub ended : Ends fate console.stderr console.status
@@ -28,10 +27,8 @@ pub record DoesRequest (asked : Asked) (store : Store) (console : Console) : Typ
 -- a request was asked for whose options do not go together, and this was told: standard output is
 -- as it was, and the end is that of bad usage
 pub record TellsClash (asked : Asked) (console : Console) : Type 0 where
-  pub request : Request
   pub clash : Clash
-  pub asks : AsksFor asked request
-  pub apart : clash_of request (given_by asked) ≡ Some clash
+  pub apart : IsApart asked clash
   pub kept : console.is_kept
   pub told : Closes bad_usage (line_of_clash clash) console.stderr console.status
 

@@ -17,7 +17,7 @@ use std::convert::AsStr;
 use std::io;
 use std::sync::Wait;
 use std::thread::Threads;
-use velo_arguments::{clash_of, command, given_by, matches_of, request_of};
+use velo_arguments::{command, matches_of, read_request};
 use velo_bytes::Sink;
 use velo_delivery::Files;
 use velo_events::Memory;
@@ -76,12 +76,9 @@ fn do_asked<R: Threads + Wait + Sync, F: Files, O: Sink, E: Sink, P: ExploreProg
         (writing O.contents O.failures out.old out.new)
         (writing E.contents E.failures err.old err.new) result) }
 {
-    match request_of(matches) {
-        Some(request) => match clash_of(&request, given_by(matches)) {
-            Some(clash) => tell_clash(clash, err),
-            None => end_with(&do_request(rt, alloc, &request, files, out, progress), err),
-        },
-        None => unreachable!(),
+    match read_request(matches) {
+        Ok(request) => end_with(&do_request(rt, alloc, &request, files, out, progress), err),
+        Err(clash) => tell_clash(clash, err),
     }
 }
 

@@ -91,7 +91,9 @@ impl Book {
         ensures fit { FitsBook self.new share.new }
     {
         let row = &mut self.rows[usize::from(share.thread.0)];
-        let tally = share.tally.with(position as u64, event);
+        // made once and written to both: a copy of the one to the other would stall on store forwarding
+        let mut tally = share.tally;
+        tally.add(position as u64, event);
         *row = tally;
         share.tally = tally;
     }
@@ -120,9 +122,7 @@ impl Book {
         requires room { position < MAX_EVENTS }
         ensures counted { CountsIn self.old position event.now self.new }
     {
-        let row = &mut self.rows[usize::from(event.thread.0)];
-        let tally = row.with(position as u64, event);
-        *row = tally;
+        self.rows[usize::from(event.thread.0)].add(position as u64, event);
     }
 
     /// Copies the row of the share's thread into the share, which has to be of this run and of a

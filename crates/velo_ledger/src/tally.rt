@@ -18,7 +18,7 @@ pub struct Tally {
     pub written_total: u128,
 }
 
-ghost use Rattle.velo_ledger.specs.Tally.{blank, with_event, IsSmall, read_by, written_by};
+ghost use Rattle.velo_ledger.specs.Tally.{blank, with_event, IsSmall};
 
 impl Tally {
     /// The tally of no event.
@@ -34,23 +34,22 @@ impl Tally {
         }
     }
 
-    /// The tally with one event more. It is made anew and then written to row and share: copying
-    /// one to the other would stall on store forwarding.
-    #[inline]
-    pub(crate) fn with(&self, position: u64, event: &Event) -> Tally
-        requires small { IsSmall self.now }
-        requires later { self.now.next ≤ position }
+    /// Takes in one event more.
+    #[inline(always)]
+    pub(crate) fn add(&mut self, position: u64, event: &Event)
+        requires small { IsSmall self.old }
+        requires later { self.old.next ≤ position }
         requires room { position < MAX_EVENTS }
-        ensures event { result ≡ with_event self.now position event.now }
-        ensures small { IsSmall result }
+        ensures event { self.new ≡ with_event self.old position event.now }
+        ensures small { IsSmall self.new }
     {
-        let (read, written) = amounts(&event.kind);
-        Tally {
-            events: self.events + 1,
-            next: position + 1,
-            last: Some(*event),
-            read_total: self.read_total + u128::from(read),
-            written_total: self.written_total + u128::from(written),
+        self.events += 1;
+        self.next = position + 1;
+        self.last = Some(*event);
+        match event.kind {
+            Kind::Read(_, value) => self.read_total += u128::from(value),
+            Kind::Write(_, value) => self.written_total += u128::from(value),
+            _ => {}
         }
     }
 
@@ -59,18 +58,5 @@ impl Tally {
         ensures { IsTrue result ↔ (self.now ≡ other.now) }
     {
         *self == *other
-    }
-}
-
-/// What an operation reads, and what it writes.
-#[inline]
-fn amounts(kind: &Kind) -> (u64, u64)
-    ensures read { result.0 ≡ read_by kind.now }
-    ensures written { result.1 ≡ written_by kind.now }
-{
-    match *kind {
-        Kind::Read(_, value) => (value, 0),
-        Kind::Write(_, value) => (0, value),
-        _ => (0, 0),
     }
 }

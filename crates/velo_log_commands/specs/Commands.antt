@@ -38,6 +38,14 @@ use Rattle.velo_delivery.specs.Writing.{Writing, WritesNothing}
 abbrev pub DoesNotName : Store → Option (Bor (List ℕ)) → Writing → Fate → Type 0
 DoesNotName store path stdout f = LacksNames store.disk path f × WritesNowhere store stdout
 
+-- The names are read first (`Naming`), where a file of them is given, and else there are none; and
+-- then what is to be done is done by these names.
+abbrev pub DoesByNames : (NameLists → Store → Writing → Fate → Type 0) → Option (Bor (List ℕ)) → Store
+    → Writing → Fate → Type 0
+DoesByNames does path store stdout f =
+    DoesNotName store path stdout f
+    ⊎ ((names : NameLists) × AreNamesOf store.disk path names × does names store stdout f)
+
 -- ---- velodrome check LOG [--names FILE] [--events N] [--nodes N] [--certificate]
 
 -- LOG is read whole. The report by these names goes to standard output, and the certificate behind
@@ -56,12 +64,9 @@ abbrev pub ChecksBy : NameLists → CheckOptions → Store → Writing → Fate 
 ChecksBy names options store stdout f =
     (shown : Names) × AreShown options.names names shown × ChecksLog shown options store stdout f
 
--- The names are read first (`Naming`), where a file of them is given, and then LOG is checked.
 abbrev pub DoesCheck : CheckOptions → Store → Writing → Fate → Type 0
 DoesCheck options store stdout f =
-    DoesNotName store options.names stdout f
-    ⊎ ((names : NameLists) × AreNamesOf store.disk options.names names
-    × ChecksBy names options store stdout f)
+    DoesByNames (λ names. ChecksBy names options) options.names store stdout f
 
 -- ---- velodrome explain LOG [--names FILE] [--dot OUT]
 
@@ -76,12 +81,9 @@ ExplainsLog names options store stdout f =
     × IsExplanation names read.bytes answer
     × IsDelivered store options.target stdout answer f)
 
--- The names are read first, where a file of them is given, and else there are none.
 abbrev pub DoesExplain : ExplainOptions → Store → Writing → Fate → Type 0
 DoesExplain options store stdout f =
-    DoesNotName store options.names stdout f
-    ⊎ ((names : NameLists) × AreNamesOf store.disk options.names names
-    × ExplainsLog names options store stdout f)
+    DoesByNames (λ names. ExplainsLog names options) options.names store stdout f
 
 -- ---- velodrome carry LOG --log OUT
 
@@ -115,12 +117,9 @@ abbrev pub WatchesBy : NameLists → WatchOptions → Store → Writing → Fate
 WatchesBy names options store stdout f =
     (shown : Names) × AreShown options.names names shown × WatchesLog shown options store stdout f
 
--- The names are read first, where a file of them is given, and then LOG is watched.
 abbrev pub DoesWatch : WatchOptions → Store → Writing → Fate → Type 0
 DoesWatch options store stdout f =
-    DoesNotName store options.names stdout f
-    ⊎ ((names : NameLists) × AreNamesOf store.disk options.names names
-    × WatchesBy names options store stdout f)
+    DoesByNames (λ names. WatchesBy names options) options.names store stdout f
 
 -- ---- velodrome audit LOG [--names FILE] [--not-atomic FILE] [--ignore-lock N].. [--ignore-variable N]..
 -- ---- [--no-witness] [--events N] [--nodes N]
@@ -151,9 +150,6 @@ AuditsNamed names options store stdout f =
     ⊎ ((known : List ℕ) × AreLabelsOf names store.disk options.known known
     × AuditsKnown names known options store stdout f)
 
--- The names are read first, where a file of them is given, and else there are none.
 abbrev pub DoesAudit : AuditOptions → Store → Writing → Fate → Type 0
 DoesAudit options store stdout f =
-    DoesNotName store options.names stdout f
-    ⊎ ((names : NameLists) × AreNamesOf store.disk options.names names
-    × AuditsNamed names options store stdout f)
+    DoesByNames (λ names. AuditsNamed names options) options.names store stdout f

@@ -19,7 +19,7 @@ use crate::check::do_input;
 use crate::explaining::print;
 use crate::ignoring::{ignored_locks, ignored_variables};
 use crate::listing::labels_of;
-use crate::naming::{names_in, read_given};
+use crate::naming::{ByNames, do_by_names};
 use std::alloc::Global;
 use velo_audit::{AuditFault, Told, audit, count_atomic};
 use velo_audit_text::{Asked, audit_text};
@@ -27,7 +27,7 @@ use velo_bytes::{Sink, Source};
 use velo_delivery::{Files, Operand};
 use velo_events::{Config, Label, LockId, Memory, Refusal, VarId};
 use velo_fate::{CheckFault, Fate, open_input};
-use velo_names::{MAX_NAMES_BYTES, Names};
+use velo_names::Names;
 use velo_request::{AuditOptions, Limits};
 use velo_thin::LeftOut;
 use velo_traces::Trace;
@@ -251,24 +251,24 @@ fn audit_known<F: Files, O: Sink>(
     audit_input(alloc, options, names, &asked, files, out)
 }
 
-/// Audits the log that was asked for by the names. The list of the labels that are known is read first.
-fn audit_named<F: Files, O: Sink>(
-    alloc: Global,
-    options: &AuditOptions,
-    names: &Names,
-    files: &F,
-    out: &mut O,
-) -> Fate
-    ensures { AuditsNamed names.now options.now (store F.disk files.now files.now)
-        (writing O.contents O.failures out.old out.new) result }
-{
-    match labels_of(alloc, names, options.known, files) {
-        Ok(known) => {
-            let fate = audit_known(alloc, options, names, &known, files, out);
-            drop(known);
-            fate
+impl ByNames for AuditOptions<'_> {
+    ghost does = { λ options names. AuditsNamed names options };
+
+    fn do_by<F: Files, O: Sink>(
+        &self,
+        alloc: Global,
+        names: &Names,
+        files: &mut F,
+        out: &mut O,
+    ) -> Fate {
+        match labels_of(alloc, names, self.known, files) {
+            Ok(known) => {
+                let fate = audit_known(alloc, self, names, &known, files, out);
+                drop(known);
+                fate
+            }
+            Err(fate) => fate,
         }
-        Err(fate) => fate,
     }
 }
 
@@ -282,18 +282,5 @@ pub fn audit_file<F: Files, O: Sink>(
     ensures { DoesAudit options.now (store F.disk files.old files.new)
         (writing O.contents O.failures out.old out.new) result }
 {
-    let bytes = match read_given(alloc, options.names, MAX_NAMES_BYTES, files) {
-        Ok(bytes) => bytes,
-        Err(fate) => return fate,
-    };
-    let fate = match names_in(alloc, options.names, &bytes) {
-        Ok(names) => {
-            let fate = audit_named(alloc, options, &names, files, out);
-            drop(names);
-            fate
-        }
-        Err(fate) => fate,
-    };
-    drop(bytes);
-    fate
+    do_by_names(alloc, options, options.names, files, out)
 }

@@ -15,7 +15,7 @@ ghost use Rattle.velo_delivery.specs.Writing.{writing};
 ghost use Rattle.velo_fate.specs.declared.fate.Fate.TheVariants as fate;
 ghost use Rattle.velo_log_commands.specs.Steps.{Shows};
 
-use crate::naming::{names_in, read_given, shown_by};
+use crate::naming::{ByNames, do_by_names, shown_by};
 use std::alloc::Global;
 use velo_bytes::{Sink, Source, WriteFault};
 use velo_delivery::{Files, Operand};
@@ -24,7 +24,6 @@ use velo_fate::{
     CheckFault, Fate, Verdict, is_alarm, open_input, order_or_cycle_of, verdict_of, write_output,
 };
 use velo_logtext::read_log;
-use velo_names::MAX_NAMES_BYTES;
 use velo_report::Names;
 use velo_request::{CheckOptions, Limits};
 use velo_traces::Trace;
@@ -258,19 +257,19 @@ fn check_named<F: Files, O: Sink>(
     }
 }
 
-/// Checks the log that was asked for, and tells it by the names of a file, if one was given.
-fn check_by<F: Files, O: Sink>(
-    alloc: Global,
-    options: &CheckOptions,
-    names: &velo_names::Names,
-    files: &F,
-    out: &mut O,
-) -> Fate
-    ensures { ChecksBy names.now options.now (store F.disk files.now files.now)
-        (writing O.contents O.failures out.old out.new) result }
-{
-    let shown = shown_by(options.names, names);
-    check_named(alloc, options, &shown, files, out)
+impl ByNames for CheckOptions<'_> {
+    ghost does = { λ options names. ChecksBy names options };
+
+    fn do_by<F: Files, O: Sink>(
+        &self,
+        alloc: Global,
+        names: &velo_names::Names,
+        files: &mut F,
+        out: &mut O,
+    ) -> Fate {
+        let shown = shown_by(self.names, names);
+        check_named(alloc, self, &shown, files, out)
+    }
 }
 
 /// Checks the log that was asked for. The names are read first.
@@ -283,18 +282,5 @@ pub fn check_file<F: Files, O: Sink>(
     ensures { DoesCheck options.now (store F.disk files.old files.new)
         (writing O.contents O.failures out.old out.new) result }
 {
-    let bytes = match read_given(alloc, options.names, MAX_NAMES_BYTES, files) {
-        Ok(bytes) => bytes,
-        Err(fate) => return fate,
-    };
-    let fate = match names_in(alloc, options.names, &bytes) {
-        Ok(names) => {
-            let fate = check_by(alloc, options, &names, files, out);
-            drop(names);
-            fate
-        }
-        Err(fate) => fate,
-    };
-    drop(bytes);
-    fate
+    do_by_names(alloc, options, options.names, files, out)
 }

@@ -15,7 +15,7 @@ ghost use Rattle.velo_log_commands.specs.Steps.{DeliversOrLacks, Explains, Expla
 ghost use Rattle.velo_fate.specs.Saving.{IsSaved};
 
 use crate::check::do_input;
-use crate::naming::{names_in, read_given};
+use crate::naming::{ByNames, do_by_names};
 use std::alloc::Global;
 use velo_bytes::{Sink, Source, WriteFault, write_all};
 use velo_certify::CertFault;
@@ -23,7 +23,7 @@ use velo_delivery::{Files, Operand, Save, save_all};
 use velo_events::{MAX_EVENTS, MAX_NODES, Memory};
 use velo_explain::{Evidence, evidence_of, explain_clean, explain_named, picture_named};
 use velo_fate::{Fate, Saved, fate_of_failure, open_input};
-use velo_names::{MAX_NAMES_BYTES, Names};
+use velo_names::Names;
 use velo_request::ExplainOptions;
 use velo_traces::Trace;
 use velo_worker::Ending;
@@ -161,20 +161,20 @@ fn explain_log<I: Source, F: Files, O: Sink>(
     }
 }
 
-/// Explains the log that was asked for by the names.
-fn explain_input<F: Files, O: Sink>(
-    alloc: Global,
-    options: &ExplainOptions,
-    names: &Names,
-    files: &mut F,
-    out: &mut O,
-) -> Fate
-    ensures { ExplainsLog names.now options.now (store F.disk files.old files.new)
-        (writing O.contents O.failures out.old out.new) result }
-{
-    match open_input(files, Operand::Log, options.input, options.target) {
-        Ok(mut log) => explain_log(alloc, options, names, &mut log, files, out),
-        Err(fate) => fate,
+impl ByNames for ExplainOptions<'_> {
+    ghost does = { λ options names. ExplainsLog names options };
+
+    fn do_by<F: Files, O: Sink>(
+        &self,
+        alloc: Global,
+        names: &Names,
+        files: &mut F,
+        out: &mut O,
+    ) -> Fate {
+        match open_input(files, Operand::Log, self.input, self.target) {
+            Ok(mut log) => explain_log(alloc, self, names, &mut log, files, out),
+            Err(fate) => fate,
+        }
     }
 }
 
@@ -188,18 +188,5 @@ pub fn explain_file<F: Files, O: Sink>(
     ensures { DoesExplain options.now (store F.disk files.old files.new)
         (writing O.contents O.failures out.old out.new) result }
 {
-    let bytes = match read_given(alloc, options.names, MAX_NAMES_BYTES, files) {
-        Ok(bytes) => bytes,
-        Err(fate) => return fate,
-    };
-    let fate = match names_in(alloc, options.names, &bytes) {
-        Ok(names) => {
-            let fate = explain_input(alloc, options, &names, files, out);
-            drop(names);
-            fate
-        }
-        Err(fate) => fate,
-    };
-    drop(bytes);
-    fate
+    do_by_names(alloc, options, options.names, files, out)
 }

@@ -1,19 +1,25 @@
 //! Files of names.
 ghost use Rattle.std.specs.Prelude.{IfErr, IfOk};
+ghost use Rattle.velo_delivery.specs.Disk.{Store, store};
+ghost use Rattle.velo_delivery.specs.Writing.{Writing, writing};
+ghost use Rattle.velo_fate.specs.declared.fate.Fate.{Fate as FateOf};
+ghost use Rattle.velo_names.specs.Names.{NameLists};
+ghost use Rattle.velo_log_commands.specs.Commands.{DoesByNames};
 ghost use Rattle.velo_fate.specs.Format.{LacksGiven, bytes_up_to};
 ghost use Rattle.velo_log_commands.specs.Naming.{AreBytesOf, AreNamesIn, AreNoNamesIn, AreShown};
 
 use std::alloc::Global;
+use velo_bytes::Sink;
 use velo_delivery::Files;
 use velo_fate::{Fate, read_file};
-use velo_names::Names;
+use velo_names::{MAX_NAMES_BYTES, Names};
 use velo_report::Names as ReportNames;
 
 /// The bytes of the file at a path, as `read_file`; none without a path.
 ///
 /// # Errors
 /// As `read_file`.
-pub fn read_given<F: Files>(
+fn read_given<F: Files>(
     alloc: Global,
     path: Option<&str>,
     most: usize,
@@ -32,7 +38,7 @@ pub fn read_given<F: Files>(
 ///
 /// # Errors
 /// `Names` with the fault for which they say none.
-pub fn names_in<'a>(alloc: Global, path: Option<&str>, bytes: &'a [u8]) -> Result<Names<'a>, Fate>
+fn names_in<'a>(alloc: Global, path: Option<&str>, bytes: &'a [u8]) -> Result<Names<'a>, Fate>
     ensures names { IfOk result (AreNamesIn path.entry bytes.now) }
     ensures fault { IfErr result (AreNoNamesIn path.entry bytes.now) }
 {
@@ -53,4 +59,48 @@ pub fn shown_by<'a>(path: Option<&str>, names: &'a Names<'a>) -> ReportNames<'a>
         Some(_) => ReportNames::Listed(names),
         None => ReportNames::Numbers,
     }
+}
+
+/// What is done by the names of a file, if one is given.
+pub trait ByNames {
+    /// What it comes to.
+    ghost does: { Self → NameLists → Store → Writing → FateOf → Type 0 };
+
+    /// Does it by these names.
+    fn do_by<F: Files, O: Sink>(
+        &self,
+        alloc: Global,
+        names: &Names,
+        files: &mut F,
+        out: &mut O,
+    ) -> Fate
+        ensures { does self.now names.now (store F.disk files.old files.new)
+            (writing O.contents O.failures out.old out.new) result };
+}
+
+/// Does a command by the names of the file at a path, if one is given. The names are read first.
+pub fn do_by_names<C: ByNames, F: Files, O: Sink>(
+    alloc: Global,
+    command: &C,
+    path: Option<&str>,
+    files: &mut F,
+    out: &mut O,
+) -> Fate
+    ensures { DoesByNames (C.does command.now) path.entry (store F.disk files.old files.new)
+        (writing O.contents O.failures out.old out.new) result }
+{
+    let bytes = match read_given(alloc, path, MAX_NAMES_BYTES, files) {
+        Ok(bytes) => bytes,
+        Err(fate) => return fate,
+    };
+    let fate = match names_in(alloc, path, &bytes) {
+        Ok(names) => {
+            let fate = command.do_by(alloc, &names, files, out);
+            drop(names);
+            fate
+        }
+        Err(fate) => fate,
+    };
+    drop(bytes);
+    fate
 }

@@ -10,12 +10,11 @@ ghost use Rattle.velo_log_commands.specs.Watching.{check_fault_by, Follows, HasW
 ghost use Rattle.velo_delivery.specs.Writing.{writing};
 
 use crate::check::{fate_of, fault_of, finish};
-use crate::naming::{names_in, read_given, shown_by};
+use crate::naming::{ByNames, do_by_names, shown_by};
 use std::alloc::Global;
 use velo_bytes::{Sink, Source};
 use velo_delivery::{Files, Operand};
 use velo_fate::{CheckFault, Fate, open_input};
-use velo_names::MAX_NAMES_BYTES;
 use velo_report::Names;
 use velo_request::WatchOptions;
 use velo_watch::{Watch, WatchFault};
@@ -122,19 +121,19 @@ fn watch_named<F: Files, O: Sink>(
     }
 }
 
-/// Watches the log that was asked for, and tells it by the names of a file, if one was given.
-fn watch_by<F: Files, O: Sink>(
-    alloc: Global,
-    options: &WatchOptions,
-    names: &velo_names::Names,
-    files: &F,
-    out: &mut O,
-) -> Fate
-    ensures { WatchesBy names.now options.now (store F.disk files.now files.now)
-        (writing O.contents O.failures out.old out.new) result }
-{
-    let shown = shown_by(options.names, names);
-    watch_named(alloc, options, &shown, files, out)
+impl ByNames for WatchOptions<'_> {
+    ghost does = { λ options names. WatchesBy names options };
+
+    fn do_by<F: Files, O: Sink>(
+        &self,
+        alloc: Global,
+        names: &velo_names::Names,
+        files: &mut F,
+        out: &mut O,
+    ) -> Fate {
+        let shown = shown_by(self.names, names);
+        watch_named(alloc, self, &shown, files, out)
+    }
 }
 
 /// Watches the log that was asked for. The names are read first.
@@ -147,18 +146,5 @@ pub fn watch_file<F: Files, O: Sink>(
     ensures { DoesWatch options.now (store F.disk files.old files.new)
         (writing O.contents O.failures out.old out.new) result }
 {
-    let bytes = match read_given(alloc, options.names, MAX_NAMES_BYTES, files) {
-        Ok(bytes) => bytes,
-        Err(fate) => return fate,
-    };
-    let fate = match names_in(alloc, options.names, &bytes) {
-        Ok(names) => {
-            let fate = watch_by(alloc, options, &names, files, out);
-            drop(names);
-            fate
-        }
-        Err(fate) => fate,
-    };
-    drop(bytes);
-    fate
+    do_by_names(alloc, options, options.names, files, out)
 }

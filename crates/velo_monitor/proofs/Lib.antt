@@ -35,3 +35,4 @@ pub mod OnQuiet
 pub mod OnLone
 pub mod OnInsideSeen
 pub mod OnOutsideSeen
+pub mod OnNoReads

@@ -1,4 +1,4 @@
-ghost use Rattle.std.specs.Prelude.{◌≡◌, ◌*◌, ◌≤◌, ◌<◌, ℕ, [], ◌∷◌, ◌++◌, List, length, IsTrue, IsFalse, IfOk, OnOk, OnErr, ◌↔◌, Some};
+ghost use Rattle.std.specs.Prelude.{◌≡◌, ◌*◌, ◌≤◌, ◌<◌, ℕ, [], ◌∷◌, ◌++◌, List, length, IsTrue, IsFalse, IfOk, IfSome, OnOk, OnErr, ◌↔◌, Some};
 ghost use Rattle.std.specs.Option.{ForSome, option_to_list};
 ghost use Rattle.velo_events.specs.declared.config.Bounds.{Bounds as BoundsOf};
 ghost use Rattle.velo_events.specs.declared.event.Event.{Event as EventOf};
@@ -466,15 +466,36 @@ impl Monitor {
         ensures limit { limit_of self.new.nodes.slots ≡ limit_of self.old.nodes.slots }
     {
         let resolved = Resolved::of(event);
-        let step = if let Access::Exclusive(_) = resolved.access() {
-            self.tables.predecessors_into(&resolved, &mut self.steps);
-            place_operation(&mut self.graph, &self.steps, position)
-        } else {
-            let own = self.tables.last_of(event.thread);
-            let beside = self.tables.step_beside(&resolved);
-            place_after_both(&mut self.graph, own, beside, position)
+        let step = match self.one_beside(&resolved) {
+            Some(beside) => {
+                let own = self.tables.last_of(event.thread);
+                place_after_both(&mut self.graph, own, beside, position)
+            }
+            None => {
+                self.tables.predecessors_into(&resolved, &mut self.steps);
+                place_operation(&mut self.graph, &self.steps, position)
+            }
         };
         self.tables.record_resolved(&resolved, step);
+    }
+
+    /// The one step that the event looks up beside that of its thread's last event, if there is one; or `None` for a write of a
+    /// cell that may have reads.
+    #[inline(always)]
+    fn one_beside(&self, event: &Resolved<'_>) -> Option<Option<Step>>
+        ensures { IfSome result (λ beside. steps_looked_up self.now.kept event.now
+            ≡ option_to_list (entry self.now.kept (LastOf (thread_of event.now)))
+            ++ option_to_list beside) }
+    {
+        match event.access() {
+            Access::Exclusive(cell) => {
+                if self.tables.readers(cell) != 0 {
+                    return None;
+                }
+                Some(self.tables.last_write(cell))
+            }
+            _ => Some(self.tables.step_beside(event)),
+        }
     }
 }
 

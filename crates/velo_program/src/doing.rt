@@ -29,6 +29,21 @@ pub fn do_request<R: Threads + Wait + Sync, F: Files, O: Sink, P: ExploreProgres
         (writing O.contents O.failures out.old out.new) result }
     ensures memory { AnswersWithCause request.now result }
 {
+    do_by(rt, alloc, request, files, out, progress)
+}
+
+/// Does what was asked for, by the command that it names.
+fn do_by<R: Threads + Wait + Sync, F: Files, O: Sink, P: ExploreProgress>(
+    rt: &R,
+    alloc: Global,
+    request: &Request,
+    files: &mut F,
+    out: &mut O,
+    progress: &mut P,
+) -> Fate
+    ensures { Does (store F.disk files.old files.new) request.now
+        (writing O.contents O.failures out.old out.new) result }
+{
     match request {
         Request::Check(options) => check_file(alloc, options, files, out),
         Request::Replay(options) => replay_file(alloc, options, files, out),

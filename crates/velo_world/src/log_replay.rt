@@ -13,7 +13,7 @@ use crate::logged_run::LoggedRun;
 use crate::world::World;
 use std::alloc::Global;
 use thiserror::Error;
-use velo_events::{Config, Event, Memory, Refusal, Resolved, ThreadId};
+use velo_events::{Config, Event, Kind, Memory, Refusal, Resolved, ThreadId};
 use velo_heap::Heap;
 use velo_ledger::{Book, Shares};
 use velo_traces::{Flaw, Trace};
@@ -120,9 +120,32 @@ impl LogReplay {
         ensures fault { IfErr result (λ fault. IsFaultOfLog config.now events.now fault) }
     {
         let event = Resolved::of(&events[position]);
-        match self.make_room(config, events, position, &event) {
+        // reads and writes have a path each, on which nothing asks for their kind again
+        match event.kind() {
+            Kind::Read(..) => self.replay_resolved(config, events, position, &event),
+            Kind::Write(..) => self.replay_resolved(config, events, position, &event),
+            _ => self.replay_resolved(config, events, position, &event),
+        }
+    }
+
+    /// Lets the event at the position, resolved, come about, where those before it did.
+    #[inline(always)]
+    fn replay_resolved(
+        &mut self,
+        config: &Config,
+        events: &[Event],
+        position: usize,
+        event: &Resolved<'_>,
+    ) -> Result<(), LogReplayFault>
+        requires goes_on { config.now.stop ≡ false }
+        requires here { slice_get events.now position ≡ Some event.now }
+        requires stands { IsLogReplayOf config.now self.old (take position events.now) 0 }
+        ensures ok { OnOk result (IsLogReplayOf config.now self.new (take (position + 1) events.now) 0) }
+        ensures fault { IfErr result (λ fault. IsFaultOfLog config.now events.now fault) }
+    {
+        match self.make_room(config, events, position, event) {
             Ok(()) => {
-                self.take_in(config, events, position, &event);
+                self.take_in(config, events, position, event);
                 Ok(())
             }
             Err(fault) => Err(fault),
