@@ -6,6 +6,8 @@ mod delivering;
 mod judging;
 mod outcome;
 mod reading;
+#[cfg(test)]
+mod tests;
 mod thinning;
 
 pub use delivering::{Counts, Outgoing, Targets, deliver_thinned};

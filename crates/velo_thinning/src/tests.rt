@@ -1,0 +1,73 @@
+//! What is left of a log that is written out, and why another is refused.
+use crate::{ThinFault, read_thinned};
+use std::alloc::Global;
+use std::process::Abort;
+use std::test::Fail;
+use velo_bytes::Bytes;
+use velo_events::Refusal;
+use velo_logtext::LogFault;
+
+/// A variable behind a lock, one that is read again and again, and one that races.
+const LOG: &[u8] =
+    b"vlog 2 2 3 1\n0 fork 1\n0 acq 0\n0 wr 0 5\n0 rel 0\n1 acq 0\n1 rd 0 5\n1 rel 0\n1 rd 1 0\n1 rd 1 0\n0 wr 1 3\n0 wr 2 1\n";
+
+/// Thins a log, and returns how many events and variables there were and are, and the places of what is left.
+fn figures(alloc: Global, text: &[u8]) -> Result<([u64; 4], Vec<u32>), ThinFault> {
+    match read_thinned(alloc, &mut Bytes::new(text)) {
+        Ok(thinned) => {
+            let counts = [
+                thinned.events as u64,
+                thinned.left.trace.len() as u64,
+                u64::from(thinned.variables),
+                u64::from(thinned.variables_left),
+            ];
+            Ok((counts, thinned.left.places))
+        }
+        Err(fault) => Err(fault),
+    }
+}
+
+/// Compares why a log is refused.
+fn refused(rt: &impl Abort, alloc: Global, text: &[u8], why: ThinFault) {
+    match figures(alloc, text) {
+        Ok(_) => panic!(rt; "{why} was expected"),
+        Err(fault) => assert_eq!(rt; fault, why),
+    }
+}
+
+#[test]
+fn what_is_in_order_and_what_repeats_go(rt: HostRuntime) -> Result<(), Fail> {
+    match figures(rt.alloc(), LOG) {
+        Ok((counts, places)) => {
+            assert_eq!(&rt; counts, [11, 7, 3, 1]);
+            assert_eq!(&rt; places.as_slice(), [0, 1, 3, 4, 6, 7, 9].as_slice());
+        }
+        Err(fault) => panic!(&rt; "{fault}"),
+    }
+    Ok(())
+}
+
+#[test]
+fn a_log_that_can_not_come_about_is_refused(rt: HostRuntime) {
+    let alloc = rt.alloc();
+    let position = 1;
+    refused(
+        &rt,
+        alloc,
+        b"vlog 2 1 1 0\n0 begin 7\n0 rd 0 4\n",
+        ThinFault::WrongValue { position },
+    );
+    let refusal = Refusal::NoOpenBlock;
+    refused(
+        &rt,
+        alloc,
+        b"vlog 2 1 1 0\n0 wr 0 4\n0 end\n",
+        ThinFault::Refused { position, refusal },
+    );
+    refused(
+        &rt,
+        alloc,
+        b"vlog 2 1 1 0\n0 wr 0\n",
+        ThinFault::Log(LogFault::BadLine(2)),
+    );
+}
