@@ -45,7 +45,7 @@ fn add_labels(page: &mut Page, names: &Names, blocks: &[Block]) -> Result<(), Me
 }
 
 /// Adds the witness of a round, if it has one.
-fn add_witness_if_any(
+pub fn add_witness_if_any(
     page: &mut Page,
     names: &Names,
     alloc: Global,

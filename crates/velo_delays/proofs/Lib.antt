@@ -1,0 +1,2 @@
+pub mod OnAnew
+pub mod OnFound

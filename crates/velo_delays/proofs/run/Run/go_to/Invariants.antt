@@ -1,0 +1,5 @@
+use Rattle.velo_delays.specs.Stands.{Stands}
+use Rattle.velo_delays.proofs.run.Run.go_to.Given as goal
+
+abbrev pub invariant-loop : goal.invariant-loop
+invariant-loop l = Stands l.self.heap

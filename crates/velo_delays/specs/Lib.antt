@@ -1,0 +1,4 @@
+pub mod Stands
+pub mod Anew
+pub mod Differing
+pub mod Found

@@ -1,0 +1,60 @@
+-- What a search for predictions found, as text.
+use Rattle.std.specs.Prelude.{ℕ, ◌<◌, ◌≤◌, List, [], ◌∷◌, ◌++◌, length, codes, decimal, All}
+use Rattle.std.specs.List.{flat_map}
+use Rattle.velo_events.specs.declared.limits.TheConstants.{MAX_EVENTS}
+use Rattle.velo_events.specs.declared.event.Event.{Event}
+use Rattle.velo_traces.specs.declared.block.Block.{Block}
+use Rattle.velo_names.specs.declared.kind.NameKind.TheVariants as kind
+use Rattle.velo_names.specs.Names.{NameLists}
+use Rattle.velo_certify.specs.Owners.{event_at}
+use Rattle.velo_thin.specs.Thinned.{CanComeAbout}
+use Rattle.velo_explain.specs.Pieces.{event_text, joined, name_about, name_text}
+use Rattle.velo_explain.specs.Text.{line_of}
+use Rattle.velo_audit.specs.Witness.{IsWitnessWithin}
+use Rattle.velo_audit_text.specs.Names.{named}
+use Rattle.velo_audit_text.specs.Text.{optional_witness_text}
+use Rattle.velo_delays.specs.declared.judged.Differing.{Differing}
+use Rattle.velo_delays.specs.declared.judged.Found.{Found}
+
+-- "not atomic? 7 flush"
+unfoldable pub maybe_text : NameLists → Block → List ℕ
+maybe_text names block = joined (codes "not atomic? " ∷ decimal block.label.0 ∷ named names kind.Label block.label.0 ∷ codes "\n" ∷ [])
+
+-- "  witness 10 events"
+unfoldable pub size_text : ℕ → List ℕ
+size_text n = joined (codes "  witness " ∷ decimal n ∷ codes " events\n" ∷ [])
+
+-- "  line 9 `1 rd 0 0` total read 5 in the log"
+unfoldable pub difference_text : NameLists → List Event → Differing → List ℕ
+difference_text names trace d = joined (
+    codes "  line " ∷ decimal (line_of d.position) ∷ codes " `" ∷ event_text (event_at trace d.position) ∷ codes "`"
+    ∷ name_text (name_about names (event_at trace d.position).kind) ∷ codes " read " ∷ decimal d.recorded ∷ codes " in the log\n" ∷ [])
+
+-- the blocks to blame, outermost first; how long the trace is; the reads that differ from the log; and the cycle, as an audit prints it.
+-- The lines are those of the trace as a log
+abbrev pub found_text : NameLists → Found → List ℕ
+found_text names found =
+    flat_map (maybe_text names) found.told.blocks.items
+    ++ (size_text (length found.trace.events)
+    ++ (flat_map (difference_text names found.trace.events) found.differing.items
+    ++ optional_witness_text names found.trace.events found.told.closing found.told.witness))
+
+-- "nothing found in 600 tries"; "nothing else found in 600 tries" after something
+abbrev pub nothing_text : List Found → List ℕ
+nothing_text [] = codes "nothing found in "
+nothing_text (found ∷ more) = codes "nothing else found in "
+
+unfoldable pub end_text : List Found → ℕ → List ℕ
+end_text founds tries = joined (nothing_text founds ∷ decimal tries ∷ codes " tries\n" ∷ [])
+
+abbrev pub predictions_text : NameLists → List Found → ℕ → List ℕ
+predictions_text names founds tries = flat_map (found_text names) founds ++ end_text founds tries
+
+-- ---- what can be told. Private contracts cite these words
+
+-- the trace is a log, and all positions are there
+pub record CanBeTold (found : Found) : Type 0 where
+  pub few : length found.trace.events ≤ MAX_EVENTS
+  pub can_come_about : CanComeAbout found.trace.events
+  pub within : IsWitnessWithin (length found.trace.events) found.told.closing found.told.witness
+  pub differing : All (λ d. d.position < length found.trace.events) found.differing.items

@@ -1,0 +1,164 @@
+//! The whole text.
+ghost use Rattle.std.specs.Prelude.{◌≡◌, ◌≤◌, ◌<◌, ◌++◌, length, All, IfOk, OnOk};
+ghost use Rattle.std.specs.List.{flat_map};
+ghost use Rattle.velo_events.specs.declared.limits.TheConstants.{MAX_EVENTS};
+ghost use Rattle.velo_delays.specs.Found.{IsFoundIn};
+ghost use Rattle.velo_predict_text.specs.Text.{CanBeTold, maybe_text, size_text, difference_text, found_text, nothing_text, end_text, predictions_text};
+
+use std::alloc::Global;
+use velo_audit_text::add_witness_if_any;
+use velo_delays::{Differing, Found};
+use velo_events::{Event, Memory};
+use velo_explain::{Page, Piece, line_of};
+use velo_names::{NameKind, Names};
+use velo_traces::Block;
+
+/// Adds the label of a block that may not be atomic.
+#[tactic(auto, unfolding(crate::specs::Text::maybe_text))]
+fn add_maybe(page: &mut Page, names: &Names, block: Block) -> Result<(), Memory>
+    ensures { OnOk result (page.new ≡ page.old ++ maybe_text names.now block) }
+{
+    page.add(&[
+        Piece::Text("not atomic? "),
+        Piece::Number(u64::from(block.label.0)),
+        Piece::Name(names.name_of(NameKind::Label, block.label.0)),
+        Piece::Text("\n"),
+    ])
+}
+
+/// Adds how long a trace is.
+#[tactic(auto, unfolding(crate::specs::Text::size_text))]
+fn add_size(page: &mut Page, count: usize) -> Result<(), Memory>
+    ensures { OnOk result (page.new ≡ page.old ++ size_text count) }
+{
+    page.add(&[
+        Piece::Text("  witness "),
+        Piece::Number(count as u64),
+        Piece::Text(" events\n"),
+    ])
+}
+
+/// Adds a read that has another value than in the log.
+#[tactic(auto, unfolding(crate::specs::Text::difference_text))]
+fn add_difference(
+    page: &mut Page,
+    names: &Names,
+    events: &[Event],
+    differing: Differing,
+) -> Result<(), Memory>
+    requires within { differing.position < length events.now }
+    requires few { length events.now ≤ MAX_EVENTS }
+    ensures { OnOk result (page.new ≡ page.old ++ difference_text names.now events.now differing) }
+{
+    let event = events[differing.position];
+    page.add(&[
+        Piece::Text("  line "),
+        Piece::Number(line_of(differing.position)),
+        Piece::Text(" `"),
+        Piece::Words(event),
+        Piece::Text("`"),
+        Piece::KindName(names, event.kind),
+        Piece::Text(" read "),
+        Piece::Number(differing.recorded),
+        Piece::Text(" in the log\n"),
+    ])
+}
+
+/// Adds the labels of the blocks.
+fn add_labels(page: &mut Page, names: &Names, blocks: &[Block]) -> Result<(), Memory>
+    ensures { OnOk result (page.new ≡ page.old ++ flat_map (maybe_text names.now) blocks.now) }
+{
+    for block in blocks {
+        add_maybe(page, names, *block)?;
+    }
+    Ok(())
+}
+
+/// Adds the reads that have another value than in the log.
+fn add_differences(
+    page: &mut Page,
+    names: &Names,
+    events: &[Event],
+    differing: &[Differing],
+) -> Result<(), Memory>
+    requires within { All (λ d. d.position < length events.now) differing.now }
+    requires few { length events.now ≤ MAX_EVENTS }
+    ensures { OnOk result (page.new ≡ page.old ++ flat_map (difference_text names.now events.now) differing.now) }
+{
+    for one in differing {
+        add_difference(page, names, events, *one)?;
+    }
+    Ok(())
+}
+
+/// Adds what was found.
+fn add_found(page: &mut Page, names: &Names, alloc: Global, found: &Found) -> Result<(), Memory>
+    requires { CanBeTold found.now }
+    ensures { OnOk result (page.new ≡ page.old ++ found_text names.now found.now) }
+{
+    let events = found.trace.as_slice();
+    add_labels(page, names, &found.told.blocks)?;
+    add_size(page, events.len())?;
+    add_differences(page, names, events, &found.differing)?;
+    add_witness_if_any(
+        page,
+        names,
+        alloc,
+        events,
+        found.told.closing,
+        &found.told.witness,
+    )
+}
+
+/// How the line of the tries begins.
+fn nothing_words(founds: &[Found]) -> &'static str
+    ensures { result.now ≡ nothing_text founds.now }
+{
+    match founds.first() {
+        None => "nothing found in ",
+        Some(_) => "nothing else found in ",
+    }
+}
+
+/// Adds how many tries there were.
+#[tactic(auto, unfolding(crate::specs::Text::end_text))]
+fn add_end(page: &mut Page, founds: &[Found], tries: u64) -> Result<(), Memory>
+    ensures { OnOk result (page.new ≡ page.old ++ end_text founds.now tries) }
+{
+    page.add(&[
+        Piece::Text(nothing_words(founds)),
+        Piece::Number(tries),
+        Piece::Text(" tries\n"),
+    ])
+}
+
+/// Adds all that was found.
+fn add_all(page: &mut Page, names: &Names, alloc: Global, founds: &[Found]) -> Result<(), Memory>
+    requires { All CanBeTold founds.now }
+    ensures { OnOk result (page.new ≡ page.old ++ flat_map (found_text names.now) founds.now) }
+{
+    for found in founds {
+        add_found(page, names, alloc, found)?;
+    }
+    Ok(())
+}
+
+/// What a search found, as text: for each prediction the labels to blame, how long its trace is, the reads that differ from the
+/// log, and the cycle; and how many delays were tried. A number that has a name stands before it.
+///
+/// # Errors
+/// `Memory` where a growth was refused.
+pub fn predictions_text(
+    alloc: Global,
+    names: &Names,
+    founds: &[Found],
+    tries: u64,
+) -> Result<Page, Memory>
+    requires { All CanBeTold founds.now }
+    ensures { IfOk result (λ page. page ≡ predictions_text names.now founds.now tries) }
+{
+    let mut page = Page::new(alloc);
+    add_all(&mut page, names, alloc, founds)?;
+    add_end(&mut page, founds, tries)?;
+    Ok(page)
+}
