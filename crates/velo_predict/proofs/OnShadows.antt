@@ -1,10 +1,10 @@
 -- Every prediction has a shadow: a run of the program in which each thread does the same as long as its next action is known, and
 -- then gives its locks back.
-use Rattle.std.proofs.Common.{◌≡◌, ◌≢◌, ℕ, zero, suc, ◌+◌, ◌-◌, ◌<◌, Bool, true, false, cond, List, [], ◌∷◌, ◌++◌, length, take, Option, Some, None, refl, sym, ap, ◌∙◌, subst, arith, length-append, ⊎_elim, inl, inr}
-use Rattle.std.specs.Prelude.{◌⊎◌, ◌&&◌, ◌||◌, ◌==◌, if◌then◌else◌, slice_get, IsTrue, IsFalse}
+use Rattle.std.proofs.Common.{◌≡◌, ◌≢◌, ℕ, zero, suc, ◌+◌, ◌-◌, ◌<◌, ◌≤◌, Bool, true, false, cond, List, [], ◌∷◌, ◌++◌, length, take, Option, Some, None, refl, sym, ap, ◌∙◌, subst, arith, length-append, ⊎_elim, inl, inr}
+use Rattle.std.specs.Prelude.{◌⊎◌, ◌&&◌, ◌||◌, ◌==◌, if◌then◌else◌, slice_get, Contains, IsTrue, IsFalse}
 use Rattle.std.proofs.Math.Seq.{take-append_seam}
 use Rattle.std.proofs.lemmas.Bool.{and_left, and_parts, and_right, both_ways, cases_Bool, cases_eq, cases_lt, eq-eqb, eqb-true, false≢true, false_from_ne_true, ne_eqb, or_cases, or_left, or_right}
-use Rattle.std.proofs.lemmas.List.{append-nil, append_assoc, take-append-le}
+use Rattle.std.proofs.lemmas.List.{append-nil, append_assoc, length_push, take-append-le}
 use Rattle.std.proofs.lemmas.Option.{none-some, same_Some, slice_get_within}
 use Rattle.velo_events.specs.declared.limits.TheConstants.{MAX_OPEN_BLOCKS}
 use Rattle.velo_events.specs.declared.config.Bounds.{Bounds}
@@ -13,22 +13,27 @@ use Rattle.velo_events.specs.declared.event.Action.{Action}
 use Rattle.velo_events.specs.declared.event.Event.{Event}
 use Rattle.velo_events.specs.declared.event.Kind.{Kind}
 use Rattle.velo_events.specs.declared.event.Kind.TheVariants.{Read, Write, Acquire, Release, AcquireShared, ReleaseShared, Begin, End, Fork, Join, Exit}
-use Rattle.velo_events.specs.Block.{owner, passes_at, IsTransaction}
+use Rattle.velo_events.specs.declared.event.ThreadId.{ThreadId}
+use Rattle.velo_events.specs.declared.event.Status.TheVariants.{Live}
+use Rattle.velo_events.specs.Block.{passes_at, open_blocks}
 use Rattle.velo_events.specs.Conflict.{conflict}
 use Rattle.velo_events.specs.Event.{are_same, thread_of, access_of, is_by, is_read, is_begin, is_end, is_exit, is_acquire, is_release, is_acquire_shared, is_release_shared, is_begin_by, is_end_by, is_exit_by, is_fork_of, is_join_of, is_on_lock, is_on_share, shared_lock_of, forked_of, joined_of, forked_or_joined_of, thread_forked_or_joined}
-use Rattle.velo_events.specs.Graph.{Path, Reaches, IsCycle, Edge, HasCycle, conflict_at}
-use Rattle.velo_events.specs.Heap.{happened, times, holder_in, shares_in, status_in, was_born, depth_in}
+use Rattle.velo_events.specs.Graph.{Path, IsCycle, HasCycle, ConflictsInOrder, conflict_at}
+use Rattle.velo_events.specs.Heap.{happened, times, value_in, holder_in, shares_in, status_in, was_born, depth_in}
 use Rattle.velo_events.specs.Meaning.{action_of, kind_for, holds}
 use Rattle.velo_events.specs.WellFormed.{IsInTurn, MayFollow, NamesKnown, IsWellFormed}
-use Rattle.velo_events.proofs.OnBlocks.{owner-append}
-use Rattle.velo_events.proofs.OnGraphs.{Edge-append, Reaches-map, Reaches-trans}
-use Rattle.velo_events.proofs.OnHappening.{ConflictsInOrder-reaches, ConflictsInOrder-same_thread}
+use Rattle.velo_events.proofs.OnGraphs.{Reaches-trans}
+use Rattle.velo_events.proofs.OnHappening.{ConflictsInOrder-same_thread, HappensBefore-lt, HappensBefore-within, IsFrom, IsFrom-append}
+use Rattle.velo_events.specs.Reordering.{IsSelfSerializable}
+use Rattle.velo_events.proofs.OnBlame.{blame_law}
+use Rattle.velo_events.proofs.OnOwners.{is_in_block-open, is_open_at-begins, is_open_at-thread}
+use Rattle.velo_events.proofs.OnUnfinished.{Contains-open_blocks}
 use Rattle.velo_events.proofs.OnLookUps.{are_same-from, are_same-some}
+use Rattle.velo_events.proofs.OnReorderings.{conflict_at-within}
 use Rattle.velo_events.proofs.OnScans.{event_at, passes_at-event, passes_at-is}
 use Rattle.velo_events.proofs.OnTraces.{append-induct, happened-no, happened-push, slice_get-append, slice_get-push, times-push}
-use Rattle.velo_events.proofs.OnUnfinished.{IsTransaction-append}
 use Rattle.velo_events.proofs.OnStatuses.{status_by}
-use Rattle.velo_events.proofs.OnWellFormed.{IsWellFormed-induct, IsWellFormed-nil, IsWellFormed-push, holder_in-push, shares_in-kept}
+use Rattle.velo_events.proofs.OnWellFormed.{IsWellFormed-induct, IsWellFormed-nil, IsWellFormed-push, holder_in-push, shares_in-kept, shares_in-push}
 use Rattle.velo_moves.specs.Free.{gives_up}
 use Rattle.velo_moves.specs.Programs.{own}
 use Rattle.velo_moves.specs.Wants.{Does}
@@ -37,16 +42,16 @@ use Rattle.velo_moves.proofs.OnRules.{kind-by_action}
 use Rattle.velo_moves.proofs.OnWants.{Does-push}
 use Rattle.velo_predict.specs.Deadlocks.{WaitsFor, IsNextAction, PredictsDeadlock}
 use Rattle.velo_predict.specs.Deadlocks.WaitsFor.{ForLock, ForShare, ForEnd}
-use Rattle.velo_predict.specs.Feasible.{IsRun, GivesBack, SectionsEnd, CanCycle, CanDeadlock, CyclesAreFeasible, DeadlocksAreFeasible}
-use Rattle.velo_predict.specs.Predictions.{IsLoose, IsNextOf, IsUnsure, IsForetold, IsPrediction}
+use Rattle.velo_predict.specs.Feasible.{IsRun, GivesBack, SectionsEnd, BlameIsFeasible, CanBreak, CanCycle, CanDeadlock, CyclesAreFeasible, DeadlocksAreFeasible}
+use Rattle.velo_predict.specs.Predictions.{HasTurned, HasReadBehind, IsLoose, IsNextOf, IsUnsure, IsForetold, IsPrediction}
 use Rattle.velo_predict.specs.Predictions.IsForetold.{Known, Unknown}
 use Rattle.velo_predict.proofs.OnDifferences.{action_reads, reads_by_action}
 use Rattle.velo_predict.proofs.OnKept.{wanted_next}
 use Rattle.velo_predict.proofs.OnOwn.{AreAlike, exit-same, holder-back, holder-forth, shares-same, times-same}
 use Rattle.velo_predict.proofs.OnOwn.AreAlike.{Same, LastRead}
-use Rattle.velo_predict.proofs.OnPredictions.{HasTurned-by, HasReadBehind-last, HasReadBehind-push, IsLoose-last, IsLoose-longer, IsLoose-push, IsUnsure-longer, not_turned}
+use Rattle.velo_predict.proofs.OnPredictions.{HasTurned-by, HasTurned-longer, HasReadBehind-last, HasReadBehind-push, IsLoose-last, IsLoose-longer, IsLoose-push, IsUnsure-longer, not_turned}
 use Rattle.velo_predict.proofs.OnSections.{conflicts_before, in_turn-before, lock-access, share-access}
-use Rattle.velo_predict.proofs.OnStands.{GivesUp, GoAlong, Stands, Stands-nil, stands-cycle, conflict-at, grown_more, grown_one, last_or_before}
+use Rattle.velo_predict.proofs.OnStands.{GivesUp, GoAlong, IsTwin, Stands, Stands-nil, stands-cycle, stands-interrupted, conflict-at, grown_more, grown_one, last_or_before}
 
 -- ---- the event that the run has in place of one of the trace
 
@@ -256,26 +261,24 @@ unsure-last log q t unsure = ⊎_elim
 
 -- ---- what a thread that gives its locks back leaves in the run
 
--- an event of the thread on what the operation bears on, which comes after the transaction
-record LeavesBehind (r : List Event) (home t : ℕ) (k : Kind) : Type 0 where
+-- an event of the thread on what the operation bears on, which happens after the place
+record LeavesBehind (r : List Event) (place t : ℕ) (k : Kind) : Type 0 where
   at : ℕ
   event : Event
   here : slice_get r at ≡ Some event
   by : thread_of event ≡ t
   access : access_of event.kind ≡ access_of k
-  left : Reaches (Edge r) home (owner r at)
+  left : IsFrom r place at
 
-LeavesBehind-append : (r more : List Event) (home t : ℕ) (k : Kind) → LeavesBehind r home t k → LeavesBehind (r ++ more) home t k
-LeavesBehind-append r more home t k w =
-    let within = slice_get_within r w.at w.event w.here in
-    record {
-      at = w.at;
-      event = w.event;
-      here = slice_get-append r more w.at within ∙ w.here;
-      by = w.by;
-      access = w.access;
-      left = subst (λ x. Reaches (Edge (r ++ more)) home x) (sym (owner-append r more w.at within)) (Reaches-map (Edge r) (Edge (r ++ more)) (Edge-append r more) home (owner r w.at) w.left);
-    }
+LeavesBehind-append : (r more : List Event) (place t : ℕ) (k : Kind) → LeavesBehind r place t k → LeavesBehind (r ++ more) place t k
+LeavesBehind-append r more place t k w = record {
+  at = w.at;
+  event = w.event;
+  here = slice_get-append r more w.at (slice_get_within r w.at w.event w.here) ∙ w.here;
+  by = w.by;
+  access = w.access;
+  left = IsFrom-append r more place w.at w.left;
+}
 
 -- what is no longer had was operated on
 lock_changed : (r more : List Event) (t m : ℕ) → holder_in r m ≡ Some t → ¬ (holder_in (r ++ more) m ≡ Some t) → (k : ℕ) × (g : Event) × (slice_get more k ≡ Some g) × IsTrue (is_on_lock m g)
@@ -300,26 +303,25 @@ slice_get-append_right : (xs ys : List Event) (i : ℕ) → slice_get (xs ++ ys)
 slice_get-append_right [] ys i = ap (slice_get ys) (let none : length {A = Event} [] + i ≡ i = omega arith in none)
 slice_get-append_right (x ∷ xs) ys i = ap (slice_get (x ∷ xs ++ ys)) (let next : length (x ∷ xs) + i ≡ suc (length xs + i) = omega arith in next) ∙ slice_get-append_right xs ys i
 
-left_behind : (r more : List Event) (home t : ℕ) (k : Kind) → IsTransaction r home → IsTrue (passes_at r (is_by t) home) → ((i : ℕ) (g : Event) → slice_get more i ≡ Some g → thread_of g ≡ t) → ((m : ℕ) → IsFalse (holds (r ++ more) t m)) → IsTrue (gives_up k) → IsInTurn r t k → LeavesBehind (r ++ more) home t k
-left_behind r more home t k is own_home alone free release turn = by_kind k release turn
+left_behind : (r more : List Event) (place t : ℕ) (k : Kind) (d : Event) → slice_get r place ≡ Some d → thread_of d ≡ t → ((i : ℕ) (g : Event) → slice_get more i ≡ Some g → thread_of g ≡ t) → ((m : ℕ) → IsFalse (holds (r ++ more) t m)) → IsTrue (gives_up k) → IsInTurn r t k → LeavesBehind (r ++ more) place t k
+left_behind r more place t k d here_d by_d alone free release turn = by_kind k release turn
   where
-    made : (k : Kind) (i : ℕ) (g : Event) → slice_get more i ≡ Some g → access_of g.kind ≡ access_of k → LeavesBehind (r ++ more) home t k
+    made : (k : Kind) (i : ℕ) (g : Event) → slice_get more i ≡ Some g → access_of g.kind ≡ access_of k → LeavesBehind (r ++ more) place t k
     made k i g at access =
+        let within = slice_get_within r place d here_d in
         let here : slice_get (r ++ more) (length r + i) ≡ Some g = slice_get-append_right r more i ∙ at in
         let own_at : IsTrue (passes_at (r ++ more) (is_by t) (length r + i)) = passes_at-is (r ++ more) (is_by t) (length r + i) g here ∙ eq-eqb (thread_of g) t (alone i g at) in
-        let d = passes_at-event r (is_by t) home own_home in
-        let own_longer : IsTrue (passes_at (r ++ more) (is_by t) home) = passes_at-is (r ++ more) (is_by t) home d.0 (slice_get-append r more home is.within ∙ d.1) ∙ d.2 in
+        let own_place : IsTrue (passes_at (r ++ more) (is_by t) place) = passes_at-is (r ++ more) (is_by t) place d (slice_get-append r more place within ∙ here_d) ∙ eq-eqb (thread_of d) t by_d in
         record {
           at = length r + i;
           event = g;
           here = here;
           by = alone i g at;
           access = access;
-          left = subst (λ x. Reaches (Edge (r ++ more)) x (owner (r ++ more) (length r + i))) (IsTransaction-append r more home is).first
-              (ConflictsInOrder-reaches (r ++ more) home (length r + i) (ConflictsInOrder-same_thread (r ++ more) t home (length r + i) (omega (arith, is.within)) own_longer own_at));
+          left = inr ([], ConflictsInOrder-same_thread (r ++ more) t place (length r + i) (omega (arith, within)) own_place own_at);
         }
 
-    by_kind : (k : Kind) → IsTrue (gives_up k) → IsInTurn r t k → LeavesBehind (r ++ more) home t k
+    by_kind : (k : Kind) → IsTrue (gives_up k) → IsInTurn r t k → LeavesBehind (r ++ more) place t k
     by_kind (Release m) release turn =
         let w = lock_changed r more t m.0 turn (λ h. both_ways (holds (r ++ more) t m.0) (free m.0) (or_left _ _ (are_same-from (holder_in (r ++ more) m.0) (Some t) t h refl))) in
         made (Release m) w.0 w.1 w.2 (lock-access w.1.kind m.0 w.3)
@@ -375,6 +377,15 @@ release_joins (Release m) u h = refl
 release_joins (ReleaseShared m) u h = refl
 release_joins _ u h = absurd (false≢true h)
 
+release_begins : (k : Kind) → IsTrue (gives_up k) → IsFalse (is_begin k)
+release_begins (Release m) h = refl
+release_begins (ReleaseShared m) h = refl
+release_begins _ h = absurd (false≢true h)
+
+begin-no_read : (k : Kind) → IsTrue (is_begin k) → IsFalse (is_read k)
+begin-no_read (Begin l) h = refl
+begin-no_read _ h = absurd (false≢true h)
+
 release_exits : (k : Kind) → IsTrue (gives_up k) → IsFalse (is_exit k)
 release_exits (Release m) h = refl
 release_exits (ReleaseShared m) h = refl
@@ -382,13 +393,13 @@ release_exits _ h = absurd (false≢true h)
 
 -- ---- how a thread stands in the trace and in the run
 
-data Mode (log q r : List Event) (home : ℕ → ℕ) (t : ℕ) : Type 0 where
+data Mode (log q r : List Event) (place : ℕ → ℕ) (t : ℕ) : Type 0 where
   -- its next action is known
-  GoesOn : ¬ IsUnsure log q t → own t q ≡ own t r → Mode log q r home t
+  GoesOn : ¬ IsUnsure log q t → own t q ≡ own t r → Mode log q r place t
   -- its next action is unknown, since what it read last
-  Stops : IsUnsure log q t → (before : List Event) (d f : Event) → own t q ≡ before ++ d ∷ [] → own t r ≡ before ++ f ∷ [] → IsTrue (is_read d.kind) → IsTrue (is_read f.kind) → Mode log q r home t
+  Stops : IsUnsure log q t → (before : List Event) (d f : Event) → own t q ≡ before ++ d ∷ [] → own t r ≡ before ++ f ∷ [] → IsTrue (is_read d.kind) → IsTrue (is_read f.kind) → Mode log q r place t
   -- and in the run it has given its locks back
-  IsGone : IsUnsure log q t → IsFalse (happened (is_exit_by t) q) → ((m : ℕ) → IsFalse (holds r t m)) → ((i : ℕ) (d : Event) → slice_get q i ≡ Some d → thread_of d ≡ t → (k : Kind) → IsTrue (gives_up k) → IsInTurn q t k → LeavesBehind r (home i) t k) → Mode log q r home t
+  IsGone : IsUnsure log q t → IsFalse (happened (is_exit_by t) q) → ((m : ℕ) → IsFalse (holds r t m)) → ((i : ℕ) (d : Event) → slice_get q i ≡ Some d → thread_of d ≡ t → (k : Kind) → IsTrue (gives_up k) → IsInTurn q t k → LeavesBehind r (place i) t k) → Mode log q r place t
 
 -- the run and the trace so far
 record IsShadow (bounds : Bounds) (wants : ℕ → List Event → Option Action) (log q r : List Event) : Type 0 where
@@ -397,7 +408,7 @@ record IsShadow (bounds : Bounds) (wants : ℕ → List Event → Option Action)
   joins : (u : ℕ) → happened (is_join_of u) q ≡ happened (is_join_of u) r
   loose : ((q ≡ r) × ((i : ℕ) → ¬ IsLoose log q i)) ⊎ ((i : ℕ) × IsLoose log q i)
   stands : Stands q r (λ t. ¬ IsUnsure log q t)
-  mode : (t : ℕ) → Mode log q r stands.home t
+  mode : (t : ℕ) → Mode log q r stands.place t
 
 module _ (bounds : Bounds) (wants : ℕ → List Event → Option Action) (log : List Event) where
   -- ---- what follows in the trace may follow in the run
@@ -406,7 +417,7 @@ module _ (bounds : Bounds) (wants : ℕ → List Event → Option Action) (log :
     holder_from : (m u : ℕ) → holder_in r m ≡ Some u → holder_in q m ≡ Some u
     holder_from m u h = by_mode (s.mode u)
       where
-        by_mode : Mode log q r s.stands.home u → holder_in q m ≡ Some u
+        by_mode : Mode log q r s.stands.place u → holder_in q m ≡ Some u
         by_mode (GoesOn sure same) = holder-back bounds q r well s.run.well u (Same same) m h
         by_mode (Stops unsure before d f own_q own_r read_d read_f) = holder-back bounds q r well s.run.well u (LastRead before d f own_q own_r read_d read_f) m h
         by_mode (IsGone unsure stays free left) = absurd (both_ways (holds r u m) (free m) (or_left _ _ (are_same-from (holder_in r m) (Some u) u h refl)))
@@ -414,7 +425,7 @@ module _ (bounds : Bounds) (wants : ℕ → List Event → Option Action) (log :
     shares_from : (m u : ℕ) → IsTrue (shares_in r m u) → IsTrue (shares_in q m u)
     shares_from m u h = by_mode (s.mode u)
       where
-        by_mode : Mode log q r s.stands.home u → IsTrue (shares_in q m u)
+        by_mode : Mode log q r s.stands.place u → IsTrue (shares_in q m u)
         by_mode (GoesOn sure same) = shares-same bounds q r well s.run.well u (Same same) m ∙ h
         by_mode (Stops unsure before d f own_q own_r read_d read_f) = shares-same bounds q r well s.run.well u (LastRead before d f own_q own_r read_d read_f) m ∙ h
         by_mode (IsGone unsure stays free left) = absurd (both_ways (holds r u m) (free m) (or_right _ _ h))
@@ -422,7 +433,7 @@ module _ (bounds : Bounds) (wants : ℕ → List Event → Option Action) (log :
     exit_forth : (u : ℕ) → IsTrue (happened (is_exit_by u) q) → IsTrue (happened (is_exit_by u) r)
     exit_forth u h = by_mode (s.mode u)
       where
-        by_mode : Mode log q r s.stands.home u → IsTrue (happened (is_exit_by u) r)
+        by_mode : Mode log q r s.stands.place u → IsTrue (happened (is_exit_by u) r)
         by_mode (GoesOn sure same) = sym (exit-same q r u (Same same)) ∙ h
         by_mode (Stops unsure before d f own_q own_r read_d read_f) = sym (exit-same q r u (LastRead before d f own_q own_r read_d read_f)) ∙ h
         by_mode (IsGone unsure stays free left) = absurd (both_ways _ stays h)
@@ -471,8 +482,8 @@ module _ (bounds : Bounds) (wants : ℕ → List Event → Option Action) (log :
 
     -- ---- the other threads
 
-    mode_other : (e : Event) (more : List Event) (home : ℕ → ℕ) (u : ℕ) → thread_of e ≢ u → ((k : ℕ) (g : Event) → slice_get more k ≡ Some g → thread_of g ≡ thread_of e) → ((i : ℕ) → i < length q → home i ≡ s.stands.home i) → Mode log (q ++ e ∷ []) (r ++ more) home u
-    mode_other e more home u other alone kept = by_mode (s.mode u)
+    mode_other : (e : Event) (more : List Event) (place : ℕ → ℕ) (u : ℕ) → thread_of e ≢ u → ((k : ℕ) (g : Event) → slice_get more k ≡ Some g → thread_of g ≡ thread_of e) → ((i : ℕ) → i < length q → place i ≡ s.stands.place i) → Mode log (q ++ e ∷ []) (r ++ more) place u
+    mode_other e more place u other alone kept = by_mode (s.mode u)
       where
         own_q : own u (q ++ e ∷ []) ≡ own u q
         own_q = own-push_no u q e (ne_eqb (thread_of e) u other)
@@ -480,7 +491,7 @@ module _ (bounds : Bounds) (wants : ℕ → List Event → Option Action) (log :
         own_r : own u (r ++ more) ≡ own u r
         own_r = own-others r more (thread_of e) u other alone
 
-        by_mode : Mode log q r s.stands.home u → Mode log (q ++ e ∷ []) (r ++ more) home u
+        by_mode : Mode log q r s.stands.place u → Mode log (q ++ e ∷ []) (r ++ more) place u
         by_mode (GoesOn sure same) = GoesOn (λ unsure. sure (IsUnsure-other log q e u other unsure)) (own_q ∙ (same ∙ sym own_r))
         by_mode (Stops unsure before d f its theirs read_d read_f) = Stops (IsUnsure-longer log q (e ∷ []) u unsure) before d f (own_q ∙ its) (own_r ∙ theirs) read_d read_f
         by_mode (IsGone unsure stays free left) = IsGone
@@ -488,7 +499,7 @@ module _ (bounds : Bounds) (wants : ℕ → List Event → Option Action) (log :
             (happened-no (is_exit_by u) q e (and_left (is_by u e) _ (ne_eqb (thread_of e) u other)) ∙ stays)
             (λ m. not_held-others r more (thread_of e) u m other alone (free m))
             (λ i d at its k release turn. ⊎_elim
-            (λ before. subst (λ x. LeavesBehind (r ++ more) x u k) (sym (kept i before.0)) (LeavesBehind-append r more (s.stands.home i) u k (left i d before.1 its k release
+            (λ before. subst (λ x. LeavesBehind (r ++ more) x u k) (sym (kept i before.0)) (LeavesBehind-append r more (s.stands.place i) u k (left i d before.1 its k release
             (⊎_elim (λ now. absurd (other now.0)) (λ had. had) (in_turn-before q e u k release turn)))))
             (λ last. absurd (other (ap thread_of last.1 ∙ its)))
             (last_or_before q e i d at))
@@ -517,35 +528,26 @@ module _ (bounds : Bounds) (wants : ℕ → List Event → Option Action) (log :
             (cases_eq (thread_of e) u);
       }
 
-      depth_known : depth_in (q ++ e ∷ []) (thread_of e) ≡ depth_in (r ++ in_run ∷ []) (thread_of e)
-      unfolding in_run
-      depth_known =
-          let begins = times-push (is_begin_by (thread_of e)) q e ∙ (ap (λ n. n + (if is_begin_by (thread_of e) e then 1 else 0)) (times-same q r (thread_of e) (λ g. is_begin g.kind) same)
-          ∙ (ap (λ b. times (is_begin_by (thread_of e)) r + (if (is_by (thread_of e) e && b) then 1 else 0)) (for-begin r e.kind) ∙ sym (times-push (is_begin_by (thread_of e)) r in_run))) in
-          let ends = times-push (is_end_by (thread_of e)) q e ∙ (ap (λ n. n + (if is_end_by (thread_of e) e then 1 else 0)) (times-same q r (thread_of e) (λ g. is_end g.kind) same)
-          ∙ (ap (λ b. times (is_end_by (thread_of e)) r + (if (is_by (thread_of e) e && b) then 1 else 0)) (for-end r e.kind) ∙ sym (times-push (is_end_by (thread_of e)) r in_run))) in
-          ap (λ n. n - times (is_end_by (thread_of e)) (q ++ e ∷ [])) begins ∙ ap (λ n. times (is_begin_by (thread_of e)) (r ++ in_run ∷ []) - n) ends
-
       along_known : GoAlong q r e in_run
       unfolding in_run
       along_known = record {
         twin = record { by = refl; access = for-access r e.kind };
         begin = for-begin r e.kind;
+        end = for-end r e.kind;
+        same = λ begin. ap (λ k. let g : Event = record { thread = e.thread; kind = k } in g) (sym (for-same r e.kind (begin-no_read e.kind begin)));
         bounds = bounds;
         trace_before = well;
         trace_after = IsWellFormed-push bounds q e well follows;
         run_before = s.run.well;
         run_after = run_known.well;
-        depth_before =
-            ap (λ n. n - times (is_end_by (thread_of e)) q) (times-same q r (thread_of e) (λ g. is_begin g.kind) same)
-            ∙ ap (λ n. times (is_begin_by (thread_of e)) r - n) (times-same q r (thread_of e) (λ g. is_end g.kind) same);
-        depth_after = depth_known;
+        begins_before = times-same q r (thread_of e) (λ g. is_begin g.kind) same;
+        ends_before = times-same q r (thread_of e) (λ g. is_end g.kind) same;
       }
 
       -- where the event is the same in both, and the log has it, the thread goes on
-      goes_on : (home : ℕ → ℕ) → in_run ≡ e → e.kind ≡ next.kind → ((i : ℕ) → IsTrue (is_read e.kind) → ¬ IsLoose log q i) → Mode log (q ++ e ∷ []) (r ++ in_run ∷ []) home (thread_of e)
+      goes_on : (place : ℕ → ℕ) → in_run ≡ e → e.kind ≡ next.kind → ((i : ℕ) → IsTrue (is_read e.kind) → ¬ IsLoose log q i) → Mode log (q ++ e ∷ []) (r ++ in_run ∷ []) place (thread_of e)
       unfolding in_run
-      goes_on home is_e kinds no_loose = GoesOn
+      goes_on place is_e kinds no_loose = GoesOn
           (λ unsure. ⊎_elim
           (λ turned. not_turned log (q ++ e ∷ []) (thread_of e) its.rest along turned)
           (λ behind. ⊎_elim (λ before. its.sure before) (λ now. no_loose now.2.0 now.1 now.2.1) (HasReadBehind-push log q e (thread_of e) behind))
@@ -558,9 +560,9 @@ module _ (bounds : Bounds) (wants : ℕ → List Event → Option Action) (log :
           along : own (thread_of e) log ≡ own (thread_of e) (q ++ e ∷ []) ++ its.rest
           along = its.along ∙ (ap (λ g. own (thread_of e) q ++ g ∷ its.rest) (sym (same_event e next (sym by_next) kinds)) ∙ (sym (append_assoc (own (thread_of e) q) (e ∷ []) its.rest) ∙ ap (λ es. es ++ its.rest) (sym own_e)))
 
-      stops : (home : ℕ → ℕ) → IsTrue (is_read e.kind) → IsUnsure log (q ++ e ∷ []) (thread_of e) → Mode log (q ++ e ∷ []) (r ++ in_run ∷ []) home (thread_of e)
+      stops : (place : ℕ → ℕ) → IsTrue (is_read e.kind) → IsUnsure log (q ++ e ∷ []) (thread_of e) → Mode log (q ++ e ∷ []) (r ++ in_run ∷ []) place (thread_of e)
       unfolding in_run
-      stops home read unsure = Stops unsure (own (thread_of e) q) e in_run own_e (own-push_yes (thread_of e) r in_run (eq-eqb (thread_of e) (thread_of e) refl) ∙ ap (λ es. es ++ in_run ∷ []) (sym same)) read (for-read r e.kind read)
+      stops place read unsure = Stops unsure (own (thread_of e) q) e in_run own_e (own-push_yes (thread_of e) r in_run (eq-eqb (thread_of e) (thread_of e) refl) ∙ ap (λ es. es ++ in_run ∷ []) (sym same)) read (for-read r e.kind read)
 
       run_same : q ≡ r → in_run ≡ e
       unfolding in_run
@@ -570,16 +572,16 @@ module _ (bounds : Bounds) (wants : ℕ → List Event → Option Action) (log :
       unfolding in_run
       kind_same other = ap (λ k. let g : Event = record { thread = e.thread; kind = k } in g) (for-same r e.kind other)
 
-      mode_known : (home : ℕ → ℕ) → Mode log (q ++ e ∷ []) (r ++ in_run ∷ []) home (thread_of e)
-      mode_known home = ⊎_elim
+      mode_known : (place : ℕ → ℕ) → Mode log (q ++ e ∷ []) (r ++ in_run ∷ []) place (thread_of e)
+      mode_known place = ⊎_elim
           (λ read. ⊎_elim
           (λ none. ⊎_elim
-          (λ kinds. goes_on home (run_same none.0) kinds (λ i h. none.1 i))
-          (λ differ. stops home read (inl (HasTurned-by log q e next its.rest its.along differ)))
+          (λ kinds. goes_on place (run_same none.0) kinds (λ i h. none.1 i))
+          (λ differ. stops place read (inl (HasTurned-by log q e next its.rest its.along differ)))
           (cases_kind e.kind next.kind action read))
-          (λ some. stops home read (inr (HasReadBehind-last log q e some.0 some.1 read)))
+          (λ some. stops place read (inr (HasReadBehind-last log q e some.0 some.1 read)))
           s.loose)
-          (λ other. goes_on home (kind_same other) (same_kind other) (λ i read. absurd (both_ways (is_read e.kind) other read)))
+          (λ other. goes_on place (kind_same other) (same_kind other) (λ i read. absurd (both_ways (is_read e.kind) other read)))
           (cases_Bool (is_read e.kind))
         where
           same_kind : IsFalse (is_read e.kind) → e.kind ≡ next.kind
@@ -605,8 +607,8 @@ module _ (bounds : Bounds) (wants : ℕ → List Event → Option Action) (log :
             loose = loose_known;
             stands = grown.0;
             mode = λ u. ⊎_elim
-                (λ by_u. subst (Mode log (q ++ e ∷ []) (r ++ in_run ∷ []) grown.0.home) by_u (mode_known grown.0.home))
-                (λ other. mode_other e (in_run ∷ []) grown.0.home u other (one_alone in_run) grown.1)
+                (λ by_u. subst (Mode log (q ++ e ∷ []) (r ++ in_run ∷ []) grown.0.place) by_u (mode_known grown.0.place))
+                (λ other. mode_other e (in_run ∷ []) grown.0.place u other (one_alone in_run) grown.1)
                 (cases_eq (thread_of e) u);
           }
 
@@ -615,7 +617,7 @@ module _ (bounds : Bounds) (wants : ℕ → List Event → Option Action) (log :
     module _ (e : Event) (follows : MayFollow bounds q e) (release : IsTrue (gives_up e.kind)) (unsure : IsUnsure log q (thread_of e)) (more : List Event)
         (alone : (k : ℕ) (g : Event) → slice_get more k ≡ Some g → (thread_of g ≡ thread_of e) × (thread_forked_or_joined g.kind ≡ None))
         (run_more : IsRun bounds wants (r ++ more)) (free : (m : ℕ) → IsFalse (holds (r ++ more) (thread_of e) m))
-        (behind : (i : ℕ) (d : Event) → slice_get q i ≡ Some d → thread_of d ≡ thread_of e → (k : Kind) → IsTrue (gives_up k) → IsInTurn q (thread_of e) k → LeavesBehind (r ++ more) (s.stands.home i) (thread_of e) k) where
+        (behind : (i : ℕ) (d : Event) → slice_get q i ≡ Some d → thread_of d ≡ thread_of e → (k : Kind) → IsTrue (gives_up k) → IsInTurn q (thread_of e) k → LeavesBehind (r ++ more) (s.stands.place i) (thread_of e) k) where
       last : Last q (thread_of e)
       last = unsure-last log q (thread_of e) unsure
 
@@ -623,18 +625,18 @@ module _ (bounds : Bounds) (wants : ℕ → List Event → Option Action) (log :
       own_last = passes_at-is q (is_by (thread_of e)) last.at last.event last.here ∙ eq-eqb (thread_of last.event) (thread_of e) last.by
 
       -- an event of the thread leads to its last one
-      to_last : (a : ℕ) (g : Event) → slice_get q a ≡ Some g → thread_of g ≡ thread_of e → Reaches (Edge r) (s.stands.home a) (s.stands.home last.at)
+      to_last : (a : ℕ) (g : Event) → slice_get q a ≡ Some g → thread_of g ≡ thread_of e → IsFrom r (s.stands.place a) (s.stands.place last.at)
       to_last a g here by =
           let own_a : IsTrue (passes_at q (is_by (thread_of e)) a) = passes_at-is q (is_by (thread_of e)) a g here ∙ eq-eqb (thread_of g) (thread_of e) by in
           ⊎_elim
           (λ less. s.stands.ordered a last.at (ConflictsInOrder-same_thread q (thread_of e) a last.at less own_a own_last))
           (λ le. ⊎_elim
           (λ more. absurd (both_ways _ (last.none_later a more) own_a))
-          (λ most. inl (ap s.stands.home (let at : a ≡ last.at = omega (arith, le, most) in at)))
+          (λ most. inl (ap s.stands.place (let at : a ≡ last.at = omega (arith, le, most) in at)))
           (cases_lt last.at a))
           (cases_lt a last.at)
 
-      reached : (i : ℕ) → IsTrue (conflict_at (q ++ e ∷ []) i (length q)) → i < length q → Reaches (Edge r) (s.stands.home i) (s.stands.home last.at)
+      reached : (i : ℕ) → IsTrue (conflict_at (q ++ e ∷ []) i (length q)) → i < length q → IsFrom r (s.stands.place i) (s.stands.place last.at)
       reached i c within =
           let d = event_at q i within in
           let clash : IsTrue (conflict d.0 e) = conflict-at (q ++ e ∷ []) i (length q) d.0 e (slice_get-append q (e ∷ []) i within ∙ d.1) (slice_get-push q e) c in
@@ -642,13 +644,14 @@ module _ (bounds : Bounds) (wants : ℕ → List Event → Option Action) (log :
           (λ same. to_last i d.0 d.1 same)
           (λ other.
           let w = conflicts_before bounds q e well follows release last.at last.event last.here last.by i d.0 d.1 other clash in
-          Reaches-trans (Edge r) (s.stands.home i) (s.stands.home w.0) (s.stands.home last.at) (s.stands.ordered i w.0 w.4) (to_last w.0 w.1 w.2 w.3))
+          Reaches-trans (ConflictsInOrder r) (s.stands.place i) (s.stands.place w.0) (s.stands.place last.at) (s.stands.ordered i w.0 w.4) (to_last w.0 w.1 w.2 w.3))
           (cases_eq (thread_of d.0) (thread_of e))
 
       gives : GivesUp q r e more (λ t. ¬ IsUnsure log q t) s.stands
       gives =
           let left = behind last.at last.event last.here last.by e.kind release follows.in_turn in
           record {
+            no_begin = release_begins e.kind release;
             last = last.at;
             event = last.event;
             here = last.here;
@@ -683,7 +686,7 @@ module _ (bounds : Bounds) (wants : ℕ → List Event → Option Action) (log :
             loose = inr loose_more;
             stands = grown.0;
             mode = λ u. ⊎_elim
-                (λ by_u. subst (Mode log (q ++ e ∷ []) (r ++ more) grown.0.home) by_u (IsGone
+                (λ by_u. subst (Mode log (q ++ e ∷ []) (r ++ more) grown.0.place) by_u (IsGone
                 (IsUnsure-longer log q (e ∷ []) (thread_of e) unsure)
                 (happened-no (is_exit_by (thread_of e)) q e (and_right (is_by (thread_of e) e) _ (release_exits e.kind release)) ∙ follows.not_exited)
                 free
@@ -693,7 +696,7 @@ module _ (bounds : Bounds) (wants : ℕ → List Event → Option Action) (log :
                 (λ before. subst (λ x. LeavesBehind (r ++ more) x (thread_of e) k) (sym (grown.1 i before.0)) (behind i d before.1 its k other had))
                 (λ now. subst (λ x. LeavesBehind (r ++ more) x (thread_of e) k) (sym (grown.2 i now.0)) (behind last.at last.event last.here last.by k other had))
                 (last_or_before q e i d at))))
-                (λ other. mode_other e more grown.0.home u other (λ k g at. (alone k g at).0) grown.1)
+                (λ other. mode_other e more grown.0.place u other (λ k g at. (alone k g at).0) grown.1)
                 (cases_eq (thread_of e) u);
           }
 
@@ -721,15 +724,15 @@ module _ (bounds : Bounds) (wants : ℕ → List Event → Option Action) (log :
       shadow_stops : IsShadow bounds wants log (q ++ e ∷ []) (r ++ back.more)
       shadow_stops = shadow_more e follows release unsure back.more back.alone back.goes_on back.nothing_held
           (λ i g at by k h turn.
-          let home = s.stands.homes i g at in
-          left_behind r back.more (s.stands.home i) (thread_of e) k home.0 (subst (λ t. IsTrue (passes_at r (is_by t) (s.stands.home i))) by home.1) (λ j x there. (back.alone j x there).0) back.nothing_held h (turn_forth k h turn))
+          let f = s.stands.places i g at in
+          left_behind r back.more (s.stands.place i) (thread_of e) k f.0 f.1 (f.2 ∙ by) (λ j x there. (back.alone j x there).0) back.nothing_held h (turn_forth k h turn))
 
     -- it has given them back
     shadow_gone : (e : Event) → MayFollow bounds q e → IsTrue (gives_up e.kind) → IsUnsure log q (thread_of e) → ((m : ℕ) → IsFalse (holds r (thread_of e) m)) →
-        ((i : ℕ) (d : Event) → slice_get q i ≡ Some d → thread_of d ≡ thread_of e → (k : Kind) → IsTrue (gives_up k) → IsInTurn q (thread_of e) k → LeavesBehind r (s.stands.home i) (thread_of e) k) → IsShadow bounds wants log (q ++ e ∷ []) (r ++ [])
+        ((i : ℕ) (d : Event) → slice_get q i ≡ Some d → thread_of d ≡ thread_of e → (k : Kind) → IsTrue (gives_up k) → IsInTurn q (thread_of e) k → LeavesBehind r (s.stands.place i) (thread_of e) k) → IsShadow bounds wants log (q ++ e ∷ []) (r ++ [])
     shadow_gone e follows release unsure free left =
         shadow_more e follows release unsure [] (λ k g at. absurd (none-some g at)) (subst (IsRun bounds wants) (sym (append-nil r)) s.run) (λ m. subst (λ es. IsFalse (holds es (thread_of e) m)) (sym (append-nil r)) (free m))
-        (λ i d at by k h turn. LeavesBehind-append r [] (s.stands.home i) (thread_of e) k (left i d at by k h turn))
+        (λ i d at by k h turn. LeavesBehind-append r [] (s.stands.place i) (thread_of e) k (left i d at by k h turn))
 
   -- ---- every prediction has a shadow
 
@@ -741,7 +744,7 @@ module _ (bounds : Bounds) (wants : ℕ → List Event → Option Action) (log :
         known_sure : (next : Event) → IsNextOf log q (thread_of e) next → ¬ IsUnsure log q (thread_of e)
         known_sure next its unsure = ⊎_elim (λ turned. not_turned log q (thread_of e) (next ∷ its.rest) its.along turned) (λ behind. its.sure behind) unsure
 
-        by_mode : Mode log q r s.stands.home (thread_of e) → IsForetold log q e → (r' : List Event) × IsShadow bounds wants log (q ++ e ∷ []) r'
+        by_mode : Mode log q r s.stands.place (thread_of e) → IsForetold log q e → (r' : List Event) × IsShadow bounds wants log (q ++ e ∷ []) r'
         by_mode (GoesOn goes same) (Known next its action) = (r ++ in_run q r well s e next follows its action log_run same ∷ [], shadow_known q r well s e next follows its action log_run same)
         by_mode (GoesOn goes same) (Unknown unsure release) = absurd (goes unsure)
         by_mode (Stops unsure before d f own_q own_r read_d read_f) (Known next its action) = absurd (known_sure next its unsure)
@@ -780,6 +783,32 @@ module _ (bounds : Bounds) (wants : ℕ → List Event → Option Action) (log :
         let w = shadow_of trace prediction in
         record { run = w.0; is_run = w.1.run; cyclic = stands-cycle trace w.0 (λ t. ¬ IsUnsure log trace t) w.1.stands cyclic }
 
+    -- ---- blocks to blame
+
+    pub can_break : (trace : List Event) (t b p : ℕ) (begin : Event) → IsPrediction bounds log trace → length trace ≡ p + 1 → IsTrue (passes_at trace (is_by t) p) → Contains (open_blocks trace t) b → ¬ IsSelfSerializable trace b → slice_get trace b ≡ Some begin → CanBreak bounds wants begin
+    can_break trace t b p begin prediction long own open_b broken here =
+        let w = shadow_of trace prediction in
+        let opened = (Contains-open_blocks trace t b).0 open_b in
+        let own_b = is_open_at-thread trace t b (length trace) opened in
+        let by_t : thread_of begin ≡ t = eqb-true (thread_of begin) t (sym (passes_at-is trace (is_by t) b begin here) ∙ own_b) in
+        let begun : IsTrue (is_begin begin.kind) = sym (passes_at-is trace (λ e. is_begin e.kind) b begin here) ∙ is_open_at-begins trace t b (length trace) opened in
+        let last = passes_at-event trace (is_by t) p own in
+        let i = (blame_law trace t b p long own opened).0 broken in
+        let within = HappensBefore-within trace i.through p i.back in
+        let m = event_at trace i.through within.0 in
+        let le : b ≤ p = omega (arith, HappensBefore-lt trace b i.through i.out, HappensBefore-lt trace i.through p i.back) in
+        let inside = is_in_block-open trace t b (length trace) p opened le (omega (arith, long)) own in
+        record {
+          run = w.0;
+          is_run = w.1.run;
+          block = w.1.stands.place b;
+          begins = w.1.stands.begun b begin here begun;
+          broken = stands-interrupted trace w.0 (λ t. ¬ IsUnsure log trace t) w.1.stands b i.through p begin m.0 last.0 here m.1 last.1
+              (by_t ∙ sym (eqb-true (thread_of last.0) t last.2))
+              (λ same. both_ways (passes_at trace (is_by t) i.through) i.of_another (passes_at-is trace (is_by t) i.through m.0 m.1 ∙ eq-eqb (thread_of m.0) t (same ∙ by_t)))
+              inside i.out i.back;
+        }
+
     -- ---- circles of waits
 
     module _ (q r : List Event) (well : IsWellFormed bounds q) (s : IsShadow bounds wants log q r) where
@@ -790,7 +819,7 @@ module _ (bounds : Bounds) (wants : ℕ → List Event → Option Action) (log :
       same_own : (t : ℕ) → ¬ IsUnsure log q t → own t q ≡ own t r
       same_own t sure = by_mode (s.mode t)
         where
-          by_mode : Mode log q r s.stands.home t → own t q ≡ own t r
+          by_mode : Mode log q r s.stands.place t → own t q ≡ own t r
           by_mode (GoesOn known same) = same
           by_mode (Stops unsure before d f own_q own_r read_d read_f) = absurd (sure unsure)
           by_mode (IsGone unsure stays free left) = absurd (sure unsure)
@@ -844,6 +873,12 @@ module _ (bounds : Bounds) (wants : ℕ → List Event → Option Action) (log :
 
 pub cycles_are_feasible : CyclesAreFeasible
 cycles_are_feasible bounds wants log trace run sections predicts = can_cycle bounds wants log run sections trace predicts.prediction predicts.cyclic
+
+pub blame_is_feasible : BlameIsFeasible
+blame_is_feasible bounds wants log earlier last blamed b begin run sections prediction are contains here =
+    can_break bounds wants log run sections (earlier ++ last ∷ []) (thread_of last) b (length earlier) begin prediction (length_push earlier last)
+    (passes_at-is (earlier ++ last ∷ []) (is_by (thread_of last)) (length earlier) last (slice_get-push earlier last) ∙ eq-eqb (thread_of last) (thread_of last) refl)
+    ((are.which b).0 contains).0 ((are.which b).0 contains).1 here
 
 pub deadlocks_are_feasible : DeadlocksAreFeasible
 deadlocks_are_feasible bounds wants log trace run sections predicts = can_deadlock bounds wants log run sections trace predicts

@@ -1,11 +1,12 @@
 -- A program is what each thread wants after what it did. What one of its runs foretells, another of its runs shows.
-use Rattle.std.specs.Prelude.{◌≡◌, ℕ, List, [], ◌∷◌, ◌++◌, Option, Some, None, take, slice_get, IsTrue, IsFalse}
+use Rattle.std.specs.Prelude.{◌≡◌, ℕ, List, [], ◌∷◌, ◌++◌, Option, Some, None, take, slice_get, Contains, IsTrue, IsFalse}
 use Rattle.velo_events.specs.declared.config.Bounds.{Bounds}
 use Rattle.velo_events.specs.declared.event.Action.{Action}
 use Rattle.velo_events.specs.declared.event.Event.{Event}
 use Rattle.velo_events.specs.Event.{thread_of, is_read, thread_forked_or_joined}
 use Rattle.velo_events.specs.Graph.{HasCycle}
 use Rattle.velo_events.specs.Meaning.{holds}
+use Rattle.velo_events.specs.Reordering.{IsSelfSerializable, AreBlamed}
 use Rattle.velo_moves.specs.Programs.{own, IsLog}
 use Rattle.velo_moves.specs.Wants.{Does}
 use Rattle.velo_predict.specs.Deadlocks.{IsDeadlock, PredictsDeadlock}
@@ -31,6 +32,14 @@ pub record CanCycle (bounds : Bounds) (wants : ℕ → List Event → Option Act
   pub run : List Event
   pub is_run : IsRun bounds wants run
   pub cyclic : HasCycle run
+
+-- a run of the program in which the block that begins with this event is not self-serializable
+pub record CanBreak (bounds : Bounds) (wants : ℕ → List Event → Option Action) (begin : Event) : Type 0 where
+  pub run : List Event
+  pub is_run : IsRun bounds wants run
+  pub block : ℕ
+  pub begins : slice_get run block ≡ Some begin
+  pub broken : ¬ IsSelfSerializable run block
 
 -- a run of the program after which threads wait in a circle
 pub record CanDeadlock (bounds : Bounds) (wants : ℕ → List Event → Option Action) : Type 0 where
@@ -60,6 +69,14 @@ abbrev pub CyclesAreFeasible : Type 0
 CyclesAreFeasible =
     (bounds : Bounds) (wants : ℕ → List Event → Option Action) (log trace : List Event) →
     IsRun bounds wants log → SectionsEnd bounds wants → PredictsCycle bounds log trace → CanCycle bounds wants
+
+-- nor a false blame: what a prediction blames at its last event, a block of the same thread and label, a run of the program breaks
+abbrev pub BlameIsFeasible : Type 0
+BlameIsFeasible =
+    (bounds : Bounds) (wants : ℕ → List Event → Option Action) (log earlier : List Event) (last : Event) (blamed : List ℕ) (b : ℕ) (begin : Event) →
+    IsRun bounds wants log → SectionsEnd bounds wants → IsPrediction bounds log (earlier ++ last ∷ []) →
+    AreBlamed (earlier ++ last ∷ []) (thread_of last) blamed → Contains blamed b → slice_get (earlier ++ last ∷ []) b ≡ Some begin →
+    CanBreak bounds wants begin
 
 abbrev pub DeadlocksAreFeasible : Type 0
 DeadlocksAreFeasible =

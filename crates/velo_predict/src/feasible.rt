@@ -1,5 +1,5 @@
 //! What a program does if a log of it foretells a trace.
-ghost use Rattle.velo_predict.specs.Feasible.{CyclesAreFeasible, DeadlocksAreFeasible, KeptAreRuns, KeptDeadlocksAreFeasible};
+ghost use Rattle.velo_predict.specs.Feasible.{BlameIsFeasible, CyclesAreFeasible, DeadlocksAreFeasible, KeptAreRuns, KeptDeadlocksAreFeasible};
 
 /// A prediction in which no thread goes on whose next action is unknown is a run of each program that the log is a run of. So
 /// it has the cycle that the prediction has.
@@ -15,6 +15,12 @@ pub fn kept_deadlocks()
 /// Where the critical sections of a program end, and a log of it foretells a trace with a cycle, it has a run with a cycle.
 pub fn cycles_are_feasible()
     ensures { CyclesAreFeasible }
+{}
+
+/// What is blamed at the last event of such a trace is not atomic in some run of the program: it has a block of the same thread
+/// and label that is not self-serializable.
+pub fn blame_is_feasible()
+    ensures { BlameIsFeasible }
 {}
 
 /// Where the log foretells a trace after which threads wait in a circle, the program has such a run.

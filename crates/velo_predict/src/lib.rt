@@ -12,6 +12,8 @@ mod waits;
 
 pub use cycle::predicts_cycle;
 pub use difference::Difference;
-pub use feasible::{cycles_are_feasible, deadlocks_are_feasible, kept_are_runs, kept_deadlocks};
+pub use feasible::{
+    blame_is_feasible, cycles_are_feasible, deadlocks_are_feasible, kept_are_runs, kept_deadlocks,
+};
 pub use judge::{differing_reads, is_prediction};
 pub use waits::{Waiting, predicts_deadlock};
