@@ -1,6 +1,15 @@
 pub mod OnPredictions
 pub mod OnCourses
 pub mod OnFollowing
+pub mod OnDifferences
 pub mod OnJudged
+pub mod OnClosings
+pub mod OnCircles
+pub mod OnWaits
+pub mod OnDeadlocks
 pub mod Rows
 pub mod OnKept
+pub mod OnStands
+pub mod OnOwn
+pub mod OnSections
+pub mod OnShadows

@@ -10,6 +10,7 @@ use Rattle.velo_events.proofs.OnScans.{take-next}
 use Rattle.velo_heap.specs.Contents.{bounds_of, IsHeapOf}
 use Rattle.velo_moves.specs.Free.{gives_up}
 use Rattle.velo_predict.specs.Courses.{IsCourse, IsJudged, TellsLoose}
+use Rattle.velo_predict.specs.Differences.{AreDifferences}
 use Rattle.velo_predict.specs.Predictions.{IsForetold, IsPrediction}
 use Rattle.velo_predict.specs.declared.judge.Course.{Course}
 use Rattle.velo_predict.specs.declared.judge.Judged.{Judged}
@@ -34,8 +35,9 @@ pub judged_after : (bounds : Bounds) (log events : List Event) (i : ℕ) (d : Ev
     new.courses.items ≡ set old.courses.items (thread_of e) after →
     length new.courses.items ≡ length old.courses.items →
     new.is_loose ≡ (old.is_loose || course.is_unsure) →
+    AreDifferences log (take i events ++ e ∷ []) new.differing.items →
     IsJudged bounds log (take (i + 1) events) new
-judged_after bounds log events i d old new course after within stands at follows foretold release fresh heap same courses count loose =
+judged_after bounds log events i d old new course after within stands at follows foretold release fresh heap same courses count loose differing =
     let e = get_or events i d in
     let trace = take i events in
     let threads : thread_of e < length old.courses.items = omega (arith, follows.known_thread, stands.count) in
@@ -46,5 +48,6 @@ judged_after bounds log events i d old new course after within stands at follows
       count = count ∙ stands.count;
       courses = λ t c here. courses_after log trace e old.courses.items after stands.courses threads fresh t c (ap (λ cs. slice_get cs t) (sym courses) ∙ here);
       loose = subst (λ b. TellsLoose log (trace ++ e ∷ []) b) (sym loose) (loose_after log trace e course old.is_loose stands.loose (stands.courses (thread_of e) course at) release);
+      differing = differing;
       prediction = IsPrediction-push bounds log trace e stands.prediction follows foretold;
     })

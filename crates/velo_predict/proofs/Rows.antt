@@ -1,7 +1,8 @@
 -- The definitions at logs that are written out, as a check that they say what is meant.
-use Rattle.std.proofs.Common.{◌≡◌, ℕ, List, [], ◌∷◌, get_or, refl, ap, inl, arith}
-use Rattle.std.specs.Prelude.{IsFalse}
+use Rattle.std.proofs.Common.{◌≡◌, ℕ, zero, suc, List, [], ◌∷◌, get_or, Some, refl, ap, subst, inl, arith}
+use Rattle.std.specs.Prelude.{slice_get, IsFalse}
 use Rattle.std.proofs.lemmas.Bool.{false≢true, both_ways}
+use Rattle.std.proofs.lemmas.Option.{none-some, same_Some}
 use Rattle.velo_events.specs.declared.event.Event.{Event}
 use Rattle.velo_events.specs.declared.event.Kind.{Kind}
 use Rattle.velo_events.specs.declared.event.Kind.TheVariants.{Read, Write, Acquire, Release, Begin, End, Fork}
@@ -12,8 +13,11 @@ use Rattle.velo_events.specs.Heap.{latest, happened, times}
 use Rattle.velo_events.proofs.Deciders.{all_below, makes_edge, edge_by}
 use Rattle.velo_events.proofs.OnLookUps.{happened-at}
 use Rattle.velo_moves.specs.Free.{gives_up}
-use Rattle.velo_predict.specs.Deadlocks.{IsDeadlock, IsNextAction}
+use Rattle.velo_predict.specs.Deadlocks.{WaitsFor, IsDeadlock, IsNextAction}
 use Rattle.velo_predict.specs.Deadlocks.WaitsFor.{ForLock}
+use Rattle.velo_predict.specs.Differences.{IsDifference}
+use Rattle.velo_predict.specs.Waits.{IsCircle, IsDue}
+use Rattle.velo_predict.specs.declared.waits.Waiting.{Waiting}
 use Rattle.velo_predict.specs.Predictions.{HasTurned, HasReadBehind, IsForetold}
 use Rattle.velo_predict.specs.Predictions.IsForetold.{Known, Unknown}
 
@@ -56,6 +60,22 @@ handed = fork 0 1 ∷ write 0 0 1 ∷ read 1 0 1 ∷ write 1 0 2 ∷ []
 early_read : IsForetold handed (fork 0 1 ∷ []) (read 1 0 0)
 unfolding computed
 early_read = Known (read 1 0 1) (record { sure = nothing_behind handed (fork 0 1 ∷ []) 1 refl; rest = write 1 0 2 ∷ []; along = refl }) refl
+
+-- and this differs from the log
+early_difference : IsDifference handed (fork 0 1 ∷ read 1 0 0 ∷ []) (record { position = 1; recorded = 2 })
+unfolding computed
+early_difference = record {
+  read = read 1 0 0;
+  here = refl;
+  differs = record {
+    next = read 1 0 1;
+    there = refl;
+    by = refl;
+    same_past = refl;
+    is_read = refl;
+    differ = λ h. let values : 0 ≡ 1 = ap value_of h in absurd (omega (arith, values));
+  };
+}
 
 -- but what it does then is unknown
 early_write : ¬ IsForetold handed (fork 0 1 ∷ read 1 0 0 ∷ []) (write 1 0 2)
@@ -104,20 +124,32 @@ crossed =
 abbrev both_hold : List Event
 both_hold = fork 0 1 ∷ acquire 0 0 ∷ acquire 1 1 ∷ []
 
-waiting : IsDeadlock (IsNextAction crossed both_hold) both_hold
+crossed_waits : WaitsFor (IsNextAction crossed both_hold) both_hold 0 1 × WaitsFor (IsNextAction crossed both_hold) both_hold 1 0
 unfolding computed
-waiting = record {
-  threads = 0 ∷ 1 ∷ [];
-  circle = (
-    ForLock (record { 0 = 1 }) (record {
-      event = acquire 0 1;
-      next = record { sure = nothing_behind crossed both_hold 0 refl; rest = release 0 1 ∷ release 0 0 ∷ []; along = refl };
-      is_action = refl;
-    }) refl (λ h. absurd (omega (arith, h))) refl,
-    ForLock (record { 0 = 0 }) (record {
-      event = acquire 1 0;
-      next = record { sure = nothing_behind crossed both_hold 1 refl; rest = release 1 0 ∷ release 1 1 ∷ []; along = refl };
-      is_action = refl;
-    }) refl (λ h. absurd (omega (arith, h))) refl,
-  );
-}
+crossed_waits = (
+  ForLock (record { 0 = 1 }) (record {
+    event = acquire 0 1;
+    next = record { sure = nothing_behind crossed both_hold 0 refl; rest = release 0 1 ∷ release 0 0 ∷ []; along = refl };
+    is_action = refl;
+  }) refl (λ h. absurd (omega (arith, h))) refl,
+  ForLock (record { 0 = 0 }) (record {
+    event = acquire 1 0;
+    next = record { sure = nothing_behind crossed both_hold 1 refl; rest = release 1 0 ∷ release 1 1 ∷ []; along = refl };
+    is_action = refl;
+  }) refl (λ h. absurd (omega (arith, h))) refl,
+)
+
+waiting : IsDeadlock (IsNextAction crossed both_hold) both_hold
+waiting = record { threads = 0 ∷ 1 ∷ []; circle = crossed_waits }
+
+at_next : ℕ → ℕ → Waiting
+at_next t next = record { thread = record { 0 = t }; next = next }
+
+circle : IsCircle crossed both_hold (at_next 0 2 ∷ at_next 1 6 ∷ [])
+unfolding computed at_next
+circle = record { ring = crossed_waits; due = record { each = each } }
+  where
+    each : (i : ℕ) (w : Waiting) → slice_get (at_next 0 2 ∷ at_next 1 6 ∷ []) i ≡ Some w → IsDue crossed both_hold w.thread.0 w.next
+    each zero w at = subst (λ v. IsDue crossed both_hold v.thread.0 v.next) (same_Some (at_next 0 2) w at) (record { next = acquire 0 1; there = refl; by = refl; same_past = refl; sure = nothing_behind crossed both_hold 0 refl })
+    each (suc zero) w at = subst (λ v. IsDue crossed both_hold v.thread.0 v.next) (same_Some (at_next 1 6) w at) (record { next = acquire 1 0; there = refl; by = refl; same_past = refl; sure = nothing_behind crossed both_hold 1 refl })
+    each (suc (suc i)) w at = absurd (none-some w at)

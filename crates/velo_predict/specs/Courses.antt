@@ -4,6 +4,7 @@ use Rattle.velo_events.specs.declared.config.Bounds.{Bounds}
 use Rattle.velo_events.specs.declared.event.Event.{Event}
 use Rattle.velo_heap.specs.Contents.{bounds_of, IsHeapOf}
 use Rattle.velo_moves.specs.Programs.{own}
+use Rattle.velo_predict.specs.Differences.{AreDifferences}
 use Rattle.velo_predict.specs.Predictions.{IsLoose, HasReadBehind, IsUnsure, IsPrediction}
 use Rattle.velo_predict.specs.declared.judge.Course.{Course}
 use Rattle.velo_predict.specs.declared.judge.Judged.{Judged}
@@ -27,4 +28,5 @@ pub record IsJudged (bounds : Bounds) (log trace : List Event) (judged : Judged)
   pub count : length judged.courses.items ≡ bounds.threads
   pub courses : (t : ℕ) (course : Course) → slice_get judged.courses.items t ≡ Some course → IsCourse log trace t course
   pub loose : TellsLoose log trace judged.is_loose
+  pub differing : AreDifferences log trace judged.differing.items
   pub prediction : IsPrediction bounds log trace

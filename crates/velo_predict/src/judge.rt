@@ -1,5 +1,5 @@
 //! Whether a log foretells a trace, judged event by event.
-ghost use Rattle.std.specs.Prelude.{◌≡◌, ◌≢◌, ◌⊎◌, ◌↔◌, ◌+◌, ◌<◌, ◌≤◌, [], ◌∷◌, ◌++◌, drop, length, slice_get, take, Some, None, IsTrue, IsFalse, IfOk, IfSome, IfNone, List};
+ghost use Rattle.std.specs.Prelude.{◌≡◌, ◌≢◌, ◌⊎◌, ◌↔◌, ◌+◌, ◌<◌, ◌≤◌, [], ◌∷◌, ◌++◌, drop, length, slice_get, take, Some, None, IsTrue, IsFalse, IfOk, IfSome, IfNone, List, MatchOption, vec_capacity, vec_len};
 ghost use Rattle.velo_events.specs.declared.event.Event.{Event as EventOf};
 ghost use Rattle.velo_events.specs.Event.{is_read, thread_of};
 ghost use Rattle.velo_events.specs.Meaning.{action_of};
@@ -8,28 +8,40 @@ ghost use Rattle.velo_heap.specs.Contents.{bounds_of, IsHeapOf};
 ghost use Rattle.velo_moves.specs.Free.{gives_up};
 ghost use Rattle.velo_moves.specs.Programs.{own};
 ghost use Rattle.velo_predict.specs.Predictions.{IsForetold, IsPrediction};
+ghost use Rattle.velo_predict.specs.Differences.{difference_at, AreDifferences, TellsDifference};
 ghost use Rattle.velo_predict.specs.Courses.{IsCourse, TellsLoose, IsJudged};
 
+use crate::Difference;
 use std::alloc::Global;
-use velo_events::growth::filled;
+use velo_events::growth::{filled, reserve};
 use velo_events::{Config, Event, Kind, Memory, ThreadId};
 use velo_heap::Heap;
 use velo_traces::Trace;
 
 /// How far a thread has come in the log.
 #[derive(Clone, Copy, Debug)]
-struct Course {
+pub struct Course {
     /// From this position on its next event is looked for.
-    place: usize,
+    pub place: usize,
     /// Whether what it does next is unknown.
-    is_unsure: bool,
+    pub is_unsure: bool,
+}
+
+/// What an event comes to, if it is foretold.
+#[derive(Clone, Copy, Debug)]
+struct Step {
+    /// How far its thread has come.
+    course: Course,
+    /// The position in the log of the event that it differs from.
+    differs_from: Option<usize>,
 }
 
 /// How the threads stand in a trace that the log foretells so far.
 #[derive(Drop)]
-struct Judged {
-    heap: Heap,
-    courses: Vec<Course>,
+pub struct Judged {
+    pub heap: Heap,
+    pub courses: Vec<Course>,
+    pub differing: Vec<Difference>,
     /// Whether a thread that had turned has given up a lock.
     is_loose: bool,
 }
@@ -67,7 +79,7 @@ fn is_unknown_after(kind: Kind, next: Kind, is_loose: bool) -> bool
 }
 
 /// The first position from this one on whose event is of the thread, or the number of events.
-fn next_of(log: &[Event], thread: ThreadId, from: usize) -> usize
+pub fn next_of(log: &[Event], thread: ThreadId, from: usize) -> usize
     requires { from ≤ length log.now }
     ensures at_most { result ≤ length log.now }
     ensures passed { own thread.0 (drop from log.now) ≡ own thread.0 (drop result log.now) }
@@ -81,19 +93,41 @@ fn next_of(log: &[Event], thread: ThreadId, from: usize) -> usize
     log.len()
 }
 
-/// How far the event's thread has come after it, if it is foretold.
-fn course_after(log: &[Event], course: Course, event: Event, is_loose: bool) -> Option<Course>
+/// The position, if the operations differ.
+fn unless_same(kind: Kind, next: Kind, place: usize) -> Option<usize>
+    ensures { MatchOption result (kind ≡ next) (λ at. (at ≡ place) × (kind ≢ next)) }
+{
+    if kind == next { None } else { Some(place) }
+}
+
+/// Lists the difference, if there is one. There is room for it.
+fn list_difference(differing: &mut Vec<Difference>, position: usize, differs_from: Option<usize>)
+    requires { vec_len differing.old < vec_capacity differing.old }
+    ensures { differing.new.items ≡ differing.old.items ++ difference_at position differs_from }
+{
+    if let Some(recorded) = differs_from {
+        differing.push_reserved(Difference { position, recorded });
+    }
+}
+
+/// What the event comes to, if it is foretold.
+fn step_by(log: &[Event], course: Course, event: Event, is_loose: bool) -> Option<Step>
     requires { course.place ≤ length log.now }
-    ensures foretold { IfSome result (λ new. (trace : List EventOf)
+    ensures foretold { IfSome result (λ step. (trace : List EventOf)
         → IsCourse log.now trace event.thread.0 course → TellsLoose log.now trace is_loose
-        → IsForetold log.now trace event × IsCourse log.now (trace ++ event ∷ []) event.thread.0 new) }
+        → IsForetold log.now trace event × IsCourse log.now (trace ++ event ∷ []) event.thread.0 step.course) }
     ensures not_foretold { IfNone result ((trace : List EventOf)
         → IsCourse log.now trace event.thread.0 course → ¬ IsForetold log.now trace event) }
-    ensures release { IfSome result (λ new. IsTrue course.is_unsure → IsTrue (gives_up event.kind)) }
+    ensures release { IfSome result (λ step. IsTrue course.is_unsure → IsTrue (gives_up event.kind)) }
+    ensures differs { IfSome result (λ step. (trace : List EventOf)
+        → IsCourse log.now trace event.thread.0 course → TellsDifference log.now trace event step.differs_from) }
 {
     if course.is_unsure {
         return if gives_up(event.kind) {
-            Some(course)
+            Some(Step {
+                course,
+                differs_from: None,
+            })
         } else {
             None
         };
@@ -106,9 +140,12 @@ fn course_after(log: &[Event], course: Course, event: Event, is_loose: bool) -> 
     if !are_of_one_action(event.kind, next.kind) {
         return None;
     }
-    Some(Course {
-        place: place + 1,
-        is_unsure: is_unknown_after(event.kind, next.kind, is_loose),
+    Some(Step {
+        course: Course {
+            place: place + 1,
+            is_unsure: is_unknown_after(event.kind, next.kind, is_loose),
+        },
+        differs_from: unless_same(event.kind, next.kind, place),
     })
 }
 
@@ -134,31 +171,37 @@ impl Judged {
         Ok(Judged {
             heap,
             courses,
+            differing: Vec::new(alloc),
             is_loose: false,
         })
     }
 
     /// Takes the event at the position in, if it is foretold.
-    fn take_in(&mut self, log: &[Event], events: &[Event], position: usize) -> bool
+    ///
+    /// # Errors
+    /// `Memory` where a growth was refused.
+    fn take_in(&mut self, log: &[Event], events: &[Event], position: usize) -> Result<bool, Memory>
         requires within { position < length events.now }
         requires stands { IsJudged (bounds_of self.old.heap) log.now (take position events.now) self.old }
         ensures bounds { bounds_of self.new.heap ≡ bounds_of self.old.heap }
-        ensures yes { IsTrue result → IsJudged (bounds_of self.old.heap) log.now (take (position + 1) events.now) self.new }
-        ensures no { IsFalse result → ¬ IsPrediction (bounds_of self.old.heap) log.now events.now }
+        ensures yes { IfOk result (λ taken. IsTrue taken → IsJudged (bounds_of self.old.heap) log.now (take (position + 1) events.now) self.new) }
+        ensures no { IfOk result (λ taken. IsFalse taken → ¬ IsPrediction (bounds_of self.old.heap) log.now events.now) }
     {
+        reserve(&mut self.differing, 1)?;
         let event = events[position];
         if !may_follow(&self.heap, &event) {
-            return false;
+            return Ok(false);
         }
         let thread = usize::from(event.thread.0);
         let course = self.courses[thread];
-        let Some(new) = course_after(log, course, event, self.is_loose) else {
-            return false;
+        let Some(step) = step_by(log, course, event, self.is_loose) else {
+            return Ok(false);
         };
         self.heap.apply(&event);
-        self.courses[thread] = new;
+        self.courses[thread] = step.course;
         self.is_loose = self.is_loose || course.is_unsure;
-        true
+        list_difference(&mut self.differing, position, step.differs_from);
+        Ok(true)
     }
 }
 
@@ -166,7 +209,7 @@ impl Judged {
 ///
 /// # Errors
 /// `Memory` where a growth was refused.
-fn judge_trace(
+pub fn judge_trace(
     alloc: Global,
     config: &Config,
     log: &Trace,
@@ -178,7 +221,7 @@ fn judge_trace(
     let mut judged = Judged::new(alloc, config)?;
     let events = trace.as_slice();
     for position in 0..events.len() {
-        if !judged.take_in(log.as_slice(), events, position) {
+        if !judged.take_in(log.as_slice(), events, position)? {
             return Ok(None);
         }
     }
@@ -186,7 +229,7 @@ fn judge_trace(
 }
 
 /// Whether the log foretells the trace, within the bounds of the configuration: each thread does what it did in the log while
-/// it reads what it read there, and behind a read of another value it only gives up locks.
+/// it reads what it read there, and after a read of another value it only gives up locks.
 ///
 /// It goes once over the trace, and for each thread once over the log.
 ///
@@ -203,5 +246,25 @@ pub fn is_prediction(
     match judge_trace(alloc, config, log, trace)? {
         Some(_judged) => Ok(true),
         None => Ok(false),
+    }
+}
+
+/// The reads that get another value than in the log, if the log foretells the trace.
+///
+/// # Errors
+/// `Memory` where a growth was refused.
+pub fn differing_reads(
+    alloc: Global,
+    config: &Config,
+    log: &Trace,
+    trace: &Trace,
+) -> Result<Option<Vec<Difference>>, Memory>
+    ensures foretold { IfOk result (λ found. IfSome found (λ differing. IsPrediction config.now.bounds log.now.events trace.now.events)) }
+    ensures listed { IfOk result (λ found. IfSome found (λ differing. AreDifferences log.now.events trace.now.events differing.items)) }
+    ensures not_foretold { IfOk result (λ found. IfNone found (¬ IsPrediction config.now.bounds log.now.events trace.now.events)) }
+{
+    match judge_trace(alloc, config, log, trace)? {
+        Some(judged) => Ok(Some(judged.differing)),
+        None => Ok(None),
     }
 }

@@ -1,14 +1,16 @@
 //! Which traces small logs foretell.
-use crate::is_prediction;
+use crate::{
+    Difference, Waiting, differing_reads, is_prediction, predicts_cycle, predicts_deadlock,
+};
 use std::alloc::Global;
 use std::process::Abort;
-use velo_events::{Bounds, Config, Event, Kind, LockId, ThreadId, VarId};
+use velo_events::{Bounds, Config, Event, Kind, Label, LockId, ThreadId, VarId};
 use velo_traces::Trace;
 
 const BOUNDS: Bounds = Bounds {
     threads: 3,
     variables: 2,
-    locks: 1,
+    locks: 2,
 };
 
 const X: VarId = VarId(0);
@@ -16,6 +18,8 @@ const X: VarId = VarId(0);
 const Y: VarId = VarId(1);
 
 const M: LockId = LockId(0);
+
+const N: LockId = LockId(1);
 
 fn by(thread: u8, kind: Kind) -> Event {
     Event {
@@ -111,4 +115,113 @@ fn read_behind_such_a_release_is_the_last(rt: HostRuntime) {
     }
     events.push(by(2, Kind::Write(Y, 1))).expect(&rt, "memory");
     assert!(rt; !foretells(&rt, rt.alloc(), &added(), events.as_slice()));
+}
+
+/// The differing reads of a trace that is foretold.
+fn differing(rt: &impl Abort, alloc: Global, log: &[Event], events: &[Event]) -> Vec<Difference> {
+    let config = Config::new(1, BOUNDS, 100, 1, false).expect(rt, "in range");
+    let log = trace_of(rt, alloc, log);
+    let trace = trace_of(rt, alloc, events);
+    let found = differing_reads(alloc, &config, &log, &trace).expect(rt, "memory");
+    found.expect(rt, "foretold")
+}
+
+#[test]
+fn differing_read_is_listed(rt: HostRuntime) {
+    let early = [
+        fork(1),
+        fork(2),
+        by(2, Kind::Read(Y, 0)),
+        by(1, Kind::Acquire(M)),
+        by(1, Kind::Read(X, 0)),
+        by(1, Kind::Release(M)),
+    ];
+    let listed = differing(&rt, rt.alloc(), &added(), &early);
+    let expected = [Difference {
+        position: 4,
+        recorded: 6,
+    }];
+    assert_eq!(rt; listed.as_slice(), expected.as_slice());
+    let same = differing(&rt, rt.alloc(), &added(), &added());
+    assert_eq!(rt; same.len(), 0);
+}
+
+/// The position of the first event that closes a cycle of a trace that is foretold.
+fn closing(rt: &impl Abort, alloc: Global, log: &[Event], events: &[Event]) -> Option<usize> {
+    let config = Config::new(1, BOUNDS, 100, 1, false).expect(rt, "in range");
+    let log = trace_of(rt, alloc, log);
+    let trace = trace_of(rt, alloc, events);
+    predicts_cycle(alloc, &config, &log, &trace).expect(rt, "memory")
+}
+
+/// The lock is taken twice in a block, and another thread's section may come between.
+#[test]
+fn block_is_broken_between_its_sections(rt: HostRuntime) {
+    let block = Kind::Begin(Label(7));
+    let log = [
+        fork(1),
+        by(0, block),
+        by(0, Kind::Acquire(M)),
+        by(0, Kind::Read(X, 0)),
+        by(0, Kind::Release(M)),
+        by(0, Kind::Acquire(M)),
+        by(0, Kind::Write(X, 1)),
+        by(0, Kind::Release(M)),
+        by(0, Kind::End),
+        by(1, Kind::Acquire(M)),
+        by(1, Kind::Read(X, 1)),
+        by(1, Kind::Release(M)),
+    ];
+    let broken = [
+        fork(1),
+        by(0, block),
+        by(0, Kind::Acquire(M)),
+        by(0, Kind::Read(X, 0)),
+        by(0, Kind::Release(M)),
+        by(1, Kind::Acquire(M)),
+        by(1, Kind::Read(X, 0)),
+        by(1, Kind::Release(M)),
+        by(0, Kind::Acquire(M)),
+        by(0, Kind::Write(X, 1)),
+    ];
+    assert_eq!(rt; closing(&rt, rt.alloc(), &log, &broken), Some(8));
+    assert_eq!(rt; closing(&rt, rt.alloc(), &log, &log), None);
+    // what is no prediction is none with a cycle either
+    assert_eq!(rt; closing(&rt, rt.alloc(), &broken, &log), None);
+}
+
+/// A circle of waits, if one is foretold.
+fn circle(rt: &impl Abort, alloc: Global, log: &[Event], events: &[Event]) -> Option<Vec<Waiting>> {
+    let config = Config::new(1, BOUNDS, 100, 1, false).expect(rt, "in range");
+    let log = trace_of(rt, alloc, log);
+    let trace = trace_of(rt, alloc, events);
+    predicts_deadlock(alloc, &config, &log, &trace).expect(rt, "memory")
+}
+
+/// Two threads take two locks in two orders.
+#[test]
+fn threads_wait_in_a_circle(rt: HostRuntime) {
+    let log = [
+        fork(1),
+        by(0, Kind::Acquire(M)),
+        by(0, Kind::Acquire(N)),
+        by(0, Kind::Release(N)),
+        by(0, Kind::Release(M)),
+        by(1, Kind::Acquire(N)),
+        by(1, Kind::Acquire(M)),
+    ];
+    let stuck = [fork(1), by(0, Kind::Acquire(M)), by(1, Kind::Acquire(N))];
+    let waiting = circle(&rt, rt.alloc(), &log, &stuck).expect(&rt, "a circle");
+    let expected = [
+        Waiting {
+            thread: ThreadId(0),
+            next: 2,
+        },
+        Waiting {
+            thread: ThreadId(1),
+            next: 6,
+        },
+    ];
+    assert_eq!(rt; waiting.as_slice(), expected.as_slice());
+    assert!(rt; circle(&rt, rt.alloc(), &log, &stuck[..2]).is_none());
 }

@@ -1,0 +1,5 @@
+use Rattle.velo_predict.proofs.OnShadows.{deadlocks_are_feasible}
+use Rattle.velo_predict.proofs.feasible.deadlocks_are_feasible.Goals as goal
+
+pub returns : goal.returns
+returns c = λ bounds wants log trace run sections predicts. deadlocks_are_feasible bounds wants log trace run sections predicts
