@@ -5,3 +5,4 @@ pub mod OnAnswers
 pub mod OnAudit
 pub mod OnUnique
 pub mod OnCount
+pub mod OnFewNodes

@@ -1,9 +1,10 @@
 //! One round: the rest of a log is checked.
-ghost use Rattle.std.specs.Prelude.{◌≡◌, ◌≤◌, false, length, IfOk, IfErr, OnErr};
+ghost use Rattle.std.specs.Prelude.{◌≡◌, ◌≢◌, ◌*◌, ◌≤◌, false, length, IfOk, IfErr, OnErr};
 ghost use Rattle.velo_events.specs.Refusals.{GrowthRefused};
 ghost use Rattle.velo_events.specs.WellFormed.{IsWellFormed};
 ghost use Rattle.velo_audit.specs.Audit.{RoundTells, IsRoundFault, CheckTells, IsCheckFault, out_of_memory};
 ghost use Rattle.velo_thin.specs.Tables.{left_of};
+ghost use Rattle.velo_world.specs.Faults.{IsFaultOfLog};
 
 use crate::told::{Told, told_of};
 use crate::witness::place_at;
@@ -14,6 +15,9 @@ use velo_ledger::Shares;
 use velo_thin::{LeftOut, Thinned, thin};
 use velo_traces::Trace;
 use velo_world::{LogReplayFault, World};
+
+/// How many nodes the graph of a round has at least, where there may be as many.
+const FEW_NODES: u32 = 256;
 
 /// Why a round could not be checked to its end.
 #[derive(Clone, Copy, Debug, PartialEq, Eq, Error)]
@@ -78,7 +82,7 @@ fn check(
     ensures fault { IfErr result (IsCheckFault config.now thinned.trace.events thinned.places.items) }
 {
     let Thinned { trace, places } = thinned;
-    match World::from_log(alloc, *config, trace) {
+    match replayed(alloc, config, trace) {
         Ok(replayed) => tell(alloc, asked, replayed, &places),
         Err(
             LogReplayFault::Refused {
@@ -90,6 +94,35 @@ fn check(
         }),
         Err(LogReplayFault::Memory) => Err(AuditFault::Memory),
         Err(_) => unreachable!(),
+    }
+}
+
+/// The world of a recorded log, whose graph has no more nodes than a round has use for.
+fn replayed(alloc: Global, config: &Config, log: Trace) -> Result<(World, Shares), LogReplayFault>
+    requires goes_on { config.now.stop ≡ false }
+    ensures log { IfOk result (λ replayed. replayed.0.log ≡ log.events) }
+    ensures fault { IfErr result (λ fault. IsFaultOfLog config.now log.events fault) }
+{
+    World::from_log(alloc, with_few_nodes(config), log)
+}
+
+/// The same, but for nodes that only make compactions rarer. As many as the threads squared are enough for any run. With four
+/// times as many, most come free in each. Every round makes a graph anew, so fewer nodes are soon made.
+fn with_few_nodes(config: &Config) -> Config
+    ensures bounds { result.bounds ≡ config.now.bounds }
+    ensures events { result.events ≡ config.now.events }
+    ensures stop { result.stop ≡ config.now.stop }
+    ensures nodes { result.nodes ≢ config.now.nodes
+        → config.now.bounds.threads * config.now.bounds.threads ≤ result.nodes }
+{
+    let threads = u32::from(config.bounds.threads);
+    let enough = (4 * (threads * threads)).max(FEW_NODES);
+    Config {
+        run: config.run,
+        bounds: config.bounds,
+        events: config.events,
+        nodes: enough.min(u32::from(config.nodes)) as u16,
+        stop: config.stop,
     }
 }
 

@@ -87,11 +87,11 @@ module _ (labels locks variables : ℕ → Bool) (log : List Event) where
       let i = place_of M log j in
       let e = event_at log i r.within in
       let stay : IsTrue (stays B log i)
-          = ap not (sym (left_out-kept log keeps blocks B i r.within r.here)) ∙ (ap (stays B (sub M log)) r.ranked ∙ (ap (λ es. stays B es j) (sym (rest_of-is M log)) ∙ s.here)) in
+      = ap not (sym (left_out-kept log keeps blocks B i r.within r.here)) ∙ (ap (stays B (sub M log)) r.ranked ∙ (ap (λ es. stays B es j) (sym (rest_of-is M log)) ∙ s.here)) in
       let ranked : rank (stays A log) i ≡ k
-          = sym (count_below-same i (both log keeps blocks B) (stays A log) (λ n m. both-is n (let w = r.within in omega (arith, m, w))))
-          ∙ (sym (rank-after log keeps blocks B i (let w = r.within in omega (arith, w)))
-          ∙ (ap (rank (stays B (sub M log))) r.ranked ∙ (ap (λ es. rank (stays B es) j) (sym (rest_of-is M log)) ∙ s.ranked))) in
+      = sym (count_below-same i (both log keeps blocks B) (stays A log) (λ n m. both-is n (let w = r.within in omega (arith, m, w))))
+      ∙ (sym (rank-after log keeps blocks B i (let w = r.within in omega (arith, w)))
+      ∙ (ap (rank (stays B (sub M log))) r.ranked ∙ (ap (λ es. rank (stays B es) j) (sym (rest_of-is M log)) ∙ s.ranked))) in
       sym (ap (place_of A log) (sym ranked) ∙ place-rank A log i r.within (sym (both-is i r.within) ∙ and_from (keeps i) (stays B log i) r.here stay))
 
   module _ (bounds : Bounds) (well : IsWellFormed bounds log) (ordered : IsOrderedWithin M log) where
@@ -109,7 +109,7 @@ module _ (labels locks variables : ℕ → Bool) (log : List Event) where
     position-then : (k : ℕ) → k < length (rest_of M D) → (place_of M D k < length D) × (position labels log (place_of M D k) ≡ place_of M log (position labels R k))
     position-then k l =
         let w = subst (λ es. (place_of M es k < length es) × (place_of A log k ≡ place_of B log (place_of M es k))) (sym (rest_of-is B log))
-            (place-both labels locks variables log k (let long : length (rest_of M D) ≡ length (sub M (sub B log)) = ap (λ es. length (rest_of M es)) (rest_of-is B log) ∙ ap length (rest_of-is M (sub B log)) in omega (arith, l, long))) in
+        (place-both labels locks variables log k (let long : length (rest_of M D) ≡ length (sub M (sub B log)) = ap (λ es. length (rest_of M es)) (rest_of-is B log) ∙ ap length (rest_of-is M (sub B log)) in omega (arith, l, long))) in
         (w.0, sym w.1 ∙ sym (same-position k (let long = ap length rests-too in omega (arith, l, long))))
 
     blame-then : (k t : ℕ) (blamed : List ℕ) → IsTrue (passes_at (without_labels labels R) (is_by t) k)

@@ -126,9 +126,9 @@ module _ (labels goes : ℕ → Bool) (log : List Event) (repeats : AreRepeats g
       let i = position labels log p in
       let keep : IsTrue (keeps i) = ap not h in
       let ranked : rank (stays_in (dissolving labels) W) (rank keeps i) ≡ rank (λ k. not (goes_then k)) p
-          = rank-after log keeps (blocks goes log repeats) (dissolving labels) i (let m = s.within in omega (arith, m))
-          ∙ (sym (rank-before log keeps (blocks goes log repeats) (dissolving labels) i (let m = s.within in omega (arith, m)))
-          ∙ ap (rank (λ k. not (goes_then k))) s.ranked) in
+      = rank-after log keeps (blocks goes log repeats) (dissolving labels) i (let m = s.within in omega (arith, m))
+      ∙ (sym (rank-before log keeps (blocks goes log repeats) (dissolving labels) i (let m = s.within in omega (arith, m)))
+      ∙ ap (rank (λ k. not (goes_then k))) s.ranked) in
       let in_W : rank keeps i < length W = (let m = rank-lt keeps i (length log) keep s.within in let e = length-events_staying log keeps (length log) (omega arith) in omega (arith, m, e)) in
       let stay : IsTrue (stays_in (dissolving labels) W (rank keeps i)) = ap not (left_out-kept log keeps (blocks goes log repeats) (dissolving labels) i s.within keep) ∙ s.here in
       ap (λ k. place_with goes log (position labels W k)) (sym ranked)

@@ -9,7 +9,7 @@ use Rattle.velo_events.specs.Block.{passes_at}
 use Rattle.velo_events.specs.Graph.{Path, ConflictsInOrder, HasCycle}
 use Rattle.velo_thin.specs.declared.thinned.Thinned.{Thinned}
 use Rattle.velo_thin.specs.Left.{places_of, rest_of}
-use Rattle.velo_laws.specs.Ordered.{only, dissolving, leaving_out, AreOfOneThread, ClosesAtSame, ClosesAtSameWithout, BlamesSame}
+use Rattle.velo_laws.specs.Ordered.{only, dissolving, leaving_out, AreOfOneThread, IsOrderedWithin, ClosesAtSame, ClosesAtSameWithout, BlamesSame}
 
 -- ---- races
 
@@ -66,5 +66,6 @@ pub record IsThinned (bounds : Bounds) (log : List Event) (thinned : Thinned) : 
   pub variables : ℕ → Bool
   pub events : thinned.trace.events ≡ rest_of (only no_lock variables) log
   pub places : thinned.places.items ≡ places_of (only no_lock variables) log
+  pub ordered : IsOrderedWithin (only no_lock variables) log
   pub judged : IsJudgedWithout variables log
   pub free : (x : ℕ) → x < bounds.variables → IsFreeOfRaces log x → IsTrue (variables x)

@@ -21,6 +21,7 @@ returns c =
       variables = marked marks;
       events = events ∙ ap (λ l. rest_of l log) is;
       places = places ∙ ap (λ l. places_of l log) is;
+      ordered = c.in_ok-ordered.ensures.ordered;
       judged = c.in_ok-ordered.ensures.judged;
       free = c.in_ok-ordered.ensures.free;
     })

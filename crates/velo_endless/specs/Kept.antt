@@ -1,0 +1,58 @@
+-- What is kept of a log without end, and how long it may be.
+use Rattle.std.specs.Prelude.{◌≡◌, ◌≢◌, ℕ, ◌≤◌, ◌⊎◌, List, [], ◌∷◌, ◌++◌, length, Some, None}
+use Rattle.velo_events.specs.declared.config.Bounds.{Bounds}
+use Rattle.velo_events.specs.declared.config.Config.{Config}
+use Rattle.velo_events.specs.declared.event.Event.{Event}
+use Rattle.velo_events.specs.declared.refusal.Refusal.{Refusal}
+use Rattle.velo_events.specs.declared.refusal.Refusal.TheVariants.{LogFull, GraphFull}
+use Rattle.velo_events.specs.Graph.{HasCycle}
+use Rattle.velo_events.specs.Heap.{depth_in}
+use Rattle.velo_events.specs.Refusals.{GrowthRefused}
+use Rattle.velo_events.specs.WellFormed.{IsWellFormed}
+use Rattle.velo_traces.specs.declared.judge.Flaw.TheVariants as flaw
+use Rattle.velo_traces.specs.Flaws.{flaw_of}
+use Rattle.velo_laws.specs.Cut.{NoBlockOpen}
+use Rattle.velo_laws.specs.Length.{events_to_leave}
+use Rattle.velo_laws.specs.Restart.{IsPrologueOf}
+use Rattle.velo_world.specs.Faults.{IsAtNodeLimit}
+use Rattle.velo_world.specs.declared.log_replay.LogReplayFault.{LogReplayFault}
+use Rattle.velo_world.specs.declared.log_replay.LogReplayFault.TheVariants.{Refused, WrongValue, Memory}
+
+-- The whole log was cut where no block was open and no cycle was. What is kept are the events after the cut, behind a prologue
+-- that stands for those before it
+pub record IsKept (bounds : Bounds) (whole kept : List Event) (so_many so_long : ℕ) : Type 0 where
+  pub before : List Event
+  pub prologue : List Event
+  pub after : List Event
+  pub whole_is : whole ≡ before ++ after
+  pub kept_is : kept ≡ prologue ++ after
+  pub well_formed : IsWellFormed bounds before
+  pub ended : NoBlockOpen before
+  pub no_cycle : ¬ HasCycle before
+  pub stands : IsPrologueOf bounds before prologue
+  -- so many events were before the cut, and so long is the prologue
+  pub counted : so_many ≡ length before
+  pub measured : so_long ≡ length prologue
+
+-- The log can't be cut at its end: a block is open, or what the events leave takes as many events as may be kept
+abbrev pub CannotBeCut : Config → List Event → Type 0
+CannotBeCut config whole =
+    ((t : ℕ) × (depth_in whole t ≢ 0)) ⊎ (config.events ≤ events_to_leave config.bounds whole)
+
+-- The event can't be kept, while there is no alarm: as many are kept as may be, and no cut is possible; or it finds no node in
+-- the graph of the kept ones
+abbrev pub IsLimitBehind : Config → List Event → Event → Refusal → Type 0
+IsLimitBehind config whole e refusal = (¬ HasCycle whole) ×
+    (((refusal ≡ LogFull) × CannotBeCut config whole)
+    ⊎ ((refusal ≡ GraphFull) × ((kept : List Event) × (so_many : ℕ) × (so_long : ℕ) × (p : ℕ) × IsKept config.bounds whole kept so_many so_long
+    × IsAtNodeLimit config.events config.nodes config.bounds (kept ++ e ∷ []) p)))
+
+-- Why the event does not come next in the whole log: a refusal, a wrong value, or a limit, in this order, at its position; or
+-- a growth was refused
+abbrev pub IsFaultBehind : Config → List Event → Event → LogReplayFault → Type 0
+IsFaultBehind config whole e (Refused p refusal) = (p ≡ length whole)
+    × ((flaw_of config.bounds whole e ≡ Some (flaw.Refused refusal))
+    ⊎ ((flaw_of config.bounds whole e ≡ None) × IsLimitBehind config whole e refusal))
+IsFaultBehind config whole e (WrongValue p) =
+    (p ≡ length whole) × (flaw_of config.bounds whole e ≡ Some flaw.WrongValue)
+IsFaultBehind config whole e Memory = GrowthRefused

@@ -1,0 +1,14 @@
+//! A log without end, watched in constant memory: it is cut where no block is open, and goes on behind a prologue.
+#![tactic(auto)]
+
+mod piece;
+mod reading;
+#[cfg(test)]
+mod tests;
+mod watch;
+mod whole;
+
+pub use piece::Piece;
+pub use reading::{LongReader, MAX_WATCHED};
+pub use watch::EndlessWatch;
+pub use whole::Whole;

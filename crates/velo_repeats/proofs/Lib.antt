@@ -1,0 +1,4 @@
+pub mod OnConflicts
+pub mod OnRepeating
+pub mod OnFinding
+pub mod OnLeaving

@@ -1,0 +1,5 @@
+pub mod OnJudging
+pub mod OnThinning
+pub mod OnCounting
+pub mod OnReading
+pub mod OnTexts

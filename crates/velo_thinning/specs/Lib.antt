@@ -1,0 +1,4 @@
+pub mod Thinning
+pub mod Counting
+pub mod Reading
+pub mod Texts

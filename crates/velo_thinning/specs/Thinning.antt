@@ -1,0 +1,36 @@
+-- A log without what adds nothing.
+use Rattle.std.specs.Prelude.{◌≡◌, ℕ, ◌<◌, ◌≤◌, Bool, List, length, slice_index, IsTrue}
+use Rattle.velo_events.specs.declared.config.Bounds.{Bounds}
+use Rattle.velo_events.specs.declared.event.Event.{Event}
+use Rattle.velo_events.specs.WellFormed.{IsWellFormed}
+use Rattle.velo_thin.specs.Left.{rest_of, place_of}
+use Rattle.velo_thin.specs.declared.thinned.Thinned.{Thinned}
+use Rattle.velo_laws.specs.Ordered.{only}
+use Rattle.velo_laws.specs.Repeats.{without, place_with}
+use Rattle.velo_laws.specs.Judged.{IsJudgedBy}
+use Rattle.velo_races.specs.Races.{no_lock, IsFreeOfRaces}
+use Rattle.velo_repeats.specs.Repeating.{AreExactly}
+
+-- the log without the accesses to these variables
+abbrev pub without_variables : (ℕ → Bool) → List Event → List Event
+without_variables variables log = rest_of (only no_lock variables) log
+
+-- the position of the log for which position k stands, where then these positions go as well
+abbrev pub place_in : (ℕ → Bool) → (ℕ → Bool) → List Event → ℕ → ℕ
+place_in variables goes log k =
+    place_of (only no_lock variables) log (place_with goes (without_variables variables log) k)
+
+-- First the accesses to some variables went, among them those to each that is free of races; then just the accesses that repeat
+-- one just before them. What is left can come about, and whichever labels are left out, the log is judged by it
+pub record IsThinnedLog (bounds : Bounds) (log : List Event) (thinned : Thinned) : Type 0 where
+  pub variables : ℕ → Bool
+  pub free : (x : ℕ) → x < bounds.variables → IsFreeOfRaces log x → IsTrue (variables x)
+  pub goes : ℕ → Bool
+  pub exact : AreExactly goes (without_variables variables log)
+  pub events : thinned.trace.events ≡ without goes (without_variables variables log)
+  pub fewer : length thinned.trace.events ≤ length log
+  pub count : length thinned.places.items ≡ length thinned.trace.events
+  pub places : (k : ℕ) → k < length thinned.trace.events
+      → slice_index thinned.places.items k ≡ place_in variables goes log k
+  pub well_formed : IsWellFormed bounds thinned.trace.events
+  pub judged : (labels : ℕ → Bool) → IsJudgedBy labels log thinned.trace.events (place_in variables goes log)
