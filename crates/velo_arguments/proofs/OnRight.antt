@@ -221,7 +221,7 @@ replay_right words e =
 explain_right : (words : List Text) → level_fault (leaf explain) [] nothing_held words false [] ≡ []
     → HasWord (codes "LOG") (rows_of_leaf explain words)
 explain_right words e =
-    let level = level_has limits (leaf explain) words refl (makes_word (codes "LOG") refl, (makes_valued (codes "dot") refl, (makes_valued (codes "names") refl, (makes_help, tt)))) e in
+    let level = level_has limits (leaf explain) words refl (makes_word (codes "LOG") refl, (makes_valued (codes "dot") refl, (makes_valued (codes "names") refl, (makes_valued (codes "sites") refl, (makes_help, tt))))) e in
     word_there (codes "LOG") (rows_of_leaf explain words) level.passes (level.given.0 refl)
 
 carry_right : (words : List Text) → level_fault (leaf carry) [] nothing_held words false [] ≡ []

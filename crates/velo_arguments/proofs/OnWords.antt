@@ -144,16 +144,16 @@ replay_file_asks options path schedule says file stop log names events nodes cer
 
 -- a log and a picture
 abbrev explain_words : List Text
-explain_words = codes "velodrome" ∷ codes "explain" ∷ codes "a" ∷ codes "--dot" ∷ codes "p" ∷ codes "--names=n" ∷ []
+explain_words = codes "velodrome" ∷ codes "explain" ∷ codes "a" ∷ codes "--dot" ∷ codes "p" ∷ codes "--names=n" ∷ codes "--sites" ∷ codes "s" ∷ []
 
 explain_is_right : faults_of explain_words ≡ []
 unfolding faults_of walk_fault walked defaults_fault
 explain_is_right = refl
 
 explain_asks : (options : ExplainOptions) → options.input.now ≡ codes "a" → option_map (λ path. path.now) options.target ≡ Some (codes "p")
-    → option_map (λ path. path.now) options.names ≡ Some (codes "n") → AsksFor (asked_by explain_words) (Explain options)
+    → option_map (λ path. path.now) options.names ≡ Some (codes "n") → option_map (λ path. path.now) options.sites ≡ Some (codes "s") → AsksFor (asked_by explain_words) (Explain options)
 unfolding asked_by walked
-explain_asks options log dot names = (refl, (ap Some (sym log), sym dot, sym names))
+explain_asks options log dot names sites = (refl, (ap Some (sym log), sym dot, sym names, sym sites))
 
 -- a log, and the file for it
 abbrev carry_words : List Text

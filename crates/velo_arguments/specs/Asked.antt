@@ -83,6 +83,7 @@ IsExplanation rows options =
     (first_of (codes "LOG") rows ≡ Some options.input.now)
     × IsPath (codes "dot") rows options.target
     × IsPath (codes "names") rows options.names
+    × IsPath (codes "sites") rows options.sites
 
 abbrev pub IsCarrying : List Row → CarryOptions → Type 0
 IsCarrying rows options =

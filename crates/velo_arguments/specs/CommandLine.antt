@@ -96,7 +96,8 @@ run = subcommand (codes "run") (word (codes "FILE") ∷ run_options)
 
 abbrev pub explain : Shape
 explain = subcommand (codes "explain")
-    (word (codes "LOG") ∷ valued (codes "dot") ∷ valued (codes "names") ∷ [])
+    (word (codes "LOG") ∷ valued (codes "dot") ∷ valued (codes "names")
+    ∷ valued (codes "sites") ∷ [])
 
 abbrev pub carry : Shape
 carry = subcommand (codes "carry") (word (codes "LOG") ∷ needed (codes "log") ∷ [])

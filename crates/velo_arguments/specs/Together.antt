@@ -86,7 +86,8 @@ abbrev pub clash_of : Request → Given → Option Clash
 clash_of (Check options) given = clash_of_inputs (options.input.now ∷ path_if options.names)
 clash_of (Replay options) given = clash_of_replay options given.schedule
 clash_of (Run options) given = clash_of_targets options.target options.names_target
-clash_of (Explain options) given = clash_of_inputs (options.input.now ∷ path_if options.names)
+clash_of (Explain options) given =
+    clash_of_inputs (options.input.now ∷ path_if options.names ++ path_if options.sites)
 clash_of (Carry options) given = None
 clash_of (Explore options) given =
     option_or (clash_of_search options given)

@@ -84,7 +84,8 @@ fn explain<'a>(alloc: Global) -> Result<Command<'a>, Memory>
         .after_help(help::OF_EXPLAIN);
     let command = with_argument(command, log(alloc))?;
     let command = with_argument(command, dot(alloc))?;
-    with_argument(command, names(alloc))
+    let command = with_argument(command, names(alloc))?;
+    with_argument(command, sites(alloc))
 }
 
 fn carry<'a>(alloc: Global) -> Result<Command<'a>, Memory>
@@ -242,6 +243,17 @@ fn names<'a>(alloc: Global) -> Arg<'a>
         "names",
         "FILE",
         "Read the names of threads, variables, locks and labels; - is standard input",
+    )
+}
+
+fn sites<'a>(alloc: Global) -> Arg<'a>
+    ensures { IsArgument (valued (codes "sites")) result }
+{
+    valued(
+        alloc,
+        "sites",
+        "FILE",
+        "Read where in the source each event happened; - is standard input",
     )
 }
 

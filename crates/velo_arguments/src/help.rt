@@ -162,6 +162,11 @@ For a log without an alarm it prints how many transactions a serial order has. I
 lanes, draws no picture, and does not open OUT. With --names the lanes, the words and the picture have
 names after the numbers. A text that is too long for its lane ends in '..'.
 
+The sites: a file that a recorder writes beside the log, 'vsites 1 SITES EVENTS', then a line
+'FILE:LINE FUNCTION' for each site, then for each event a line with the number of its site, or 0.
+With --sites the words end with the place of each event that they mention. Only one of LOG and the
+files of --names and --sites can be -.
+
 It uses the greatest limits, 16777216 events and 4096 nodes, which no log exceeds.
 
 LOG and OUT must be different files; otherwise the command stops before it writes. Standard input is
@@ -171,9 +176,17 @@ Statuses, each with the lines on standard error:
   0  no alarm, or help
   2  usage; 'error: standard input can be read once'; 'error: LOG and OUT are one file'; the text is
      no log: 'log fault K', 'log fault K line N'; an event cannot happen: 'refused K at P',
-     'wrong value at P'; the text of --names is no file of names: 'names fault K line N'
+     'wrong value at P'; the text of --names is no file of names: 'names fault K line N'; the text of
+     --sites is no file of sites, or of another log: 'sites fault K line N'
   3  an alarm: no serial reordering of the log exists
   5  memory or a device failed: 'out of memory', 'read failed', 'write failed', 'cannot open'
+
+Sites faults, line 0 for the whole file:
+  1  a line is not what the header asks for
+  2  the file ends early
+  3  the file is too long
+  4  it is not UTF-8
+  5  it gives the sites of another number of events than the log has
 
 Log, names, faults and refusals: see 'velodrome check --help'.";
 

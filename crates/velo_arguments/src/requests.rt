@@ -105,6 +105,7 @@ fn explain_options<'a>(found: &ArgMatches<'a>) -> Option<ExplainOptions<'a>>
         input: found.get_str("LOG")?,
         target: found.get_str("dot"),
         names: found.get_str("names"),
+        sites: found.get_str("sites"),
     })
 }
 

@@ -77,14 +77,14 @@ fn clash_of(request: &Request, given: Given) -> Option<Clash>
         Request::Check(options) => clash_of_inputs(options.input, options.names),
         Request::Replay(options) => clash_of_replay(options, given.schedule),
         Request::Run(options) => clash_of_targets(options.target, options.names_target),
-        Request::Explain(options) => clash_of_inputs(options.input, options.names),
+        Request::Explain(options) => clash_of_three(options.input, options.names, options.sites),
         Request::Carry(_) => None,
         Request::Explore(options) => clash_of_search(options, given).or(clash_of_targets(
             options.target,
             options.names_target,
         )),
         Request::Watch(options) => clash_of_inputs(options.input, options.names),
-        Request::Audit(options) => clash_of_audit(options.input, options.names, options.known),
+        Request::Audit(options) => clash_of_three(options.input, options.names, options.known),
     }
 }
 
@@ -128,16 +128,16 @@ fn path_of_schedule<'a>(schedule: ScheduleSource<'a>) -> Option<&'a str>
     }
 }
 
-/// A log, its names and a list of labels are not to be there twice either.
-fn clash_of_audit(log: &str, names: Option<&str>, known: Option<&str>) -> Option<Clash>
-    ensures { result ≡ clash_of_inputs (log.now ∷ path_if names.entry ++ path_if known.entry) }
+/// A log, its names and one file more are not to be there twice either.
+fn clash_of_three(log: &str, names: Option<&str>, other: Option<&str>) -> Option<Clash>
+    ensures { result ≡ clash_of_inputs (log.now ∷ path_if names.entry ++ path_if other.entry) }
 {
-    let (log, names, known) = (
+    let (log, names, other) = (
         log == "-",
         is_standard_input(names),
-        is_standard_input(known),
+        is_standard_input(other),
     );
-    if log && names || log && known || names && known {
+    if log && names || log && other || names && other {
         Some(Clash::InputTwice)
     } else {
         None

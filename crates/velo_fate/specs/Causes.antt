@@ -7,6 +7,8 @@ use Rattle.velo_list.specs.declared.fault.ListFault.{ListFault}
 use Rattle.velo_list.specs.declared.fault.ListFault.TheVariants as list_fault
 use Rattle.velo_names.specs.declared.fault.NamesFault.{NamesFault}
 use Rattle.velo_names.specs.declared.fault.NamesFault.TheVariants as names_fault
+use Rattle.velo_sites.specs.declared.fault.SitesFault.{SitesFault}
+use Rattle.velo_sites.specs.declared.fault.SitesFault.TheVariants as sites_fault
 use Rattle.velo_worker.specs.declared.ending.Ending.{Ending}
 use Rattle.velo_worker.specs.Causes.{RefusedByGrowth, EndsByGrowth, EndsWithCause}
 use Rattle.velo_workload.specs.declared.fault.WorkFault.{WorkFault}
@@ -46,6 +48,10 @@ abbrev pub ListByGrowth : ListFault → Type 0
 ListByGrowth list_fault.Memory = GrowthRefused
 ListByGrowth f = ⊤
 
+abbrev pub SitesByGrowth : SitesFault → Type 0
+SitesByGrowth sites_fault.Memory = GrowthRefused
+SitesByGrowth f = ⊤
+
 -- ---- of what the program comes to
 
 -- what a command asks the system for: memory alone, or starts of threads too
@@ -66,6 +72,7 @@ ComesByRefusal needs (fate.Schedule f) = ScheduleByGrowth f
 ComesByRefusal needs (fate.Work f) = WorkByGrowth f
 ComesByRefusal needs (fate.Names f) = NamesByGrowth f
 ComesByRefusal needs (fate.List f) = ListByGrowth f
+ComesByRefusal needs (fate.Sites f) = SitesByGrowth f
 ComesByRefusal needs (fate.Check f) = CheckByGrowth f
 ComesByRefusal needs fate.Memory = GrowthRefused
 ComesByRefusal needs f = ⊤

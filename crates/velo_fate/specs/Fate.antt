@@ -12,6 +12,9 @@ use Rattle.velo_list.specs.declared.fault.ListFault.{ListFault}
 use Rattle.velo_list.specs.declared.fault.ListFault.TheVariants as list_fault
 use Rattle.velo_list.specs.Fault.{fault_line as line_of_list_fault, fault_number as number_of_list_fault}
 use Rattle.velo_names.specs.declared.fault.NamesFault.{NamesFault}
+use Rattle.velo_sites.specs.declared.fault.SitesFault.{SitesFault}
+use Rattle.velo_sites.specs.declared.fault.SitesFault.TheVariants as sites_fault
+use Rattle.velo_sites.specs.Fault.{fault_line as line_of_sites_fault, fault_number as number_of_sites_fault}
 use Rattle.velo_names.specs.declared.fault.NamesFault.TheVariants as names_fault
 use Rattle.velo_names.specs.Fault.{fault_line, fault_number}
 use Rattle.velo_worker.specs.declared.ending.Ending.{Ending}
@@ -24,7 +27,7 @@ use Rattle.velo_turns.specs.declared.schedule.ScheduleFault.TheVariants as sched
 use Rattle.velo_fate.specs.declared.fault.CheckFault.{CheckFault}
 use Rattle.velo_fate.specs.declared.fault.CheckFault.TheVariants.{Log, Refused, WrongValue, Write, Memory}
 use Rattle.velo_fate.specs.declared.fate.Fate.{Fate}
-use Rattle.velo_fate.specs.declared.fate.Fate.TheVariants.{Finished, Schedule, Work, Names, Check, CannotOpen, NamesAtInput, NamesAtTarget, OneFile, ReadFailed, WriteFailed, Lost, Open}
+use Rattle.velo_fate.specs.declared.fate.Fate.TheVariants.{Finished, Schedule, Work, Names, Sites, OtherSites, Check, CannotOpen, NamesAtInput, NamesAtTarget, OneFile, ReadFailed, WriteFailed, Lost, Open}
 use Rattle.velo_fate.specs.declared.fate.Fate.TheVariants as fate
 use Rattle.velo_request.specs.declared.request.Ignorable.{Ignorable}
 use Rattle.velo_request.specs.declared.request.Ignorable.TheVariants as ignorable
@@ -103,12 +106,18 @@ abbrev pub status_of_list : ListFault → ℕ
 status_of_list list_fault.Memory = 5
 status_of_list _ = 2
 
+abbrev pub status_of_sites : SitesFault → ℕ
+status_of_sites sites_fault.Memory = 5
+status_of_sites _ = 2
+
 abbrev pub status_of : Fate → ℕ
 status_of (Finished how alarm) = status_of_ending how alarm
 status_of (Schedule fault) = status_of_schedule fault
 status_of (Work fault) = status_of_work fault
 status_of (Names fault) = status_of_names fault
 status_of (fate.List fault) = status_of_list fault
+status_of (Sites fault) = status_of_sites fault
+status_of OtherSites = 2
 status_of (Check fault) = status_of_check fault
 status_of CannotOpen = 5
 status_of (fate.Ignored what) = 2
@@ -182,6 +191,12 @@ line_of_list (Some number) n =
     codes "list fault " ++ decimal number ++ codes " line " ++ decimal n ++ codes "\n"
 line_of_list None n = codes "out of memory\n"
 
+-- the same of sites
+abbrev pub line_of_sites : Option ℕ → ℕ → List ℕ
+line_of_sites (Some number) n =
+    codes "sites fault " ++ decimal number ++ codes " line " ++ decimal n ++ codes "\n"
+line_of_sites None n = codes "out of memory\n"
+
 -- by what was to be ignored and means nothing
 abbrev pub line_of_ignored : Ignorable → List ℕ
 line_of_ignored ignorable.Lock = codes "ignored fault 1\n"
@@ -206,6 +221,8 @@ line_of (Schedule fault) = line_of_schedule fault
 line_of (Work fault) = line_of_work (place_of_work fault)
 line_of (Names fault) = line_of_names (fault_number fault) (fault_line fault)
 line_of (fate.List fault) = line_of_list (number_of_list_fault fault) (line_of_list_fault fault)
+line_of (Sites fault) = line_of_sites (number_of_sites_fault fault) (line_of_sites_fault fault)
+line_of OtherSites = codes "sites fault 5 line 0\n"
 line_of (fate.Ignored what) = line_of_ignored what
 line_of (Check fault) = line_of_check fault
 line_of CannotOpen = codes "cannot open\n"

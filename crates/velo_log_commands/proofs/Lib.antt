@@ -4,4 +4,5 @@ mod OnExplaining
 mod OnIgnoring
 mod OnListing
 mod OnNaming
+mod OnSiting
 mod OnWatching

@@ -1,13 +1,16 @@
 -- What an explanation comes to.
-use Rattle.std.proofs.Common.{◌≡◌, ap, inl, inr, refl, sym, subst, take}
+use Rattle.std.proofs.Common.{◌≡◌, ◌∙◌, ap, inl, inr, refl, sym, subst, take, ⊎_elim}
 use Rattle.std.specs.Prelude.{ℕ, Bool, false, List, Option, Some, None, Err, ◌⊎◌}
 use Rattle.std.specs.Borrow.{Bor}
+use Rattle.velo_events.specs.declared.config.Bounds.{Bounds}
 use Rattle.velo_events.specs.declared.event.Event.{Event}
+use Rattle.velo_events.specs.declared.limits.TheConstants.{MAX_EVENTS}
 use Rattle.velo_events.specs.Graph.{HasCycle}
 use Rattle.velo_traces.specs.declared.block.Block.{Block}
 use Rattle.velo_world.specs.declared.analysis.Alarm.{Alarm}
 use Rattle.velo_world.specs.World.{IsAlarm}
 use Rattle.velo_names.specs.Names.{NameLists}
+use Rattle.velo_sites.specs.Sites.{Table}
 use Rattle.velo_explain.specs.declared.evidence.Evidence.{Evidence}
 use Rattle.velo_explain.specs.Evidence.{IsEvidence, HaveReasons}
 use Rattle.velo_worker.specs.declared.ending.Ending.TheVariants as ending
@@ -15,10 +18,12 @@ use Rattle.velo_fate.specs.declared.fate.Fate.{Fate}
 use Rattle.velo_fate.specs.declared.fate.Fate.TheVariants as fate
 use Rattle.velo_fate.specs.Delivery.{Answer, IsDelivered, IsPrinted, LacksMemory, Saves, printing, silent}
 use Rattle.velo_delivery.specs.Disk.{Store}
+use Rattle.velo_delivery.specs.Reading.{Reading}
+use Rattle.velo_log_commands.specs.Check.{ComesAbout}
 use Rattle.velo_log_commands.specs.Explaining.{ExplainsAlarm, ExplainsVerdict, counted, explained}
 use Rattle.velo_fate.specs.Failures.{failures_told}
 use Rattle.velo_delivery.specs.Writing.{Writing, WritesNothing}
-use Rattle.velo_log_commands.specs.Steps.{DeliversOrLacks, Explains, PrintsOrLacks}
+use Rattle.velo_log_commands.specs.Steps.{DeliversOrLacks, Explains, ExplainsIfOf, ExplainsInput, PrintsOrLacks}
 use Rattle.velo_fate.specs.Saving.{IsSaved}
 use Rattle.velo_fate.proofs.OnDelivery.{delivered_reads, printed_put, same_fate}
 use Rattle.velo_fate.proofs.OnVerdicts.{no_cycle_before}
@@ -46,32 +51,56 @@ module _ (store : Store) (target : Option (Bor (List ℕ))) (stdout : Writing) w
       printed_put store target stdout saved None (Some text) _ kept (λ e. cc) f (subst (λ (t : List ℕ). IsPrinted stdout (printing t (fate.Finished ending.Done alarm)) f) is told)
 
   -- no explanation is told as a failed read
-  pub explains_reads : (names : NameLists) (log : List Event) (answer : Answer) (n : ℕ) → ExplainsVerdict names log answer ⊎ LacksMemory answer → (f : Fate) → IsDelivered store target stdout answer f → failures_told f n ≡ n
-  explains_reads names log answer n is f h = delivered_reads store target stdout answer n (by_fate is) f h
+  pub explains_reads : (names : NameLists) (sites : Option Table) (log : List Event) (answer : Answer) (n : ℕ) → ExplainsVerdict names sites log answer ⊎ LacksMemory answer → (f : Fate) → IsDelivered store target stdout answer f → failures_told f n ≡ n
+  explains_reads names sites log answer n is f h = delivered_reads store target stdout answer n (by_fate is) f h
     where
-      by_fate : ExplainsVerdict names log answer ⊎ LacksMemory answer → failures_told answer.fate n ≡ n
+      by_fate : ExplainsVerdict names sites log answer ⊎ LacksMemory answer → failures_told answer.fate n ≡ n
       by_fate (inl (inl alarm)) = same_fate answer _ n alarm.said refl
       by_fate (inl (inr clean)) = same_fate answer _ n clean.1 refl
       by_fate (inr lacks) = same_fate answer _ n lacks.1 refl
 
   -- this answer explains the log; or memory was wanting, and nothing is said
-  pub explains_by : (names : NameLists) (log : List Event) (answer : Answer) (f : Fate) → ExplainsVerdict names log answer → DeliversOrLacks answer store target stdout f → Explains names log store target stdout f
-  explains_by names log answer f explains (inl put) = (answer, inl explains, put)
-  explains_by names log answer f explains (inr lacks) =
+  pub explains_by : (names : NameLists) (sites : Option Table) (log : List Event) (answer : Answer) (f : Fate) → ExplainsVerdict names sites log answer → DeliversOrLacks answer store target stdout f → Explains names sites log store target stdout f
+  explains_by names sites log answer f explains (inl put) = (answer, inl explains, put)
+  explains_by names sites log answer f explains (inr lacks) =
       (silent fate.Memory, inr (lacks.0, refl), subst (λ (f : Fate). IsDelivered store target stdout (silent fate.Memory) f) (sym lacks.1) (refl, lacks.2, lacks.3))
 
   -- words alone leave the files as they were
-  pub explains_clean : (names : NameLists) (log : List Event) (f : Fate) → ¬ HasCycle log → store.is_kept → PrintsOrLacks (counted log) stdout f → Explains names log store target stdout f
-  explains_clean names log f none kept (inl told) = (counted log, inl (inr (none, refl)), printed_put store target stdout None None (counted log).printed (fate.Finished ending.Done false) kept (λ e. cc) f told)
-  explains_clean names log f none kept (inr lacks) =
+  pub explains_clean : (names : NameLists) (sites : Option Table) (log : List Event) (f : Fate) → ¬ HasCycle log → store.is_kept → PrintsOrLacks (counted log) stdout f → Explains names sites log store target stdout f
+  explains_clean names sites log f none kept (inl told) = (counted log, inl (inr (none, refl)), printed_put store target stdout None None (counted log).printed (fate.Finished ending.Done false) kept (λ e. cc) f told)
+  explains_clean names sites log f none kept (inr lacks) =
       (silent fate.Memory, inr (lacks.0, refl), subst (λ (f : Fate). IsDelivered store target stdout (silent fate.Memory) f) (sym lacks.1) (refl, kept, lacks.2))
 
+  -- what was made of a log, if the sites are of it, was made of the input
+  pub of_input : (names : NameLists) (sites : Option Table) (bounds : Bounds) (log : List Event) (read : Reading) (f : Fate)
+      → ComesAbout MAX_EVENTS read.bytes bounds log → read.failures_after ≡ read.failures_before → ExplainsIfOf names sites log store target stdout f → ExplainsInput names sites target store read stdout f
+  of_input names sites bounds log read f came no_failure (inl so) =
+      let told = so.1 in (
+        no_failure ∙ sym (explains_reads names sites log told.0 _ told.1 f told.2),
+        (
+          told.0,
+          ⊎_elim
+              (λ verdict. inl (record { bounds = bounds; log = log; comes_about = came; of_log = so.0; verdict = verdict }))
+              (λ lacks. inr (inr (inr lacks)))
+              told.1,
+          told.2,
+        ),
+      )
+  of_input names sites bounds log read f came no_failure (inr other) = (
+    subst (λ (f : Fate). read.failures_after ≡ failures_told f read.failures_before) (sym other.1) no_failure,
+    (
+      silent fate.OtherSites,
+      inr (inl (record { bounds = bounds; log = log; comes_about = came; of_other = other.0; said = refl })),
+      subst (λ (f : Fate). IsDelivered store target stdout (silent fate.OtherSites) f) (sym other.1) (refl, other.2, other.3),
+    ),
+  )
+
 -- an alarm is explained by its evidence, whichever list of its events the evidence is of
-pub of_evidence : (names : NameLists) (events log : List Event) → events ≡ log → (a : Alarm) (blamed : List Block) → blamed ≡ a.blamed.items → (evidence : Evidence)
+pub of_evidence : (names : NameLists) (sites : Option Table) (events log : List Event) → events ≡ log → (a : Alarm) (blamed : List Block) → blamed ≡ a.blamed.items → (evidence : Evidence)
     → IsAlarm log a → IsEvidence events a.position blamed evidence
     → (¬ HasCycle (take a.position events) → HaveReasons events a.position blamed evidence)
-    → ExplainsAlarm names log (explained names events a.position evidence)
-of_evidence names events log is a blamed same evidence is_alarm is_evidence reasons =
+    → ExplainsAlarm names sites log (explained names sites events a.position evidence)
+of_evidence names sites events log is a blamed same evidence is_alarm is_evidence reasons =
     record {
       alarm = a;
       is_alarm = is_alarm;
@@ -81,5 +110,5 @@ of_evidence names events log is a blamed same evidence is_alarm is_evidence reas
       reasons = subst (λ (l : List Event). HaveReasons l a.position a.blamed.items evidence) is
           (subst (λ (b : List Block). HaveReasons events a.position b evidence) same
           (reasons (subst (λ (l : List Event). ¬ HasCycle (take a.position l)) (sym is) (no_cycle_before log a.position is_alarm.closing))));
-      said = ap (λ (l : List Event). explained names l a.position evidence) is;
+      said = ap (λ (l : List Event). explained names sites l a.position evidence) is;
     }

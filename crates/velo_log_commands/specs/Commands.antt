@@ -6,6 +6,7 @@
 use Rattle.std.specs.Prelude.{◌≡◌, ◌⊎◌, ℕ, List, Option, Some, None}
 use Rattle.std.specs.Borrow.{Bor}
 use Rattle.velo_names.specs.Names.{NameLists}
+use Rattle.velo_sites.specs.Sites.{Table}
 use Rattle.velo_audit_text.specs.declared.words.Asked.{Asked}
 use Rattle.velo_report.specs.declared.names.Names.{Names}
 use Rattle.velo_fate.specs.declared.fate.Fate.{Fate}
@@ -28,6 +29,7 @@ use Rattle.velo_log_commands.specs.Listing.{AreLabelsOf, LacksLabels}
 use Rattle.velo_log_commands.specs.Naming.{AreNamesOf, AreShown, LacksNames}
 use Rattle.velo_fate.specs.Failures.{FailuresAsTold}
 use Rattle.velo_delivery.specs.Reading.{Reading}
+use Rattle.velo_log_commands.specs.Siting.{AreSitesOf, LacksSites}
 use Rattle.velo_log_commands.specs.Watching.{Watches}
 use Rattle.velo_delivery.specs.Writing.{Writing, WritesNothing}
 
@@ -68,22 +70,30 @@ abbrev pub DoesCheck : CheckOptions → Store → Writing → Fate → Type 0
 DoesCheck options store stdout f =
     DoesByNames (λ names. ChecksBy names options) options.names store stdout f
 
--- ---- velodrome explain LOG [--names FILE] [--dot OUT]
+-- ---- velodrome explain LOG [--names FILE] [--sites FILE] [--dot OUT]
 
 -- LOG is read whole. The picture of the cycle is saved at OUT, if there is a cycle, and then the
 -- explanation goes to standard output, both by these names; or nothing, for a reason
 -- (`Explaining`). Behind a log without a cycle OUT is untouched.
-abbrev pub ExplainsLog : NameLists → ExplainOptions → Store → Writing → Fate → Type 0
-ExplainsLog names options store stdout f =
+abbrev pub ExplainsLog : NameLists → Option Table → ExplainOptions → Store → Writing → Fate → Type 0
+ExplainsLog names sites options store stdout f =
     DoesNotRead store Log options.input.now options.target stdout f
     ⊎ ((read : Reading) × (answer : Answer)
     × store.disk.gives options.input.now read × FailuresAsTold read f
-    × IsExplanation names read.bytes answer
+    × IsExplanation names sites read.bytes answer
     × IsDelivered store options.target stdout answer f)
+
+-- The sites are read after the names (`Siting`), where a file of them is given; where it is not read
+-- or gives none, no file is opened to be written and nothing is printed.
+abbrev pub ExplainsBy : NameLists → ExplainOptions → Store → Writing → Fate → Type 0
+ExplainsBy names options store stdout f =
+    (LacksSites store.disk options.sites f × WritesNowhere store stdout)
+    ⊎ ((sites : Option Table) × AreSitesOf store.disk options.sites sites
+    × ExplainsLog names sites options store stdout f)
 
 abbrev pub DoesExplain : ExplainOptions → Store → Writing → Fate → Type 0
 DoesExplain options store stdout f =
-    DoesByNames (λ names. ExplainsLog names options) options.names store stdout f
+    DoesByNames (λ names. ExplainsBy names options) options.names store stdout f
 
 -- ---- velodrome carry LOG --log OUT
 

@@ -1,5 +1,5 @@
 -- What an explanation has to say, by the bytes of its input and by the definitions.
-use Rattle.std.specs.Prelude.{◌≡◌, ◌⊎◌, ℕ, true, false, List, length, Option, Some}
+use Rattle.std.specs.Prelude.{◌≡◌, ◌⊎◌, ℕ, true, false, List, length, Option, Some, None}
 use Rattle.velo_events.specs.declared.config.Bounds.{Bounds}
 use Rattle.velo_events.specs.declared.event.Event.{Event}
 use Rattle.velo_events.specs.declared.limits.TheConstants.{MAX_EVENTS, MAX_NODES}
@@ -7,25 +7,33 @@ use Rattle.velo_events.specs.Graph.{HasCycle}
 use Rattle.velo_world.specs.declared.analysis.Alarm.{Alarm}
 use Rattle.velo_world.specs.World.{IsAlarm}
 use Rattle.velo_names.specs.Names.{NameLists}
+use Rattle.velo_sites.specs.Sites.{Table}
 use Rattle.velo_explain.specs.declared.evidence.Evidence.{Evidence}
 use Rattle.velo_explain.specs.Count.{transactions_of}
 use Rattle.velo_explain.specs.Evidence.{IsEvidence, HaveReasons}
 use Rattle.velo_explain.specs.Picture.{named_picture_text}
+use Rattle.velo_explain.specs.Places.{sited_explanation_text}
 use Rattle.velo_explain.specs.Text.{clean_text, named_explanation_text}
 use Rattle.velo_worker.specs.declared.ending.Ending.TheVariants.{Done}
-use Rattle.velo_fate.specs.declared.fate.Fate.TheVariants.{Finished}
+use Rattle.velo_fate.specs.declared.fate.Fate.TheVariants.{Finished, OtherSites}
 use Rattle.velo_log_commands.specs.Check.{ComesAbout, IsUnchecked}
-use Rattle.velo_fate.specs.Delivery.{Answer, LacksMemory, printing}
+use Rattle.velo_log_commands.specs.Siting.{AreOfLog}
+use Rattle.velo_fate.specs.Delivery.{Answer, LacksMemory, printing, silent}
 
 -- ---- the words of a verdict
 
+-- the words, with the places of what they mention where sites are given
+abbrev pub words_of : NameLists → Option Table → List Event → ℕ → Evidence → List ℕ
+words_of names None log p evidence = named_explanation_text names log p evidence
+words_of names (Some sites) log p evidence = sited_explanation_text names sites log p evidence
+
 -- what is said of an alarm at position p by its evidence: the picture of its cycle is to be saved,
 -- and its words printed, both by these names
-abbrev pub explained : NameLists → List Event → ℕ → Evidence → Answer
-explained names log p evidence =
+abbrev pub explained : NameLists → Option Table → List Event → ℕ → Evidence → Answer
+explained names sites log p evidence =
     record {
       saved = Some (named_picture_text names log evidence);
-      printed = Some (named_explanation_text names log p evidence);
+      printed = Some (words_of names sites log p evidence);
       fate = Finished Done true;
     }
 
@@ -37,31 +45,44 @@ counted log = printing (clean_text (length log) (transactions_of log)) (Finished
 -- The answer explains an alarm of the log, which is at the first event that closes a cycle and
 -- blames exactly the blocks to blame: by a shortest cycle there, and by a reason for each of these
 -- blocks.
-pub record ExplainsAlarm (names : NameLists) (log : List Event) (answer : Answer) : Type 0 where
+pub record ExplainsAlarm (names : NameLists) (sites : Option Table) (log : List Event)
+    (answer : Answer) : Type 0 where
   pub alarm : Alarm
   pub is_alarm : IsAlarm log alarm
   pub evidence : Evidence
   pub is_evidence : IsEvidence log alarm.position alarm.blamed.items evidence
   pub reasons : HaveReasons log alarm.position alarm.blamed.items evidence
-  pub said : answer ≡ explained names log alarm.position evidence
+  pub said : answer ≡ explained names sites log alarm.position evidence
 
-abbrev pub ExplainsVerdict : NameLists → List Event → Answer → Type 0
-ExplainsVerdict names log answer =
-    ExplainsAlarm names log answer ⊎ ((¬ HasCycle log) × (answer ≡ counted log))
+abbrev pub ExplainsVerdict : NameLists → Option Table → List Event → Answer → Type 0
+ExplainsVerdict names sites log answer =
+    ExplainsAlarm names sites log answer ⊎ ((¬ HasCycle log) × (answer ≡ counted log))
 
 -- ---- the answer
 
--- the verdict of the log of the input; the limits are the greatest that a check can have
-pub record IsExplained (names : NameLists) (read : Option (List ℕ)) (answer : Answer)
+-- the verdict of the log of the input, which the sites are of; the limits are the greatest that a
+-- check can have
+pub record IsExplained (names : NameLists) (sites : Option Table) (read : Option (List ℕ))
+    (answer : Answer) : Type 0 where
+  pub bounds : Bounds
+  pub log : List Event
+  pub comes_about : ComesAbout MAX_EVENTS read bounds log
+  pub of_log : AreOfLog sites log
+  pub verdict : ExplainsVerdict names sites log answer
+
+-- nothing is said of the log of the input: the sites are of another number of events
+pub record IsOfOtherLog (sites : Option Table) (read : Option (List ℕ)) (answer : Answer)
     : Type 0 where
   pub bounds : Bounds
   pub log : List Event
   pub comes_about : ComesAbout MAX_EVENTS read bounds log
-  pub verdict : ExplainsVerdict names log answer
+  pub of_other : ¬ AreOfLog sites log
+  pub said : answer ≡ silent OtherSites
 
 -- What an explanation has to say: the verdict in words, and the cycle of an alarm; or nothing, for
 -- a reason.
-abbrev pub IsExplanation : NameLists → Option (List ℕ) → Answer → Type 0
-IsExplanation names read answer =
-    IsExplained names read answer
-    ⊎ (IsUnchecked MAX_EVENTS MAX_NODES read answer ⊎ LacksMemory answer)
+abbrev pub IsExplanation : NameLists → Option Table → Option (List ℕ) → Answer → Type 0
+IsExplanation names sites read answer =
+    IsExplained names sites read answer
+    ⊎ (IsOfOtherLog sites read answer
+    ⊎ (IsUnchecked MAX_EVENTS MAX_NODES read answer ⊎ LacksMemory answer))

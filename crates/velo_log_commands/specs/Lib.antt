@@ -7,5 +7,6 @@ pub mod Faults
 pub mod Ignoring
 pub mod Listing
 pub mod Naming
+pub mod Siting
 pub mod Steps
 pub mod Watching

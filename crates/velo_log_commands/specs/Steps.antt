@@ -5,18 +5,20 @@ use Rattle.std.specs.Prelude.{◌≡◌, ◌⊎◌, ℕ, Bool, List, Option, Res
 use Rattle.velo_events.specs.Refusals.{GrowthRefused}
 use Rattle.velo_events.specs.declared.event.Event.{Event}
 use Rattle.velo_names.specs.Names.{NameLists}
+use Rattle.velo_sites.specs.Sites.{Table}
 use Rattle.velo_report.specs.declared.names.Names.{Names}
 use Rattle.velo_world.specs.World.{WorldState}
 use Rattle.velo_fate.specs.declared.fault.CheckFault.{CheckFault}
 use Rattle.velo_fate.specs.declared.fault.CheckFault.TheVariants as check_fault
 use Rattle.velo_fate.specs.declared.verdict.Verdict.{Verdict}
 use Rattle.velo_fate.specs.declared.fate.Fate.{Fate}
-use Rattle.velo_fate.specs.declared.fate.Fate.TheVariants.{CannotOpen, Memory}
+use Rattle.velo_fate.specs.declared.fate.Fate.TheVariants.{CannotOpen, Memory, OtherSites}
 use Rattle.velo_log_commands.specs.Carrying.{Carries}
 use Rattle.velo_fate.specs.Verdict.{IsOutputOf, IsVerdict}
 use Rattle.velo_fate.specs.Delivery.{Answer, IsDelivered, IsPrinted, LacksMemory}
 use Rattle.velo_delivery.specs.Disk.{IsWritten, Store}
 use Rattle.velo_log_commands.specs.Explaining.{ExplainsVerdict, IsExplanation}
+use Rattle.velo_log_commands.specs.Siting.{AreOfLog}
 use Rattle.velo_fate.specs.Failures.{FailuresAsTold}
 use Rattle.velo_delivery.specs.Reading.{Reading}
 use Rattle.velo_delivery.specs.Writing.{BreaksOff, Writes, WritesNothing, Writing}
@@ -47,18 +49,25 @@ PrintsOrLacks answer stdout f =
     IsPrinted stdout answer f ⊎ (GrowthRefused × (f ≡ Memory) × WritesNothing stdout)
 
 -- what was made of a verdict was delivered: its explanation, or that memory was wanting
-abbrev pub Explains : NameLists → List Event → Store → Option (Bor (List ℕ)) → Writing → Fate
-    → Type 0
-Explains names log store target stdout f =
-    (answer : Answer) × (ExplainsVerdict names log answer ⊎ LacksMemory answer)
+abbrev pub Explains : NameLists → Option Table → List Event → Store → Option (Bor (List ℕ)) → Writing
+    → Fate → Type 0
+Explains names sites log store target stdout f =
+    (answer : Answer) × (ExplainsVerdict names sites log answer ⊎ LacksMemory answer)
     × IsDelivered store target stdout answer f
 
+-- so it was, of a log that the sites are of; or they are not, and nothing was written
+abbrev pub ExplainsIfOf : NameLists → Option Table → List Event → Store → Option (Bor (List ℕ))
+    → Writing → Fate → Type 0
+ExplainsIfOf names sites log store target stdout f =
+    (AreOfLog sites log × Explains names sites log store target stdout f)
+    ⊎ ((¬ AreOfLog sites log) × (f ≡ OtherSites) × store.is_kept × WritesNothing stdout)
+
 -- what was made of an input was delivered
-abbrev pub ExplainsInput : NameLists → Option (Bor (List ℕ)) → Store → Reading → Writing → Fate
-    → Type 0
-ExplainsInput names target store read stdout f =
+abbrev pub ExplainsInput : NameLists → Option Table → Option (Bor (List ℕ)) → Store → Reading
+    → Writing → Fate → Type 0
+ExplainsInput names sites target store read stdout f =
     FailuresAsTold read f
-    × ((answer : Answer) × IsExplanation names read.bytes answer
+    × ((answer : Answer) × IsExplanation names sites read.bytes answer
     × IsDelivered store target stdout answer f)
 
 -- ---- carrying over

@@ -1,30 +1,35 @@
 //! `velodrome explain`.
-ghost use Rattle.std.specs.Prelude.{◌≤◌, Some, length};
+ghost use Rattle.std.specs.Prelude.{◌≡◌, ◌≤◌, false, Some, IfOk, IsTrue, length};
 ghost use Rattle.velo_events.specs.Graph.{HasCycle};
 ghost use Rattle.velo_events.specs.declared.limits.TheConstants.{MAX_EVENTS};
 ghost use Rattle.velo_explain.specs.Evidence.{IsEvidenceAt};
 ghost use Rattle.velo_worker.specs.declared.ending.Ending.TheVariants.{Done};
 ghost use Rattle.velo_fate.specs.Delivery.{IsPrinted, printing};
-ghost use Rattle.velo_log_commands.specs.Explaining.{counted, explained};
-ghost use Rattle.velo_log_commands.specs.Commands.{DoesExplain, ExplainsLog};
+ghost use Rattle.velo_log_commands.specs.Explaining.{counted, explained, words_of};
+ghost use Rattle.velo_log_commands.specs.Commands.{DoesExplain, ExplainsBy, ExplainsLog};
+ghost use Rattle.velo_log_commands.specs.Siting.{AreOfLog};
 ghost use Rattle.velo_delivery.specs.Reading.{reading};
 ghost use Rattle.velo_delivery.specs.Disk.{store};
 ghost use Rattle.velo_delivery.specs.Writing.{writing};
 ghost use Rattle.velo_fate.specs.declared.fate.Fate.TheVariants.{Finished};
-ghost use Rattle.velo_log_commands.specs.Steps.{DeliversOrLacks, Explains, ExplainsInput, PrintsOrLacks};
+ghost use Rattle.velo_log_commands.specs.Steps.{DeliversOrLacks, Explains, ExplainsIfOf, ExplainsInput, PrintsOrLacks};
 ghost use Rattle.velo_fate.specs.Saving.{IsSaved};
 
 use crate::check::do_input;
-use crate::naming::{ByNames, do_by_names};
+use crate::naming::{ByNames, do_by_names, read_given};
+use crate::siting::sites_in;
 use std::alloc::Global;
 use velo_bytes::{Sink, Source, WriteFault, write_all};
 use velo_certify::CertFault;
 use velo_delivery::{Files, Operand, Save, save_all};
 use velo_events::{MAX_EVENTS, MAX_NODES, Memory};
-use velo_explain::{Evidence, evidence_of, explain_clean, explain_named, picture_named};
+use velo_explain::{
+    Evidence, Page, evidence_of, explain_clean, explain_named, explain_sited, picture_named,
+};
 use velo_fate::{Fate, Saved, fate_of_failure, open_input};
 use velo_names::Names;
 use velo_request::ExplainOptions;
+use velo_sites::{MAX_SITES_BYTES, Sites};
 use velo_traces::Trace;
 use velo_worker::Ending;
 use velo_world::Closed;
@@ -61,32 +66,70 @@ pub fn print<O: Sink>(words: &[u8], alarm: bool, out: &mut O) -> Fate
     }
 }
 
-/// Explains an alarm by its evidence and the names: the picture is saved at the target, if there is one, and then the words are printed.
-/// Both are made before.
+/// What an explanation calls things by, and where the events happened.
+#[derive(Clone, Copy)]
+struct Legend<'n, 'a, 's, 'b> {
+    names: &'n Names<'a>,
+    sites: &'s Option<Sites<'b>>,
+}
+
+/// The words of an alarm by its evidence.
+fn words_of(
+    alloc: Global,
+    log: &Trace,
+    position: usize,
+    evidence: &Evidence,
+    legend: &Legend,
+) -> Result<Page, Memory>
+    requires few { length log.now.events ≤ MAX_EVENTS }
+    requires evidence { IsEvidenceAt log.now.events position evidence.now }
+    ensures { IfOk result (λ words. words ≡ words_of legend.now.names.now legend.now.sites.now
+        log.now.events position evidence.now) }
+{
+    match legend.sites {
+        Some(sites) => explain_sited(alloc, log, position, evidence, legend.names, sites),
+        None => explain_named(alloc, log, position, evidence, legend.names),
+    }
+}
+
+/// Whether the sites, if there are some, are of as many events as the log has.
+fn are_of(sites: &Option<Sites>, log: &Trace) -> bool
+    ensures same { IsTrue result → AreOfLog sites.now log.now.events }
+    ensures other { result ≡ false → ¬ AreOfLog sites.now log.now.events }
+{
+    match sites {
+        Some(sites) => sites.count_events() == log.len(),
+        None => true,
+    }
+}
+
+/// Explains an alarm by its evidence and the legend: the picture is saved at the target, if there is one, and then the words are
+/// printed. Both are made before.
 fn explain_by<F: Files, O: Sink>(
     alloc: Global,
     log: &Trace,
     position: usize,
     evidence: &Evidence,
-    names: &Names,
+    legend: &Legend,
     target: Option<&str>,
     files: &mut F,
     out: &mut O,
 ) -> Fate
     requires few { length log.now.events ≤ MAX_EVENTS }
     requires evidence { IsEvidenceAt log.now.events position evidence.now }
-    ensures { DeliversOrLacks (explained names.now log.now.events position evidence.now)
+    ensures { DeliversOrLacks (explained legend.now.names.now legend.now.sites.now log.now.events position
+        evidence.now)
         (store F.disk files.old files.new) target.entry
         (writing O.contents O.failures out.old out.new) result }
 {
-    let words = match explain_named(alloc, log, position, evidence, names) {
+    let words = match words_of(alloc, log, position, evidence, legend) {
         Ok(words) => words,
         Err(Memory) => return Fate::Memory,
     };
     let Some(path) = target else {
         return print(words.as_slice(), true, out);
     };
-    let drawing = match picture_named(alloc, log, position, evidence, names) {
+    let drawing = match picture_named(alloc, log, position, evidence, legend.names) {
         Ok(drawing) => drawing,
         Err(Memory) => return Fate::Memory,
     };
@@ -112,13 +155,14 @@ fn explain_without<O: Sink>(alloc: Global, log: &Trace, out: &mut O) -> Fate
 fn explain_closed<F: Files, O: Sink>(
     alloc: Global,
     closed: &Closed,
-    names: &Names,
+    legend: &Legend,
     target: Option<&str>,
     files: &mut F,
     out: &mut O,
 ) -> Fate
     requires { length closed.now.log ≤ MAX_EVENTS }
-    ensures { Explains names.now closed.now.log (store F.disk files.old files.new) target.entry
+    ensures { Explains legend.now.names.now legend.now.sites.now closed.now.log
+        (store F.disk files.old files.new) target.entry
         (writing O.contents O.failures out.old out.new) result }
 {
     let log = closed.log();
@@ -128,7 +172,7 @@ fn explain_closed<F: Files, O: Sink>(
     let position = alarm.position;
     match evidence_of(alloc, log, position, alarm.blamed.as_slice()) {
         Ok(evidence) => {
-            let fate = explain_by(alloc, log, position, &evidence, names, target, files, out);
+            let fate = explain_by(alloc, log, position, &evidence, legend, target, files, out);
             drop(evidence);
             fate
         }
@@ -138,22 +182,43 @@ fn explain_closed<F: Files, O: Sink>(
     }
 }
 
+/// Explains what a closed world shows, if the sites are of its log.
+fn explain_if_of<F: Files, O: Sink>(
+    alloc: Global,
+    closed: &Closed,
+    legend: &Legend,
+    target: Option<&str>,
+    files: &mut F,
+    out: &mut O,
+) -> Fate
+    requires { length closed.now.log ≤ MAX_EVENTS }
+    ensures { ExplainsIfOf legend.now.names.now legend.now.sites.now closed.now.log
+        (store F.disk files.old files.new) target.entry
+        (writing O.contents O.failures out.old out.new) result }
+{
+    if !are_of(legend.sites, closed.log()) {
+        return Fate::OtherSites;
+    }
+    explain_closed(alloc, closed, legend, target, files, out)
+}
+
 /// Reads a whole log, does its events, and explains what they show.
 fn explain_log<I: Source, F: Files, O: Sink>(
     alloc: Global,
     options: &ExplainOptions,
-    names: &Names,
+    legend: &Legend,
     source: &mut I,
     files: &mut F,
     out: &mut O,
 ) -> Fate
-    ensures { ExplainsInput names.now options.now.target (store F.disk files.old files.new)
+    ensures { ExplainsInput legend.now.names.now legend.now.sites.now options.now.target
+        (store F.disk files.old files.new)
         (reading I.remaining I.failures source.old source.new)
         (writing O.contents O.failures out.old out.new) result }
 {
     match do_input(alloc, source, MAX_EVENTS, MAX_NODES) {
         Ok(closed) => {
-            let fate = explain_closed(alloc, &closed, names, options.target, files, out);
+            let fate = explain_if_of(alloc, &closed, legend, options.target, files, out);
             drop(closed);
             fate
         }
@@ -161,8 +226,26 @@ fn explain_log<I: Source, F: Files, O: Sink>(
     }
 }
 
+/// Explains the log that was asked for by the legend.
+fn explain_input<F: Files, O: Sink>(
+    alloc: Global,
+    options: &ExplainOptions,
+    legend: &Legend,
+    files: &mut F,
+    out: &mut O,
+) -> Fate
+    ensures { ExplainsLog legend.now.names.now legend.now.sites.now options.now
+        (store F.disk files.old files.new)
+        (writing O.contents O.failures out.old out.new) result }
+{
+    match open_input(files, Operand::Log, options.input, options.target) {
+        Ok(mut log) => explain_log(alloc, options, legend, &mut log, files, out),
+        Err(fate) => fate,
+    }
+}
+
 impl ByNames for ExplainOptions<'_> {
-    ghost does = { λ options names. ExplainsLog names options };
+    ghost does = { λ options names. ExplainsBy names options };
 
     fn do_by<F: Files, O: Sink>(
         &self,
@@ -171,14 +254,28 @@ impl ByNames for ExplainOptions<'_> {
         files: &mut F,
         out: &mut O,
     ) -> Fate {
-        match open_input(files, Operand::Log, self.input, self.target) {
-            Ok(mut log) => explain_log(alloc, self, names, &mut log, files, out),
+        let bytes = match read_given(alloc, self.sites, MAX_SITES_BYTES, files) {
+            Ok(bytes) => bytes,
+            Err(fate) => return fate,
+        };
+        let fate = match sites_in(alloc, self.sites, &bytes) {
+            Ok(sites) => {
+                let legend = Legend {
+                    names,
+                    sites: &sites,
+                };
+                let fate = explain_input(alloc, self, &legend, files, out);
+                drop(sites);
+                fate
+            }
             Err(fate) => fate,
-        }
+        };
+        drop(bytes);
+        fate
     }
 }
 
-/// Explains the log that was asked for. The names are read first.
+/// Explains the log that was asked for. The names are read first, and then the sites.
 pub fn explain_file<F: Files, O: Sink>(
     alloc: Global,
     options: &ExplainOptions,

@@ -8,6 +8,7 @@ mod explaining;
 mod ignoring;
 mod listing;
 mod naming;
+mod siting;
 mod watching;
 
 pub use auditing::audit_file;

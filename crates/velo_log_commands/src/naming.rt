@@ -19,7 +19,7 @@ use velo_report::Names as ReportNames;
 ///
 /// # Errors
 /// As `read_file`.
-fn read_given<F: Files>(
+pub(crate) fn read_given<F: Files>(
     alloc: Global,
     path: Option<&str>,
     most: usize,

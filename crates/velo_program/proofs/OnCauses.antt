@@ -20,6 +20,9 @@ use Rattle.velo_list.specs.declared.fault.ListFault.TheVariants as list_fault
 use Rattle.velo_names.specs.declared.fault.NamesFault.{NamesFault}
 use Rattle.velo_names.specs.declared.fault.NamesFault.TheVariants as names_fault
 use Rattle.velo_names.specs.Names.{NameLists}
+use Rattle.velo_sites.specs.declared.fault.SitesFault.{SitesFault}
+use Rattle.velo_sites.specs.declared.fault.SitesFault.TheVariants as sites_fault
+use Rattle.velo_sites.specs.Sites.{Table}
 use Rattle.velo_audit_text.specs.declared.words.Asked.{Asked}
 use Rattle.velo_report.specs.declared.names.Names.{Names}
 use Rattle.velo_fate.specs.declared.fault.CheckFault.{CheckFault}
@@ -47,7 +50,7 @@ use Rattle.velo_workload.specs.Program.{Program}
 use Rattle.velo_workload.specs.declared.fault.WorkFault.TheVariants as work_fault
 use Rattle.velo_world.specs.World.{WorldState}
 use Rattle.velo_program.specs.Causes.{AnswersWithCause}
-use Rattle.velo_fate.specs.Causes.{CheckByGrowth, ComesByRefusal, EndsByRefusal, Growths, GrowthsAndStarts, ListByGrowth, LogByGrowth, NamesByGrowth, Needs, ScheduleByGrowth}
+use Rattle.velo_fate.specs.Causes.{CheckByGrowth, ComesByRefusal, EndsByRefusal, Growths, GrowthsAndStarts, ListByGrowth, LogByGrowth, NamesByGrowth, Needs, ScheduleByGrowth, SitesByGrowth}
 use Rattle.velo_log_commands.specs.Auditing.{IsAuditAnswer}
 use Rattle.velo_log_commands.specs.Carrying.{IsCarryAnswer, IsPut}
 use Rattle.velo_log_commands.specs.Check.{IsCheckAnswer, IsFaultOfInput}
@@ -60,6 +63,7 @@ use Rattle.velo_log_commands.specs.Ignoring.{AsksInVain, MeanNothing}
 use Rattle.velo_fate.specs.Format.{SaysNone}
 use Rattle.velo_log_commands.specs.Listing.{HaveFaultOfList, LacksLabels, list_file}
 use Rattle.velo_log_commands.specs.Naming.{HaveFaultOfNames, LacksNames, names_file}
+use Rattle.velo_log_commands.specs.Siting.{HaveFaultOfSites, LacksSites, sites_file}
 use Rattle.velo_workload_commands.specs.Playing.{ByThreads, ByTurns, IsPlayAnswer, IsRunOf, IsSaidOfRun, IsUnread, Play}
 use Rattle.velo_program.specs.Program.{Does}
 use Rattle.velo_workload_commands.specs.Commands.{DoesPlay}
@@ -127,10 +131,11 @@ module _ (needs : Needs) where
   of_check names limit nodes certificate read answer done (inl c) = said answer _ c.said done
   of_check names limit nodes certificate read answer done (inr f) = said answer (silent (fate.Check f.0)) f.2 (of_fault limit nodes read f.0 f.1)
 
-  of_explanation : (names : NameLists) (read : Option (List ℕ)) (answer : Answer) → EndsByRefusal needs ending.Done → IsExplanation names read answer → HasCause answer
-  of_explanation names read answer done (inl e) = ⊎_elim (λ alarm. said answer _ alarm.said done) (λ clean. said answer _ clean.1 done) e.verdict
-  of_explanation names read answer done (inr (inl f)) = said answer (silent (fate.Check f.0)) f.2 (of_fault _ _ read f.0 f.1)
-  of_explanation names read answer done (inr (inr lacks)) = of_lack answer lacks
+  of_explanation : (names : NameLists) (sites : Option Table) (read : Option (List ℕ)) (answer : Answer) → EndsByRefusal needs ending.Done → IsExplanation names sites read answer → HasCause answer
+  of_explanation names sites read answer done (inl e) = ⊎_elim (λ alarm. said answer _ alarm.said done) (λ clean. said answer _ clean.1 done) e.verdict
+  of_explanation names sites read answer done (inr (inl other)) = said answer (silent fate.OtherSites) other.said tt
+  of_explanation names sites read answer done (inr (inr (inl f))) = said answer (silent (fate.Check f.0)) f.2 (of_fault _ _ read f.0 f.1)
+  of_explanation names sites read answer done (inr (inr (inr lacks))) = of_lack answer lacks
 
   of_audit : (names : NameLists) (asked : Asked) (options : AuditOptions) (read : Option (List ℕ)) (answer : Answer) → EndsByRefusal needs ending.Done → IsAuditAnswer names asked options read answer
       → HasCause answer
@@ -251,6 +256,25 @@ unnamed needs disk None f lacks = absurd lacks
 unnamed needs disk (Some path) f (inl closed) = subst (ComesByRefusal needs) (sym closed.0) tt
 unnamed needs disk (Some path) f (inr broken) = unsaid needs broken.read.bytes f broken.unsaid
 
+-- nor sites
+of_sites : (read : Option (List ℕ)) (f : SitesFault) → HaveFaultOfSites read f → SitesByGrowth f
+of_sites read sites_fault.Memory is = is
+of_sites read (sites_fault.BadLine n) is = tt
+of_sites read (sites_fault.EndsEarly n) is = tt
+of_sites read sites_fault.TooManyBytes is = tt
+of_sites read sites_fault.NotText is = tt
+
+ungiven : (needs : Needs) (read : Option (List ℕ)) (f : Fate) → SaysNone sites_file read f → ComesByRefusal needs f
+ungiven needs read (fate.Sites fault) is = of_sites read fault is
+ungiven needs read fate.ReadFailed is = tt
+ungiven needs read fate.Memory is = is
+ungiven needs read f is = absurd is
+
+unsited : (needs : Needs) (disk : Disk) (path : Option (Bor (List ℕ))) (f : Fate) → LacksSites disk path f → ComesByRefusal needs f
+unsited needs disk None f lacks = absurd lacks
+unsited needs disk (Some path) f (inl closed) = subst (ComesByRefusal needs) (sym closed.0) tt
+unsited needs disk (Some path) f (inr broken) = ungiven needs broken.read.bytes f broken.unsaid
+
 -- nor a list
 of_list : (read : Option (List ℕ)) (f : ListFault) → HaveFaultOfList read f → ListByGrowth f
 of_list read list_fault.Memory is = is
@@ -323,8 +347,9 @@ of_done store (request.Check options) stdout f (inl h) = unnamed Growths store.d
 of_done store (request.Check options) stdout f (inr (names, read, (shown, are, inl h))) = unread Growths store.disk Log options.input.now None f h.0
 of_done store (request.Check options) stdout f (inr (names, read, (shown, are, inr h))) = of_delivered Growths store None stdout h.1 f (of_check Growths shown _ _ _ h.0.bytes h.1 tt h.4) h.5
 of_done store (request.Explain options) stdout f (inl h) = unnamed Growths store.disk options.names f h.0
-of_done store (request.Explain options) stdout f (inr (names, read, inl h)) = unread Growths store.disk Log options.input.now options.target f h.0
-of_done store (request.Explain options) stdout f (inr (names, read, inr h)) = of_delivered Growths store options.target stdout h.1 f (of_explanation Growths names h.0.bytes h.1 tt h.4) h.5
+of_done store (request.Explain options) stdout f (inr (names, read, inl h)) = unsited Growths store.disk options.sites f h.0
+of_done store (request.Explain options) stdout f (inr (names, read, inr (sites, given, inl h))) = unread Growths store.disk Log options.input.now options.target f h.0
+of_done store (request.Explain options) stdout f (inr (names, read, inr (sites, given, inr h))) = of_delivered Growths store options.target stdout h.1 f (of_explanation Growths names sites h.0.bytes h.1 tt h.4) h.5
 of_done store (request.Carry options) stdout f (inl h) = unread Growths store.disk Log options.input.now (Some options.target) f h.0
 of_done store (request.Carry options) stdout f (inr (inl h)) = subst (ComesByRefusal Growths) (sym h.0) tt
 of_done store (request.Carry options) stdout f (inr (inr h)) = of_put Growths h.2 h.1 f (of_carry Growths h.0.bytes h.1 tt h.5) h.7

@@ -75,6 +75,8 @@ pub struct ExplainOptions<'a> {
     pub target: Option<&'a str>,
     /// The path of the names that the words tell, or `-`.
     pub names: Option<&'a str>,
+    /// The path of the sites of the log's events, or `-`.
+    pub sites: Option<&'a str>,
 }
 
 /// What `velodrome carry` was asked for.

@@ -1,5 +1,6 @@
 //! Why a file has no sites.
 ghost use Rattle.std.specs.Prelude.{◌≡◌};
+ghost use Rattle.velo_sites.specs.Fault.{fault_line, fault_number};
 
 use thiserror::Error;
 use velo_events::Memory;
@@ -22,6 +23,31 @@ pub enum SitesFault {
     /// Out of memory.
     #[error("out of memory")]
     Memory,
+}
+
+impl SitesFault {
+    /// The number of the fault; `None` if it was out of memory, which is no fault of the file.
+    pub fn number(&self) -> Option<u8>
+        ensures { result ≡ fault_number self.now }
+    {
+        match self {
+            SitesFault::BadLine(_) => Some(1),
+            SitesFault::EndsEarly(_) => Some(2),
+            SitesFault::TooManyBytes => Some(3),
+            SitesFault::NotText => Some(4),
+            SitesFault::Memory => None,
+        }
+    }
+
+    /// The line of the fault; 0 if it is one of the whole file.
+    pub fn line(&self) -> usize
+        ensures { result ≡ fault_line self.now }
+    {
+        match self {
+            SitesFault::BadLine(line) | SitesFault::EndsEarly(line) => *line,
+            SitesFault::TooManyBytes | SitesFault::NotText | SitesFault::Memory => 0,
+        }
+    }
 }
 
 impl From<Memory> for SitesFault {

@@ -14,7 +14,7 @@ use Rattle.velo_log_commands.proofs.explaining.explain_closed.Goals as goal
 pub returns-in_default : goal.returns-in_default
 returns-in_default g c =
     let stdout = writing g.O.Sink.contents g.O.Sink.failures c.args.out.now c.explain_without.new.out in
-    explains_clean (store g.F.Files.disk c.args.files.now c.args.files.now) c.args.target stdout c.args.names.now c.args.closed.now.log c.explain_without.result c.in_default.ensures.none refl
+    explains_clean (store g.F.Files.disk c.args.files.now c.args.files.now) c.args.target stdout c.args.legend.now.names.now c.args.legend.now.sites.now c.args.closed.now.log c.explain_without.result c.in_default.ensures.none refl
     (subst (λ (log : List Event). PrintsOrLacks (counted log) stdout c.explain_without.result) c.log-log.ensures.events c.explain_without.ensures)
 
 pub unreachable-requires : goal.unreachable-requires
@@ -27,8 +27,8 @@ unreachable-requires g c =
 pub returns-in-Ok : goal.returns-in-Ok
 returns-in-Ok g c =
     explains_by (store g.F.Files.disk c.args.files.now c.explain_by-fate.new.files) c.args.target (writing g.O.Sink.contents g.O.Sink.failures c.args.out.now c.explain_by-fate.new.out)
-    c.args.names.now c.args.closed.now.log (explained c.args.names.now c.log-log.result.now.events c.in-Some.alarm.now.position c.in-Ok.evidence) c.explain_by-fate.result
-    (inl (of_evidence c.args.names.now c.log-log.result.now.events c.args.closed.now.log c.log-log.ensures.events c.in-Some.alarm.now c.as_slice.result.now c.as_slice.ensures
+    c.args.legend.now.names.now c.args.legend.now.sites.now c.args.closed.now.log (explained c.args.legend.now.names.now c.args.legend.now.sites.now c.log-log.result.now.events c.in-Some.alarm.now.position c.in-Ok.evidence) c.explain_by-fate.result
+    (inl (of_evidence c.args.legend.now.names.now c.args.legend.now.sites.now c.log-log.result.now.events c.args.closed.now.log c.log-log.ensures.events c.in-Some.alarm.now c.as_slice.result.now c.as_slice.ensures
     c.in-Ok.evidence c.in-Some.ensures.some c.in-Ok.ensures.evidence c.in-Ok.ensures.reasons))
     c.explain_by-fate.ensures
 

@@ -1,29 +1,20 @@
-use Rattle.std.proofs.Common.{◌∙◌, inl, inr, refl, sym, ⊎_elim}
+use Rattle.std.proofs.Common.{inl, inr, refl}
 use Rattle.velo_fate.specs.declared.fate.Fate.TheVariants.{Check}
 use Rattle.velo_fate.specs.Delivery.{silent}
 use Rattle.velo_delivery.specs.Disk.{store}
+use Rattle.velo_delivery.specs.Reading.{reading}
 use Rattle.velo_delivery.specs.Writing.{writing}
-use Rattle.velo_log_commands.proofs.OnExplaining.{explains_reads}
+use Rattle.velo_log_commands.proofs.OnExplaining.{of_input}
 use Rattle.velo_log_commands.proofs.explaining.explain_log.Goals as goal
 
 pub returns-in-Ok : goal.returns-in-Ok
 returns-in-Ok g c =
-    let told = c.explain_closed-fate.ensures in
-    let stdout = writing g.O.Sink.contents g.O.Sink.failures c.args.out.now c.explain_closed-fate.new.out in (
-      c.in-Ok.ensures.read
-          ∙ sym (explains_reads (store g.F.Files.disk c.args.files.now c.explain_closed-fate.new.files) c.args.options.now.target stdout c.args.names.now c.in-Ok.closed.log told.0 _ told.1 c.explain_closed-fate.result told.2),
-      (
-        told.0,
-        ⊎_elim
-            (λ verdict. inl (record { bounds = c.in-Ok.closed.config.bounds; log = c.in-Ok.closed.log; comes_about = c.in-Ok.ensures.ok; verdict = verdict }))
-            (λ lacks. inr (inr lacks))
-            told.1,
-        told.2,
-      ),
-    )
+    of_input (store g.F.Files.disk c.args.files.now c.explain_if_of-fate.new.files) c.args.options.now.target (writing g.O.Sink.contents g.O.Sink.failures c.args.out.now c.explain_if_of-fate.new.out)
+    c.args.legend.now.names.now c.args.legend.now.sites.now c.in-Ok.closed.config.bounds c.in-Ok.closed.log (reading g.I.Source.remaining g.I.Source.failures c.args.source.now c.do_input.new.source) c.explain_if_of-fate.result
+    c.in-Ok.ensures.ok c.in-Ok.ensures.read c.explain_if_of-fate.ensures
 
 pub returns-in-Err : goal.returns-in-Err
 returns-in-Err g c = (
   c.in-Err.ensures.failure,
-  (silent (Check c.in-Err.fault), inr (inl (c.in-Err.fault, c.in-Err.ensures.err, refl)), (refl, refl, (refl, refl))),
+  (silent (Check c.in-Err.fault), inr (inr (inl (c.in-Err.fault, c.in-Err.ensures.err, refl))), (refl, refl, (refl, refl))),
 )

@@ -1,10 +1,17 @@
 use Rattle.std.proofs.Common.{inl, inr, refl}
+use Rattle.velo_log_commands.proofs.OnSiting.{sites_found, sites_lacking, sites_unread}
 use Rattle.velo_log_commands.proofs.explaining.ExplainOptionsByNames.do_by.Goals as goal
-
-pub returns-in-Ok : goal.returns-in-Ok
-returns-in-Ok g c =
-    let done = c.explain_log.ensures in
-    inr (_, done.1.0, c.in-Ok.ensures.given c.explain_log.new.source, done.0, done.1.1, done.1.2)
+use Rattle.velo_log_commands.proofs.explaining.ExplainOptionsByNames.do_by.Goals.{in-Ok-sites_in, in-Err-sites_in}
 
 pub returns-in-Err : goal.returns-in-Err
-returns-in-Err g c = inl (c.in-Err.ensures.barred, (refl, (refl, refl)))
+returns-in-Err g c = inl (sites_unread (g.F.Files.disk c.args.files.now) c.args.self.now.sites c.in-Err.fate c.in-Err.ensures.unread, (refl, (refl, refl)))
+
+pub returns : goal.returns
+returns g c =
+    let disk = g.F.Files.disk c.args.files.now in
+    let read = c.in-Ok.ensures.bytes in
+    let bytes = c.deref.result.now in
+    elim c.match-sites_in.branch [
+      | in-Ok-sites_in w ↦ rw (w.files-is, w.out-is, w.fate-is) (inr (_, sites_found disk c.args.self.now.sites bytes _ (rw (← c.deref.ensures.value) at read) w.in-Ok-sites_in.ensures.sites, w.explain_input-fate.ensures))
+      | in-Err-sites_in w ↦ rw (w.files-is, w.out-is, w.fate-is) (inl (sites_lacking disk c.args.self.now.sites bytes _ (rw (← c.deref.ensures.value) at read) w.in-Err-sites_in.ensures.fault, (refl, (refl, refl))))
+    ]
