@@ -343,6 +343,7 @@ of_watch names options read out f (inl h) = of_printed Growths out h.0 f (of_wat
 of_watch names options read out f (inr h) = subst (ComesByRefusal Growths) (sym h.0) tt
 
 pub of_done : (store : Store) (asked : Request) (stdout : Writing) (f : Fate) → Does store asked stdout f → AnswersWithCause asked f
+unfolding Does
 of_done store (request.Check options) stdout f (inl h) = unnamed Growths store.disk options.names f h.0
 of_done store (request.Check options) stdout f (inr (names, read, (shown, are, inl h))) = unread Growths store.disk Log options.input.now None f h.0
 of_done store (request.Check options) stdout f (inr (names, read, (shown, are, inr h))) = of_delivered Growths store None stdout h.1 f (of_check Growths shown _ _ _ h.0.bytes h.1 tt h.4) h.5

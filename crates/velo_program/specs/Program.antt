@@ -12,8 +12,8 @@ use Rattle.velo_request.specs.declared.request.Request.{Request}
 use Rattle.velo_request.specs.declared.request.Request.TheVariants.{Audit, Carry, Check, Explain, Explore, Replay, Run, Watch}
 use Rattle.velo_workload_commands.specs.Commands.{DoesExplore, DoesReplay, DoesRun}
 
--- What was asked for was done.
-abbrev pub Does : Store → Request → Writing → Fate → Type 0
+-- What was asked for was done. (Callers take it as a word: only what is proved of it here opens it.)
+unfoldable pub Does : Store → Request → Writing → Fate → Type 0
 Does store (Check options) stdout f = DoesCheck options store stdout f
 Does store (Explain options) stdout f = DoesExplain options store stdout f
 Does store (Carry options) stdout f = DoesCarry options store stdout f

@@ -33,6 +33,7 @@ pub fn do_request<R: Threads + Wait + Sync, F: Files, O: Sink, P: ExploreProgres
 }
 
 /// Does what was asked for, by the command that it names.
+#[tactic(auto, unfolding(crate::specs::Program::Does))]
 fn do_by<R: Threads + Wait + Sync, F: Files, O: Sink, P: ExploreProgress>(
     rt: &R,
     alloc: Global,
