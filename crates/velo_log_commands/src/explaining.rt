@@ -32,7 +32,7 @@ use velo_world::Closed;
 /// Saves a text at a path.
 ///
 /// # Errors
-/// `CannotOpen` where no file opens there; `WriteFailed` where it failed, behind a beginning.
+/// `CannotOpen` where no file opens there; `WriteFailed` where it failed, after a beginning.
 fn save_text<F: Files>(text: &[u8], path: &str, files: &mut F) -> Result<(), Fate>
     ensures { IsSaved (store F.disk files.old files.new) (Some path.entry) text.now result }
 {
@@ -61,8 +61,8 @@ pub fn print<O: Sink>(words: &[u8], alarm: bool, out: &mut O) -> Fate
     }
 }
 
-/// Explains an alarm by its evidence and the names: the picture is saved at the target, if there is one, and then the words are printed.
-/// Both are made before.
+/// Explains an alarm by its evidence and the names: the picture is saved at the target, if there is
+/// one, and then the words are printed. Both are made before.
 fn explain_by<F: Files, O: Sink>(
     alloc: Global,
     log: &Trace,

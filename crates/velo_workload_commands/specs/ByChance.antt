@@ -1,4 +1,4 @@
--- Runs of a workload by chance, and who is to blame for the alarms of some runs.
+-- Random runs of a workload, and who is to blame for the alarms of some runs.
 use Rattle.std.specs.Prelude.{◌≡◌, ◌⊎◌, ⊤, All, List, Option, Some, None, count_by, map}
 use Rattle.std.specs.List.Sorted.{IsNonDecreasingBy}
 use Rattle.velo_chance.specs.Drawing.{schedules_of_seed}
@@ -28,7 +28,7 @@ use Rattle.velo_workload_commands.specs.declared.told.Told.{Told}
 use Rattle.velo_workload_commands.specs.declared.told.ToBlame.{ToBlame}
 use Rattle.velo_workload_commands.specs.declared.told.Tried.TheVariants.{ByChance}
 
--- ---- schedules that can be told
+-- ---- schedules that can be printed
 
 -- the short text of this schedule says its turns, so that a replay takes it
 abbrev pub IsSayable : List ThreadId → Type 0
@@ -49,8 +49,8 @@ pub record AreSayable (found : Found) : Type 0 where
 
 -- ---- who is to blame
 
--- of these runs, so many have an alarm; and of each label that is told, so many of these alarms blame a block with it, and of
--- no other label any; those of most alarms come first
+-- the counts are of these runs: how many have an alarm; and for each listed label how many of these
+-- alarms blame a block with it; no other label is blamed; those of most alarms come first
 pub record IsBlame (runs : List Run) (blame : ToBlame) : Type 0 where
   pub alarms : blame.alarms ≡ count_by has_alarm runs
   pub labels : AreCounts (λ label. count_by (blames label) runs) blame.labels.items
@@ -74,7 +74,8 @@ pub record DoesNotShow (program : Program) (config : Config) (goal : Goal)
   pub replays : Replays program schedule config ended world
   pub has_not : ¬ Reaches goal ended world
 
--- the schedule that was found was made simple, and can't be told then, or did not show the goal again
+-- the schedule that was found was simplified, and cannot be printed then, or did not show the goal
+-- again
 pub record IsLeftOpen (program : Program) (config : Config) (goal : Goal)
     (found : List ThreadId) : Type 0 where
   pub simple : List ThreadId
@@ -83,8 +84,8 @@ pub record IsLeftOpen (program : Program) (config : Config) (goal : Goal)
 
 -- ---- what is found in runs
 
--- It is shown only where one of the runs has it: by a schedule that shows it, the first that has it made simple. It is never only
--- where none of them has it. Where it is open one of them has it.
+-- It is shown only where one of the runs has it: by a schedule that shows it, the first that has it
+-- made simple. It is never only where none of them has it. Where it is open one of them has it.
 abbrev pub OfRuns : Program → Config → Goal → Option (List ThreadId) → Finding → Type 0
 OfRuns program config goal (Some found) (Shown told) =
     Shows program config goal told × Simplifies program config goal found told.items
@@ -107,8 +108,8 @@ pub record AreOfRuns (program : Program) (config : Config) (runs : List Run) (fo
   pub refused : RefusalOfRuns program config (first_schedule is_refused runs) found.refused
   pub sayable : AreSayable found
 
--- The program was replayed so often as was asked for, by the schedules that the seed draws, and what is told is of these runs. Of
--- other schedules nothing is said.
+-- The program was replayed as often as was asked for, by the schedules that the seed draws, and
+-- what is reported is of these runs. Other schedules are undecided.
 pub record IsByChance (program : Program) (config : Config) (random : RandomRuns) (told : Told) : Type 0 where
   pub runs : List Run
   pub replayed : All (IsRun program config) runs

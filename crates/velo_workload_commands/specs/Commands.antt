@@ -1,8 +1,8 @@
 -- What each command on a workload does: one definition a command, whose lines are its steps.
 --
 -- The store is the files that the command finds and leaves, stdout is standard output before and
--- after, and f is what the command comes to. Each command names in parentheses the page that says
--- how it answers the bytes of its input.
+-- after, and f is the command's fate. Each command names in parentheses the page that says what it
+-- answers to the bytes of its input.
 use Rattle.std.specs.Prelude.{◌⊎◌, ℕ, List, Option}
 use Rattle.std.specs.Borrow.{Bor}
 use Rattle.velo_events.specs.declared.event.ThreadId.{ThreadId}
@@ -22,8 +22,8 @@ use Rattle.velo_delivery.specs.Writing.{Writing}
 
 -- ---- what they share
 
--- the workload does not open, or two of the files are one; no file was opened to be written, nothing
--- was printed
+-- the workload does not open, or two of the files are one; no file was opened to be written,
+-- nothing was printed
 abbrev pub DoesNotPlay : Store → List ℕ → Option (Bor (List ℕ)) → Option (Bor (List ℕ)) → Writing
     → Fate → Type 0
 DoesNotPlay store input target names stdout f =
@@ -32,9 +32,9 @@ DoesNotPlay store input target names stdout f =
 -- ---- velodrome run FILE [--stop] [--log OUT] [--names-out NAMES] [--events N] [--nodes N]
 -- ---- [--certificate]
 
--- FILE is read whole, and its threads are played. The log of the run is saved at OUT, then the names
--- of the workload at NAMES, and then the report goes to standard output, and the certificate behind
--- it; or nothing, for a reason (`Playing`).
+-- FILE is read whole, and its threads are played. The log of the run is saved at OUT, then the
+-- names of the workload at NAMES, and then the report goes to standard output, and the certificate
+-- after it; or nothing, for a reason (`Playing`).
 abbrev pub DoesPlay : Play → RunOptions → Store → Writing → Fate → Type 0
 DoesPlay play options store stdout f =
     DoesNotPlay store options.input.now options.target options.names_target stdout f
@@ -59,11 +59,12 @@ DoesReplay options store stdout f =
 -- ---- velodrome explore FILE [--states N] [--first] [--random N] [--seed S] [--log OUT]
 -- ---- [--names-out NAMES] [--events N] [--nodes N] [--certificate]
 
--- FILE is read whole, and all its schedules are tried; or with --random so many that are drawn by
--- chance (`ByChance`). Where one of them was found to have an alarm, a deadlock or a refusal, the log
--- of its replay is saved at OUT, and then the names of the workload at NAMES. What was found and who
--- is to blame goes to standard output, and then the report of this replay, and its certificate, and
--- behind that of a deadlock who waits for what; or nothing, for a reason (`Exploring`).
+-- FILE is read whole, and all its schedules are tried; or with --random this many that are drawn
+-- randomly (`ByChance`). Where one of them was found to have an alarm, a deadlock or a refusal, the
+-- log of its replay is saved at OUT, and then the names of the workload at NAMES. What was found
+-- and who is to blame goes to standard output, and then the report of this replay, and its
+-- certificate, and after that of a deadlock who waits for what; or nothing, for a reason
+-- (`Exploring`).
 abbrev pub DoesExplore : ExploreOptions → Store → Writing → Fate → Type 0
 DoesExplore options store stdout f =
     DoesNotPlay store options.input.now options.target options.names_target stdout f

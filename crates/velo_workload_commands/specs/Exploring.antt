@@ -47,10 +47,10 @@ use Rattle.velo_fate.specs.Saving.{text_of_log}
 use Rattle.velo_turns.specs.Schedule.{spaced}
 use Rattle.velo_turns.specs.Short.{longest}
 
--- ---- what is told of all schedules
+-- ---- what is reported of all schedules
 
--- What is found in the program is so, whatever the schedule: what is shown, its schedule shows; what
--- is never, is so by none. Of what is open nothing is said.
+-- What is found in the program is so, whatever the schedule: what is shown, its schedule shows;
+-- what is never, is so by none. What is open is undecided.
 pub record AreOfAll (program : Program) (config : Config) (found : Found) : Type 0 where
   pub alarm : AlarmTold program config found.alarm
   pub stuck : StuckTold program config found.stuck
@@ -74,7 +74,7 @@ pub record IsSearchOf (program : Program) (config : Config) (options : ExploreOp
   pub open_refused : OnOpenRefusal search.refused
       (IsOpenFor program config options.states options.first search.states Refusing)
 
--- A finding of the search is told by its schedule, made simple; or it is left open.
+-- A finding of the search is reported by its schedule, simplified; or it is left open.
 abbrev pub TellsFinding : Program → Config → Goal → Finding → Finding → Type 0
 TellsFinding program config goal (Shown found) (Shown told) =
     Simplifies program config goal found.items told.items
@@ -96,8 +96,8 @@ pub record TellsSearch (program : Program) (config : Config) (search : Explorati
   pub stuck : TellsFinding program config goals.Stuck search.stuck found.stuck
   pub refused : TellsRefusal program config search.refused found.refused
 
--- All schedules of the program are tried, and this is told of them. Whom the alarms blame is told of the replays by the first of
--- the schedules that the search hands out.
+-- All schedules of the program are tried, and this is reported of them. Whom the alarms blame is
+-- reported of the replays by the first of the schedules that the search hands out.
 pub record IsExplorationOf (program : Program) (config : Config) (options : ExploreOptions) (told : Told)
     : Type 0 where
   pub search : Exploration
@@ -108,7 +108,7 @@ pub record IsExplorationOf (program : Program) (config : Config) (options : Expl
   pub blame : IsBlameOf program config
       (map (λ schedule. schedule.items) (take (most_to_blame options.first) search.alarms.items)) told.blame
 
--- all of them are tried; or where runs by chance are asked for, so many (`ByChance`)
+-- all of them are tried; or if random runs are asked for, that many (`ByChance`)
 abbrev pub IsToldBy : Program → Config → ExploreOptions → Option RandomRuns → Told → Type 0
 IsToldBy program config options None told = IsExplorationOf program config options told
 IsToldBy program config options (Some random) told = IsByChance program config random told
@@ -118,7 +118,7 @@ IsToldOf program config options told = IsToldBy program config options options.r
 
 -- ---- its text
 
--- a schedule behind a word, in its longest stretches; an empty one leaves the word alone
+-- a schedule after a word, in its longest stretches; an empty one leaves the word alone
 abbrev pub turns_text : List ThreadId → List ℕ
 turns_text schedule = spaced (longest schedule)
 
@@ -127,7 +127,7 @@ finding_text (Shown schedule) = turns_text schedule.items
 finding_text Never = codes " none"
 finding_text Open = codes " open"
 
--- a name behind a space, if there is one
+-- a name after a space, if there is one
 abbrev pub name_text : Option (List ℕ) → List ℕ
 name_text None = []
 name_text (Some name) = codes " " ++ name
@@ -171,7 +171,7 @@ abbrev pub told_text : Program → Told → List ℕ
 told_text program told =
     tried_text told.tried ++ found_text program told.found ++ blame_text program told.blame
 
--- ---- what it comes to
+-- ---- the fate
 
 -- an alarm; else a deadlock; else a refusal; else nothing, if all was tried
 abbrev pub fate_by : Finding → Finding → RefusalFinding → Fate
@@ -206,7 +206,7 @@ HasFirst alarm (Shown schedule) refused ended w = ended ≡ Stuck
 HasFirst alarm stuck (refusals.Shown run) ended w = ended ≡ Refused run.thread run.refusal
 HasFirst alarm stuck refused ended w = ⊥
 
--- the replay by the schedule that is told first has what was found
+-- the replay by the schedule that is printed first has what was found
 pub record IsFirstReplay (program : Program) (config : Config) (found : Found)
     (ended : Ending) (w : WorldState) : Type 0 where
   pub schedule : List ThreadId
@@ -230,14 +230,14 @@ run_of options =
       certificate = options.certificate;
     }
 
--- behind the report of a deadlock, who waits for what (`Waits` of `velo_waits`)
+-- after the report of a deadlock, who waits for what (`Waits` of `velo_waits`)
 abbrev pub waits_behind : Finding → Finding → Program → List Event → List ℕ
 waits_behind (Shown schedule) stuck program log = []
 waits_behind alarm (Shown schedule) program log = waits_text program log
 waits_behind alarm stuck program log = []
 
--- The log of the replay is to be saved. What is told is printed, and behind it the report of this
--- log by the program's names, with its certificate if that is asked for; and behind that of a
+-- The log of the replay is to be saved. The findings are printed, and after them the report of this
+-- log by the program's names, with its certificate if that is asked for; and after that of a
 -- deadlock who waits for what.
 pub record ReportsReplay (options : ExploreOptions) (program : Program) (config : Config)
     (told : Told) (answer : Answer) : Type 0 where
@@ -255,7 +255,7 @@ pub record ReportsReplay (options : ExploreOptions) (program : Program) (config 
     fate = fate_of_told told;
   }
 
--- where no schedule is told the rest is printed alone, and there is nothing to be saved
+-- where no schedule is printed the rest is printed alone, and there is nothing to be saved
 abbrev pub IsPrintedAlone : Program → Told → Answer → Type 0
 IsPrintedAlone program told answer =
     (schedule_of told.found ≡ None)

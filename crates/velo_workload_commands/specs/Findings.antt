@@ -36,9 +36,9 @@ use Rattle.velo_workload_commands.specs.Playing.{AreNamesOf, is_unreported, text
 use Rattle.velo_fate.specs.Saving.{text_of_log, IsUnsaved}
 use Rattle.velo_delivery.specs.Writing.{BreaksOff, Delivers, Writes, WritesNothing, Writing}
 
--- ---- what can be told
+-- ---- what can be printed
 
--- the finding, or an open one where it can't be told
+-- the finding, or an open one if it cannot be printed
 abbrev pub IsSaidFor : Finding → Finding → Type 0
 IsSaidFor finding said =
     (IsSayableFinding finding × (said ≡ finding))
@@ -131,7 +131,7 @@ IsNoMoreRefusal program config one other =
     ⊎ ((run : RefusedRun) × (one ≡ refusals.Shown run) × (other ≡ refusals.Open)
     × IsRunWithout program config (goals.Refused run.thread run.refusal) run.schedule.items)
 
--- the other tells no more than the one, and less only where a replay does not have what was found
+-- the other reports no more than the one, and less only if a replay does not have what was found
 pub record TellsNoMore (program : Program) (config : Config) (one other : Found) : Type 0 where
   pub alarm : IsNoMore program config Alarm one.alarm other.alarm
   pub stuck : IsNoMore program config goals.Stuck one.stuck other.stuck
@@ -145,21 +145,21 @@ IsRunOfFirst program config found (Some run) =
 
 -- ---- what goes out
 
--- what writing the output of a world and a text behind it came to
+-- the result of writing the output of a world and a text after it
 abbrev pub WritesReport : {X F : Type 0} → Names → Bool → WorldState → List ℕ → Writing
     → Result X F → Type 0
 WritesReport names certificate w behind stdout result =
     (report : List ℕ) × IsOutputOf names certificate w report
     × Delivers stdout (report ++ behind) result
 
--- what writing it behind another text came to
+-- the result of writing it after another text
 abbrev pub WritesBehind : {X F : Type 0} → List ℕ → Names → Bool → WorldState → List ℕ → Writing
     → Result X F → Type 0
 WritesBehind text names certificate w behind stdout result =
     (report : List ℕ) × IsOutputOf names certificate w report
     × Delivers stdout (text ++ (report ++ behind)) result
 
--- what saving a text and printing another came to
+-- the result of saving a text and printing another
 abbrev pub Puts : {X : Type 0} → Store → Option (Bor (List ℕ)) → Writing
     → Option (List ℕ) → List ℕ → Result X Fate → Type 0
 Puts store target stdout saved printed (Ok x) =
@@ -171,8 +171,8 @@ Puts store target stdout saved printed (Err fate.WriteFailed) =
     ⊎ (Saves store target saved × BreaksOff stdout printed)
 Puts store target stdout saved printed (Err f) = ⊥
 
--- printing comes to this: the log was not saved, and nothing was printed; or it was, and then the
--- names were saved at their path
+-- the result of printing is this: the log was not saved, and nothing was printed; or it was, and
+-- then the names were saved at their path
 abbrev pub PutsBy : {X : Type 0} → Option (List ℕ) → Option (Bor (List ℕ)) → Store
     → Option (Bor (List ℕ)) → List ℕ → Writing → List ℕ → Result X Fate → Type 0
 PutsBy (Some log) (Some path) store target names stdout printed result =
@@ -182,8 +182,8 @@ PutsBy (Some log) (Some path) store target names stdout printed result =
 PutsBy saved path store target names stdout printed result =
     Puts store target stdout saved printed result
 
--- what saving the log of a replay, and the names, and printing a text, the report behind it, and a
--- text behind that came to
+-- the result of saving the log of a replay, and the names, and of printing a text, the report after
+-- it, and a text after that
 abbrev pub TellsReplay : {X : Type 0} → List ℕ → Names → Bool → WorldState → List ℕ
     → Store → Saving → Writing → Result X Fate → Type 0
 TellsReplay text names certificate w behind store saving stdout result =
@@ -211,7 +211,7 @@ ReportsOrLacks program text options w behind store stdout result =
     (text_of_names program) stdout (text ++ (report ++ behind)) result))
     ⊎ Lacks store stdout result
 
--- what telling a text and the replay, if there is one, came to
+-- the result of printing a text and the replay, if there is one
 abbrev pub TellsRun : {X : Type 0} → Program → Found → List ℕ → ExploreOptions
     → Option (WorldState × Ending) → Store → Writing → Result X Fate → Type 0
 TellsRun program found text options None store stdout result =
@@ -220,12 +220,12 @@ TellsRun program found text options (Some run) store stdout result =
     ReportsOrLacks program text options run.0
     (waits_behind found.alarm found.stuck program run.0.log) store stdout result
 
--- what telling came to, as a fate
+-- the result of printing, as a fate
 abbrev pub fate_behind : {X : Type 0} → Fate → Result X Fate → Fate
 fate_behind f (Ok x) = f
 fate_behind f (Err other) = other
 
--- what telling of the schedules and the replay, if there is one, came to
+-- the result of printing the findings and the replay, if there is one
 abbrev pub TellsFindings : ExploreOptions → Program → Told → Option (WorldState × Ending)
     → Store → Writing → Fate → Type 0
 TellsFindings options program told run store stdout f =
@@ -234,14 +234,14 @@ TellsFindings options program told run store stdout f =
     × TellsRun program told.found (told_text program told) options run store stdout out
     × (f ≡ fate_behind (fate_of_told told) out))
 
--- what exploring a workload came to
+-- the fate of exploring a workload
 abbrev pub Explores : ExploreOptions → Program → Store → Writing → Fate → Type 0
 Explores options program store stdout f =
     (answer : Answer) × (IsExplored options program answer ⊎ LacksMemory answer)
     × IsDeliveredInTurn store options.target options.names_target (text_of_names program) stdout
     answer f
 
--- ---- what it comes to, finding by finding
+-- ---- the fate, finding by finding
 
 abbrev pub fate_of_refusal : RefusalFinding → Fate → Fate
 fate_of_refusal (refusals.Shown run) otherwise =

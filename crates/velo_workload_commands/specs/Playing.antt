@@ -31,7 +31,7 @@ use Rattle.velo_fate.specs.Saving.{text_of_log}
 
 -- ---- the workload of an input
 
--- the bytes are the text of this program; where they are not known nothing is said
+-- the bytes are the text of this program; if they are not known, nothing is claimed
 abbrev pub IsTextOf : Option (List ℕ) → Program → Type 0
 IsTextOf read program =
     IfSome read (λ bytes. (length bytes ≤ MAX_WORKLOAD_BYTES) × (meaning_of bytes ≡ Ok program))
@@ -174,7 +174,7 @@ IsSaidOfRun program certificate ended w answer =
     ((is_unreported ended ≡ true) × IsSilentEnding ended answer)
     ⊎ ((is_unreported ended ≡ false) × IsRunReport program certificate ended w answer)
 
--- a run that came to an end, and what is said of it
+-- a run that ended, and what is said of it
 pub record IsPlayed (play : Play) (options : RunOptions) (program : Program) (answer : Answer)
     : Type 0 where
   pub ended : Ending
@@ -182,7 +182,7 @@ pub record IsPlayed (play : Play) (options : RunOptions) (program : Program) (an
   pub is_run : IsRunOf play options program ended world
   pub says : IsSaidOfRun program options.certificate ended world answer
 
--- a run by threads may lose a seat; nothing is said of why
+-- a run by threads may lose a seat; the reason is unspecified
 abbrev pub LosesSeat : Play → Answer → Type 0
 LosesSeat (ByTurns schedule) answer = ⊥
 LosesSeat ByThreads answer = answer ≡ silent Lost
@@ -191,8 +191,8 @@ abbrev pub IsRunAnswer : Play → RunOptions → Program → Answer → Type 0
 IsRunAnswer play options program answer =
     IsPlayed play options program answer ⊎ (LosesSeat play answer ⊎ LacksMemory answer)
 
--- What a run of the workload that was read has to say, and the text of its names; or nothing, for the
--- reason that there is none.
+-- What a run of the workload that was read has to say, and the text of its names; or nothing, for
+-- the reason that there is none.
 abbrev pub IsPlayAnswer : Play → RunOptions → Option (List ℕ) → Answer → List ℕ → Type 0
 IsPlayAnswer play options read answer names =
     ((program : Program) × IsTextOf read program × (names ≡ text_of_names program)

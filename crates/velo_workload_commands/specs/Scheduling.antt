@@ -1,4 +1,5 @@
--- The schedule that a replay is given: by its text, by its turns or by the path of a file with these.
+-- The schedule that a replay is given: by its text, by its turns or by the path of a file with
+-- these.
 use Rattle.std.specs.Prelude.{◌≡◌, List, ℕ, Option, IfSome}
 use Rattle.velo_events.specs.declared.event.ThreadId.{ThreadId}
 use Rattle.velo_events.specs.Refusals.{GrowthRefused}
@@ -15,11 +16,11 @@ use Rattle.velo_fate.specs.Format.{Format, LacksAt, Reads}
 
 -- ---- by the bytes of the file
 
--- the bytes say this schedule; where they are not known nothing is said
+-- the bytes say this schedule; if they are not known, nothing is claimed
 abbrev pub SaySchedule : Option (List ℕ) → List ThreadId → Type 0
 SaySchedule read schedule = IfSome read (λ bytes. IsScheduleIn bytes schedule)
 
--- the fault for which they say none
+-- the fault by which they say none
 abbrev pub HaveFaultOfSchedule : Option (List ℕ) → ScheduleFault → Type 0
 HaveFaultOfSchedule read schedule_fault.Memory = GrowthRefused
 HaveFaultOfSchedule read schedule_fault.Bad =
@@ -52,7 +53,7 @@ LacksSchedule disk (source.File path) f = LacksAt turns_file disk path.now f
 
 -- ---- on the way. Contracts within the crate cite these words
 
--- the schedule that these bytes say, or the fault for which they say none
+-- the schedule that these bytes say, or the fault by which they say none
 abbrev pub IsNoScheduleIn : List ℕ → Fate → Type 0
 IsNoScheduleIn bytes (fate.Schedule schedule_fault.Memory) = GrowthRefused
 IsNoScheduleIn bytes (fate.Schedule schedule_fault.Bad) =

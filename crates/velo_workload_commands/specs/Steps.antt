@@ -19,7 +19,7 @@ use Rattle.velo_delivery.specs.Writing.{Writing}
 
 -- ---- the target
 
--- what writing a log came to, and then names at their path, if there is one
+-- the result of writing a log, and then names at their path, if there is one
 abbrev pub IsSavedInTurn : {X : Type 0} → Store → Option (Bor (List ℕ)) → Option (Bor (List ℕ))
     → List ℕ → List ℕ → Result X Fate → Type 0
 IsSavedInTurn store target None names log result = IsSaved store target log result
@@ -35,13 +35,13 @@ AreNamesFor (Some path) program text = text ≡ text_of_names program
 
 -- ---- a run
 
--- what writing a report came to, whose log and names were written before
+-- the result of writing a report, whose log and names were written before
 abbrev pub Reports : Names → Bool → Ending → WorldState → Store → Saving → Writing → Fate → Type 0
 Reports names certificate ended w store saving stdout f =
     (answer : Answer) × (IsReported names certificate ended w answer ⊎ LacksMemory answer)
     × IsDeliveredInTurn store saving.target saving.names_target saving.names.now stdout answer f
 
--- what telling how a run ended came to
+-- the result of reporting how a run ended
 abbrev pub TellsEnd : Program → RunOptions → Ending → WorldState → Store → Writing → Fate → Type 0
 TellsEnd program options ended w store stdout f =
     (answer : Answer)
@@ -49,7 +49,7 @@ TellsEnd program options ended w store stdout f =
     × IsDeliveredInTurn store options.target options.names_target (text_of_names program) stdout
     answer f
 
--- what playing a workload came to
+-- the fate of playing a workload
 abbrev pub Plays : Play → RunOptions → Program → Store → Writing → Fate → Type 0
 Plays play options program store stdout f =
     (answer : Answer) × IsRunAnswer play options program answer

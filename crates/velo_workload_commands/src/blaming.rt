@@ -9,21 +9,21 @@ use velo_chance::{Tally, try_all};
 use velo_events::{Config, Memory, ThreadId};
 use velo_workload::Workload;
 
-/// The most replays that are asked whom they blame.
+/// The most replays over which blame is counted.
 pub const MAX_BLAMING: usize = 100;
 
-/// The most replays that are asked, where the first finding ends the search or does not.
+/// The most replays over which blame is counted, by whether the first finding ends the search.
 fn most_to_blame(first: bool) -> usize
     ensures { result ≡ most_to_blame first }
 {
     if first { 0 } else { MAX_BLAMING }
 }
 
-/// Whom the replays by these schedules blame, each made once. Behind the most of them the others are left out; where the first
-/// finding ends the search all are.
+/// Whom the replays by these schedules blame, each made once. Those after the first `MAX_BLAMING`
+/// are left out; if the first finding ends the search, all are.
 ///
 /// # Errors
-/// `Memory` where a growth was refused.
+/// `Memory` if an allocation failed.
 pub fn blame_of(
     alloc: Global,
     workload: &Workload,

@@ -1,4 +1,4 @@
-//! The text of what is told of the schedules of a workload.
+//! The text of the findings of a workload's schedules.
 ghost use Rattle.std.specs.Prelude.{◌≡◌, ◌++◌, slice_get, IfOk, OnOk};
 ghost use Rattle.velo_workload_commands.specs.Exploring.{blame_text, blamed_text, finding_text, found_text, label_text, name_text, refused_text, refusal_text, told_text, tried_text};
 
@@ -12,7 +12,7 @@ use velo_schedules::{Finding, RefusalFinding, RefusedRun};
 use velo_turns::append_turns;
 use velo_workload::Workload;
 
-/// Adds what stands behind the word of a finding.
+/// Adds what follows the word of a finding.
 fn add_finding(text: &mut Vec<u8>, finding: &Finding) -> Result<(), Memory>
     ensures { OnOk result (text.new.items ≡ text.old.items ++ finding_text finding.now) }
 {
@@ -23,7 +23,7 @@ fn add_finding(text: &mut Vec<u8>, finding: &Finding) -> Result<(), Memory>
     }
 }
 
-/// Adds the name of a thread behind a space, if it has one.
+/// Adds the name of a thread after a space, if it has one.
 fn add_name(text: &mut Vec<u8>, workload: &Workload, thread: ThreadId) -> Result<(), Memory>
     ensures { OnOk result (text.new.items
         ≡ text.old.items ++ name_text (slice_get workload.now.thread_names thread.0)) }
@@ -50,7 +50,7 @@ fn add_refused(text: &mut Vec<u8>, workload: &Workload, run: &RefusedRun) -> Res
     append_turns(text, &run.schedule)
 }
 
-/// Adds what stands behind the word of refusals.
+/// Adds what follows the word of refusals.
 fn add_refusal(
     text: &mut Vec<u8>,
     workload: &Workload,
@@ -111,7 +111,7 @@ fn add_label(text: &mut Vec<u8>, workload: &Workload, label: Label) -> Result<()
     }
 }
 
-/// Adds the line of a label that is to blame for some of so many alarms.
+/// Adds the line of a label that is to blame for some of the alarms.
 fn add_blamed(
     text: &mut Vec<u8>,
     workload: &Workload,
@@ -142,10 +142,10 @@ fn add_blame(text: &mut Vec<u8>, workload: &Workload, blame: &ToBlame) -> Result
     Ok(())
 }
 
-/// The text of what is told of the schedules of a workload.
+/// The text of the findings of a workload's schedules.
 ///
 /// # Errors
-/// `Memory` where a growth was refused.
+/// `Memory` if an allocation failed.
 pub fn text_of_told(alloc: Global, workload: &Workload, told: &Told) -> Result<Vec<u8>, Memory>
     ensures { IfOk result (λ text. text.items ≡ told_text workload.now told.now) }
 {

@@ -42,7 +42,7 @@ fn run_of<'a>(options: &ExploreOptions<'a>) -> RunOptions<'a>
     }
 }
 
-/// What a refusal comes to; else this, if all was tried.
+/// The fate of a refusal; else this, if all was tried.
 fn fate_of_refusal(refused: &RefusalFinding, otherwise: Fate) -> Fate
     ensures { result ≡ fate_of_refusal refused.now otherwise }
 {
@@ -56,7 +56,7 @@ fn fate_of_refusal(refused: &RefusalFinding, otherwise: Fate) -> Fate
     }
 }
 
-/// What a deadlock comes to; else a refusal; else this, if all was tried.
+/// The fate of a deadlock; else of a refusal; else this, if all was tried.
 fn fate_without_alarm(stuck: &Finding, refused: &RefusalFinding, otherwise: Fate) -> Fate
     ensures { result ≡ fate_without_alarm stuck.now refused.now otherwise }
 {
@@ -70,7 +70,7 @@ fn fate_without_alarm(stuck: &Finding, refused: &RefusalFinding, otherwise: Fate
     }
 }
 
-/// What the findings come to.
+/// The fate of the findings.
 fn fate_of(found: &Found) -> Fate
     ensures { result ≡ fate_of_found found.now }
 {
@@ -88,7 +88,8 @@ fn fate_of(found: &Found) -> Fate
     }
 }
 
-/// Writes the report of a closed world, and the certificate, if there is an order or a cycle, and behind them a text.
+/// Writes the report of a closed world, and the certificate, if there is an order or a cycle, and
+/// after them a text.
 fn write_report<O: Sink>(
     closed: &Closed,
     names: &Names,
@@ -107,8 +108,8 @@ fn write_report<O: Sink>(
     }
 }
 
-/// Writes a text, and behind it the report of a closed world, and the certificate, if there is an order or a cycle; and then
-/// another text.
+/// Writes a text, and after it the report of a closed world, and the certificate, if there is an
+/// order or a cycle; and then another text.
 fn write_behind<O: Sink>(
     text: &[u8],
     closed: &Closed,
@@ -128,8 +129,8 @@ fn write_behind<O: Sink>(
     }
 }
 
-/// Saves the log of a replay and the names, where there are paths for them, then writes the text, behind it the report, and
-/// then the other text.
+/// Saves the log of a replay and the names, where there are paths for them, then writes the text,
+/// after it the report, and then the other text.
 fn report_by<F: Files, O: Sink>(
     closed: &Closed,
     names: &Names,
@@ -156,8 +157,9 @@ fn report_by<F: Files, O: Sink>(
     }
 }
 
-/// Saves the log of a replay and the names, where there are paths for them, then writes the text, and behind it the report, the
-/// certificate, if that was asked for, and the other text. The certificate is made before anything is opened.
+/// Saves the log of a replay and the names, where there are paths for them, then writes the text,
+/// and after it the report, the certificate, if that was asked for, and the other text. The
+/// certificate is made before anything is opened.
 fn report_with<F: Files, O: Sink>(
     alloc: Global,
     closed: &Closed,
@@ -186,8 +188,8 @@ fn report_with<F: Files, O: Sink>(
     }
 }
 
-/// Tells a text and a replay, and another text, by the names of the workload, of which this is the text, where it is to be
-/// saved.
+/// Prints a text and a replay, and another text, by the names of the workload, of which this is the
+/// text, where it is to be saved.
 fn show_replay<F: Files, O: Sink>(
     alloc: Global,
     workload: &Workload,
@@ -227,7 +229,8 @@ fn show_replay<F: Files, O: Sink>(
     )
 }
 
-/// Tells a text and a replay, and another text. The names that are to be saved are made before anything is opened.
+/// Prints a text and a replay, and another text. The names that are to be saved are made before
+/// anything is opened.
 fn report<F: Files, O: Sink>(
     alloc: Global,
     workload: &Workload,
@@ -275,7 +278,7 @@ fn waits_behind(
     }
 }
 
-/// Writes a text, and behind it what a replay shows, if there is one.
+/// Writes a text, and after it what a replay shows, if there is one.
 fn tell<F: Files, O: Sink>(
     alloc: Global,
     workload: &Workload,
@@ -304,7 +307,8 @@ fn tell<F: Files, O: Sink>(
     }
 }
 
-/// Writes what is told of the schedules of a workload, and behind it what a replay shows, if there is one.
+/// Writes the findings of a workload's schedules, and after them what a replay shows, if there is
+/// one.
 fn tell_findings<F: Files, O: Sink>(
     alloc: Global,
     workload: &Workload,
@@ -339,7 +343,7 @@ fn tell_findings<F: Files, O: Sink>(
     }
 }
 
-/// Replays what is told first, and writes what is told, and behind it what the replay shows.
+/// Replays what is printed first, and writes the findings, and after them what the replay shows.
 fn show_told<F: Files, O: Sink>(
     alloc: Global,
     workload: &Workload,
@@ -366,7 +370,7 @@ fn show_told<F: Files, O: Sink>(
     }
 }
 
-/// Tries the schedules of a workload, and writes what they come to.
+/// Tries the schedules of a workload, and writes the findings.
 fn explore_workload<F: Files, O: Sink, P: ExploreProgress>(
     alloc: Global,
     workload: &Workload,
@@ -388,8 +392,8 @@ fn explore_workload<F: Files, O: Sink, P: ExploreProgress>(
     }
 }
 
-/// Tries the schedules of the workload that was asked for, and writes what they come to. How far the search is goes to
-/// `progress`, which has ended before anything is written.
+/// Tries the schedules of the workload that was asked for, and writes the findings. How far the
+/// search is goes to `progress`, which has ended before anything is written.
 pub fn explore_file<F: Files, O: Sink, P: ExploreProgress>(
     alloc: Global,
     options: &ExploreOptions,

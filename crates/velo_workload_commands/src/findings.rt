@@ -1,4 +1,4 @@
-//! What the schedules of a workload come to, and the replay that is reported.
+//! The findings of a workload's schedules, and the replay that is reported.
 ghost use Rattle.std.specs.Prelude.{◌≡◌, ◌<◌, ◌↔◌, All, IfOk, IfSome, IsNone, IsTrue, None, OnOk, Some};
 ghost use Rattle.velo_events.specs.declared.limits.TheConstants.{MAX_THREADS};
 ghost use Rattle.velo_workload_commands.specs.ByChance.{IsByChance, IsSayable};
@@ -40,7 +40,7 @@ fn is_sayable(schedule: &[ThreadId]) -> bool
     schedule.len() <= MAX_TURNS && are_threads(schedule)
 }
 
-/// The finding, which is open where its schedule can't be told.
+/// The finding, which is open if its schedule cannot be printed.
 fn sayable(finding: Finding) -> Finding
     ensures { IsSaidFor finding result }
 {
@@ -57,7 +57,7 @@ fn sayable(finding: Finding) -> Finding
     }
 }
 
-/// The finding, which is open where its schedule can't be told.
+/// The finding, which is open if its schedule cannot be printed.
 fn sayable_refusal(finding: RefusalFinding) -> RefusalFinding
     ensures { IsRefusalSaidFor finding result }
 {
@@ -74,7 +74,8 @@ fn sayable_refusal(finding: RefusalFinding) -> RefusalFinding
     }
 }
 
-/// What all schedules of the workload come to, by simple schedules, as far as it can be told, and who is to blame.
+/// The findings of all schedules of the workload, by simple schedules, as far as they can be
+/// printed, and who is to blame.
 fn explore_all<P: Progress>(
     alloc: Global,
     workload: &Workload,
@@ -134,7 +135,8 @@ fn refused_or_never(run: Option<RefusedRun>) -> RefusalFinding
     }
 }
 
-/// What so many runs of the workload by chance come to, by simple schedules, as far as it can be told, and who is to blame.
+/// The findings of random runs of the workload, by simple schedules, as far as they can be printed,
+/// and who is to blame.
 fn try_some(
     alloc: Global,
     workload: &Workload,
@@ -167,11 +169,12 @@ fn try_some(
     })
 }
 
-/// What all schedules of the workload come to, or runs by chance, where they are asked for; and who is to blame. The
-/// configuration has to have the workload's bounds. `progress` is told of each level of the search.
+/// The findings of all schedules of the workload, or of random runs, if they are asked for; and who
+/// is to blame. The configuration has to have the workload's bounds. `progress` gets each level of
+/// the search.
 ///
 /// # Errors
-/// `Memory` where a growth was refused.
+/// `Memory` if an allocation failed.
 pub fn told_of<P: Progress>(
     alloc: Global,
     workload: &Workload,
@@ -239,7 +242,8 @@ fn run_with(
     }
 }
 
-/// The goal of the first finding, of an alarm, else of a deadlock, else of a refusal, and its schedule; if one is shown.
+/// The goal of the first finding, of an alarm, else of a deadlock, else of a refusal, and its
+/// schedule; if one is shown.
 fn first_shown(found: &Found) -> Option<(Goal, &[ThreadId])>
     ensures some { IfSome result (λ shown. first_shown found.now ≡ Some (shown.0, shown.1.now)) }
     ensures none { IsNone result → first_shown found.now ≡ None }
@@ -270,11 +274,12 @@ fn leave_open(found: &mut Found, goal: Goal)
     }
 }
 
-/// The replay of the first finding, if there is one: of an alarm, else of a deadlock, else of a refusal. A finding that its
-/// replay does not have is left open. The configuration has to have the workload's bounds.
+/// The replay of the first finding, if there is one: of an alarm, else of a deadlock, else of a
+/// refusal. A finding that its replay does not have is left open. The configuration has to have the
+/// workload's bounds.
 ///
 /// # Errors
-/// `Memory` where a growth was refused.
+/// `Memory` if an allocation failed.
 pub fn first_replay(
     alloc: Global,
     workload: &Workload,

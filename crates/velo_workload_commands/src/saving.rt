@@ -1,4 +1,4 @@
-//! What is saved of a run of a workload: its log, and behind it the names of the workload.
+//! What is saved of a run of a workload: its log, and after it the names of the workload.
 ghost use Rattle.std.specs.Prelude.{◌≡◌, IfOk};
 ghost use Rattle.velo_delivery.specs.Disk.{store};
 ghost use Rattle.velo_fate.specs.Saving.{text_of_log};
@@ -13,7 +13,7 @@ use velo_names::{NameKind, append_names};
 use velo_workload::Workload;
 use velo_world::Closed;
 
-/// Where what a run leaves is saved, and the names that are saved behind its log.
+/// Where what a run leaves is saved, and the names that are saved after its log.
 #[derive(Clone, Copy)]
 pub struct Saving<'a> {
     /// The path of the log.
@@ -46,10 +46,12 @@ pub fn names_for(alloc: Global, workload: &Workload, path: Option<&str>) -> Resu
     }
 }
 
-/// Saves the log of a run at the target, if there is one, and then the names at theirs, if there is one.
+/// Saves the log of a run at the target, if there is one, and then the names at theirs, if there is
+/// one.
 ///
 /// # Errors
-/// `CannotOpen` where a file does not open; `WriteFailed` where it failed, behind a beginning. Nothing is done behind this.
+/// `CannotOpen` where a file does not open; `WriteFailed` where it failed, after a beginning.
+/// Nothing is done after this.
 pub fn save_run<F: Files>(closed: &Closed, saving: &Saving, files: &mut F) -> Result<(), Fate>
     ensures { IsSavedInTurn (store F.disk files.old files.new) saving.now.target
         saving.now.names_target saving.now.names.now (text_of_log closed.now) result }

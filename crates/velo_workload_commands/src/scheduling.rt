@@ -14,7 +14,7 @@ use velo_turns::{MAX_SCHEDULE_BYTES, schedule_in, schedule_of, turns_of};
 /// The schedule that the bytes of a file say.
 ///
 /// # Errors
-/// `Schedule` with the fault for which they say none.
+/// `Schedule` with the fault by which they say none.
 fn schedule_of_bytes(alloc: Global, bytes: &[u8]) -> Result<Vec<ThreadId>, Fate>
     ensures schedule { IfOk result (λ schedule. IsScheduleIn bytes.now schedule.items) }
     ensures fault { IfErr result (IsNoScheduleIn bytes.now) }
@@ -35,11 +35,12 @@ fn schedule_at<F: Files>(alloc: Global, path: &str, files: &F) -> Result<Vec<Thr
     schedule_of_bytes(alloc, &bytes)
 }
 
-/// The schedule that a replay is given: by its text, by its turns or by the path of a file with these.
+/// The schedule that a replay is given: by its text, by its turns or by the path of a file with
+/// these.
 ///
 /// # Errors
-/// `Schedule` where there is none; for a file also `CannotOpen` where it does not open, `ReadFailed` where it failed, `Memory`
-/// where a growth was refused.
+/// `Schedule` where there is none; for a file also `CannotOpen` where it does not open,
+/// `ReadFailed` where it failed, `Memory` if an allocation failed.
 pub fn schedule_of_source<F: Files>(
     alloc: Global,
     source: ScheduleSource,

@@ -1,4 +1,4 @@
-//! What is told of the schedules of a workload.
+//! The findings of a workload's schedules.
 
 use velo_chance::Blamed;
 use velo_schedules::{Finding, RefusalFinding};
@@ -13,7 +13,7 @@ pub enum Tried {
         /// How many states were looked at.
         states: u64,
     },
-    /// Some of them, drawn by chance.
+    /// Some of them, drawn randomly.
     ByChance {
         /// The seed that they were drawn by.
         seed: u64,
@@ -42,7 +42,7 @@ pub struct ToBlame {
     pub labels: Vec<Blamed>,
 }
 
-/// What is told of the schedules of a workload.
+/// The findings of a workload's schedules.
 #[derive(Debug, Drop)]
 pub struct Told {
     /// How they were tried.

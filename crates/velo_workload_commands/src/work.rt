@@ -100,8 +100,8 @@ pub fn is_unreported(ending: Ending) -> bool
     )
 }
 
-/// Saves the log of a run and the names, where there are paths for them, then writes the report, and then the certificate, if
-/// there is an order or a cycle.
+/// Saves the log of a run and the names, where there are paths for them, then writes the report,
+/// and then the certificate, if there is an order or a cycle.
 fn report_by<F: Files, O: Sink>(
     closed: &Closed,
     ending: Ending,
@@ -130,8 +130,8 @@ fn report_by<F: Files, O: Sink>(
     }
 }
 
-/// Writes what a run shows: its log and the names, where there are paths for them, then the report, then the certificate, if
-/// that was asked for. The certificate is made before anything is opened.
+/// Writes what a run shows: its log and the names, where there are paths for them, then the report,
+/// then the certificate, if that was asked for. The certificate is made before anything is opened.
 fn tell<F: Files, O: Sink>(
     alloc: Global,
     closed: &Closed,
@@ -179,8 +179,8 @@ pub fn finish_run<F: Files, O: Sink>(
     fate
 }
 
-/// Writes what a run of a workload shows, by its names. A run in which a growth was refused has no report. The names to be
-/// saved are made before anything is opened.
+/// Writes what a run of a workload shows, by its names. A run in which a growth was refused has no
+/// report. The names to be saved are made before anything is opened.
 fn show_run<F: Files, O: Sink>(
     alloc: Global,
     workload: &Workload,
@@ -210,7 +210,8 @@ fn show_run<F: Files, O: Sink>(
     }
 }
 
-/// Writes what a run of a workload shows, by its names, of which this is the text, where it is to be saved.
+/// Writes what a run of a workload shows, by its names, of which this is the text, where it is to
+/// be saved.
 fn show_with<F: Files, O: Sink>(
     alloc: Global,
     workload: &Workload,
