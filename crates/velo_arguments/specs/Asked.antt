@@ -1,4 +1,5 @@
--- What the matches of the command line ask for: the values of a subcommand, by the names of its arguments.
+-- What the matches of the command line ask for: the values of a subcommand, by the names of its
+-- arguments.
 use Rattle.std.specs.Prelude.{◌≡◌, ◌≢◌, ◌⊎◌, ◌<◌, ◌^◌, ◌++◌, ℕ, Bool, true, false, not, List, [], map, Option, Some, None, codes, option_map, unwrap_or}
 use Rattle.std.specs.Borrow.{Bor}
 use Rattle.std.specs.Str.Parse.{IsNumeral, digits_value, without_leading_plus}
@@ -19,7 +20,8 @@ use Rattle.velo_request.specs.declared.request.WatchOptions.{WatchOptions}
 use Rattle.velo_request.specs.declared.request.Request.{Request}
 use Rattle.velo_request.specs.declared.request.Request.TheVariants.{Audit, Carry, Check, Explain, Explore, Replay, Run, Watch}
 
--- the text writes this number, which an unsigned type of so many bits holds; a plus may stand before it
+-- the text writes this number, which an unsigned type of `bits` bits holds; a plus may come before
+-- it
 abbrev pub WritesNumber : ℕ → Option Text → ℕ → Type 0
 WritesNumber bits None n = ⊥
 WritesNumber bits (Some text) n =
@@ -60,7 +62,7 @@ IsRun rows options =
     × IsPath (codes "names-out") rows options.names_target
     × AreLimits rows options.limits × IsFlag (one_of (codes "certificate") rows) options.certificate
 
--- what stands behind an @ is the path of turns, and any other word is turns
+-- what follows an @ is the path of turns, and any other word is turns
 abbrev pub AreTurns : Text → ScheduleSource → Type 0
 AreTurns word (schedule.Text text) = ⊥
 AreTurns word (schedule.Turns turns) =
@@ -96,7 +98,7 @@ IsSeed rows seed =
     ((first_of (codes "seed") rows ≡ None) × (seed ≡ DEFAULT_SEED))
     ⊎ WritesNumber 64 (one_of (codes "seed") rows) seed
 
--- so many runs by chance are asked for, or none
+-- this many random runs are asked for, or none
 abbrev pub AreRandomRuns : List Row → Option RandomRuns → Type 0
 AreRandomRuns rows None = first_of (codes "random") rows ≡ None
 AreRandomRuns rows (Some random) =

@@ -32,14 +32,14 @@ repeated name = record (valued name) { action = Some Append }
 abbrev pub flag : Text → Rule
 flag name = record (new_rule name) { long = Some name; action = Some SetTrue }
 
--- the most events of a log, so many by default
+-- the most events of a log, with this default
 abbrev pub events : Text → Rule
 events default = record (valued (codes "events")) {
   parser = Some (Signed (pos 1) (pos MAX_EVENTS));
   defaults = default ∷ [];
 }
 
--- the most nodes of a graph, so many by default
+-- the most nodes of a graph, with this default
 abbrev pub nodes : Text → Rule
 nodes default = record (valued (codes "nodes")) {
   parser = Some (Signed (pos 1) (pos MAX_NODES));
@@ -53,11 +53,11 @@ states = record (valued (codes "states")) {
   defaults = codes "2097152" ∷ [];
 }
 
--- how many runs by chance, where they are asked for
+-- how many random runs, if they are asked for
 abbrev pub random : Rule
 random = record (valued (codes "random")) { parser = Some (Signed (pos 1) (pos MAX_RUNS)) }
 
--- the seed of runs by chance, which 64 bits hold
+-- the seed of random runs, which 64 bits hold
 abbrev pub seed : Rule
 seed = record (valued (codes "seed")) { parser = Some (Unsigned 0 18446744073709551615) }
 
@@ -155,7 +155,7 @@ IsArgument rule a = (rule_of a ≡ rule) × (a.global ≡ false)
 abbrev pub IsSubcommand : Shape → Command → Type 0
 IsSubcommand shape c = (shape_of c ≡ shape) × ((out-Command c).has_globals ≡ false)
 
--- `new` is `old` with these arguments more, behind its own
+-- `new` is `old` with these arguments more, after its own
 abbrev pub AddsRules : List Rule → Command → Command → Type 0
 AddsRules rules old new = (app_of new ≡ fold with_rule (app_of old) rules)
     × ((out-Command new).has_globals ≡ (out-Command old).has_globals)

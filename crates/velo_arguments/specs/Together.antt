@@ -23,7 +23,7 @@ abbrev pub path_if : Option (Bor (List ℕ)) → List (List ℕ)
 path_if None = []
 path_if (Some path) = path.now ∷ []
 
--- the path of a schedule, if it stands in a file
+-- the path of a schedule, if it is in a file
 abbrev pub schedule_path_if : ScheduleSource → List (List ℕ)
 schedule_path_if (schedule.Text text) = []
 schedule_path_if (schedule.Turns turns) = []
@@ -70,7 +70,7 @@ clash_of_replay options has_text =
 
 -- ---- an exploration
 
--- runs by chance with an option that a search alone has; or a seed without them
+-- random runs with an option that a search alone has; or a seed without them
 abbrev pub clash_of_chance : Option RandomRuns → Bool → Bool → Option Clash
 clash_of_chance (Some random) searches seeds = if searches then Some SearchByChance else None
 clash_of_chance None searches seeds = if seeds then Some SeedAlone else None

@@ -11,11 +11,12 @@ use velo_events::{MAX_EVENTS, MAX_NODES, Memory};
 use velo_request::{MAX_RUNS, MAX_STATES};
 
 /// The command line of the program, whose words [`run`](crate::run) reads: the subcommands `check`,
-/// `replay`, `run`, `explain`, `carry`, `explore`, `watch` and `audit`, each with its operand and its
-/// options. An unknown subcommand, or a number out of its range, is an error of usage: `--events` is
-/// 1 to [`MAX_EVENTS`], by default 1,048,576; `--nodes` is 1 to [`MAX_NODES`], by default 1,024; for
-/// `audit` the default of both is the greatest. `--states` is 1 to [`MAX_STATES`], by default
-/// 2,097,152. `--random` is 1 to [`MAX_RUNS`], and `--seed` any number of 64 bits.
+/// `replay`, `run`, `explain`, `carry`, `explore`, `watch` and `audit`, each with its operand and
+/// its options. An unknown subcommand, or a number out of its range, is an error of usage:
+/// `--events` is 1 to [`MAX_EVENTS`], by default 1,048,576; `--nodes` is 1 to [`MAX_NODES`], by
+/// default 1,024; for `audit` the default of both is the greatest. `--states` is 1 to
+/// [`MAX_STATES`], by default 2,097,152. `--random` is 1 to [`MAX_RUNS`], and `--seed` any number
+/// of 64 bits.
 ///
 /// # Errors
 /// `Memory` if an allocation failed.

@@ -13,7 +13,7 @@ use velo_events::Memory;
 /// The command with one more argument.
 ///
 /// # Errors
-/// `Memory` where a growth was refused.
+/// `Memory` if an allocation failed.
 pub fn with_argument<'a>(command: Command<'a>, argument: Arg<'a>) -> Result<Command<'a>, Memory>
     ensures { IfOk result (AddsArg command.entry argument.entry) }
 {
@@ -26,7 +26,7 @@ pub fn with_argument<'a>(command: Command<'a>, argument: Arg<'a>) -> Result<Comm
 /// The command with one more subcommand.
 ///
 /// # Errors
-/// `Memory` where a growth was refused.
+/// `Memory` if an allocation failed.
 pub fn with_subcommand<'a>(
     command: Command<'a>,
     subcommand: Command<'a>,
@@ -42,7 +42,7 @@ pub fn with_subcommand<'a>(
 /// The matches of the words.
 ///
 /// # Errors
-/// A fault of the words. One for want of memory is a refused growth too.
+/// A fault of the words. An allocation failed if it is out of memory.
 pub fn matches_of<'a, W: AsStr>(
     command: Command<'a>,
     words: &'a [W],
@@ -61,7 +61,7 @@ pub fn matches_of<'a, W: AsStr>(
 /// The text of an error, whole, so that it can go out in one piece.
 ///
 /// # Errors
-/// `Memory` where a growth was refused.
+/// `Memory` if an allocation failed.
 pub fn text_of(alloc: Global, error: &Error) -> Result<String, Memory> {
     match format!(in alloc; "{error}") {
         Ok(text) => Ok(text),

@@ -49,7 +49,7 @@ fn check_options<'a>(found: &ArgMatches<'a>) -> Option<CheckOptions<'a>>
     })
 }
 
-/// Where the turns of this word stand: what stands behind an `@` is a path.
+/// Where the turns of this word are: what follows an `@` is a path.
 fn turns_source<'a>(word: &'a str) -> ScheduleSource<'a>
     ensures { AreTurns word.entry.now result }
 {
@@ -59,7 +59,7 @@ fn turns_source<'a>(word: &'a str) -> ScheduleSource<'a>
     }
 }
 
-/// Where the schedule stands: the turns that are given, or else the text.
+/// Where the schedule is: the turns that are given, or else the text.
 fn schedule_source<'a>(found: &ArgMatches<'a>) -> ScheduleSource<'a>
     ensures { IsSchedule (first_of (codes "turns") (rows_of (found_of found.now)))
         (first_of (codes "schedule") (rows_of (found_of found.now))) result }
@@ -134,7 +134,7 @@ fn states_of(found: &ArgMatches) -> Option<u32>
     Some(states)
 }
 
-/// Reads the seed of runs by chance; none where it is no number that 64 bits hold.
+/// Reads the seed of random runs; none where it is no number that 64 bits hold.
 fn seed_of(found: &ArgMatches) -> Option<u64>
     ensures some { IfSome result (IsSeed (rows_of (found_of found.now))) }
     ensures none { IfNone result ((seed : ℕ) → ¬ IsSeed (rows_of (found_of found.now)) seed) }
@@ -145,7 +145,7 @@ fn seed_of(found: &ArgMatches) -> Option<u64>
     }
 }
 
-/// Reads the runs by chance; none where one of their numbers is missing or out of its range.
+/// Reads the random runs; none where one of their numbers is missing or out of its range.
 fn random_of(found: &ArgMatches) -> Option<RandomRuns>
     ensures some { IfSome result (λ random.
         AreRandomRuns (rows_of (found_of found.now)) (Some random)) }
@@ -160,7 +160,8 @@ fn random_of(found: &ArgMatches) -> Option<RandomRuns>
     Some(RandomRuns { runs, seed })
 }
 
-/// Reads the runs by chance, if they are asked for; none where one of their numbers is out of its range.
+/// Reads the random runs, if they are asked for; none where one of their numbers is out of its
+/// range.
 fn random_if(found: &ArgMatches) -> Option<Option<RandomRuns>>
     ensures some { IfSome result (AreRandomRuns (rows_of (found_of found.now))) }
     ensures none { IfNone result ((random : Option RandomRuns)
@@ -220,8 +221,8 @@ fn audit_options<'a>(found: &'a ArgMatches) -> Option<AuditOptions<'a>>
     })
 }
 
-/// What the matches of the command ask for; none where a word is missing or a number is out of its range, which the
-/// command has refused already.
+/// What the matches of the command ask for; none where a word is missing or a number is out of its
+/// range, which the command has refused already.
 pub fn request_of<'a>(matches: &'a ArgMatches) -> Option<Request<'a>>
     ensures some { IfSome result (AsksFor (subcommand_rows_of matches.now)) }
     ensures none { IfNone result (AsksForNothing (subcommand_rows_of matches.now)) }

@@ -21,9 +21,9 @@ pub enum Clash {
     NamesWithoutLog,
     /// The log and the names of a run are to be saved at one path.
     OnePath,
-    /// Runs by chance are asked for, and what a search alone has.
+    /// Random runs are asked for, and what a search alone has.
     SearchByChance,
-    /// A seed is given, and no runs by chance are asked for.
+    /// A seed is given, and no random runs are asked for.
     SeedAlone,
     /// A schedule is given as text and as turns.
     TwoSchedules,
@@ -118,7 +118,7 @@ fn clash_of_inputs(input: &str, other: Option<&str>) -> Option<Clash>
     }
 }
 
-/// The path of a schedule, if it stands in a file.
+/// The path of a schedule, if it is in a file.
 fn path_of_schedule<'a>(schedule: ScheduleSource<'a>) -> Option<&'a str>
     ensures { path_if result ≡ schedule_path_if schedule.entry }
 {
@@ -163,7 +163,7 @@ fn clash_of_targets(log: Option<&str>, names: Option<&str>) -> Option<Clash>
     }
 }
 
-/// A search is by every schedule or by chance, and either has its own options.
+/// A search tries every schedule or random ones, and either has its own options.
 fn clash_of_search(options: &ExploreOptions, given: Given) -> Option<Clash>
     ensures { result ≡ clash_of_search options.now given }
 {
@@ -171,7 +171,7 @@ fn clash_of_search(options: &ExploreOptions, given: Given) -> Option<Clash>
     clash_of_chance(options.random, searches, given.seed)
 }
 
-/// Runs by chance have a seed, and nothing that a search alone has.
+/// Random runs have a seed, and nothing that a search alone has.
 fn clash_of_chance(random: Option<RandomRuns>, searches: bool, seeds: bool) -> Option<Clash>
     ensures { result ≡ clash_of_chance random searches seeds }
 {
@@ -182,7 +182,8 @@ fn clash_of_chance(random: Option<RandomRuns>, searches: bool, seeds: bool) -> O
     }
 }
 
-/// What the matches ask for, if its options go together. Behind words without a fault they ask for something.
+/// What the matches ask for, if its options go together. If the words have no fault, they ask for
+/// something.
 ///
 /// # Errors
 /// Why its options do not go together.
@@ -200,7 +201,7 @@ pub fn read_request<'a>(matches: &'a ArgMatches) -> Result<Request<'a>, Clash>
     }
 }
 
-/// The line that tells why the options of a request do not go together.
+/// The line that says why the options of a request do not go together.
 pub fn line_of_clash(clash: Clash) -> &'static [u8]
     ensures { result.now ≡ line_of_clash clash }
 {

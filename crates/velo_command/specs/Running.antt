@@ -14,8 +14,8 @@ use Rattle.velo_arguments.specs.Together.{IsApart, IsTogether, line_of_clash}
 use Rattle.velo_command.specs.Usage.{Console, LacksMemory, TellsError, bad_usage}
 use Rattle.velo_arguments.specs.declared.together.Clash.{Clash}
 
--- a request that was asked for, whose options go together, was done, and the end is that of what
--- it came to
+-- a request that was asked for, whose options go together, was done, and the end is that of its
+-- fate
 pub record DoesRequest (asked : Asked) (store : Store) (console : Console) : Type 0 where
   pub request : Request
   pub fate : Fate
@@ -24,8 +24,8 @@ pub record DoesRequest (asked : Asked) (store : Store) (console : Console) : Typ
   pub cause : AnswersWithCause request fate
   pub ended : Ends fate console.stderr console.status
 
--- a request was asked for whose options do not go together, and this was told: standard output is
--- as it was, and the end is that of bad usage
+-- a request was asked for whose options do not go together, and this was reported: standard output
+-- is as it was, and the end is that of bad usage
 pub record TellsClash (asked : Asked) (console : Console) : Type 0 where
   pub clash : Clash
   pub apart : IsApart asked clash
@@ -37,7 +37,7 @@ abbrev pub Answers : Asked → Store → Console → Type 0
 Answers asked store console =
     DoesRequest asked store console ⊎ (store.is_kept × TellsClash asked console)
 
--- one of the faults of the words was told, by some text; help and the version are among them
+-- one of the faults of the words was reported, by some text; help and the version are among them
 pub record TellsFault (words : List Text) (console : Console) : Type 0 where
   pub kind : ErrorKind
   pub among : IsAmong kind (faults_of words)
@@ -45,7 +45,7 @@ pub record TellsFault (words : List Text) (console : Console) : Type 0 where
   pub told : TellsError kind text console
 
 -- The words have no fault, and what they ask for was answered; or the files are as they were, and
--- one of the faults was told, or memory ran out before.
+-- one of the faults was reported, or memory ran out before.
 abbrev pub Runs : List Text → Store → Console → Type 0
 Runs words store console =
     ((faults_of words ≡ []) × Answers (asked_by words) store console)

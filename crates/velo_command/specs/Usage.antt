@@ -15,8 +15,8 @@ bad_usage = 2
 abbrev pub not_utf8 : List ℕ
 not_utf8 = codes "error: a word of the command line is not UTF-8\n"
 
--- Standard output and standard error, before and after a run of the program; whether the first is as it was; and the status
--- that the program ends with.
+-- Standard output and standard error, before and after a run of the program; whether the first is
+-- as it was; and the status that the program ends with.
 pub record Console : Type 1 where
   pub stdout : Writing
   pub is_kept : Type 0
@@ -27,27 +27,28 @@ abbrev pub console_of : Type 0 → Writing → Writing → ℕ → Console
 console_of is_kept stdout stderr status =
     record { stdout = stdout; is_kept = is_kept; stderr = stderr; status = status }
 
--- the text went to standard output, and the end is a good one without a line; or it broke off, and the end is that of a
--- failed write
+-- the text went to standard output, and the end is a good one without a line; or it broke off, and
+-- the end is that of a failed write
 abbrev pub ShowsHelp : Console → List ℕ → Type 0
 ShowsHelp console text =
     (Writes console.stdout text × Closes 0 [] console.stderr console.status)
     ⊎ (BreaksOff console.stdout text × Ends WriteFailed console.stderr console.status)
 
--- an error of this kind was told by this text: help and the version were shown; behind any other one standard output is as it
--- was, and the text is the line that the program ends with. Want of memory is told otherwise
+-- an error of this kind was reported by this text: help and the version were printed; after any
+-- other one standard output is as it was, and the text is the line that the program ends with. Out
+-- of memory is reported otherwise
 abbrev pub TellsError : ErrorKind → List ℕ → Console → Type 0
 TellsError DisplayHelp text console = ShowsHelp console text
 TellsError DisplayVersion text console = ShowsHelp console text
 TellsError OutOfMemory text console = ⊥
 TellsError kind text console = console.is_kept × Closes bad_usage text console.stderr console.status
 
--- a growth was refused, standard output is as it was, and the end is that of want of memory
+-- an allocation failed, standard output is as it was, and the end is that of `Memory`
 pub record LacksMemory (console : Console) : Type 0 where
   pub refused : GrowthRefused
   pub kept : console.is_kept
   pub ended : Ends Memory console.stderr console.status
 
--- an error of this kind was told, by some text; or memory ran out before
+-- an error of this kind was reported, by some text; or memory ran out before
 abbrev pub Tells : ErrorKind → Console → Type 0
 Tells kind console = ((text : List ℕ) × TellsError kind text console) ⊎ LacksMemory console

@@ -1,4 +1,5 @@
-//! What the program does with the words of its command line, whatever its files and its outputs are.
+//! What the program does with the words of its command line, whatever its files and its outputs
+//! are.
 #![tactic(auto)]
 
 mod program;

@@ -25,8 +25,8 @@ use velo_fate::{Fate, end_with};
 use velo_program::do_request;
 use velo_workload_commands::ExploreProgress;
 
-/// Does what the words ask for, with reports and help on the one sink and all else on the other, and returns the status
-/// to end with. How far a search is goes to `progress`.
+/// Does what the words ask for, with reports and help on the one sink and all else on the other,
+/// and returns the status to end with. How far a search is goes to `progress`.
 pub fn run<R: Threads + Wait + Sync, F: Files, W: AsStr, O: Sink, E: Sink, P: ExploreProgress>(
     rt: &R,
     alloc: Global,
@@ -59,8 +59,8 @@ pub fn run<R: Threads + Wait + Sync, F: Files, W: AsStr, O: Sink, E: Sink, P: Ex
     }
 }
 
-/// Does what the matches ask for, if its options go together, and returns the status to end with. Behind words without a
-/// fault they ask for something.
+/// Does what the matches ask for, if its options go together, and returns the status to end with.
+/// If the words have no fault, they ask for something.
 fn do_asked<R: Threads + Wait + Sync, F: Files, O: Sink, E: Sink, P: ExploreProgress>(
     rt: &R,
     alloc: Global,
@@ -82,7 +82,7 @@ fn do_asked<R: Threads + Wait + Sync, F: Files, O: Sink, E: Sink, P: ExploreProg
     }
 }
 
-/// Tells why the words of the command line could not be had, and returns the status to end with.
+/// Reports why the words of the command line could not be had, and returns the status to end with.
 pub fn end_without_words<E: Sink>(kind: io::ErrorKind, err: &mut E) -> u8
     ensures not_utf8 { kind ≡ InvalidData → Closes bad_usage not_utf8
         (writing E.contents E.failures err.old err.new) result }

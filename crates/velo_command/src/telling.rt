@@ -1,4 +1,4 @@
-//! What the program tells where the words of its command line ask for nothing to be done.
+//! What the program prints where the words of its command line ask for nothing to be done.
 ghost use Rattle.std.specs.Prelude.{◌≡◌, ◌≢◌};
 ghost use Rattle.clap.specs.Words.{kind_of};
 ghost use Rattle.clap.specs.declared.error.kind.ErrorKind.TheVariants.{OutOfMemory};
@@ -20,7 +20,8 @@ use velo_request::status::{DONE, FAILED};
 /// The status of a fault of usage.
 const BAD_USAGE: u8 = 2;
 
-/// Tells an error of the words: help on the one sink, a fault of usage on the other. Answers the status to end with.
+/// Reports an error of the words: help on the one sink, a fault of usage on the other. Returns the
+/// status to end with.
 pub fn tell_error<O: Sink, E: Sink>(alloc: Global, error: &Error, out: &mut O, err: &mut E) -> u8
     requires { kind_of error.now ≡ OutOfMemory → GrowthRefused }
     ensures { Tells (kind_of error.now) (console_of (out.new ≡ out.old)
@@ -39,7 +40,7 @@ pub fn tell_error<O: Sink, E: Sink>(alloc: Global, error: &Error, out: &mut O, e
     status
 }
 
-/// Tells an error of this kind by its text.
+/// Reports an error of this kind by its text.
 fn tell_text<O: Sink, E: Sink>(kind: ErrorKind, text: &[u8], out: &mut O, err: &mut E) -> u8
     ensures { kind ≢ OutOfMemory → TellsError kind text.now (console_of (out.new ≡ out.old)
         (writing O.contents O.failures out.old out.new)
@@ -51,7 +52,7 @@ fn tell_text<O: Sink, E: Sink>(kind: ErrorKind, text: &[u8], out: &mut O, err: &
     }
 }
 
-/// Shows help, or tells that it could not be written.
+/// Prints help, or reports that it could not be written.
 fn show_help<O: Sink, E: Sink>(text: &[u8], out: &mut O, err: &mut E) -> u8
     ensures { ShowsHelp (console_of (out.new ≡ out.old)
         (writing O.contents O.failures out.old out.new)
@@ -63,7 +64,7 @@ fn show_help<O: Sink, E: Sink>(text: &[u8], out: &mut O, err: &mut E) -> u8
     }
 }
 
-/// Tells a fault of usage. Where this fails there is no other place to tell it.
+/// Reports a fault of usage. If this fails, there is no other place to report it.
 pub fn tell_fault<E: Sink>(text: &[u8], err: &mut E) -> u8
     ensures { Closes bad_usage text.now (writing E.contents E.failures err.old err.new) result }
 {
@@ -73,7 +74,7 @@ pub fn tell_fault<E: Sink>(text: &[u8], err: &mut E) -> u8
     }
 }
 
-/// Tells why the options of a request do not go together, and returns the status to end with.
+/// Reports why the options of a request do not go together, and returns the status to end with.
 pub fn tell_clash<E: Sink>(clash: Clash, err: &mut E) -> u8
     ensures { Closes bad_usage (line_of_clash clash)
         (writing E.contents E.failures err.old err.new) result }

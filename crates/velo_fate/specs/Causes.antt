@@ -1,4 +1,4 @@
--- Why the program comes to want of memory.
+-- Why the program is out of memory.
 use Rattle.std.specs.Prelude.{⊤}
 use Rattle.velo_events.specs.Refusals.{GrowthRefused}
 use Rattle.velo_logtext.specs.declared.fault.LogFault.{LogFault}
@@ -20,7 +20,7 @@ use Rattle.velo_fate.specs.declared.fault.CheckFault.TheVariants as check_fault
 use Rattle.velo_fate.specs.declared.fate.Fate.{Fate}
 use Rattle.velo_fate.specs.declared.fate.Fate.TheVariants as fate
 
--- ---- each fault that is want of memory stands behind a refused growth
+-- ---- each fault that is out of memory comes after a failed allocation
 
 abbrev pub LogByGrowth : LogFault → Type 0
 LogByGrowth log_fault.Memory = GrowthRefused
@@ -59,12 +59,12 @@ pub data Needs : Type 0 where
   Growths : Needs
   GrowthsAndStarts : Needs
 
--- a run that ends for want of memory does so behind a refusal of what was needed
+-- a run that ends out of memory does so after a refusal of what was needed
 abbrev pub EndsByRefusal : Needs → Ending → Type 0
 EndsByRefusal Growths ending = EndsByGrowth ending
 EndsByRefusal GrowthsAndStarts ending = EndsWithCause ending
 
--- want of memory stands behind a refused growth; but that of an ending behind a refusal of what was
+-- out of memory comes after a failed allocation; that of an ending after a refusal of what was
 -- needed
 abbrev pub ComesByRefusal : Needs → Fate → Type 0
 ComesByRefusal needs (fate.Finished ending alarm) = EndsByRefusal needs ending

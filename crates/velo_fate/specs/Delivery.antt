@@ -8,22 +8,22 @@ use Rattle.velo_fate.specs.declared.fate.Fate.{Fate}
 use Rattle.velo_fate.specs.declared.fate.Fate.TheVariants.{CannotOpen, Memory, WriteFailed}
 
 -- What a command has to say: a text to be saved at its target, if it has one; a text to be printed
--- on standard output, if it has one; and what it comes to. This is never `CannotOpen` nor
--- `WriteFailed`: they come on the way out alone.
+-- on standard output, if it has one; and its fate. This is never `CannotOpen` nor `WriteFailed`:
+-- they come on the way out alone.
 pub record Answer : Type 0 where
   pub saved : Option (List ℕ)
   pub printed : Option (List ℕ)
   pub fate : Fate
 
--- it comes to this, and says nothing
+-- its fate is this, and it says nothing
 abbrev pub silent : Fate → Answer
 silent fate = record { saved = None; printed = None; fate = fate }
 
--- it prints this, has nothing to be saved, and comes to this
+-- it prints this, has nothing to be saved, and its fate is this
 abbrev pub printing : List ℕ → Fate → Answer
 printing text fate = record { saved = None; printed = Some text; fate = fate }
 
--- a growth was refused, and nothing is said
+-- an allocation failed, and nothing is saved or printed
 abbrev pub LacksMemory : Answer → Type 0
 LacksMemory answer = GrowthRefused × (answer ≡ silent Memory)
 
@@ -39,7 +39,7 @@ abbrev pub TakesPart : Writing → Option (List ℕ) → Type 0
 TakesPart sink None = ⊥
 TakesPart sink (Some text) = BreaksOff sink text
 
--- The sink took the text, and it comes to what was said; or it took a part of it, and it comes to a
+-- The sink took the text, and the fate is the answer's; or it took a part of it, and the fate is a
 -- failed write.
 abbrev pub IsTaken : Writing → Option (List ℕ) → Fate → Fate → Type 0
 IsTaken sink text said WriteFailed = TakesPart sink text
@@ -82,9 +82,9 @@ IsDelivered store target stdout answer WriteFailed =
 IsDelivered store target stdout answer f =
     (f ≡ answer.fate) × Saves store target answer.saved × Takes stdout answer.printed
 
--- ---- a log at the target, and behind it names at their path
+-- ---- a log at the target, and after it names at their path
 
--- the text was not saved, or not whole, and it comes to this
+-- the text was not saved, or not whole, and this is the fate
 abbrev pub FailsSaving : Store → Option (Bor (List ℕ)) → Option (List ℕ) → Fate → Type 0
 FailsSaving store target saved CannotOpen = FailsToSave store target saved
 FailsSaving store target saved WriteFailed = SavesPart store target saved

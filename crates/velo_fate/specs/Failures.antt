@@ -1,4 +1,4 @@
--- How often a source has failed, by what a command comes to.
+-- How often a source has failed, by a command's fate.
 use Rattle.std.specs.Prelude.{◌≡◌, ℕ}
 use Rattle.velo_bytes.specs.Device.{with_failure}
 use Rattle.velo_delivery.specs.Reading.{Reading}
@@ -7,8 +7,8 @@ use Rattle.velo_fate.specs.declared.fault.CheckFault.TheVariants.{Log}
 use Rattle.velo_fate.specs.declared.fate.Fate.{Fate}
 use Rattle.velo_fate.specs.declared.fate.Fate.TheVariants.{Check, ReadFailed}
 
--- the count of failures of a source behind this fate: once more where it is a failed read, and only
--- there
+-- the count of failures of a source after this fate: once more if it is a failed read, and only
+-- then
 abbrev pub failures_told : Fate → ℕ → ℕ
 failures_told (Check (Log Read)) failures = with_failure failures
 failures_told ReadFailed failures = with_failure failures

@@ -1,5 +1,4 @@
--- How the program ends, by what it came to: its status, and the line on standard error, if there is
--- one.
+-- How the program ends, by its fate: its status, and the line on standard error, if there is one.
 use Rattle.std.specs.Prelude.{◌≡◌, ◌⊎◌, Bool, Some, None, ℕ, ◌++◌, [], List, decimal, codes, Option, if◌then◌else◌}
 use Rattle.velo_events.specs.declared.refusal.Refusal.{Refusal}
 use Rattle.velo_events.specs.declared.refusal.Refusal.TheVariants.{Halted, NotLive, NoSuchVariable, NoSuchLock, NoSuchThread, Busy, AlreadyHeld, NotHolder, NoOpenBlock, TooDeep, AlreadyForked, NotForked, NotExited, AlreadyJoined, BlockOpen, LockHeld, LogFull, GraphFull, WouldDeadlock, RuntimeMemory, Foreign}
@@ -68,7 +67,7 @@ status_of_log Read = 5
 status_of_log log_fault.Memory = 5
 status_of_log _ = 2
 
--- A refused event: 4 by a limit of events or of nodes, else 2. A check tells refusals 2 to 18
+-- A refused event: 4 by a limit of events or of nodes, else 2. A check reports refusals 2 to 18
 -- alone.
 abbrev pub status_of_refused : Refusal → ℕ
 status_of_refused LogFull = 4
@@ -237,7 +236,7 @@ line_of fate.Memory = codes "out of memory\n"
 
 -- ---- how they are used
 
--- what a failure comes to, without the file that it is about
+-- the fate of a failure, without the file that it is about
 abbrev pub fate_of_failure : Failure → Fate
 fate_of_failure (failure.CannotOpen which) = CannotOpen
 fate_of_failure (failure.ReadFailed which) = ReadFailed
@@ -250,8 +249,8 @@ abbrev pub Closes : ℕ → List ℕ → Writing → ℕ → Type 0
 Closes status line stderr result =
     ((result ≡ status) × Writes stderr line) ⊎ ((result ≡ 5) × BreaksOff stderr line)
 
--- The program ends as what it came to: with its line and its status. Where there is no line, none
--- breaks off.
+-- The program ends by its fate: with its line and its status. Where there is no line, none breaks
+-- off.
 abbrev pub Ends : Fate → Writing → ℕ → Type 0
 Ends fate stderr result =
     Closes (status_of fate) (line_of fate) stderr result

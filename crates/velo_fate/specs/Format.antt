@@ -8,14 +8,14 @@ use Rattle.velo_fate.specs.declared.fate.Fate.{Fate}
 use Rattle.velo_fate.specs.declared.fate.Fate.TheVariants.{CannotOpen, Memory, ReadFailed}
 use Rattle.velo_fate.specs.Failures.{FailuresAsTold}
 
--- Which value the bytes of a file mean, and what they come to where they mean none; where the bytes
--- are not known, what is said all the same.
+-- Which value the bytes of a file mean, and the fate if they mean none; if the bytes are not known,
+-- what holds all the same.
 pub record Format (X : Type 0) : Type 1 where
   pub says : Option (List ℕ) → X → Type 0
   pub lacks : Option (List ℕ) → Fate → Type 0
 
--- Why there is no value: by the format, or the source failed, or a growth was refused. That the
--- source failed stands in `FailuresAsTold`.
+-- Why there is no value: by the format, or the source failed, or an allocation failed. That the
+-- source failed is in `FailuresAsTold`.
 abbrev pub SaysNone : {X : Type 0} → Format X → Option (List ℕ) → Fate → Type 0
 SaysNone format read ReadFailed = ⊤
 SaysNone format read Memory = GrowthRefused
@@ -58,6 +58,6 @@ LacksGiven format disk (Some path) f = LacksAt format disk path.now f
 
 -- ---- the plainest
 
--- its bytes; or where there are more than the most that are wanted, more than so many of them
+-- its bytes; or if there are more than the most that are wanted, more than that many of them
 abbrev pub bytes_up_to : ℕ → Format (List ℕ)
 bytes_up_to most = record { says = IsReadOf most; lacks = λ read f. ⊥ }

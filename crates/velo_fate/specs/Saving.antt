@@ -18,7 +18,7 @@ abbrev pub is_text_saved : Saved → List ℕ → Type 0
 is_text_saved (saved.Log closed) text = text ≡ text_of_log closed.now
 is_text_saved (saved.Bytes bytes) text = text ≡ bytes.now
 
--- what writing the file came to
+-- the result of writing the file
 abbrev pub IsSaved : {X : Type 0} → Store → Option (Bor (List ℕ)) → List ℕ → Result X Fate
     → Type 0
 IsSaved store target text (Ok x) = Saves store target (Some text)

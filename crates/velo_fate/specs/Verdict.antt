@@ -59,7 +59,7 @@ pub record IsVerdict (trace : List Event) (verdict : Verdict) : Type 0 where
 abbrev pub IsOutputOf : Names → Bool → WorldState → List ℕ → Type 0
 IsOutputOf names certificate w text = IsOutput names certificate w.config.bounds.threads w.log text
 
--- what writing it came to
+-- the result of writing it
 abbrev pub WritesOutput : {X F : Type 0} → Names → Bool → WorldState → Writing → Result X F → Type 0
 WritesOutput names certificate w sink result =
     (text : List ℕ) × IsOutputOf names certificate w text × Delivers sink text result

@@ -23,10 +23,10 @@ use velo_workload::WorkFault;
 /// Room that is enough for a line on standard error.
 const LINE_ROOM: usize = 64;
 
-/// What a run of the program came to.
+/// How a run of the program ended.
 #[derive(Clone, Copy, Debug, PartialEq, Eq)]
 pub enum Fate {
-    /// It came to an end, with or without an alarm. A check is done.
+    /// It ended, with or without an alarm. A check is done.
     Finished { ending: Ending, alarm: bool },
     /// The text is no schedule.
     Schedule(ScheduleFault),
@@ -64,7 +64,7 @@ pub enum Fate {
     Open,
 }
 
-/// What a failure comes to.
+/// The fate of a failure.
 pub fn fate_of_failure(failure: Failure) -> Fate
     ensures { result ≡ fate_of_failure failure }
 {
@@ -238,7 +238,8 @@ fn put_check_fault(buffer: &mut [u8], fault: CheckFault) -> usize
     }
 }
 
-/// Puts the line of an ending at the front of a buffer, and returns where it ends: at 0 if there is none.
+/// Puts the line of an ending at the front of a buffer, and returns where it ends: at 0 if there is
+/// none.
 fn put_ending(buffer: &mut [u8], ending: Ending) -> usize
     requires { 64 ≤ length buffer.old }
     ensures text { take result buffer.new ≡ line_of_ending ending }
@@ -279,7 +280,7 @@ fn put_schedule_fault(buffer: &mut [u8], fault: ScheduleFault) -> usize
     }
 }
 
-/// The number of a workload's fault and its line; none for want of memory.
+/// The number of a workload's fault and its line; none for `Memory`.
 fn place_of_work(fault: WorkFault) -> Option<(u64, usize)>
     ensures { result ≡ place_of_work fault }
 {
@@ -379,7 +380,7 @@ fn put_ignored(buffer: &mut [u8], what: Ignorable) -> usize
     }
 }
 
-/// Puts the word of an operand at a place of a buffer, and returns the place behind it.
+/// Puts the word of an operand at a place of a buffer, and returns the place after it.
 fn put_operand(buffer: &mut [u8], at: usize, operand: Operand) -> usize
     requires { at + 5 ≤ length buffer.old }
     ensures text { take result buffer.new ≡ take at buffer.old ++ word_of operand }
@@ -395,7 +396,8 @@ fn put_operand(buffer: &mut [u8], at: usize, operand: Operand) -> usize
     }
 }
 
-/// Puts the line of an input that is the file to be written at the front of a buffer, and returns where it ends.
+/// Puts the line of an input that is the file to be written at the front of a buffer, and returns
+/// where it ends.
 fn put_one_file(buffer: &mut [u8], operand: Operand) -> usize
     requires { 64 ≤ length buffer.old }
     ensures text { take result buffer.new ≡ line_of_one_file operand }
@@ -406,7 +408,8 @@ fn put_one_file(buffer: &mut [u8], operand: Operand) -> usize
     put_bytes(buffer, at, b" and OUT are one file\n")
 }
 
-/// Puts the line that tells how a run ended at the front of a buffer, and returns where it ends: at 0 if there is none.
+/// Puts the line about how a run ended at the front of a buffer, and returns where it ends: at 0 if
+/// there is none.
 fn put_line(buffer: &mut [u8], fate: Fate) -> usize
     requires { 64 ≤ length buffer.old }
     ensures text { take result buffer.new ≡ line_of fate }
@@ -434,8 +437,8 @@ fn put_line(buffer: &mut [u8], fate: Fate) -> usize
     }
 }
 
-/// Writes the line that tells how a run ended, if there is one, in one piece, and returns the status to end with, 0 to 5
-/// (see [`status`](velo_request::status)). It takes no memory.
+/// Writes the line about how a run ended, if there is one, in one piece, and returns the status to
+/// end with, 0 to 5 (see [`status`](velo_request::status)). It takes no memory.
 ///
 /// # Errors
 /// `WriteFault` where the sink failed; the program ends with [`FAILED`] then.
@@ -455,8 +458,8 @@ pub fn end_line<S: Sink>(fate: &Fate, sink: &mut S) -> Result<u8, WriteFault>
     Ok(status_of(*fate))
 }
 
-/// Tells how a run ended, and returns the status to end with: that of `end_line`, or [`FAILED`] where the line could not be
-/// written.
+/// Reports how a run ended, and returns the status to end with: that of `end_line`, or [`FAILED`]
+/// where the line could not be written.
 pub fn end_with<S: Sink>(fate: &Fate, sink: &mut S) -> u8
     ensures { Ends fate.now (writing S.contents S.failures sink.old sink.new) result }
 {

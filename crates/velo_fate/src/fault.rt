@@ -16,7 +16,7 @@ pub enum CheckFault {
     /// The event at the position reads a value that the variable does not have.
     #[error("wrong value at {position}")]
     WrongValue { position: usize },
-    /// The sink failed; a beginning of the report, or of the certificate behind it, was written.
+    /// The sink failed; a beginning of the report, or of the certificate after it, was written.
     #[error("write failed")]
     Write,
     /// A growth was refused.

@@ -13,7 +13,8 @@ fn is_one_file<F: Files>(files: &F, input: &str, target: &str) -> bool
     !is_standard_input(input) && files.are_one(input, target)
 }
 
-/// Opens a command's input. Its file may not be the command's target, which is to be emptied, if there is one.
+/// Opens a command's input. Its file may not be the command's target, which is to be emptied, if
+/// there is one.
 ///
 /// # Errors
 /// `CannotOpen` where it does not open; else `OneFile` where it is the target.
@@ -46,10 +47,12 @@ pub fn are_one_target<F: Files>(files: &F, target: Option<&str>, names: Option<&
     }
 }
 
-/// Opens the file of a workload. It may be neither the target of its log nor that of its names, if there are such.
+/// Opens the file of a workload. It may be neither the target of its log nor that of its names, if
+/// there are such.
 ///
 /// # Errors
-/// `CannotOpen` where it does not open; else `OneFile` where it is the target, and else `NamesAtInput`.
+/// `CannotOpen` where it does not open; else `OneFile` where it is the target, and else
+/// `NamesAtInput`.
 pub fn open_to_run<F: Files>(
     files: &F,
     input: &str,

@@ -9,7 +9,7 @@ use std::alloc::Global;
 use velo_bytes::Source;
 use velo_delivery::{Files, ReadFault, open_at, read_whole};
 
-/// All bytes of a source; or where there are more than the most that are wanted, more than so many of them.
+/// All bytes of a source; or if there are more than `most`, more than `most` of them.
 fn read_source<I: Source>(alloc: Global, source: &mut I, most: usize) -> Result<Vec<u8>, Fate>
     ensures bytes { IfOk result (λ bytes. IsReadOf most (I.remaining source.old) bytes.items) }
     ensures failed { IfErr result (SaysNone (bytes_up_to most) (I.remaining source.old)) }
@@ -24,11 +24,12 @@ fn read_source<I: Source>(alloc: Global, source: &mut I, most: usize) -> Result<
     }
 }
 
-/// All bytes of the file at a path, or of standard input; or where there are more than the most that are wanted, more than so
-/// many of them.
+/// All bytes of the file at a path, or of standard input; or if there are more than `most`, more
+/// than `most` of them.
 ///
 /// # Errors
-/// `CannotOpen` where it does not open, `ReadFailed` where it failed, `Memory` where a growth was refused.
+/// `CannotOpen` where it does not open, `ReadFailed` where it failed, `Memory` if an allocation
+/// failed.
 pub fn read_file<F: Files>(
     alloc: Global,
     path: &str,

@@ -1,4 +1,4 @@
-//! What the log of a closed world shows: its verdict, its report, and the certificate behind it.
+//! What the log of a closed world shows: its verdict, its report, and the certificate after it.
 ghost use Rattle.std.specs.Prelude.{◌≡◌, IfOk, IfSome, is_some};
 ghost use Rattle.velo_events.specs.Certificate.{IsSerialOrder};
 ghost use Rattle.velo_certify.specs.Shortest.{IsShortestCycleAt};
@@ -66,10 +66,11 @@ fn cycle_at(alloc: Global, log: &Trace, position: usize) -> Result<Vec<usize>, M
     }
 }
 
-/// What certifies the verdict of a closed world: the serial order of its log, or with an alarm a shortest cycle at its position.
+/// What certifies the verdict of a closed world: the serial order of its log, or with an alarm a
+/// shortest cycle at its position.
 ///
 /// # Errors
-/// `Memory` where a growth was refused.
+/// `Memory` if an allocation failed.
 pub fn order_or_cycle_of(alloc: Global, closed: &Closed) -> Result<Vec<usize>, Memory>
     ensures { IfOk result (λ list. IsOrderOrCycle closed.now.log list.items) }
 {
@@ -79,11 +80,12 @@ pub fn order_or_cycle_of(alloc: Global, closed: &Closed) -> Result<Vec<usize>, M
     }
 }
 
-/// Writes the report of a closed world, and behind it the certificate of its verdict, if there is an order or a cycle, which
-/// has to be that of the world's log.
+/// Writes the report of a closed world, and after it the certificate of its verdict, if there is an
+/// order or a cycle, which has to be that of the world's log.
 ///
 /// # Errors
-/// `WriteFault` where the sink failed; a beginning of the report, or of the certificate behind it, was written.
+/// `WriteFault` where the sink failed; a beginning of the report, or of the certificate after it,
+/// was written.
 pub fn write_output<O: Sink>(
     closed: &Closed,
     names: &Names,

@@ -38,15 +38,15 @@ left_at_first asked =
       variables = is_listed (map (λ (x : VarId). x.0) asked.variables.now);
     }
 
--- and behind the rounds: the labels that they told, too
+-- and after the rounds: the labels that they found, too
 abbrev pub left_at_last : List Event → Left → List Told → Left
 left_at_last log left rounds = with_labels left (labels_found log (map told_as rounds))
 
 -- ---- the rounds
 
 -- These are the rounds of the log: each is that of the first alarm of what was left, and there are
--- no others; what is told of each as blamed is so in the log as read; each label found begins a
--- block of it and was not left out; they are few; and what is left at last is serializable.
+-- no others; what each reports as blamed is so in the log as read; each label found begins a block
+-- of it and was not left out; they are few; and what is left at last is serializable.
 pub record AreRoundsOf (witness : Bool) (log : List Event) (left : Left) (rounds : List Told)
     : Type 0 where
   pub each : Rounds log left (map told_as rounds)
@@ -74,7 +74,7 @@ audited names log asked rounds =
     (atomic_labels (left_at_last log (left_at_first asked) rounds) log))
     (Finished Done (is_found rounds))
 
--- its rounds are told
+-- its rounds are printed
 pub record TellsRounds (names : NameLists) (asked : Asked) (witness : Bool) (log : List Event)
     (answer : Answer) : Type 0 where
   pub rounds : List Told
@@ -82,7 +82,7 @@ pub record TellsRounds (names : NameLists) (asked : Asked) (witness : Bool) (log
   pub said : answer ≡ audited names log asked rounds
 
 -- A round needs more nodes than there may be: the event at this position of the log as read finds
--- none. Nothing is told, not even of the rounds before it.
+-- none. Nothing is printed, not even of the rounds before it.
 pub record HasFullGraph (asked : Asked) (nodes : ℕ) (bounds : Bounds) (log : List Event)
     (answer : Answer) : Type 0 where
   pub config : Config

@@ -36,7 +36,7 @@ IsPut sink answer f = IsTaken sink answer.saved answer.fate f
 abbrev pub Carries : Option (List ℕ) → Writing → Fate → Type 0
 Carries read sink f = (answer : Answer) × IsCarryAnswer read answer × IsPut sink answer f
 
--- what carrying over came to
+-- the fate of carrying over
 abbrev pub fate_of_carrying : {X : Type 0} → Result X CarryFault → Fate
 fate_of_carrying (Ok carried) = Finished Done false
 fate_of_carrying (Err (Log fault)) = Check (check_fault.Log fault)

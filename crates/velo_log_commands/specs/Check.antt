@@ -25,7 +25,7 @@ use Rattle.velo_worker.specs.declared.ending.Ending.TheVariants as ending
 
 -- ---- the log of an input
 
--- the bytes are the text of these bounds and events; where they are not known nothing is said
+-- the bytes are the text of these bounds and events; if they are not known, nothing is claimed
 abbrev pub IsInput : Option (List ℕ) → Bounds → List Event → Type 0
 IsInput read bounds trace = IfSome read (λ bytes. IsLogText bytes bounds trace)
 
@@ -53,8 +53,8 @@ pub record IsWrongValue (limit : ℕ) (read : Option (List ℕ)) (p : ℕ) : Typ
   pub reason : IsWrongValueAt limit bounds trace p
 
 -- Why there is no log: by its first wrong line, or because the source failed (both in `ReadsAs`;
--- that it failed stands in `FailuresAsTold`), or because a growth was refused. Where the bytes are
--- not known, only the last is said.
+-- that it failed is in `FailuresAsTold`), or because an allocation failed. If the bytes are not
+-- known, only the last is claimed.
 abbrev pub IsFaultOfLogText : Option (List ℕ) → LogFault → Type 0
 IsFaultOfLogText read fault =
     IfSome read (λ bytes. ReadsAs MAX_EVENTS bytes (Err fault))
@@ -82,7 +82,7 @@ pub record IsChecked (names : Names) (limit : ℕ) (certificate : Bool) (read : 
   pub is_verdict : IsVerdict log verdict
   pub said : answer ≡ printing text (Finished Done (is_alarm verdict))
 
--- nothing is said of an input that has this fault
+-- nothing is printed of an input that has this fault
 abbrev pub IsUnchecked : ℕ → ℕ → Option (List ℕ) → Answer → Type 0
 IsUnchecked limit nodes read answer =
     (fault : CheckFault) × IsFaultOfInput limit nodes read fault × (answer ≡ silent (Check fault))
@@ -92,7 +92,7 @@ abbrev pub IsCheckAnswer : Names → ℕ → ℕ → Bool → Option (List ℕ) 
 IsCheckAnswer names limit nodes certificate read answer =
     IsChecked names limit certificate read answer ⊎ IsUnchecked limit nodes read answer
 
--- What a check came to: an answer to what was read was printed on the sink.
+-- The fate of a check: an answer to what was read was printed on the sink.
 abbrev pub Checks : Names → ℕ → ℕ → Bool → Option (List ℕ) → Writing → Fate → Type 0
 Checks names limit nodes certificate read sink f =
     (answer : Answer) × IsCheckAnswer names limit nodes certificate read answer
@@ -100,7 +100,7 @@ Checks names limit nodes certificate read sink f =
 
 -- ---- how they are used
 
--- what a check came to
+-- the fate of a check
 abbrev pub fate_of : Result Verdict CheckFault → Fate
 fate_of (Ok answer) = Finished ending.Done (is_alarm answer)
 fate_of (Err Write) = WriteFailed

@@ -1,8 +1,8 @@
 -- What each command on a recorded log does: one definition a command, whose lines are its steps.
 --
 -- The store is the files that the command finds and leaves, stdout is standard output before and
--- after, and f is what the command comes to. Each command names in parentheses the page that says
--- how it answers the bytes of its input.
+-- after, and f is the command's fate. Each command names in parentheses the page that says what it
+-- answers to the bytes of its input.
 use Rattle.std.specs.Prelude.{◌≡◌, ◌⊎◌, ℕ, List, Option, Some, None}
 use Rattle.std.specs.Borrow.{Bor}
 use Rattle.velo_names.specs.Names.{NameLists}
@@ -35,8 +35,8 @@ use Rattle.velo_delivery.specs.Writing.{Writing, WritesNothing}
 
 -- ---- what they share
 
--- the file of names at the path is not read, or says none; no file was opened to be written, nothing
--- was printed
+-- the file of names at the path is not read, or says none; no file was opened to be written,
+-- nothing was printed
 abbrev pub DoesNotName : Store → Option (Bor (List ℕ)) → Writing → Fate → Type 0
 DoesNotName store path stdout f = LacksNames store.disk path f × WritesNowhere store stdout
 
@@ -50,7 +50,7 @@ DoesByNames does path store stdout f =
 
 -- ---- velodrome check LOG [--names FILE] [--events N] [--nodes N] [--certificate]
 
--- LOG is read whole. The report by these names goes to standard output, and the certificate behind
+-- LOG is read whole. The report by these names goes to standard output, and the certificate after
 -- it; or nothing, for a reason (`Check`).
 abbrev pub ChecksLog : Names → CheckOptions → Store → Writing → Fate → Type 0
 ChecksLog shown options store stdout f =
@@ -112,9 +112,10 @@ DoesCarry options store stdout f =
 -- ---- velodrome watch LOG [--names FILE] [--stop] [--events N] [--nodes N] [--certificate]
 
 -- LOG is read line by line, to its end, or with --stop up to the event that raises the alarm. The
--- line of the alarm goes to standard output, by numbers, then the report by these names of the events
--- that were read, and the certificate behind it; or behind the line of the alarm nothing, for a reason, which is the first
--- in the order of the text (`Watching`). No file is opened to be written.
+-- line of the alarm goes to standard output, by numbers, then the report by these names of the
+-- events that were read, and the certificate after it; or after the line of the alarm nothing, for
+-- a reason, which is the first in the order of the text (`Watching`). No file is opened to be
+-- written.
 abbrev pub WatchesLog : Names → WatchOptions → Store → Writing → Fate → Type 0
 WatchesLog shown options store stdout f =
     DoesNotRead store Log options.input.now None stdout f
@@ -134,8 +135,8 @@ DoesWatch options store stdout f =
 -- ---- velodrome audit LOG [--names FILE] [--not-atomic FILE] [--ignore-lock N].. [--ignore-variable N]..
 -- ---- [--no-witness] [--events N] [--nodes N]
 
--- LOG is read whole and judged as by a check, and then audited, where this is left out. What the
--- rounds tell goes to standard output, by these names; or nothing, for a reason (`Auditing`).
+-- LOG is read whole and judged as by a check, and then audited, where this is left out. The text of
+-- the rounds goes to standard output, by these names; or nothing, for a reason (`Auditing`).
 abbrev pub AuditsLog : NameLists → Asked → AuditOptions → Store → Writing → Fate → Type 0
 AuditsLog names asked options store stdout f =
     DoesNotRead store Log options.input.now None stdout f

@@ -9,7 +9,7 @@ use Rattle.velo_world.specs.Faults.{IsRefusedAt, IsWrongValueAt}
 use Rattle.velo_fate.specs.declared.fault.CheckFault.{CheckFault}
 use Rattle.velo_fate.specs.declared.fault.CheckFault.TheVariants.{Log, Refused, WrongValue, Write, Memory}
 
--- the fault of a check where the log can't come about again
+-- the fault of a check if the log cannot happen again
 abbrev pub check_fault_of : LogReplayFault → CheckFault
 check_fault_of (replay.Refused p refusal) = Refused p refusal
 check_fault_of (replay.WrongValue p) = WrongValue p

@@ -20,11 +20,11 @@ abbrev pub MeansLabels : NameLists → List ℕ → List ℕ → Type 0
 MeansLabels names bytes labels =
     (entries : List Entry) × Stands bytes (Ok entries) × (labels ≡ labels_known names entries)
 
--- where the bytes are not known nothing is said
+-- if the bytes are not known, nothing is claimed
 abbrev pub SayLabels : NameLists → Option (List ℕ) → List ℕ → Type 0
 SayLabels names read labels = IfSome read (λ bytes. MeansLabels names bytes labels)
 
--- the fault for which they say none
+-- the fault by which they say none
 abbrev pub HaveFaultOfList : Option (List ℕ) → ListFault → Type 0
 HaveFaultOfList read list_fault.Memory = GrowthRefused
 HaveFaultOfList read fault = IfSome read (λ bytes. Stands bytes (Err fault))

@@ -14,11 +14,11 @@ use Rattle.velo_fate.specs.Format.{Format, LacksGiven, Reads, ReadsOr, bytes_up_
 
 -- ---- by the bytes of the file
 
--- the bytes say these names; where they are not known nothing is said
+-- the bytes say these names; if they are not known, nothing is claimed
 abbrev pub SayNames : Option (List ℕ) → NameLists → Type 0
 SayNames read names = IfSome read (λ bytes. Stands bytes (Ok names))
 
--- the fault for which they say none
+-- the fault by which they say none
 abbrev pub HaveFaultOfNames : Option (List ℕ) → NamesFault → Type 0
 HaveFaultOfNames read names_fault.Memory = GrowthRefused
 HaveFaultOfNames read fault = IfSome read (λ bytes. Stands bytes (Err fault))
@@ -55,7 +55,7 @@ abbrev pub AreBytesOf : Disk → ℕ → Option (Bor (List ℕ)) → List ℕ �
 AreBytesOf disk most None bytes = ⊤
 AreBytesOf disk most (Some path) bytes = Reads (bytes_up_to most) disk path.now bytes
 
--- the names that these bytes say, if a file was given; or the fault for which they say none
+-- the names that these bytes say, if a file was given; or the fault by which they say none
 abbrev pub AreNamesIn : Option (Bor (List ℕ)) → List ℕ → NameLists → Type 0
 AreNamesIn None bytes names = names ≡ no_names
 AreNamesIn (Some path) bytes names = Stands bytes (Ok names)

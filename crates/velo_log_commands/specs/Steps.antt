@@ -38,7 +38,7 @@ Shows names certificate w stdout (Err fault) = ⊥
 
 -- ---- an explanation
 
--- this answer was delivered, or printed; or a growth was refused, and nothing was written
+-- this answer was delivered, or printed; or an allocation failed, and nothing was written
 abbrev pub DeliversOrLacks : Answer → Store → Option (Bor (List ℕ)) → Writing → Fate → Type 0
 DeliversOrLacks answer store target stdout f =
     IsDelivered store target stdout answer f

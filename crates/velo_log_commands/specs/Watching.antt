@@ -31,7 +31,7 @@ use Rattle.velo_delivery.specs.Writing.{BreaksOff, Writes, Writing}
 
 -- ---- the events so far
 
--- these events stand at the front of the input, and came about, within the limit of events
+-- these events are at the front of the input, and happened, within the limit of events
 pub record IsSoFar (limit : ℕ) (read : Option (List ℕ)) (bounds : Bounds) (log : List Event)
     : Type 0 where
   pub front : IsFront read bounds log
@@ -57,9 +57,9 @@ IsReadTo stop read bounds log =
 
 -- ---- why it ends early
 
--- Why no event comes behind these: the next line of the input is its first wrong one, or it could
--- not be read; or the event there is refused, or reads a wrong value. What stands behind that line
--- has no part in it.
+-- Why no event comes after these: the next line of the input is its first wrong one, or it could
+-- not be read; or the event there is refused, or reads a wrong value. What follows that line has no
+-- part in it.
 abbrev pub EndsBehind : ℕ → ℕ → Option (List ℕ) → Bounds → List Event → CheckFault → Type 0
 EndsBehind limit nodes read bounds log (Log fault) =
     IsFaultOfLogText read fault × IsMetBehind (length log) fault
@@ -110,7 +110,7 @@ pub record IsCutShort (options : WatchOptions) (read : Option (List ℕ)) (answe
       ⊎ ((fault ≡ Memory) × GrowthRefused)
   pub said : answer ≡ printing (told_text alarm) (Check fault)
 
--- nothing is said of an input without a header
+-- nothing is printed of an input without a header
 abbrev pub IsUnopened : Option (List ℕ) → Answer → Type 0
 IsUnopened read answer =
     (fault : CheckFault) × IsFaultOfHeader read fault × (answer ≡ silent (Check fault))
@@ -131,7 +131,7 @@ pub record FailsAtAlarm (options : WatchOptions) (read : Option (List ℕ)) (std
   pub exact : IsAlarm log alarm
   pub part : BreaksOff stdout (alarm_line alarm)
 
--- What a watch came to: an answer to what was read was printed; or not even its first line was.
+-- The fate of a watch: an answer to what was read was printed; or not even its first line was.
 abbrev pub Watches : Names → WatchOptions → Option (List ℕ) → Writing → Fate → Type 0
 Watches names options read stdout f =
     ((answer : Answer) × IsWatchAnswer names options read answer × IsPrinted stdout answer f)
@@ -148,7 +148,7 @@ pub record HasWatched (options : WatchOptions) (read : Option (List ℕ)) (stdou
   pub exact : AlarmOf w.log alarm
   pub told : Writes stdout (told_text alarm)
 
--- the world with the events that were read, or the one behind which the watch failed
+-- the world with the events that were read, or the one after which the watch failed
 abbrev pub Follows : Bool → Option (List ℕ) → Option (List ℕ) → Option (List ℕ) → Config
     → {X : Type 0} → Result X WatchFault → WorldState → Type 0
 Follows stop read old new config (Ok x) w =

@@ -100,7 +100,7 @@ fn is_found(rounds: &[Told]) -> bool
     }
 }
 
-/// Prints what the rounds tell, as a whole.
+/// Prints the text of the rounds, as a whole.
 fn tell_rounds<O: Sink>(
     alloc: Global,
     log: &Trace,
@@ -205,7 +205,7 @@ fn audit_log<I: Source, O: Sink>(
     }
 }
 
-/// Audits the log that was asked for, and tells it by the names.
+/// Audits the log that was asked for, and reports it by the names.
 fn audit_input<F: Files, O: Sink>(
     alloc: Global,
     options: &AuditOptions,
@@ -223,7 +223,8 @@ fn audit_input<F: Files, O: Sink>(
     }
 }
 
-/// Audits the log that was asked for, without the labels that are known, and without what is to be ignored by the names.
+/// Audits the log that was asked for, without the labels that are known, and without what is to be
+/// ignored by the names.
 fn audit_known<F: Files, O: Sink>(
     alloc: Global,
     options: &AuditOptions,

@@ -28,11 +28,12 @@ pub enum CarryFault {
     Write,
 }
 
-/// Reads a whole log of either version, and writes its text of version 2. Whether its events can come about is not judged.
+/// Reads a whole log of either version, and writes its text of version 2. Whether its events can
+/// happen is not judged.
 ///
 /// # Errors
-/// `Log` where the log could not be read; nothing was written then. `Write` where the sink failed; a beginning of the text was
-/// written.
+/// `Log` where the log could not be read; nothing was written then. `Write` where the sink failed;
+/// a beginning of the text was written.
 pub fn carry_run<I: Source, O: Sink>(
     alloc: Global,
     source: &mut I,
@@ -55,7 +56,7 @@ pub fn carry_run<I: Source, O: Sink>(
     }
 }
 
-/// What carrying a log over came to.
+/// The fate of carrying a log over.
 fn fate_of_carrying(answer: Result<(), CarryFault>) -> Fate
     ensures { result ≡ fate_of_carrying answer }
 {

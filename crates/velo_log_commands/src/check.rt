@@ -41,12 +41,12 @@ pub fn fault_of(fault: LogReplayFault) -> CheckFault
     }
 }
 
-/// The world of a log, all of whose events came about again in it, after its end. The log becomes the world's. The
-/// configuration has to go on after an alarm.
+/// The world of a log, all of whose events came about again in it, after its end. The log becomes
+/// the world's. The configuration has to go on after an alarm.
 ///
 /// # Errors
-/// `Refused` or `WrongValue` at the first event that can't come about, by the rule of `check_run`; `Memory` where a growth was
-/// refused.
+/// `Refused` or `WrongValue` at the first event that cannot happen, by the rule of `check_run`;
+/// `Memory` if an allocation failed.
 pub fn do_log(alloc: Global, config: Config, log: Trace) -> Result<Closed, CheckFault>
     requires goes_on { config.stop ≡ false }
     ensures ok { IfOk result (λ closed. closed ≡ world_of config log.events) }
@@ -67,9 +67,9 @@ pub fn do_log(alloc: Global, config: Config, log: Trace) -> Result<Closed, Check
     }
 }
 
-/// The configuration of a check, which goes on after an alarm: the bounds of the log, the most events that it may have,
-/// 1 to [`MAX_EVENTS`](velo_events::MAX_EVENTS), and the most nodes that the graph may have at one time, 1 to
-/// [`MAX_NODES`](velo_events::MAX_NODES).
+/// The configuration of a check, which goes on after an alarm: the bounds of the log, the most
+/// events that it may have, 1 to [`MAX_EVENTS`](velo_events::MAX_EVENTS), and the most nodes that
+/// the graph may have at one time, 1 to [`MAX_NODES`](velo_events::MAX_NODES).
 pub fn config_of(bounds: Bounds, events: u32, nodes: u16) -> Config
     requires bounds { AreBounds bounds }
     requires events { (1 ≤ events) × (events ≤ MAX_EVENTS) }
@@ -103,7 +103,8 @@ fn show<O: Sink>(
     }
 }
 
-/// Writes what a closed world shows. The certificate, if it is asked for, is made before the first byte goes out.
+/// Writes what a closed world shows. The certificate, if it is asked for, is made before the first
+/// byte goes out.
 fn write_answer<O: Sink>(
     alloc: Global,
     closed: &Closed,
@@ -139,7 +140,8 @@ pub fn finish<O: Sink>(
     answer
 }
 
-/// The world of the log that a source gives, all of whose events came about again in it, after its end.
+/// The world of the log that a source gives, all of whose events came about again in it, after its
+/// end.
 ///
 /// # Errors
 /// As `check_run`, but for `Write`.
@@ -168,16 +170,19 @@ pub fn do_input<I: Source>(
     }
 }
 
-/// Reads a whole log, does its events one after another, and writes the report, and behind it, if it is asked for, the
-/// certificate of the verdict: the lines of a serial order, or with an alarm the line of a shortest cycle at its position.
+/// Reads a whole log, does its events one after another, and writes the report, and after it, if it
+/// is asked for, the certificate of the verdict: the lines of a serial order, or with an alarm the
+/// line of a shortest cycle at its position.
 ///
-/// The limits are the most events that the log may have, 1 to [`MAX_EVENTS`](velo_events::MAX_EVENTS), and the most nodes
-/// that the graph may have at one time, 1 to [`MAX_NODES`](velo_events::MAX_NODES).
+/// The limits are the most events that the log may have, 1 to
+/// [`MAX_EVENTS`](velo_events::MAX_EVENTS), and the most nodes that the graph may have at one time,
+/// 1 to [`MAX_NODES`](velo_events::MAX_NODES).
 ///
 /// # Errors
-/// A fault of the text comes before any other; else the first event that can't come about decides, and a refusal there
-/// comes before a wrong value, and this before the limits of events and of nodes. Every fault but `Write` has written nothing; after
-/// `Write` a beginning of the report, or of the certificate behind it, was written.
+/// A fault of the text comes before any other; else the first event that cannot happen decides, and
+/// a refusal there comes before a wrong value, and this before the limits of events and of nodes.
+/// Every fault but `Write` has written nothing; after `Write` a beginning of the report, or of the
+/// certificate after it, was written.
 pub fn check_run<I: Source, O: Sink>(
     alloc: Global,
     source: &mut I,
@@ -219,7 +224,7 @@ fn check_source<I: Source, O: Sink>(
     }
 }
 
-/// What a check came to.
+/// The fate of a check.
 pub fn fate_of(answer: Result<Verdict, CheckFault>) -> Fate
     ensures { result ≡ fate_of answer }
 {
@@ -233,7 +238,7 @@ pub fn fate_of(answer: Result<Verdict, CheckFault>) -> Fate
     }
 }
 
-/// Checks the log that was asked for, and tells it by the names.
+/// Checks the log that was asked for, and reports it by the names.
 fn check_named<F: Files, O: Sink>(
     alloc: Global,
     options: &CheckOptions,

@@ -37,7 +37,7 @@ use velo_world::Closed;
 /// Saves a text at a path.
 ///
 /// # Errors
-/// `CannotOpen` where no file opens there; `WriteFailed` where it failed, behind a beginning.
+/// `CannotOpen` where no file opens there; `WriteFailed` where it failed, after a beginning.
 fn save_text<F: Files>(text: &[u8], path: &str, files: &mut F) -> Result<(), Fate>
     ensures { IsSaved (store F.disk files.old files.new) (Some path.entry) text.now result }
 {

@@ -126,7 +126,7 @@ fn variables_of(alloc: Global, ids: &[u16]) -> Result<Vec<VarId>, Memory>
 /// The locks that the words mean, each a number or a name.
 ///
 /// # Errors
-/// `Ignored` where a word means none, `Memory` where a growth was refused.
+/// `Ignored` where a word means none, `Memory` if an allocation failed.
 pub fn ignored_locks(alloc: Global, names: &Names, words: &[&str]) -> Result<Vec<LockId>, Fate>
     ensures locks { IfOk result (λ locks. ids_by names.now OfLock words.now
         ≡ Some (map (λ (m : LockOf). m.0) locks.items)) }

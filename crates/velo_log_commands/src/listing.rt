@@ -14,7 +14,7 @@ use velo_names::{MAX_NAMES_BYTES, Names};
 /// The labels that the bytes of a list mean by these names.
 ///
 /// # Errors
-/// `List` with the fault for which they are none, `Memory` where a growth was refused.
+/// `List` with the fault by which they are none, `Memory` if an allocation failed.
 fn labels_in(alloc: Global, names: &Names, bytes: &[u8]) -> Result<Vec<Label>, Fate>
     ensures labels { IfOk result (λ labels. MeansLabels names.now bytes.now (numbers labels.items)) }
     ensures fault { IfErr result (AreNoList bytes.now) }
@@ -50,8 +50,8 @@ fn labels_at<F: Files>(
 /// The labels of the list, if one was given, and else none.
 ///
 /// # Errors
-/// `CannotOpen` where it does not open, `ReadFailed` where it failed, `List` with its fault, `Memory` where a growth was
-/// refused.
+/// `CannotOpen` where it does not open, `ReadFailed` where it failed, `List` with its fault,
+/// `Memory` if an allocation failed.
 pub fn labels_of<F: Files>(
     alloc: Global,
     names: &Names,

@@ -37,7 +37,7 @@ pub(crate) fn read_given<F: Files>(
 /// The names that the bytes of a file say, if one was given, and else none.
 ///
 /// # Errors
-/// `Names` with the fault for which they say none.
+/// `Names` with the fault by which they say none.
 fn names_in<'a>(alloc: Global, path: Option<&str>, bytes: &'a [u8]) -> Result<Names<'a>, Fate>
     ensures names { IfOk result (AreNamesIn path.entry bytes.now) }
     ensures fault { IfErr result (AreNoNamesIn path.entry bytes.now) }
@@ -63,7 +63,7 @@ pub fn shown_by<'a>(path: Option<&str>, names: &'a Names<'a>) -> ReportNames<'a>
 
 /// What is done by the names of a file, if one is given.
 pub trait ByNames {
-    /// What it comes to.
+    /// The fate.
     ghost does: { Self → NameLists → Store → Writing → FateOf → Type 0 };
 
     /// Does it by these names.

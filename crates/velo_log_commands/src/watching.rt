@@ -31,8 +31,8 @@ fn fault_of_watch(fault: WatchFault) -> CheckFault
     }
 }
 
-/// Lets the events of a log come about, up to its end, or where that is asked for up to the event that closes the first cycle.
-/// This is told as soon as it has come.
+/// Lets the events of a log happen, up to its end, or if that is asked for up to the event that
+/// closes the first cycle. This is printed as soon as it has happened.
 fn follow<I: Source, O: Sink>(
     watch: &mut Watch,
     stop: bool,
@@ -56,7 +56,8 @@ fn follow<I: Source, O: Sink>(
     Ok(())
 }
 
-/// The world of the events that were read, after its end; the line of their alarm, if they have one, was written.
+/// The world of the events that were read, after its end; the line of their alarm, if they have
+/// one, was written.
 fn watch_input<I: Source, O: Sink>(
     alloc: Global,
     options: &WatchOptions,
@@ -84,8 +85,8 @@ fn watch_input<I: Source, O: Sink>(
     }
 }
 
-/// Watches a log: its alarm is told at once, and its report by the names at the end, with its certificate if that was asked
-/// for.
+/// Watches a log: its alarm is printed at once, and its report by the names at the end, with its
+/// certificate if that was asked for.
 fn watch_log<I: Source, O: Sink>(
     alloc: Global,
     options: &WatchOptions,
@@ -104,7 +105,7 @@ fn watch_log<I: Source, O: Sink>(
     fate_of(answer)
 }
 
-/// Watches the log that was asked for, and tells it by the names.
+/// Watches the log that was asked for, and reports it by the names.
 fn watch_named<F: Files, O: Sink>(
     alloc: Global,
     options: &WatchOptions,

@@ -1,9 +1,9 @@
 -- What the program does: the table of its commands. Read this page first.
 --
 -- What a command does is one definition, whose lines are its steps: that of a command on a recorded
--- log stands in `Commands` of `velo_log_commands`, that of a command on a workload in `Commands` of
+-- log is in `Commands` of `velo_log_commands`, that of a command on a workload in `Commands` of
 -- `velo_workload_commands`. The store is the files that the command finds and leaves, stdout is
--- standard output before and after, and f is what the command comes to.
+-- standard output before and after, and f is the command's fate.
 use Rattle.velo_delivery.specs.Disk.{Store}
 use Rattle.velo_delivery.specs.Writing.{Writing}
 use Rattle.velo_fate.specs.declared.fate.Fate.{Fate}

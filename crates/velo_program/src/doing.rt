@@ -14,9 +14,9 @@ use velo_log_commands::{audit_file, carry_file, check_file, explain_file, watch_
 use velo_request::Request;
 use velo_workload_commands::{ExploreProgress, explore_file, replay_file, run_file};
 
-/// Does what was asked for, with the report, the certificate or the words of an explanation on the sink, and returns what it
-/// came to. How far a search is goes to `progress`. A run of a workload by threads of its own may wait; the other commands start
-/// no thread.
+/// Does what was asked for, with the report, the certificate or the words of an explanation on the
+/// sink, and returns its fate. How far a search is goes to `progress`. A run of a workload by
+/// threads of its own may wait; the other commands start no thread.
 pub fn do_request<R: Threads + Wait + Sync, F: Files, O: Sink, P: ExploreProgress>(
     rt: &R,
     alloc: Global,

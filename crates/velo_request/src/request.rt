@@ -8,7 +8,8 @@ ghost use Rattle.velo_request.specs.declared.request.TheConstants.{MAX_RUNS, MAX
 pub struct Limits {
     /// The most events that the log may have, 1 to [`MAX_EVENTS`](velo_events::MAX_EVENTS).
     pub events: u32,
-    /// The most nodes that the graph may have at one time, 1 to [`MAX_NODES`](velo_events::MAX_NODES).
+    /// The most nodes that the graph may have at one time, 1 to
+    /// [`MAX_NODES`](velo_events::MAX_NODES).
     pub nodes: u16,
     ghost some_event: { 1 ≤ events },
     ghost few_events: { events ≤ MAX_EVENTS },
@@ -23,9 +24,9 @@ pub struct CheckOptions<'a> {
     pub input: &'a str,
     /// The limits within which the log is checked.
     pub limits: Limits,
-    /// Whether the certificate of the verdict is written behind the report.
+    /// Whether the certificate of the verdict is written after the report.
     pub certificate: bool,
-    /// The path of the names that the report tells, or `-`.
+    /// The path of the names that the report prints, or `-`.
     pub names: Option<&'a str>,
 }
 
@@ -42,11 +43,11 @@ pub struct RunOptions<'a> {
     pub names_target: Option<&'a str>,
     /// The limits of the run.
     pub limits: Limits,
-    /// Whether the certificate of the verdict is written behind the report.
+    /// Whether the certificate of the verdict is written after the report.
     pub certificate: bool,
 }
 
-/// Where a schedule stands, and in which form.
+/// Where a schedule is, and in which form.
 #[derive(Clone, Copy, Debug)]
 pub enum ScheduleSource<'a> {
     /// This is its text, as [`schedule_of`](velo_turns::schedule_of) takes it.
@@ -60,7 +61,7 @@ pub enum ScheduleSource<'a> {
 /// What `velodrome replay` was asked for.
 #[derive(Clone, Copy, Debug)]
 pub struct ReplayOptions<'a> {
-    /// Where the schedule stands.
+    /// Where the schedule is.
     pub schedule: ScheduleSource<'a>,
     /// The rest, which is as for `velodrome run`.
     pub run: RunOptions<'a>,
@@ -73,7 +74,7 @@ pub struct ExplainOptions<'a> {
     pub input: &'a str,
     /// The path where the picture of the cycle is saved.
     pub target: Option<&'a str>,
-    /// The path of the names that the words tell, or `-`.
+    /// The path of the names that the words print, or `-`.
     pub names: Option<&'a str>,
     /// The path of the sites of the log's events, or `-`.
     pub sites: Option<&'a str>,
@@ -91,13 +92,13 @@ pub struct CarryOptions<'a> {
 /// The most states that a search may look at.
 pub const MAX_STATES: u32 = 16_777_216;
 
-/// The most runs by chance: each is a whole replay.
+/// The most random runs: each is a whole replay.
 pub const MAX_RUNS: u32 = 1_000_000;
 
-/// The seed of runs by chance where none is given.
+/// The seed of random runs where none is given.
 pub const DEFAULT_SEED: u64 = 1;
 
-/// Runs of a workload whose turns are drawn by chance.
+/// Random runs of a workload: their turns are drawn randomly.
 #[derive(Clone, Copy, Debug)]
 pub struct RandomRuns {
     /// How many runs there are, 1 to [`MAX_RUNS`].
@@ -117,17 +118,17 @@ pub struct ExploreOptions<'a> {
     pub states: u32,
     /// Whether the first finding ends the search.
     pub first: bool,
-    /// The path where the log of the replay that is told is saved.
+    /// The path where the log of the reported replay is saved.
     pub target: Option<&'a str>,
-    /// The path where the names of the workload are saved, behind that log.
+    /// The path where the names of the workload are saved, after that log.
     pub names_target: Option<&'a str>,
     /// The limits of a replay.
     pub limits: Limits,
-    /// Whether the certificate of the verdict is written behind the report.
+    /// Whether the certificate of the verdict is written after the report.
     pub certificate: bool,
-    /// Whether the progress of the search is told wherever standard error goes.
+    /// Whether the progress of the search is printed wherever standard error goes.
     pub progress: bool,
-    /// The runs by chance that stand for the search, if they are asked for.
+    /// The random runs in place of the search, if they are asked for.
     pub random: Option<RandomRuns>,
     ghost some_state: { 1 ≤ states },
     ghost few_states: { states ≤ MAX_STATES },
@@ -142,9 +143,9 @@ pub struct WatchOptions<'a> {
     pub stop: bool,
     /// The limits within which the log is checked.
     pub limits: Limits,
-    /// Whether the certificate of the verdict is written behind the report.
+    /// Whether the certificate of the verdict is written after the report.
     pub certificate: bool,
-    /// The path of the names that the report tells, or `-`.
+    /// The path of the names that the report prints, or `-`.
     pub names: Option<&'a str>,
 }
 
@@ -153,7 +154,7 @@ pub struct WatchOptions<'a> {
 pub struct AuditOptions<'a> {
     /// The path of the log, or `-`.
     pub input: &'a str,
-    /// The path of the names that are told, or `-`.
+    /// The path of the names that are printed, or `-`.
     pub names: Option<&'a str>,
     /// The path of the list of labels that are known already, or `-`.
     pub known: Option<&'a str>,
@@ -161,7 +162,7 @@ pub struct AuditOptions<'a> {
     pub ignored_locks: &'a [&'a str],
     /// The variables that are left out, each a number or a name.
     pub ignored_variables: &'a [&'a str],
-    /// Whether the witness of each round is told.
+    /// Whether the witness of each round is printed.
     pub witness: bool,
     /// The limits within which the log is checked.
     pub limits: Limits,

@@ -74,8 +74,8 @@ impl Files for HostFiles<'_> {
     }
 }
 
-/// Whether both are of one regular file, by its device and its inode. Only such a file loses what it has when it is opened to be
-/// written.
+/// Whether both are of one regular file, by its device and its inode. Only such a file loses what
+/// it has when it is opened to be written.
 fn is_same_file(one: &Metadata, other: &Metadata) -> bool {
     one.is_file() && other.is_file() && (one.dev(), one.ino()) == (other.dev(), other.ino())
 }

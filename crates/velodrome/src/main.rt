@@ -1,4 +1,4 @@
-//! Tells whether the atomic blocks of an observed run can be serialized.
+//! Checks whether the atomic blocks of an observed run can be serialized.
 #![tactic(auto)]
 
 mod host;

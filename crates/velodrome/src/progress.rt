@@ -8,25 +8,25 @@ use std::time::{Clock, Duration};
 use velo_bytes::{Sink, write_all};
 use velo_program::{ExploreProgress, Progress};
 
-/// A search that takes no longer is not told of on a terminal, and lines that stay are no nearer to one another: in
-/// milliseconds.
+/// A search that takes no longer is not reported on a terminal, and lines that stay are no nearer
+/// to one another: in milliseconds.
 const PAUSE: u128 = 2_000;
 
 /// A line that is written over is not written more often: in milliseconds.
 const BLINK: u128 = 100;
 
-/// When a search is told of, and in what form.
+/// When the progress of a search is printed, and in what form.
 #[derive(Clone, Copy, Debug)]
 struct Manner {
     /// Each line is written over the one before.
     over: bool,
-    /// How long a search takes at least that is told of, in milliseconds.
+    /// How long a search takes at least whose progress is printed, in milliseconds.
     patience: u128,
     /// How far the lines are at least from one another, in milliseconds.
     pause: u128,
 }
 
-/// In what manner a search is told of, if it is.
+/// In what manner the progress of a search is printed, if it is.
 fn manner_of(is_terminal: bool, always: bool) -> Option<Manner> {
     match (is_terminal, always) {
         (true, _) => Some(Manner {
@@ -43,23 +43,23 @@ fn manner_of(is_terminal: bool, always: bool) -> Option<Manner> {
     }
 }
 
-/// Tells how far a search is.
+/// Prints how far a search is.
 #[derive(Drop)]
 pub struct ProgressLine<'a, C, S> {
     clock: &'a C,
     alloc: Global,
     sink: S,
     is_terminal: bool,
-    /// In what manner the search is told of, if it is.
+    /// In what manner the progress is printed, if it is.
     manner: Option<Manner>,
     /// When the search began, on the clock.
     begun: Duration,
-    /// How many milliseconds the search had taken when it was last told of, if it was.
+    /// How many milliseconds the search had taken when its progress was last printed, if it was.
     told: Option<u128>,
 }
 
 impl<'a, C: Clock, S: Sink> ProgressLine<'a, C, S> {
-    /// Tells it on a sink that is a terminal, or is none.
+    /// Prints it on a sink that is a terminal, or is none.
     pub fn new(clock: &'a C, alloc: Global, sink: S, is_terminal: bool) -> ProgressLine<'a, C, S> {
         ProgressLine {
             clock,
@@ -72,7 +72,8 @@ impl<'a, C: Clock, S: Sink> ProgressLine<'a, C, S> {
         }
     }
 
-    /// Tells of a search that has taken so many milliseconds. Behind a failure nothing more is told.
+    /// Prints the progress of a search that has taken `taken` milliseconds. After a failure nothing
+    /// more is printed.
     fn tell(&mut self, over: bool, taken: u128, levels: u64, states: u64) {
         self.told = Some(taken);
         let (before, after) = if over { ("\r", "\x1b[K") } else { ("", "\n") };
@@ -90,12 +91,13 @@ impl<'a, C: Clock, S: Sink> ProgressLine<'a, C, S> {
     }
 }
 
-/// How many of the states were looked at in a second, of so many milliseconds.
+/// How many of the states were looked at in a second, of `taken` milliseconds.
 fn states_a_second(states: u64, taken: u128) -> u128 {
     u128::from(states) * 1000 / max(taken, 1)
 }
 
-/// Whether it is time to tell of a search that has taken so many milliseconds, and was last told of then.
+/// Whether it is time to print the progress of a search that has taken `taken` milliseconds, and
+/// was last printed then.
 fn is_due(manner: Manner, taken: u128, told: Option<u128>) -> bool {
     match told {
         Some(told) => taken.saturating_sub(told) >= manner.pause,
@@ -136,8 +138,8 @@ impl<C: Clock, S: Sink> ExploreProgress for ProgressLine<'_, C, S> {
     }
 }
 
-/// Whether a file of this mode, for this device, is a terminal: a character device with the major number of terminals, consoles
-/// or their pseudo ones, as Linux counts them.
+/// Whether a file of this mode, for this device, is a terminal: a character device with the major
+/// number of terminals, consoles or their pseudo ones, as Linux counts them.
 fn is_terminal_device(mode: u32, device: u64) -> bool {
     let major = device >> 8 & 0xfff;
     mode & 0o170_000 == 0o020_000 && matches!(major, 4 | 5 | 136..=143)

@@ -35,7 +35,7 @@ const LOST_UPDATE_CERTIFIED: &str =
 
 const FILES: [(&str, &str); 2] = [("a.log", LOST_UPDATE), ("b.log", "vlog 1 1 0 0\n")];
 
-/// Files by their paths, which come so many bytes at a time. Standard input is the first of them.
+/// Files by their paths, which come a few bytes at a time. Standard input is the first of them.
 #[derive(Drop)]
 struct Folder<'a> {
     files: &'a [(&'a str, &'a str)],
@@ -129,7 +129,7 @@ fn show_on<R: Threads + Wait + Sync, F: Files>(
     Shown { out, err, status }
 }
 
-/// Runs the program on these words. Both outputs take so many bytes at a time as the logs give.
+/// Runs the program on these words. Both outputs take as many bytes at a time as the logs give.
 fn show<R: Threads + Wait + Sync>(rt: &R, words: &[&str], folder: &mut Folder) -> Shown {
     let alloc = folder.alloc;
     let out = Text::new(alloc).in_steps(folder.step);
@@ -143,7 +143,7 @@ fn compare(rt: &impl Abort, shown: &Shown, out: &str, err: &str, status: u8, tex
     assert_eq!(rt; told, (out.as_bytes(), err.as_bytes(), status), "{text}");
 }
 
-/// Runs the program on these words with a standard output that fails after so many bytes.
+/// Runs the program on these words with a standard output that fails after a number of bytes.
 fn show_short<R: Threads + Wait + Sync, F: Files>(
     rt: &R,
     alloc: Global,

@@ -8,7 +8,7 @@ use velo_bytes::{Bytes, Text};
 use velo_command::run;
 use velo_program::{Files, Quiet};
 
-/// Two paths, and whether one regular file stands at both.
+/// Two paths, and whether one regular file is at both.
 const PATHS: [(&str, &str, bool); 6] = [
     ("/proc/self/exe", "/proc/self/exe", true),
     ("/proc/self/exe", "/proc/../proc/self/exe", true),
@@ -67,7 +67,8 @@ impl Files for Linked {
     }
 }
 
-/// The words behind the program's name, the line on standard error, the status, and whether a file was opened to be written.
+/// The words after the program's name, the line on standard error, the status, and whether a file
+/// was opened to be written.
 type Row = (&'static [&'static str], &'static str, u8, bool);
 
 const LOG_AND_OUT: &str = "error: LOG and OUT are one file\n";

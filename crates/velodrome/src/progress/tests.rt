@@ -1,4 +1,4 @@
-//! When the progress of a search is told, and in which words.
+//! When the progress of a search is printed, and in which words.
 use crate::progress::{ProgressLine, is_terminal_device};
 use std::alloc::Global;
 use std::cell::Cell;
@@ -24,7 +24,8 @@ impl Clock for Hand {
     }
 }
 
-/// Whether standard error is a terminal, whether progress is told always, and what is told of the levels below.
+/// Whether standard error is a terminal, whether progress is printed always, and what is printed of
+/// the levels below.
 const MANNERS: [(bool, bool, &str); 4] = [
     (
         true,
@@ -44,7 +45,8 @@ const MANNERS: [(bool, bool, &str); 4] = [
     ),
 ];
 
-/// Levels: the number of each, how long the search has taken, in milliseconds, and how many states it has looked at.
+/// Levels: the number of each, how long the search has taken, in milliseconds, and how many states
+/// it has looked at.
 const LEVELS: [(u64, u64, u64); 5] = [
     (1, 1, 5),
     (2, 1000, 30),
@@ -53,7 +55,7 @@ const LEVELS: [(u64, u64, u64); 5] = [
     (5, 2100, 630),
 ];
 
-/// Compares what is told of the levels. Behind the end nothing is.
+/// Compares what is printed of the levels. After the end nothing is.
 fn compare(rt: &impl Abort, alloc: Global, is_terminal: bool, always: bool, text: &str) {
     let clock = Hand {
         millis: Cell::new(7),
@@ -78,7 +80,8 @@ fn progress_is_told_in_time(rt: HostRuntime) {
     }
 }
 
-/// Modes and devices, with whether they are of terminals: of a pseudo one, a console, the null device, a disk, a file.
+/// Modes and devices, with whether they are of terminals: of a pseudo one, a console, the null
+/// device, a disk, a file.
 const DEVICES: [(u32, u64, bool); 6] = [
     (0o020_620, 136 << 8 | 2, true),
     (0o020_620, 4 << 8 | 64, true),

@@ -32,7 +32,7 @@ block 7 flush, from line 3: line 5 `1 wr 0 5` must come after its begin and befo
 atomic 0 labels\n\
 rounds 2\n";
 
-/// What the program tells of these files.
+/// What the program prints for these files.
 struct Told {
     words: &'static [&'static str],
     log: &'static str,
@@ -86,7 +86,7 @@ static TOLD: [Told; 13] = [
         err: "cannot open\n",
         status: 5,
     },
-    // the log is judged before anything is told
+    // the log is judged before anything is printed
     Told {
         words: &["velodrome", "audit", "a", "--names", "n"],
         log: UNREADABLE,
@@ -180,7 +180,7 @@ const LOCKED: &str =
 
 const BOTH: &str = "label 7 f\nlabel 9 f\nlock 0 m\nlock 1 m\nvariable 0 m\n";
 
-/// What the program tells of these files, of which one is a list of labels.
+/// What the program prints for these files, of which one is a list of labels.
 struct Listed {
     words: &'static [&'static str],
     log: &'static str,
@@ -261,7 +261,7 @@ static LISTED: [Listed; 8] = [
         err: "",
         status: 0,
     },
-    // but told with its number it is one of them
+    // but printed with its number it is one of them
     Listed {
         words: WITH_LIST,
         log: NESTED,
@@ -294,7 +294,7 @@ static LISTED: [Listed; 8] = [
 ];
 
 static AT_FAULT: [Listed; 9] = [
-    // the list is read before the log, and behind the names
+    // the list is read before the log, and after the names
     Listed {
         words: WITH_LIST,
         log: UNREADABLE,
@@ -350,7 +350,7 @@ static AT_FAULT: [Listed; 9] = [
         err: "cannot open\n",
         status: 5,
     },
-    // what is ignored is judged behind the list
+    // what is ignored is judged after the list
     Listed {
         words: &[
             "velodrome",

@@ -14,7 +14,8 @@ pub const CARRIED: &str = "vlog 2 2 1 0\n0 fork 1\n0 begin 7\n0 rd 0 0\n1 wr 0 5
 /// Words that carry a log over.
 const TO_A_FILE: &[&str] = &["velodrome", "carry", "a.log", "--log", "o.log"];
 
-/// What the program does with a log: what the file takes, the line on standard error, and the status.
+/// What the program does with a log: what the file takes, the line on standard error, and the
+/// status.
 struct Run {
     words: &'static [&'static str],
     log: &'static str,
@@ -45,7 +46,7 @@ static RUNS: [Run; 14] = [
         err: "",
         status: 0,
     },
-    // Whether its events can come about is not judged.
+    // Whether its events can happen is not judged.
     Run {
         words: TO_A_FILE,
         log: "vlog 1 1 0 0\n0 end\n",
@@ -125,7 +126,7 @@ static RUNS: [Run; 14] = [
     },
 ];
 
-/// Carries a log over that comes so many bytes at a time. Nothing goes to standard output.
+/// Carries a log over that comes `step` bytes at a time. Nothing goes to standard output.
 fn carry<R: Threads + Wait + Abort + Sync>(rt: &R, alloc: Global, run: &Run, step: usize) {
     let files = [("a.log", run.log)];
     let mut folder = Folder::new(alloc, &files, step);

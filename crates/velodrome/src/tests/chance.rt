@@ -1,4 +1,4 @@
-//! Live runs whose threads are held up by chance.
+//! Live runs whose threads are held up randomly.
 use std::alloc::Global;
 use std::process::Abort;
 use std::sync::Wait;
@@ -14,8 +14,8 @@ use velo_worker::{Ending, Gate, live};
 use velo_workload::parse;
 use velo_world::Closed;
 
-/// Two threads that add to one variable in blocks; then under a lock, once, or twice; two that take two locks in opposite
-/// orders; and two of which one reads under a lock that it shares.
+/// Two threads that add to one variable in blocks; then under a lock, once, or twice; two that take
+/// two locks in opposite orders; and two of which one reads under a lock that it shares.
 const WORKLOADS: [&str; 5] = [
     "var x\nthread main\nfork a\nbegin inc\nread x\nadd 1\nwrite x\nend\njoin a\nthread a\nbegin inc\nread x\nadd 1\nwrite x\nend\n",
     "var x\nlock m\nthread main\nfork a\nbegin inc\nacquire m\nread x\nadd 1\nwrite x\nrelease m\nend\njoin a\nthread a\nbegin inc\nacquire m\nread x\nadd 1\nwrite x\nrelease m\nend\n",
@@ -24,7 +24,7 @@ const WORKLOADS: [&str; 5] = [
     "var x\nlock m\nthread main\nfork a\nbegin look\nshare m\nread x\nunshare m\nshare m\nread x\nunshare m\nend\njoin a\nthread a\nbegin inc\nacquire m\nread x\nadd 1\nwrite x\nrelease m\nend\n",
 ];
 
-/// A gate at which each thread sleeps for a time by chance before some of its events.
+/// A gate at which each thread sleeps for a random time before some of its events.
 #[derive(Drop)]
 struct Sleepy<'a, R: Clock> {
     rt: &'a R,
@@ -63,7 +63,7 @@ fn compare(rt: &impl Abort, alloc: Global, closed: &Closed) {
     drop((log, list, shown, checked));
 }
 
-/// Runs a workload by threads that are held up by chance, and compares what it shows.
+/// Runs a workload by threads that are held up randomly, and compares what it shows.
 fn run_by_chance<R: Threads + Wait + Clock + Abort + Sync>(rt: &R, alloc: Global, seed: u64) {
     let workload = parse(alloc, WORKLOADS[(seed % 5) as usize]).expect(rt, "a workload");
     let config = Config::new(seed, workload.bounds(), 64, 64, false).expect(rt, "a configuration");

@@ -9,7 +9,8 @@ use velo_command::{end_without_words, help};
 use velo_events::{MAX_EVENTS, MAX_NODES, MAX_THREADS, Refusal};
 use velo_program::{DEFAULT_SEED, MAX_RUNS, MAX_STATES};
 
-/// Right words, with the status and standard error: of the two logs one raises an alarm at its last event.
+/// Right words, with the status and standard error: of the two logs one raises an alarm at its last
+/// event.
 const RIGHT_WORDS: [(&[&str], u8, &str); 9] = [
     (&["velodrome", "check", "-"], 3, ""),
     (&["velodrome", "check", "--certificate", "a.log"], 3, ""),
@@ -238,7 +239,8 @@ const WORDS_APART: [(&[&str], &str); 18] = [
     ),
 ];
 
-/// Compares the status of a run and its standard error. It wrote to standard output with a status up to 3 alone.
+/// Compares the status of a run and its standard error. It wrote to standard output with a status
+/// up to 3 alone.
 fn compare_right(rt: &impl Abort, shown: &Shown, status: u8, err: &str) {
     let told = (
         shown.status,
@@ -292,7 +294,7 @@ fn words_that_do_not_go_together(rt: HostRuntime) {
     drop(folder);
 }
 
-/// Words that ask for help, and what stands at its end.
+/// Words that ask for help, and its end.
 const HELP: [(&[&str], &str); 13] = [
     (&["velodrome", "replay", "--help"], help::OF_REPLAY),
     (&["velodrome", "run", "--help"], help::OF_RUN),
@@ -346,7 +348,7 @@ const LIMITS: [(&str, &str, u32, &str); 14] = [
     ("audit", "at once, 1 to ", MAX_NODES as u32, " ["),
 ];
 
-/// Whether these words stand in what went to standard output.
+/// Whether standard output has these words.
 fn has_words(shown: &Shown, words: &str) -> bool {
     let out = str::from_utf8(shown.out.as_slice());
     out.is_ok_and(|help| help.contains(words))
@@ -376,7 +378,7 @@ fn help_without_standard_output(rt: HostRuntime) {
     drop(folder);
 }
 
-/// The refusals that a check can answer.
+/// The refusals that a check can report.
 const REFUSALS: [Refusal; 17] = [
     Refusal::NotLive,
     Refusal::NoSuchVariable,
@@ -408,7 +410,7 @@ fn help_has_the_texts_of_refusals(rt: HostRuntime) -> Result<(), Fail> {
     Ok(())
 }
 
-/// What a program without words tells of a fault, with its status.
+/// What a program without words prints for a fault, with its status.
 const WORDLESS: [(ErrorKind, &str, u8); 2] = [
     (ErrorKind::OutOfMemory, "out of memory\n", 5),
     (
@@ -418,7 +420,7 @@ const WORDLESS: [(ErrorKind, &str, u8); 2] = [
     ),
 ];
 
-/// Ends without words, with a standard error that fails after so many bytes.
+/// Ends without words, with a standard error that fails after `room` bytes.
 fn show_wordless(alloc: Global, kind: ErrorKind, room: usize) -> Shown {
     let mut err = Text::new(alloc).failing_after(room);
     let status = end_without_words(kind, &mut err);

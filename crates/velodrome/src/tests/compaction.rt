@@ -1,4 +1,5 @@
-//! Graphs with too few nodes for all that is live. From the square of the threads on blocks give way, and none is refused.
+//! Graphs with too few nodes for all that is live. From the square of the threads on blocks give
+//! way, and none is refused.
 use crate::tests::{Folder, compare, show};
 use std::alloc::{AllocError, Global};
 use std::process::Abort;
@@ -65,7 +66,8 @@ vlog 1 2 1 0
 const WRITTEN_AGAIN_REPORT: &str =
     "events 24\nthread 0 5\nthread 1 19\nverdict alarm 23\ntransaction 1\nblame 1 1\ncycle 1 3\n";
 
-/// A block that forks a thread, whose 50 blocks it joins. Its lines come in one order alone, with threads of its own too.
+/// A block that forks a thread, whose 50 blocks it joins. Its lines come in one order alone, with
+/// threads of its own too.
 const FORKED_INSIDE: &str =
     "thread main\nbegin all\nfork a\njoin a\nend\nthread a\nrepeat 50\nbegin one\nend\ndone\n";
 
@@ -75,7 +77,7 @@ const FORKED_INSIDE_REPORT: &str =
 /// What the first two of the 50 blocks leave, where the third one finds no node.
 const CUT_SHORT_REPORT: &str = "events 6\nthread 0 main 2\nthread 1 a 4\nverdict clean\n";
 
-/// What the program does with a text by so many nodes.
+/// What the program does with a text by a number of nodes.
 struct Run {
     words: &'static [&'static str],
     nodes: &'static str,
@@ -196,7 +198,8 @@ fn blocks_give_way(rt: HostRuntime) {
     }
 }
 
-/// A write of an open block, so many blocks of another thread, each of which reads it, and a write that closes a cycle.
+/// A write of an open block, `blocks` blocks of another thread, each of which reads it, and a write
+/// that closes a cycle.
 fn long_log(alloc: Global, blocks: usize) -> Result<String, Fail> {
     let mut log = String::from_str(alloc, "vlog 1 2 1 0\n0 fork 1\n0 begin 7\n0 wr 0 1\n")?;
     for _ in 0..blocks {
@@ -225,7 +228,8 @@ To blame in thread 0:
   block 7, from line 3: line 6 `1 rd 0 1` must come after its begin and before line 15005
 ";
 
-/// An explanation has 4,096 nodes. With 5,000 blocks that an open one reaches some have to give way.
+/// An explanation has 4,096 nodes. With 5,000 blocks that an open one reaches some have to give
+/// way.
 #[test]
 fn a_long_log_is_explained(rt: HostRuntime) -> Result<(), Fail> {
     let log = long_log(rt.alloc(), 5_000)?;

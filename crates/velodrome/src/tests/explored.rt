@@ -37,7 +37,7 @@ const JOINED: &str =
 const SHARED: &str =
     "lock m\nlock n\nthread main\nfork a\nfork b\nacquire n\nacquire m\nrelease m\nrelease n\nthread a\nshare m\nacquire n\nrelease n\nunshare m\nthread b\nshare m\nacquire n\nrelease n\nunshare m\n";
 
-/// How a workload is explored, and what that comes to. Of no log nothing was opened.
+/// How a workload is explored, and the outcome. Without a log nothing was opened.
 struct Row {
     workload: &'static str,
     states: u32,
@@ -45,7 +45,7 @@ struct Row {
     first: bool,
     target: Option<&'static str>,
     certificate: bool,
-    /// How many runs by chance are made, and their seed.
+    /// How many random runs are made, and their seed.
     random: Option<(u32, u64)>,
     out: &'static str,
     err: &'static str,
@@ -187,7 +187,7 @@ static ROWS: [Row; 24] = [
         status: 2,
         ..ASKED
     },
-    // runs by chance
+    // random runs
     Row {
         random: Some((50, 1)),
         target: Some("o"),
@@ -257,7 +257,7 @@ static ROWS: [Row; 24] = [
     },
 ];
 
-/// The runs by chance that are asked for.
+/// The random runs that are asked for.
 fn runs_of(random: Option<(u32, u64)>) -> Option<RandomRuns> {
     match random {
         Some((runs, seed)) => Some(RandomRuns {
@@ -268,7 +268,7 @@ fn runs_of(random: Option<(u32, u64)>) -> Option<RandomRuns> {
     }
 }
 
-/// Explores a workload that comes so many bytes at a time.
+/// Explores a workload that comes `step` bytes at a time.
 fn explore_it<R: Threads + Wait + Abort + Sync>(rt: &R, alloc: Global, row: &Row, step: usize) {
     let files = [("w", row.workload)];
     let mut folder = Folder::new(alloc, &files, step);

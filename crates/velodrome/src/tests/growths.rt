@@ -1,5 +1,5 @@
-//! One growth is refused, whichever it is: the call tells it, and done again it answers as it would have. Without a refusal
-//! each call is done once.
+//! One allocation fails, whichever it is: the call reports it, and a second call returns what the
+//! first would have. Without a failure each call is done once.
 use super::carried::CARRIED;
 use super::{Folder, LOST_UPDATE, LOST_UPDATE_CERTIFIED};
 use std::alloc::Global;
@@ -12,7 +12,7 @@ use velo_logtext::{LogFault, read_log};
 use velo_program::{CarryFault, CheckFault, Quiet, Verdict, carry_run, check_run, config_of};
 use velo_world::{LogReplayFault, World};
 
-/// What the call answers, or where a growth is refused what the same call answers then.
+/// What the call returns, or if an allocation fails, what the same call then returns.
 macro_rules! again {
     ($refused:pat, $call:expr) => {
         match $call {
@@ -68,7 +68,8 @@ fn a_refused_growth_of_a_log_that_is_carried_over(rt: HostRuntime) {
 /// A block that has written a variable, and a thread that has done nothing.
 const WRITTEN: &str = "vlog 2 2 1 0\n0 fork 1\n0 begin 1\n0 wr 0 1\n";
 
-/// What the world of this log, whose block has the one node that there may be, answers to a read by the thread.
+/// What the world of this log, whose block has the one node that there may be, returns for a read
+/// by the thread.
 fn read_beside(alloc: Global) -> Result<Option<Refusal>, LogReplayFault> {
     let (bounds, log) = match read_log(alloc, &mut Bytes::new(WRITTEN.as_bytes())) {
         Ok(read) => read,
@@ -84,7 +85,7 @@ fn read_beside(alloc: Global) -> Result<Option<Refusal>, LogReplayFault> {
     }
 }
 
-/// A full graph is told before any growth for the event, whether that growth would be refused or not.
+/// A full graph is reported before any allocation for the event, whether that would fail or not.
 #[test]
 fn a_refused_growth_beside_a_full_graph(rt: HostRuntime) {
     let refusal = again!(LogReplayFault::Memory, read_beside(rt.alloc()));

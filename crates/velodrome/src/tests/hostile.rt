@@ -1,4 +1,5 @@
-//! Devices that fail at each byte, texts that are cut off at each byte, and texts that were spoiled by chance.
+//! Devices that fail at each byte, texts that are cut off at each byte, and texts that were spoiled
+//! randomly.
 ghost use Rattle.std.specs.Prelude.{◌≤◌};
 
 use crate::tests::slow::{Dice, first_lines};
@@ -15,7 +16,7 @@ use velo_logtext::{LogFault, read_log};
 use velo_program::Files;
 use velo_traces::{Flaw, Trace, well_formed};
 
-/// One text for each path, and one file to be written, which both fail after so many bytes.
+/// One text for each path, and one file to be written, which both fail after a number of bytes.
 #[derive(Drop)]
 struct Devices<'a> {
     text: &'a [u8],
@@ -60,7 +61,7 @@ impl<'a> Files for Devices<'a> {
     }
 }
 
-/// Runs the program on these words with a standard output that fails after so many bytes.
+/// Runs the program on these words with a standard output that fails after a number of bytes.
 fn show<R: Threads + Wait + Sync>(
     rt: &R,
     words: &[&str],
@@ -104,7 +105,7 @@ const COMMANDS: [(&[&str], &str, u8); 5] = [
     ),
 ];
 
-/// Lets the read after so many bytes fail.
+/// Lets the read after a number of bytes fail.
 fn fail_read<R: Threads + Wait + Abort + Sync>(
     rt: &R,
     alloc: Global,
@@ -129,7 +130,7 @@ fn reads_fail_at_each_byte(rt: HostRuntime) {
     }
 }
 
-/// The turns of a file, which fails after so many bytes.
+/// The turns of a file, which fails after a number of bytes.
 #[test]
 fn reads_of_turns_fail_at_each_byte(rt: HostRuntime) {
     let words = ["velodrome", "replay", "w", "--turns", "@s"];
@@ -150,7 +151,8 @@ fn compare_failed(rt: &impl Abort, written: &Text, whole: &Text, count: usize, s
     assert_eq!(rt; told, wanted);
 }
 
-/// Lets the write to standard output after so many bytes fail. What goes to a file went there before.
+/// Lets the write to standard output after a number of bytes fail. What goes to a file went there
+/// before.
 fn fail_output<R: Threads + Wait + Abort + Sync>(
     rt: &R,
     words: &[&str],
@@ -166,7 +168,7 @@ fn fail_output<R: Threads + Wait + Abort + Sync>(
     drop((shown, devices));
 }
 
-/// Lets the write to a file after so many bytes fail.
+/// Lets the write to a file after a number of bytes fail.
 fn fail_file<R: Threads + Wait + Abort + Sync>(
     rt: &R,
     words: &[&str],
@@ -208,7 +210,8 @@ fn writes_to_files_fail(rt: HostRuntime) {
     }
 }
 
-/// What the program shows of the lost update cut off behind so many whole lines, and within the next one.
+/// What the program shows of the lost update cut off after a number of whole lines, and within the
+/// next one.
 const CUT_OFF: [(&str, &str); 6] = [
     ("", "log fault 1\n"),
     (
@@ -233,7 +236,7 @@ const CUT_OFF: [(&str, &str); 6] = [
     ),
 ];
 
-/// Checks the beginning of a log of which this is to be shown, behind its last line or within it.
+/// Checks the beginning of a log of which this is to be shown, after its last line or within it.
 fn check_cut_off<R: Threads + Wait + Abort + Sync>(
     rt: &R,
     alloc: Global,
@@ -307,7 +310,8 @@ fn words_of(alloc: Global, fault: LogFault) -> Result<String, Fail> {
     }
 }
 
-/// What the program says first of a log, by the definitions in the slowest way: the beginning of its report or its fault.
+/// What the program says first of a log, by the definitions in the slowest way: the beginning of
+/// its report or its fault.
 fn slow_answer(alloc: Global, log: &[u8]) -> Result<String, Fail> {
     match read_log(alloc, &mut Bytes::new(log)) {
         Ok((bounds, trace)) => {
@@ -338,7 +342,7 @@ const LOGS: [&str; 4] = [
     "vlog 1 2 1 1\n0 fork 1\n0 begin 1\n0 begin 2\n1 begin 3\n0 wr 0 7\n1 rd 0 7\n0 end\n1 acq 0\n1 rel 0\n1 end\n0 end\n1 wr 0 2\n0 rd 0 2\n0 exit\n",
 ];
 
-/// What a run told: its report, or the line of its fault.
+/// What a run printed: its report, or the line of its fault.
 fn told(shown: &Shown) -> &[u8] {
     match shown.status {
         0 | 3 => shown.out.as_slice(),
@@ -346,7 +350,7 @@ fn told(shown: &Shown) -> &[u8] {
     }
 }
 
-/// Compares what a run told of a log with what the definitions say.
+/// Compares what a run printed for a log with what the definitions say.
 fn compare_slow(rt: &impl Abort, alloc: Global, log: &[u8], shown: &Shown) -> Result<(), Fail> {
     let answer = slow_answer(alloc, log)?;
     assert!(rt; told(shown).starts_with(answer.as_bytes()), "{answer}");

@@ -409,7 +409,7 @@ static RUNS: [Run; 50] = [
     },
 ];
 
-/// Does a run by a log that comes so many bytes at a time.
+/// Does a run by a log that comes `step` bytes at a time.
 fn do_run<R: Threads + Wait + Abort + Sync>(rt: &R, alloc: Global, run: &Run, step: usize) {
     let files = [("a.log", run.log)];
     let mut folder = Folder::new(alloc, &files, step);
@@ -484,7 +484,8 @@ digraph cycle {
 }
 ";
 
-/// A log with its explanation, its picture, for which a file is created with an alarm alone, and the status.
+/// A log with its explanation, its picture, whose file is created with an alarm alone, and the
+/// status.
 struct Explained {
     log: &'static str,
     words: &'static str,
@@ -538,7 +539,7 @@ fn verdicts_are_explained(rt: HostRuntime) {
     }
 }
 
-/// Logs with their report and the certificate behind it.
+/// Logs with their report and the certificate after it.
 const CERTIFIED: [(&str, &str); 7] = [
     ("vlog 1 1 0 0\n", "events 0\nthread 0 0\nverdict clean\n"),
     (LOST_UPDATE, LOST_UPDATE_CERTIFIED),

@@ -1,4 +1,4 @@
-//! The names of a workload are saved behind the log of its run.
+//! The names of a workload are saved after the log of its run.
 use crate::tests::{Shown, compare, show_on};
 use std::alloc::Global;
 use std::io::Write;
@@ -12,7 +12,8 @@ use velo_program::{
     do_request, end_with,
 };
 
-/// A block that reads and writes, and a thread that writes under a lock: there is a name of each kind.
+/// A block that reads and writes, and a thread that writes under a lock: there is a name of each
+/// kind.
 const WORK: &str =
     "var x\nlock m\nthread main\nfork a\nbegin inc\nread x\nadd 1\nwrite x\nend\njoin a\nthread a\nacquire m\nset 5\nwrite x\nrelease m\n";
 
@@ -22,13 +23,15 @@ const NAMES: &str = "thread 0 main\nthread 1 a\nvariable 0 x\nlock 0 m\nlabel 0 
 /// A schedule by which the block of `WORK` is not atomic.
 const SCHEDULE: &str = "0*3 1*2";
 
-/// A workload at the path `w`, which is also at `again`, and what was written: a log, and names at a path that begins with `n`.
-/// The path `also` is that of the log `o`. What ends with `none` does not open, and what ends with `full` takes 9 bytes.
+/// A workload at the path `w`, which is also at `again`, and what was written: a log, and names at
+/// a path that begins with `n`. The path `also` is that of the log `o`. What ends with `none` does
+/// not open, and what ends with `full` takes 9 bytes.
 #[derive(Drop)]
 struct Shelf {
     alloc: Global,
     workload: &'static str,
-    /// The calls in their order, a digit each: the log opens (1) and is closed (2), the names open (3) and are closed (4).
+    /// The calls in their order, a digit each: the log opens (1) and is closed (2), the names open
+    /// (3) and are closed (4).
     calls: u32,
     log: Text,
     names: Text,
@@ -168,7 +171,7 @@ fn play<R: Threads + Wait + Sync>(
     Shown { out, err, status }
 }
 
-/// Where the log and the names are saved, and what that comes to. An alarm is told where there is no line.
+/// Where the log and the names are saved, and the outcome. Without a line an alarm is reported.
 struct Row {
     input: &'static str,
     target: Option<&'static str>,
@@ -345,7 +348,7 @@ fn play_unsaved<R: Threads + Wait + Sync>(rt: &R, alloc: Global, how: How) -> Sh
     shown
 }
 
-/// Names go out behind the log alone, and what is printed is the same with them.
+/// Names are written after the log alone, and what is printed is the same with them.
 #[test]
 fn names_behind_a_log(rt: HostRuntime) {
     for how in [How::Replay, How::Explore] {
@@ -400,7 +403,7 @@ impl Write for Nowhere {
     }
 }
 
-/// A log that was saved, at the path `l`, and the names that were saved behind it, at `n`.
+/// A log that was saved, at the path `l`, and the names that were saved after it, at `n`.
 #[derive(Drop)]
 struct Saved<'a> {
     log: &'a [u8],
@@ -433,7 +436,7 @@ impl<'a> Files for Saved<'a> {
     }
 }
 
-/// What a command prints of a log that was saved, by the names that were saved behind it.
+/// What a command prints of a log that was saved, by the names that were saved after it.
 fn print_saved<R: Threads + Wait + Sync>(
     rt: &R,
     alloc: Global,
@@ -452,7 +455,8 @@ fn print_saved<R: Threads + Wait + Sync>(
     shown
 }
 
-/// The names are read back with the log: a check reports what the replay did, and an explanation tells them.
+/// The names are read back with the log: a check reports what the replay did, and an explanation
+/// prints them.
 #[test]
 fn names_are_read_back(rt: HostRuntime) {
     let mut shelf = Shelf::new(rt.alloc(), WORK);
@@ -498,7 +502,7 @@ impl Files for Opened {
     }
 }
 
-/// What doing a request comes to, and how many files it opened to be written.
+/// The fate of a request, and how many files it opened to be written.
 fn count_opened<R: Threads + Wait + Sync>(
     rt: &R,
     alloc: Global,

@@ -1,4 +1,4 @@
-//! Which fault is told where two would be, and what is opened and written before it is.
+//! Which fault is reported where two would be, and what is opened and written before it is.
 use crate::tests::workloads::COLLIDING;
 use crate::tests::{Folder, LOST_UPDATE, compare, show};
 use std::alloc::Global;
@@ -8,7 +8,7 @@ use std::thread::Threads;
 
 const CLEAN: &str = "vlog 2 1 0 0\n0 exit\n";
 
-/// A log whose first event can't come about, and whose next line is none.
+/// A log whose first event cannot happen, and whose next line is none.
 const UNREADABLE: &str = "vlog 2 1 0 0\n0 end\nend\n";
 
 /// Each of two blocks opens before the other ends.
@@ -131,7 +131,7 @@ static RUNS: [Run; 21] = [
         file: Some("digraph c"),
         status: 5,
     },
-    // the file of a log that is carried over is opened behind that log, and before it is read
+    // the file of a log that is carried over is opened after that log, and before it is read
     Run {
         words: &["velodrome", "carry", "b", "--log", "o.log"],
         text: CLEAN,

@@ -12,7 +12,7 @@ use velo_report::{Names, report};
 use velo_traces::Trace;
 use velo_world::Closed;
 
-/// Reports by names: as far as there are any, they stand for the numbers.
+/// Reports by names: as far as there are any, they replace the numbers.
 const NAMED: [(usize, usize, &str); 2] = [
     (
         1,
@@ -121,7 +121,7 @@ fn compare_with_definitions(rt: &impl Abort, alloc: Global, trace: &Trace) -> Re
     Ok(())
 }
 
-/// Logs by chance are reported as the definitions say.
+/// Random logs are reported as the definitions say.
 #[test]
 fn reports_are_those_of_the_definitions(rt: HostRuntime) -> Result<(), Fail> {
     for seed in 0..400u64 {

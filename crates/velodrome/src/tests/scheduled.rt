@@ -135,7 +135,7 @@ static ROWS: [Row; 15] = [
     },
 ];
 
-/// Does a replay whose files come so many bytes at a time.
+/// Does a replay whose files come `step` bytes at a time.
 fn do_row<R: Threads + Wait + Abort + Sync>(rt: &R, alloc: Global, row: &Row, step: usize) {
     let files = [("s", row.text), ("w", COLLIDING)];
     let mut folder = Folder::new(alloc, &files, step);
@@ -183,7 +183,7 @@ impl<'a> Files for Watched<'a> {
     fn close(&mut self, _path: &str, _file: Text) {}
 }
 
-/// Does a replay, and tells whether it opened a file.
+/// Does a replay, and returns whether it opened a file.
 fn opens_a_file<R: Threads + Wait + Abort + Sync>(
     rt: &R,
     alloc: Global,

@@ -1,4 +1,4 @@
-//! Logs by chance, and their reports by the definitions in the slowest way.
+//! Random logs, and their reports by the definitions in the slowest way.
 ghost use Rattle.std.specs.Prelude.{◌≤◌, ◌<◌, length};
 
 use std::alloc::{AllocError, Global};
@@ -11,7 +11,7 @@ use velo_program::config_of;
 use velo_traces::Trace;
 use velo_world::World;
 
-/// The bounds of logs by chance.
+/// The bounds of random logs.
 pub const BOUNDS: Bounds = Bounds {
     threads: 4,
     variables: 2,
@@ -74,7 +74,8 @@ fn turn_by(turn: u8, throw: u64) -> (ThreadId, Action) {
     }
 }
 
-/// Throws by chance, each sequence by its seed: a linear congruential generator of D. E. Knuth's (MMIX).
+/// Random throws, each sequence by its seed: a linear congruential generator of D. E. Knuth's
+/// (MMIX).
 #[derive(Drop)]
 pub struct Dice {
     state: u64,
@@ -103,7 +104,7 @@ impl Dice {
     }
 }
 
-/// A world whose log came about by chance: of 48 actions those that were not refused.
+/// A world with a random log: of 48 actions those that were not refused.
 pub fn world_by_chance(rt: &impl Abort, alloc: Global, seed: u64) -> World {
     let config = config_of(BOUNDS, MAX_EVENTS, MAX_NODES);
     let replayed = World::from_log(alloc, config, Trace::new(alloc));
@@ -168,7 +169,8 @@ fn add_edge(
     Ok(())
 }
 
-/// Joins to the pairs what the edges to an event make reachable. It answers whether one of them closes a cycle.
+/// Joins to the pairs what the edges to an event make reachable. Returns whether one of them closes
+/// a cycle.
 fn closes(
     alloc: Global,
     reaches: &mut Vec<(usize, usize)>,

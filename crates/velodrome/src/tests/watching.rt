@@ -10,15 +10,15 @@ use velo_logtext::LogFault;
 use velo_program::{CheckFault, Fate, Files, Limits, Quiet, Request, WatchOptions, do_request};
 use velo_worker::Ending;
 
-/// The lost update, and events behind its alarm.
+/// The lost update, and events after its alarm.
 const WENT_ON: &str =
     "vlog 1 2 1 0\n0 fork 1\n0 begin 7\n0 rd 0 0\n1 wr 0 5\n0 wr 0 1\n0 end\n1 exit\n0 join 1\n";
 
-/// What is told of the lost update up to its alarm.
+/// What is printed of the lost update up to its alarm.
 const STOPPED: &str =
     "alarm 4 blame 1 7\nevents 5\nthread 0 4\nthread 1 1\nverdict alarm 4\ntransaction 1\nblame 1 7\n";
 
-/// What is told of it with its certificate.
+/// What is printed of it with its certificate.
 const CERTIFIED: &str =
     "alarm 4 blame 1 7\nevents 5\nthread 0 4\nthread 1 1\nverdict alarm 4\ntransaction 1\nblame 1 7\ncycle 1 3\n";
 
@@ -37,7 +37,7 @@ const CLEAN: Fate = Fate::Finished {
     alarm: false,
 };
 
-/// A pipe, whatever its path, which gives so many bytes at a time and fails behind so many.
+/// A pipe, whatever its path, which gives a few bytes at a time and fails after a number of them.
 #[derive(Drop)]
 struct Pipe<'a> {
     text: &'a str,
@@ -83,7 +83,7 @@ fn asked(stop: bool, certificate: bool, events: u32) -> Request<'static> {
     })
 }
 
-/// Watches a pipe, and answers what it came to.
+/// Watches a pipe, and returns the fate.
 fn watch<R: Threads + Wait + Sync, O: Sink>(
     rt: &R,
     alloc: Global,
@@ -94,13 +94,13 @@ fn watch<R: Threads + Wait + Sync, O: Sink>(
     do_request(rt, alloc, request, &mut pipe, out, &mut Quiet)
 }
 
-/// Compares what was told and what it came to with what is wanted.
+/// Compares what was printed and the fate with what is wanted.
 fn compare_told(rt: &impl Abort, out: &Text, fate: Fate, text: &str, wanted: Fate, log: &str) {
     assert_eq!(rt; out.as_slice(), text.as_bytes(), "{log}");
     assert_eq!(rt; fate, wanted, "{log}");
 }
 
-/// What is told of a log, with at most so many events.
+/// What is printed of a log, with a limit of events.
 struct Run {
     stop: bool,
     events: u32,
@@ -159,7 +159,7 @@ static RUNS: [Run; 15] = [
         out: "alarm 6 blame none\nevents 7\nthread 0 4\nthread 1 3\nverdict alarm 6\ntransaction 3\nblame none\n",
         fate: ALARM,
     },
-    // with `--stop` nothing behind the alarm is judged
+    // with `--stop` nothing after the alarm is judged
     Run {
         stop: true,
         events: 9,
@@ -228,7 +228,7 @@ static RUNS: [Run; 15] = [
     },
 ];
 
-/// Does a run, with so many bytes at a time.
+/// Does a run, with `step` bytes at a time.
 fn do_run<R: Threads + Wait + Abort + Sync>(rt: &R, alloc: Global, run: &Run, step: usize) {
     let mut out = Text::new(alloc).in_steps(step);
     let pipe = Pipe {
@@ -256,7 +256,7 @@ fn logs_are_watched(rt: HostRuntime) {
     }
 }
 
-/// What is told where the source fails behind so many bytes.
+/// What is printed if the source fails after `readable` bytes.
 fn text_of_failure(readable: usize, stop: bool) -> &'static str {
     if readable < TOLD_BEHIND {
         ""
@@ -267,7 +267,7 @@ fn text_of_failure(readable: usize, stop: bool) -> &'static str {
     }
 }
 
-/// What it comes to.
+/// The fate.
 fn fate_of_failure(readable: usize, stop: bool) -> Fate {
     if stop && readable >= TOLD_BEHIND {
         ALARM
@@ -276,7 +276,7 @@ fn fate_of_failure(readable: usize, stop: bool) -> Fate {
     }
 }
 
-/// Watches the log with a source that fails behind so many bytes.
+/// Watches the log with a source that fails after `readable` bytes.
 fn fail_behind<R: Threads + Wait + Abort + Sync>(
     rt: &R,
     alloc: Global,
@@ -302,7 +302,8 @@ fn fail_behind<R: Threads + Wait + Abort + Sync>(
     drop(out);
 }
 
-/// The source fails at each byte: the alarm is out once its line has come, and with `--stop` nothing is read behind it.
+/// The source fails at each byte: the alarm is out once its line has come, and with `--stop`
+/// nothing is read after it.
 #[test]
 fn reads_fail_behind_an_alarm(rt: HostRuntime) {
     for readable in 0..=WENT_ON.len() {

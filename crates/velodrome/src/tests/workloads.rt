@@ -411,7 +411,7 @@ static WORKS: [Work; 36] = [
     },
 ];
 
-/// Does a run by a workload that comes so many bytes at a time.
+/// Does a run by a workload that comes `step` bytes at a time.
 fn do_work<R: Threads + Wait + Abort + Sync>(rt: &R, alloc: Global, run: &Work, step: usize) {
     let files = [("w", run.workload)];
     let mut folder = Folder::new(alloc, &files, step);
