@@ -10,7 +10,7 @@ _velodrome() {
         check) words="--names --events --nodes --certificate --help" ;;
         replay) words="--schedule --turns --stop --log --names-out --events --nodes --certificate --help" ;;
         run) words="--stop --log --names-out --events --nodes --certificate --help" ;;
-        explain) words="--dot --names --help" ;;
+        explain) words="--dot --names --sites --help" ;;
         carry) words="--log --help" ;;
         explore) words="--states --first --progress --random --seed --log --names-out --events --nodes --certificate --help" ;;
         watch) words="--names --stop --events --nodes --certificate --help" ;;

@@ -30,6 +30,7 @@ complete -c velodrome -n '__fish_seen_subcommand_from run' -l certificate -d 'Pr
 complete -c velodrome -n '__fish_seen_subcommand_from run' -l help -d 'Print help'
 complete -c velodrome -n '__fish_seen_subcommand_from explain' -l dot -r -d 'Write the cycle of an alarm to OUT, as a Graphviz picture'
 complete -c velodrome -n '__fish_seen_subcommand_from explain' -l names -r -d 'Read the names of threads, variables, locks and labels; - is standard input'
+complete -c velodrome -n '__fish_seen_subcommand_from explain' -l sites -r -d 'Read where in the source each event happened; - is standard input'
 complete -c velodrome -n '__fish_seen_subcommand_from explain' -l help -d 'Print help'
 complete -c velodrome -n '__fish_seen_subcommand_from carry' -l log -r -d 'Write the log to OUT, which is emptied first'
 complete -c velodrome -n '__fish_seen_subcommand_from carry' -l help -d 'Print help'
