@@ -10,3 +10,6 @@ mod sites;
 pub use fault::SitesFault;
 pub use limits::{MAX_PLACE_BYTES, MAX_SITES, MAX_SITES_BYTES};
 pub use sites::Sites;
+
+#[cfg(test)]
+mod tests;

@@ -1,0 +1,80 @@
+//! Files of sites as they are read.
+use crate::{Sites, SitesFault};
+use std::alloc::Global;
+use std::test::Fail;
+
+/// The place of the event at a position, as the bytes of a file give it; empty where there is none.
+fn place_in<'a>(alloc: Global, bytes: &'a [u8], position: usize) -> &'a [u8] {
+    let Ok(sites) = Sites::parse(alloc, bytes) else {
+        return b"no sites".as_slice();
+    };
+    let place = sites.place_of(position);
+    drop(sites);
+    match place {
+        Some(place) => place,
+        None => b"".as_slice(),
+    }
+}
+
+/// The fault of the bytes, if they have one.
+fn fault_of(alloc: Global, bytes: &[u8]) -> Option<SitesFault> {
+    match Sites::parse(alloc, bytes) {
+        Ok(sites) => {
+            drop(sites);
+            None
+        }
+        Err(fault) => Some(fault),
+    }
+}
+
+#[test]
+fn events_have_places(rt: HostRuntime) -> Result<(), Fail> {
+    let bytes = b"vsites 1 2 3\nbank.c:12 deposit\nbank.c:20 withdraw\n1\n0\n2\n".as_slice();
+    assert_eq!(rt;
+        place_in(rt.alloc(), bytes, 0),
+        b"bank.c:12 deposit".as_slice()
+    );
+    assert_eq!(rt; place_in(rt.alloc(), bytes, 1), b"".as_slice());
+    assert_eq!(rt;
+        place_in(rt.alloc(), bytes, 2),
+        b"bank.c:20 withdraw".as_slice()
+    );
+    assert_eq!(rt; place_in(rt.alloc(), bytes, 3), b"".as_slice());
+    Ok(())
+}
+
+#[test]
+fn other_files_have_faults(rt: HostRuntime) -> Result<(), Fail> {
+    let alloc = rt.alloc();
+    assert_eq!(rt; fault_of(alloc, b"vsites 1 0 0\n"), None);
+    assert_eq!(rt; fault_of(alloc, b""), Some(SitesFault::BadLine(1)));
+    assert_eq!(rt;
+        fault_of(alloc, b"vsites 2 0 0\n"),
+        Some(SitesFault::BadLine(1))
+    );
+    assert_eq!(rt;
+        fault_of(alloc, b"vsites 1 1 1\n\n1\n"),
+        Some(SitesFault::BadLine(2))
+    );
+    assert_eq!(rt;
+        fault_of(alloc, b"vsites 1 1 1\nf.c:1 f\n2\n"),
+        Some(SitesFault::BadLine(3))
+    );
+    assert_eq!(rt;
+        fault_of(alloc, b"vsites 1 1 1\nf.c:1 f\n1\n0\n"),
+        Some(SitesFault::BadLine(4))
+    );
+    assert_eq!(rt;
+        fault_of(alloc, b"vsites 1 1 1\nf.c:1 f\n1"),
+        Some(SitesFault::EndsEarly(3))
+    );
+    assert_eq!(rt;
+        fault_of(alloc, b"vsites 1 1 2\nf.c:1 f\n1\n"),
+        Some(SitesFault::EndsEarly(3))
+    );
+    assert_eq!(rt;
+        fault_of(alloc, b"vsites 1 1 0\n\xff\n"),
+        Some(SitesFault::NotText)
+    );
+    Ok(())
+}
