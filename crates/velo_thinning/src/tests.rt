@@ -2,7 +2,6 @@
 use crate::{ThinFault, read_thinned};
 use std::alloc::Global;
 use std::process::Abort;
-use std::test::Fail;
 use velo_bytes::Bytes;
 use velo_events::Refusal;
 use velo_logtext::LogFault;
@@ -11,40 +10,51 @@ use velo_logtext::LogFault;
 const LOG: &[u8] =
     b"vlog 2 2 3 1\n0 fork 1\n0 acq 0\n0 wr 0 5\n0 rel 0\n1 acq 0\n1 rd 0 5\n1 rel 0\n1 rd 1 0\n1 rd 1 0\n0 wr 1 3\n0 wr 2 1\n";
 
-/// Thins a log, and returns how many events and variables there were and are, and the places of what is left.
-fn figures(alloc: Global, text: &[u8]) -> Result<([u64; 4], Vec<u32>), ThinFault> {
+/// How many events and variables a log had and has, and the places of what is left.
+#[derive(Drop)]
+struct Figures {
+    events: usize,
+    left: usize,
+    variables: u32,
+    variables_left: u32,
+    places: Vec<u32>,
+}
+
+/// Thins a log.
+fn figures_of(alloc: Global, text: &[u8]) -> Result<Figures, ThinFault> {
     match read_thinned(alloc, &mut Bytes::new(text)) {
-        Ok(thinned) => {
-            let counts = [
-                thinned.events as u64,
-                thinned.left.trace.len() as u64,
-                u64::from(thinned.variables),
-                u64::from(thinned.variables_left),
-            ];
-            Ok((counts, thinned.left.places))
-        }
+        Ok(thinned) => Ok(Figures {
+            events: thinned.events,
+            left: thinned.left.trace.len(),
+            variables: thinned.variables,
+            variables_left: thinned.variables_left,
+            places: thinned.left.places,
+        }),
         Err(fault) => Err(fault),
     }
 }
 
 /// Compares why a log is refused.
 fn refused(rt: &impl Abort, alloc: Global, text: &[u8], why: ThinFault) {
-    match figures(alloc, text) {
+    match figures_of(alloc, text) {
         Ok(_) => panic!(rt; "{why} was expected"),
         Err(fault) => assert_eq!(rt; fault, why),
     }
 }
 
 #[test]
-fn what_is_in_order_and_what_repeats_go(rt: HostRuntime) -> Result<(), Fail> {
-    match figures(rt.alloc(), LOG) {
-        Ok((counts, places)) => {
-            assert_eq!(&rt; counts, [11, 7, 3, 1]);
-            assert_eq!(&rt; places.as_slice(), [0, 1, 3, 4, 6, 7, 9].as_slice());
+fn what_is_in_order_and_what_repeats_go(rt: HostRuntime) {
+    match figures_of(rt.alloc(), LOG) {
+        Ok(figures) => {
+            assert_eq!(&rt; figures.events, 11);
+            assert_eq!(&rt; figures.left, 7);
+            assert_eq!(&rt; figures.variables, 3);
+            assert_eq!(&rt; figures.variables_left, 1);
+            let places = [0, 1, 3, 4, 6, 7, 9];
+            assert_eq!(&rt; figures.places.as_slice(), places.as_slice());
         }
         Err(fault) => panic!(&rt; "{fault}"),
     }
-    Ok(())
 }
 
 #[test]
