@@ -55,7 +55,8 @@ fn search_for(rt: &impl Abort, alloc: Global, kinds: &[Kind], expected: usize) -
     Ok(())
 }
 
-/// A block reads and writes under a lock that it takes once, or twice, or not at all.
+/// A block reads and writes under a lock that it takes once, or twice, or not at all. Each value is 0, so
+/// any order of the reads and writes can happen.
 #[test]
 fn lock_taken_twice_is_found(rt: HostRuntime) -> Result<(), Fail> {
     let begin = Kind::Begin(Label(7));
@@ -66,7 +67,7 @@ fn lock_taken_twice_is_found(rt: HostRuntime) -> Result<(), Fail> {
     let never = [begin, get, put, Kind::End];
     search_for(&rt, rt.alloc(), &once, 0)?;
     search_for(&rt, rt.alloc(), &twice, 1)?;
-    search_for(&rt, rt.alloc(), &never, 0)
+    search_for(&rt, rt.alloc(), &never, 1)
 }
 
 /// A read has the line of the write that it reads from, or 0.
