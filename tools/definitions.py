@@ -36,8 +36,8 @@ PARTS = [
     ("Runs of a workload, and every schedule", {
         "velo_worker": "Progress Schedule Live Logs Causes",
         "velo_turns": "Schedule Short File",
-        "velo_schedules": "Logs* Told*",
-        "velo_shrink": "Shown Simple*",
+        "velo_schedules": "Logs* Goals* Told*",
+        "velo_shrink": "Simple*",
         "velo_chance": "Drawing Runs Tallies"}),
     ("What is told of a log", {
         "velo_report": "Names Report Alarm Certificate",

@@ -1,60 +1,68 @@
 -- What runs come to, with one more.
-use Rattle.std.proofs.Common.{◌≡◌, ℕ, ◌+◌, ◌-◌, ◌^◌, ◌<◌, ◌≤◌, min, Bool, true, false, not, cond, List, [], ◌∷◌, ◌++◌, length, length-append, Option, Some, None, Result, Ok, Err, option_map, refl, sym, ap, ◌∙◌, subst, arith, ⊎_elim}
+use Rattle.std.proofs.Common.{◌≡◌, ◌↔◌, ℕ, ◌+◌, ◌-◌, ◌^◌, ◌<◌, ◌≤◌, min, Bool, true, false, cond, List, [], ◌∷◌, ◌++◌, length, length-append, Option, Some, None, Result, Ok, Err, option_map, refl, sym, ap, ◌∙◌, subst, arith}
 use Rattle.std.specs.Borrow.{Bor}
-use Rattle.std.specs.Prelude.{◌==◌, ◌||◌, All, IfNone, IsPermutation, IfOk, IfSome, IsFalse, IsTrue, find, count_by, if◌then◌else◌, is_some}
-use Rattle.std.specs.List.{list_any}
+use Rattle.std.specs.Global.{Vec}
+use Rattle.std.specs.Prelude.{◌==◌, All, IfNone, IsPermutation, IfOk, IfSome, IsTrue, count_by, filter_map, if◌then◌else◌, is_some, slice_get}
+use Rattle.std.specs.List.{cons_option}
 use Rattle.std.specs.Option.{option_or}
 use Rattle.std.proofs.lemmas.List.{length-map, map_push}
-use Rattle.std.proofs.lemmas.Bool.{cases_Bool, false≢true}
-use Rattle.std.proofs.lemmas.List.Elements.{All-head, All-push, All-tail}
-use Rattle.std.proofs.lemmas.List.Folds.{find-append}
+use Rattle.std.proofs.lemmas.Bool.{false≢true}
+use Rattle.std.proofs.lemmas.List.Elements.{All-head, All-push, All-tail, filter_map-append}
 use Rattle.std.proofs.lemmas.List.Sorted.{All-permutation, list_any-IsPermutation, sum_by-IsPermutation}
-use Rattle.std.proofs.lemmas.Option.{none-some, same_Some}
 use Rattle.velo_events.specs.declared.config.Config.{Config}
 use Rattle.velo_events.specs.declared.event.Event.{Event}
 use Rattle.velo_events.specs.declared.event.ThreadId.{ThreadId}
 use Rattle.velo_events.specs.Graph.{HasCycle}
 use Rattle.velo_events.proofs.OnGraphs.{HasCycle-from_closing}
+use Rattle.velo_explore.specs.declared.fault.Fault.{Fault}
 use Rattle.velo_workload.specs.Program.{Program}
 use Rattle.velo_world.specs.declared.analysis.Alarm.{Alarm}
-use Rattle.velo_world.specs.World.{WorldState, AlarmOf, IsAlarm}
+use Rattle.velo_world.specs.World.{AlarmOf, IsAlarm}
 use Rattle.velo_worker.specs.declared.ending.Ending.{Ending}
-use Rattle.velo_worker.specs.declared.ending.Ending.TheVariants.{Stuck}
-use Rattle.velo_worker.specs.Schedule.{Replays}
-use Rattle.velo_schedules.specs.declared.finding.RefusedRun.{RefusedRun}
-use Rattle.velo_schedules.specs.Logs.{ends_refused, is_for_room}
-use Rattle.velo_schedules.specs.Told.{ShowsAlarm, ShowsStuck, ShowsRefusal}
+use Rattle.velo_schedules.specs.declared.finding.Finding.{Finding}
+use Rattle.velo_schedules.specs.declared.finding.Finding.TheVariants.{Shown, Never, Open}
+use Rattle.velo_schedules.specs.declared.finding.Findings.{Findings}
+use Rattle.velo_schedules.specs.declared.finding.Witness.{Witness}
+use Rattle.velo_schedules.specs.declared.goal.Goal.{Goal}
+use Rattle.velo_schedules.specs.Goals.{IsWitness, Reached, fault_of, finding_of, goal_in}
+use Rattle.velo_schedules.specs.Told.{OnShown}
+use Rattle.velo_schedules.proofs.OnShown.{goal-reaches}
 use Rattle.std.proofs.lemmas.List.Sums.{count_by-le-length, sum_by_push}
-use Rattle.velo_shrink.specs.declared.goal.Goal.TheVariants as goals
 use Rattle.velo_chance.specs.declared.tally.Blamed.{Blamed}
 use Rattle.velo_chance.specs.declared.tally.Tally.{Tally}
-use Rattle.velo_chance.specs.Runs.{Run, IsRun, has_alarm, is_stuck, is_refused, blames, blocks_of, ends_stuck, has_label}
-use Rattle.velo_chance.specs.Tallies.{ComesTo, IsTold, IsTried, IsTriedBy, AreCounts, SimplifiesFirst, ending_of, first_ending, first_schedule}
+use Rattle.velo_chance.specs.Runs.{Run, IsRun, first_shown, has_alarm, shown_in, blames, blocks_of, has_label}
+use Rattle.velo_chance.specs.Tallies.{ComesTo, IsFirst, IsTried, IsTriedBy, AreCounts}
 use Rattle.velo_chance.proofs.OnDrawing.{drawn-count}
 use Rattle.velo_chance.proofs.OnCounts.{AreCounts-none, AreCounts-same}
 
-map-or : {X Y : Type 0} (f : X → Y) (o p : Option X) → option_map f (option_or o p) ≡ option_or (option_map f o) (option_map f p)
-map-or f None p = refl
-map-or f (Some x) p = refl
-
-map-if : {X Y : Type 0} (f : X → Y) (b : Bool) (x : X) → option_map f (cond b (Some x) None) ≡ (if b then Some (f x) else None)
-map-if f true x = refl
-map-if f false x = refl
-
-map-map : {X Y Z : Type 0} (f : X → Y) (g : Y → Z) (o : Option X) → option_map g (option_map f o) ≡ option_map (λ x. g (f x)) o
-map-map f g None = refl
-map-map f g (Some x) = refl
-
 -- the first of the runs, or else this one
-find-push : {Y : Type 0} (f : Run → Y) (p : Run → Bool) (runs : List Run) (run : Run) → option_map f (find p (runs ++ run ∷ [])) ≡ option_or (option_map f (find p runs)) (if p run then Some (f run) else None)
-find-push f p runs run =
-    ap (option_map f) (find-append p runs (run ∷ []))
-    ∙ (map-or f (find p runs) (cond (p run) (Some run) None)
-    ∙ ap (option_or (option_map f (find p runs))) (map-if f (p run) run))
+first-or : {X : Type 0} (xs : List X) (o : Option X) → slice_get (xs ++ cons_option o []) 0 ≡ option_or (slice_get xs 0) o
+first-or [] None = refl
+first-or [] (Some x) = refl
+first-or (x ∷ xs) o = refl
 
--- what is kept so far is that of the runs, and what is kept now that of one more
-kept : {Y : Type 0} (f : Run → Y) (p : Run → Bool) (runs : List Run) (run : Run) (before after : Option Y) → before ≡ option_map f (find p runs) → after ≡ option_or before (if p run then Some (f run) else None) → after ≡ option_map f (find p (runs ++ run ∷ []))
-kept f p runs run before after is now = now ∙ (ap (λ o. option_or o (if p run then Some (f run) else None)) is ∙ sym (find-push f p runs run))
+first-push : (fault : Fault) (runs : List Run) (run : Run) → first_shown fault (runs ++ run ∷ []) ≡ option_or (first_shown fault runs) (shown_in fault run)
+first-push fault runs run =
+    ap (λ (l : List (Goal × List ThreadId)). slice_get l 0) (filter_map-append (shown_in fault) runs (run ∷ []))
+    ∙ first-or (filter_map (shown_in fault) runs) (shown_in fault run)
+
+-- the first that shows something is kept
+pub first-new : (seen : Option (Goal × List ThreadId)) (goal : Goal) (schedule : List ThreadId) (copy : Vec ThreadId) → copy.items ≡ schedule → IsFirst seen Never
+    → IsFirst (option_or seen (Some (goal, schedule))) (Shown (record { goal = goal; schedule = copy }))
+first-new None goal schedule copy is first = ap (λ (l : List ThreadId). (goal, l)) (sym is)
+first-new (Some s) goal schedule copy is first = absurd first
+
+pub first-none : (seen : Option (Goal × List ThreadId)) → IsFirst seen Never → IsFirst (option_or seen None) Never
+first-none None first = tt
+first-none (Some s) first = absurd first
+
+pub first-kept : (seen other : Option (Goal × List ThreadId)) (witness : Witness) → IsFirst seen (Shown witness) → IsFirst (option_or seen other) (Shown witness)
+first-kept (Some s) other witness first = first
+first-kept None other witness first = absurd first
+
+pub first-open : (seen other : Option (Goal × List ThreadId)) → IsFirst seen Open → IsFirst (option_or seen other) Open
+first-open (Some s) other first = absurd first
+first-open None other first = absurd first
 
 capped : (n more total : ℕ) → n + more < 2 ^ 64 → total ≡ min (n + more) (2 ^ 64 - 1) → total ≡ n + more
 capped n more total small is = omega (arith, small, is)
@@ -63,22 +71,25 @@ at_most_one : (b : Bool) → cond b 1 0 ≤ 1
 at_most_one true = omega arith
 at_most_one false = omega arith
 
+-- with an alarm or not
+pub seen-as : (before after : Findings) (schedule : List ThreadId) (ending : Ending) (alarm : Bool) {other : Bool} → alarm ≡ other
+    → ((fault : Fault) (seen : Option (Goal × List ThreadId)) → IsFirst seen (finding_of before fault) → IsFirst (option_or seen (option_map (λ goal. (goal, schedule)) (goal_in fault alarm ending))) (finding_of after fault))
+    → (fault : Fault) (seen : Option (Goal × List ThreadId)) → IsFirst seen (finding_of before fault) → IsFirst (option_or seen (option_map (λ goal. (goal, schedule)) (goal_in fault other ending))) (finding_of after fault)
+seen-as before after schedule ending alarm same given =
+    subst (λ (a : Bool). (fault : Fault) (seen : Option (Goal × List ThreadId)) → IsFirst seen (finding_of before fault) → IsFirst (option_or seen (option_map (λ goal. (goal, schedule)) (goal_in fault a ending))) (finding_of after fault)) same given
+
 -- one more run is noted so
 pub record Notes (before : Tally) (run : Run) (after : Tally) : Type 0 where
   pub few : before.runs < 2 ^ 64 - 1
   pub runs : after.runs ≡ before.runs + 1
-  pub alarm : option_map (λ schedule. schedule.items) after.alarm ≡ option_or (option_map (λ schedule. schedule.items) before.alarm) (if has_alarm run then Some run.schedule else None)
-  pub stuck : option_map (λ schedule. schedule.items) after.stuck ≡ option_or (option_map (λ schedule. schedule.items) before.stuck) (if is_stuck run then Some run.schedule else None)
-  pub refused : option_map ending_of after.refused ≡ option_or (option_map ending_of before.refused) (if is_refused run then Some (run.schedule, run.ending) else None)
+  pub findings : (fault : Fault) (seen : Option (Goal × List ThreadId)) → IsFirst seen (finding_of before.findings fault) → IsFirst (option_or seen (shown_in fault run)) (finding_of after.findings fault)
   pub alarms : after.alarms ≡ min (before.alarms + (if has_alarm run then 1 else 0)) (2 ^ 64 - 1)
   pub blamed : (count : ℕ → ℕ) → ((label : ℕ) → count label < 2 ^ 64 - 1) → AreCounts count before.blamed.items → AreCounts (λ label. count label + (if has_label label (blocks_of run.alarm) then 1 else 0)) after.blamed.items
 
 pub ComesTo-noted : (runs : List Run) (run : Run) (before after : Tally) → Notes before run after → ComesTo runs before → ComesTo (runs ++ run ∷ []) after
 ComesTo-noted runs run before after notes comes = record {
   count = notes.runs ∙ (ap (λ n. n + 1) comes.count ∙ sym (length-append runs (run ∷ [])));
-  alarm = kept (λ r. r.schedule) has_alarm runs run _ _ comes.alarm notes.alarm;
-  stuck = kept (λ r. r.schedule) is_stuck runs run _ _ comes.stuck notes.stuck;
-  refused = kept (λ r. (r.schedule, r.ending)) is_refused runs run _ _ comes.refused notes.refused;
+  findings = λ fault. subst (λ (o : Option (Goal × List ThreadId)). IsFirst o (finding_of after.findings fault)) (sym (first-push fault runs run)) (notes.findings fault (first_shown fault runs) (comes.findings fault));
   alarms =
       capped before.alarms (cond (has_alarm run) 1 0) after.alarms
       (let most = below has_alarm in let one = at_most_one (has_alarm run) in omega (arith, most, one, comes.alarms)) notes.alarms
@@ -112,25 +123,6 @@ AreCounts-permutation count before after moved counts = record {
   others = λ label none. counts.others label (list_any-IsPermutation (λ b. b.label.0 == label) before after moved ∙ none);
 }
 
--- ---- whether there is a first
-
-some-map_of : {X Y : Type 0} (f : X → Y) (o : Option X) → is_some (option_map f o) ≡ is_some o
-some-map_of f None = refl
-some-map_of f (Some x) = refl
-
-is_some-find : (p : Run → Bool) (runs : List Run) → is_some (find p runs) ≡ list_any p runs
-is_some-find p [] = refl
-is_some-find p (run ∷ runs) = ⊎_elim
-    (λ h. ap (λ b. is_some (cond b (Some run) (find p runs))) h ∙ sym (ap (λ b. b || list_any p runs) h))
-    (λ h. ap (λ b. is_some (cond b (Some run) (find p runs))) h ∙ (is_some-find p runs ∙ sym (ap (λ b. b || list_any p runs) h)))
-    (cases_Bool (p run))
-
-some-first : {A Y : Type 0} (g : A → Y) (f : Run → Y) (p : Run → Bool) (o : Option A) (runs : List Run) → option_map g o ≡ option_map f (find p runs) → is_some o ≡ list_any p runs
-some-first g f p o runs same = sym (some-map_of g o) ∙ (ap (λ x. is_some x) same ∙ (some-map_of f (find p runs) ∙ is_some-find p runs))
-
-pub some-first_schedule : (p : Run → Bool) (runs : List Run) → is_some (first_schedule p runs) ≡ list_any p runs
-some-first_schedule p runs = some-map_of (λ run. run.schedule) (find p runs) ∙ is_some-find p runs
-
 -- ---- replays
 
 pub AlarmOf-answer : (log : List Event) (alarm : Option (Bor Alarm)) → IfNone alarm (¬ HasCycle log) → IfSome alarm (λ a. IsAlarm log a.now) → AlarmOf log (option_map (λ a. a.now) alarm)
@@ -163,9 +155,7 @@ module _ (program : Program) (config : Config) where
     by = tried.by;
     comes_to = record {
       count = ap (λ c. c.runs) same ∙ tried.comes_to.count;
-      alarm = ap (λ c. option_map (λ schedule. schedule.items) c.alarm) same ∙ tried.comes_to.alarm;
-      stuck = ap (λ c. option_map (λ schedule. schedule.items) c.stuck) same ∙ tried.comes_to.stuck;
-      refused = ap (λ c. option_map ending_of c.refused) same ∙ tried.comes_to.refused;
+      findings = λ fault. subst (λ (f : Findings). IsFirst (first_shown fault tried.runs) (finding_of f fault)) (sym (ap (λ c. c.findings) same)) (tried.comes_to.findings fault);
       alarms = ap (λ c. c.alarms) same ∙ tried.comes_to.alarms;
       blamed = AreCounts-permutation (λ label. count_by (blames label) tried.runs) before.blamed.items after.blamed.items moved tried.comes_to.blamed;
     };
@@ -173,111 +163,42 @@ module _ (program : Program) (config : Config) where
 
   -- ---- what is shown
 
-  -- a run of the program of which the test is true
-  abbrev Passes : (Run → Bool) → Run → Type 0
-  Passes p run = IsRun program config run × IsTrue (p run)
+  alarm-cycle : (log : List Event) (alarm : Option Alarm) → AlarmOf log alarm → IsTrue (is_some alarm) ↔ HasCycle log
+  alarm-cycle log None none = (λ some. absurd (false≢true some), λ cycle. absurd (none cycle))
+  alarm-cycle log (Some alarm) is = (λ some. HasCycle-from_closing log alarm.position is.closing, λ cycle. refl)
 
-  found : (p : Run → Bool) (runs : List Run) → All (IsRun program config) runs → IfSome (find p runs) (Passes p)
-  found p [] all = tt
-  found p (run ∷ runs) all = ⊎_elim
-      (λ h. subst (λ b. IfSome (cond b (Some run) (find p runs)) (Passes p)) (sym h) (All-head (IsRun program config) run runs all, h))
-      (λ h. subst (λ b. IfSome (cond b (Some run) (find p runs)) (Passes p)) (sym h) (found p runs (All-tail (IsRun program config) run runs all)))
-      (cases_Bool (p run))
+  -- the goal is of this fault, and the program replays to it by the turns
+  abbrev IsShown : Fault → Goal × List ThreadId → Type 0
+  IsShown fault s = Reached program config s.0 s.1 × (fault_of s.0 ≡ fault)
 
-  shown : {A Y : Type 0} (g : A → Y) (f : Run → Y) (p : Run → Bool) (o : Option A) (first : Option Run) (S : Y → Type 0) → option_map g o ≡ option_map f first → ((run : Run) → Passes p run → S (f run)) → IfSome first (Passes p) → IfSome o (λ a. S (g a))
-  shown g f p None first S same step passes = tt
-  shown g f p (Some a) None S same step passes = absurd (none-some (g a) (sym same))
-  shown g f p (Some a) (Some run) S same step passes = subst S (sym (same_Some (g a) (f run) same)) (step run passes)
+  one-shown : (fault : Fault) (run : Run) → IsRun program config run → (goal : Goal) → goal_in fault (has_alarm run) run.ending ≡ Some goal → IsShown fault (goal, run.schedule)
+  one-shown fault run is goal shows =
+      let shown = goal-reaches fault (has_alarm run) run.ending is.closed goal (alarm-cycle is.closed.log run.alarm is.alarm) shows in
+      (record { closed = is.closed; replay = record { ending = run.ending; replays = is.replays; memory = is.memory; alarm = (run.alarm, is.alarm); reaches = shown.0 } }, shown.1)
 
-  shows-alarm : (run : Run) → Passes has_alarm run → ShowsAlarm program config run.schedule
-  shows-alarm run passes = at run.alarm refl
+  first-shown : (fault : Fault) (runs : List Run) → All (IsRun program config) runs → IfSome (first_shown fault runs) (IsShown fault)
+  first-shown fault [] all = tt
+  first-shown fault (run ∷ runs) all =
+      at (goal_in fault (has_alarm run) run.ending) refl (first-shown fault runs (All-tail (IsRun program config) run runs all))
     where
-      at : (alarm : Option Alarm) → run.alarm ≡ alarm → ShowsAlarm program config run.schedule
-      at None is = absurd (false≢true (sym (ap is_some is) ∙ passes.1))
-      at (Some alarm) is =
-          let here : IsAlarm passes.0.closed.log alarm = subst (AlarmOf passes.0.closed.log) is passes.0.alarm in
-          record {
-            ending = run.ending;
-            closed = passes.0.closed;
-            replays = passes.0.replays;
-            cycle = HasCycle-from_closing passes.0.closed.log alarm.position here.closing;
-          }
+      of : Option Goal → Option (Goal × List ThreadId)
+      of o = slice_get (cons_option (option_map (λ goal. (goal, run.schedule)) o) (filter_map (shown_in fault) runs)) 0
 
-  stuck-ending : (ending : Ending) → IsTrue (ends_stuck ending) → ending ≡ Stuck
-  stuck-ending Stuck is = refl
-  stuck-ending ending is = absurd (false≢true is)
+      at : (o : Option Goal) → goal_in fault (has_alarm run) run.ending ≡ o → IfSome (first_shown fault runs) (IsShown fault) → IfSome (of (goal_in fault (has_alarm run) run.ending)) (IsShown fault)
+      at None is rest = subst (λ (o : Option Goal). IfSome (of o) (IsShown fault)) (sym is) rest
+      at (Some goal) is rest = subst (λ (o : Option Goal). IfSome (of o) (IsShown fault)) (sym is) (one-shown fault run (All-head (IsRun program config) run runs all) goal is)
 
-  shows-stuck : (run : Run) → Passes is_stuck run → ShowsStuck program config run.schedule
-  shows-stuck run passes = record {
-    closed = passes.0.closed;
-    replays = subst (λ e. Replays program run.schedule config e passes.0.closed) (stuck-ending run.ending passes.1) passes.0.replays;
-  }
+  shown-by : (fault : Fault) (seen : Option (Goal × List ThreadId)) (finding : Finding) → IsFirst seen finding → IfSome seen (IsShown fault) → OnShown finding (IsWitness program config fault)
+  shown-by fault (Some s) (Shown witness) first shown = subst (IsShown fault) first shown
+  shown-by fault None (Shown witness) first shown = absurd first
+  shown-by fault seen Never first shown = tt
+  shown-by fault seen Open first shown = tt
 
-  -- the program replays so, and ends as a thread is refused
-  record EndsRefused (y : List ThreadId × Ending) : Type 0 where
-    pub closed : WorldState
-    pub replays : Replays program y.0 config y.1 closed
-    pub lasting : IsTrue (ends_refused y.1)
+  pub are-shown : (schedules : List (List ThreadId)) (tally : Tally) → IsTriedBy program config schedules tally → (fault : Fault) → OnShown (finding_of tally.findings fault) (IsWitness program config fault)
+  are-shown schedules tally tried fault =
+      shown-by fault (first_shown fault tried.runs) (finding_of tally.findings fault) (tried.comes_to.findings fault) (first-shown fault tried.runs tried.replayed)
 
-  not-true : (b : Bool) → IsTrue (not b) → IsFalse b
-  not-true false h = refl
-  not-true true h = absurd (false≢true h)
-
-  refused-some : (o : Option RefusedRun) → IfSome o (λ run. EndsRefused (ending_of run)) → IfSome o (ShowsRefusal program config)
-  refused-some None ends = tt
-  refused-some (Some run) ends = record { closed = ends.closed; replays = ends.replays; lasting = not-true (is_for_room run.refusal) ends.lasting }
-
-  module _ (schedules : List (List ThreadId)) (tally : Tally) (tried : IsTriedBy program config schedules tally) where
-    pub alarm-shown : IfSome tally.alarm (λ schedule. ShowsAlarm program config schedule.items)
-    alarm-shown = shown (λ schedule. schedule.items) (λ run. run.schedule) has_alarm tally.alarm (find has_alarm tried.runs) (ShowsAlarm program config) tried.comes_to.alarm shows-alarm (found has_alarm tried.runs tried.replayed)
-
-    pub stuck-shown : IfSome tally.stuck (λ schedule. ShowsStuck program config schedule.items)
-    stuck-shown = shown (λ schedule. schedule.items) (λ run. run.schedule) is_stuck tally.stuck (find is_stuck tried.runs) (ShowsStuck program config) tried.comes_to.stuck shows-stuck (found is_stuck tried.runs tried.replayed)
-
-    pub refused-shown : IfSome tally.refused (ShowsRefusal program config)
-    refused-shown = refused-some tally.refused (shown ending_of (λ run. (run.schedule, run.ending)) is_refused tally.refused (find is_refused tried.runs) EndsRefused tried.comes_to.refused
-        (λ run passes. record { closed = passes.0.closed; replays = passes.0.replays; lasting = passes.1 }) (found is_refused tried.runs tried.replayed))
-
-  -- ---- what is told
-
-  -- the schedule alone
-  first-alone : (p : Run → Bool) (runs : List Run) → option_map (λ (y : List ThreadId × Ending). y.0) (first_ending p runs) ≡ first_schedule p runs
-  first-alone p runs = map-map (λ run. (run.schedule, run.ending)) (λ y. y.0) (find p runs)
-
-  schedules-alone : (refused : Option RefusedRun) → option_map (λ (y : List ThreadId × Ending). y.0) (option_map ending_of refused) ≡ option_map (λ run. run.schedule.items) refused
-  schedules-alone refused = map-map ending_of (λ y. y.0) refused
-
-  -- what simple schedules show is told in place of the first
-  pub IsTold-simple : (seed n : ℕ) (before after : Tally) → IsTried program config seed n before
-      → after ≡ record before { alarm = after.alarm; stuck = after.stuck; refused = after.refused }
-      → is_some after.alarm ≡ is_some before.alarm → IfSome after.alarm (λ schedule. ShowsAlarm program config schedule.items)
-      → IfSome after.alarm (λ schedule. SimplifiesFirst program config goals.Alarm (option_map (λ schedule. schedule.items) before.alarm) schedule.items)
-      → is_some after.stuck ≡ is_some before.stuck → IfSome after.stuck (λ schedule. ShowsStuck program config schedule.items)
-      → IfSome after.stuck (λ schedule. SimplifiesFirst program config goals.Stuck (option_map (λ schedule. schedule.items) before.stuck) schedule.items)
-      → is_some after.refused ≡ is_some before.refused → IfSome after.refused (ShowsRefusal program config)
-      → IfSome after.refused (λ run. SimplifiesFirst program config (goals.Refused run.thread run.refusal) (option_map (λ run. run.schedule.items) before.refused) run.schedule.items)
-      → IsTold program config seed n after
-  IsTold-simple seed n before after tried same some_alarm alarm simple_alarm some_stuck stuck simple_stuck some_refused refused simple_refused =
-      let to = tried.comes_to in
-      record {
-        runs = tried.runs;
-        replayed = tried.replayed;
-        by = tried.by;
-        count = sym (length-map tried.runs (λ run. run.schedule)) ∙ (ap (λ (l : List (List ThreadId)). length l) tried.by ∙ drawn-count n _ _ _);
-        tells = record {
-          count = ap (λ c. c.runs) same ∙ to.count;
-          some_alarm = some_alarm ∙ some-first (λ schedule. schedule.items) (λ run. run.schedule) has_alarm before.alarm tried.runs to.alarm;
-          alarm = alarm;
-          simple_alarm = subst (λ (o : Option (List ThreadId)). IfSome after.alarm (λ schedule. SimplifiesFirst program config goals.Alarm o schedule.items)) to.alarm simple_alarm;
-          some_stuck = some_stuck ∙ some-first (λ schedule. schedule.items) (λ run. run.schedule) is_stuck before.stuck tried.runs to.stuck;
-          stuck = stuck;
-          simple_stuck = subst (λ (o : Option (List ThreadId)). IfSome after.stuck (λ schedule. SimplifiesFirst program config goals.Stuck o schedule.items)) to.stuck simple_stuck;
-          some_refused = some_refused ∙ some-first ending_of (λ run. (run.schedule, run.ending)) is_refused before.refused tried.runs to.refused;
-          refused = refused;
-          simple_refused =
-              subst (λ (o : Option (List ThreadId)). IfSome after.refused (λ run. SimplifiesFirst program config (goals.Refused run.thread run.refusal) o run.schedule.items))
-              (sym (schedules-alone before.refused) ∙ (ap (option_map (λ (y : List ThreadId × Ending). y.0)) to.refused ∙ first-alone is_refused tried.runs)) simple_refused;
-          alarms = ap (λ c. c.alarms) same ∙ to.alarms;
-          blamed = subst (λ (b : List Blamed). AreCounts (λ label. count_by (blames label) tried.runs) b) (sym (ap (λ c. c.blamed.items) same)) to.blamed;
-        };
-      }
+  -- so many runs were made
+  pub count-tried : (seed n : ℕ) (tally : Tally) → IsTried program config seed n tally → tally.runs ≡ n
+  count-tried seed n tally tried =
+      tried.comes_to.count ∙ (sym (length-map tried.runs (λ run. run.schedule)) ∙ (ap (λ (l : List (List ThreadId)). length l) tried.by ∙ drawn-count n _ _ _))

@@ -31,7 +31,8 @@ words (suc n) s = words n s ++ (next_u64 (behind_words n s)).0 ∷ []
 
 -- ---- schedules
 
--- the thread that a word stands for: its rest by the number of threads; none for the greatest words, which would favour some
+-- the thread that a word stands for: its rest by the number of threads; none for the greatest
+-- words, which would favour some
 abbrev pub thread_of : ℕ → ℕ → Option ThreadId
 thread_of threads word =
     if nat_lt word (2 ^ 64 - 1 - (2 ^ 64 - 1) % threads) then Some (record { 0 = word % threads }) else None

@@ -1,5 +1,5 @@
 -- Runs by some schedules, and what is looked for in them.
-use Rattle.std.specs.Prelude.{ℕ, Bool, true, false, ◌==◌, List, [], Option, Some, None, is_some}
+use Rattle.std.specs.Prelude.{◌≡◌, ℕ, Bool, false, ◌==◌, List, [], Option, Some, None, filter_map, is_some, option_map, slice_get}
 use Rattle.std.specs.List.{list_any}
 use Rattle.velo_events.specs.declared.config.Config.{Config}
 use Rattle.velo_events.specs.declared.event.ThreadId.{ThreadId}
@@ -8,9 +8,10 @@ use Rattle.velo_workload.specs.Program.{Program}
 use Rattle.velo_world.specs.declared.analysis.Alarm.{Alarm}
 use Rattle.velo_world.specs.World.{WorldState, AlarmOf}
 use Rattle.velo_worker.specs.declared.ending.Ending.{Ending}
-use Rattle.velo_worker.specs.declared.ending.Ending.TheVariants.{Stuck}
 use Rattle.velo_worker.specs.Schedule.{Replays}
-use Rattle.velo_schedules.specs.Logs.{ends_refused}
+use Rattle.velo_explore.specs.declared.fault.Fault.{Fault}
+use Rattle.velo_schedules.specs.declared.goal.Goal.{Goal}
+use Rattle.velo_schedules.specs.Goals.{goal_in, lacks_memory}
 
 -- a run: its schedule, how it ended, and its alarm, if it has one
 pub record Run : Type 0 where
@@ -22,6 +23,7 @@ pub record Run : Type 0 where
 pub record IsRun (program : Program) (config : Config) (run : Run) : Type 0 where
   pub closed : WorldState
   pub replays : Replays program run.schedule config run.ending closed
+  pub memory : lacks_memory run.ending ≡ false
   pub alarm : AlarmOf closed.log run.alarm
 
 -- ---- what is looked for
@@ -29,15 +31,13 @@ pub record IsRun (program : Program) (config : Config) (run : Run) : Type 0 wher
 abbrev pub has_alarm : Run → Bool
 has_alarm run = is_some run.alarm
 
-abbrev pub ends_stuck : Ending → Bool
-ends_stuck Stuck = true
-ends_stuck ending = false
+-- what the run shows of a fault, and by which schedule
+abbrev pub shown_in : Fault → Run → Option (Goal × List ThreadId)
+shown_in fault run = option_map (λ goal. (goal, run.schedule)) (goal_in fault (has_alarm run) run.ending)
 
-abbrev pub is_stuck : Run → Bool
-is_stuck run = ends_stuck run.ending
-
-abbrev pub is_refused : Run → Bool
-is_refused run = ends_refused run.ending
+-- the first of the runs that has it
+abbrev pub first_shown : Fault → List Run → Option (Goal × List ThreadId)
+first_shown fault runs = slice_get (filter_map (shown_in fault) runs) 0
 
 -- ---- who is to blame
 

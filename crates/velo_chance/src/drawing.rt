@@ -12,8 +12,8 @@ use velo_schedules::count_all;
 use velo_turns::MAX_TURNS;
 use velo_workload::Workload;
 
-/// How many turns are drawn for a run: so many that each event has a turn on the average, even if all threads but one have to
-/// wait or are idle, but no more than a schedule may have.
+/// How many turns are drawn for a run: so many that each event has a turn on the average, even if
+/// all threads but one have to wait or are idle, but no more than a schedule may have.
 pub(crate) fn turns_for(workload: &Workload) -> usize
     ensures { result ≡ turns_for workload.now }
 {
@@ -39,7 +39,8 @@ fn draw_thread(random: &mut Xoshiro256PlusPlus, threads: u8) -> Option<ThreadId>
     }
 }
 
-/// So many turns that are drawn one after another, each of any thread alike. (Fewer with a chance of 1 in 2 to the 58 for each.)
+/// So many turns that are drawn one after another, each of any thread alike. (Fewer with a chance
+/// of 1 in 2 to the 58 for each.)
 pub(crate) fn draw(
     alloc: Global,
     random: &mut Xoshiro256PlusPlus,

@@ -1,16 +1,19 @@
 //! Noting what a run shows.
-ghost use Rattle.std.specs.Prelude.{◌≡◌, ◌+◌, ◌-◌, ◌<◌, ◌^◌, ◌∷◌, ◌++◌, [], ℕ, List, Some, None, min, option_map, IfOk, if◌then◌else◌};
+ghost use Rattle.std.specs.Prelude.{◌≡◌, ◌+◌, ◌-◌, ◌<◌, ◌^◌, ◌∷◌, ◌++◌, [], ℕ, List, Option, min, option_map, IfOk, if◌then◌else◌};
 ghost use Rattle.std.specs.Option.{option_or};
-ghost use Rattle.velo_schedules.specs.Logs.{ends_refused};
-ghost use Rattle.velo_chance.specs.Runs.{Run, blocks_of, ends_stuck, has_label};
-ghost use Rattle.velo_chance.specs.Tallies.{AreCounts, ComesTo, ending_of};
+ghost use Rattle.velo_events.specs.declared.event.ThreadId.{ThreadId as Turn};
+ghost use Rattle.velo_explore.specs.declared.fault.Fault.{Fault as FaultOf};
+ghost use Rattle.velo_schedules.specs.declared.goal.Goal.{Goal as GoalOf};
+ghost use Rattle.velo_schedules.specs.Goals.{finding_of, goal_in};
+ghost use Rattle.velo_chance.specs.Runs.{Run, blocks_of, has_label};
+ghost use Rattle.velo_chance.specs.Tallies.{AreCounts, ComesTo, IsFirst};
 
 use crate::blaming::count_alarm;
 use crate::tally::{Blamed, Tally};
 use std::alloc::Global;
 use velo_events::growth::reserve;
 use velo_events::{Memory, ThreadId};
-use velo_schedules::{RefusedRun, lasting_refusal};
+use velo_schedules::{Fault, Finding, Findings, Goal, Outcome, Witness};
 use velo_worker::Ending;
 use velo_world::Alarm;
 
@@ -26,45 +29,55 @@ fn copied(alloc: Global, schedule: &[ThreadId]) -> Result<Vec<ThreadId>, Memory>
     }
 }
 
-/// The schedule that is kept, or else this one, if it shows what is looked for.
+/// The finding of a fault with one more run by this schedule, which shows this of it: the first run
+/// that has it is kept.
 fn first_of(
     alloc: Global,
-    kept: Option<Vec<ThreadId>>,
-    shows: bool,
+    kept: Finding,
+    shows: Option<Goal>,
     schedule: &[ThreadId],
-) -> Result<Option<Vec<ThreadId>>, Memory>
-    ensures { IfOk result (λ first. option_map (λ turns. turns.items) first ≡
-        option_or (option_map (λ turns. turns.items) kept) (if shows then Some schedule.now else None)) }
+) -> Result<Finding, Memory>
+    ensures { IfOk result (λ first. (seen : Option (GoalOf × List Turn)) → IsFirst seen kept →
+        IsFirst (option_or seen (option_map (λ goal. (goal, schedule.now)) shows)) first) }
 {
-    if kept.is_some() || !shows {
-        return Ok(kept);
+    match kept {
+        Finding::Never => match shows {
+            Some(goal) => {
+                let schedule = copied(alloc, schedule)?;
+                Ok(Finding::Shown(Witness { goal, schedule }))
+            }
+            None => Ok(Finding::Never),
+        },
+        Finding::Shown(witness) => Ok(Finding::Shown(witness)),
+        Finding::Open => Ok(Finding::Open),
     }
-    let copy = copied(alloc, schedule)?;
-    Ok(Some(copy))
 }
 
-/// The refused run that is kept, or else this one, if it is one.
-fn first_refused(
+/// What runs show with one more, by this schedule.
+fn findings_with(
     alloc: Global,
-    kept: Option<RefusedRun>,
-    ending: Ending,
+    findings: Findings,
+    outcome: Outcome,
     schedule: &[ThreadId],
-) -> Result<Option<RefusedRun>, Memory>
-    ensures { IfOk result (λ first. option_map ending_of first ≡
-        option_or (option_map ending_of kept) (if ends_refused ending then Some (schedule.now, ending) else None)) }
+) -> Result<Findings, Memory>
+    ensures { IfOk result (λ after. (fault : FaultOf) (seen : Option (GoalOf × List Turn)) →
+        IsFirst seen (finding_of findings fault) →
+        IsFirst (option_or seen (option_map (λ goal. (goal, schedule.now))
+        (goal_in fault outcome.alarm outcome.ending))) (finding_of after fault)) }
 {
-    if kept.is_some() {
-        return Ok(kept);
-    }
-    let Some((thread, refusal)) = lasting_refusal(ending) else {
-        return Ok(None);
-    };
-    let schedule = copied(alloc, schedule)?;
-    Ok(Some(RefusedRun {
-        schedule,
-        thread,
-        refusal,
-    }))
+    let Findings {
+        alarm,
+        stuck,
+        refused,
+    } = findings;
+    let alarm = first_of(alloc, alarm, outcome.goal(Fault::Cycle), schedule)?;
+    let stuck = first_of(alloc, stuck, outcome.goal(Fault::Stuck), schedule)?;
+    let refused = first_of(alloc, refused, outcome.goal(Fault::Refusing), schedule)?;
+    Ok(Findings {
+        alarm,
+        stuck,
+        refused,
+    })
 }
 
 /// The labels, counted with those that the alarm blames, if there is one.
@@ -80,13 +93,6 @@ fn blamed_with(
         Some(alarm) => count_alarm(alloc, blamed, alarm.blamed.as_slice()),
         None => Ok(blamed),
     }
-}
-
-/// Whether a run ended as stuck.
-fn ends_stuck(ending: Ending) -> bool
-    ensures { result ≡ ends_stuck ending }
-{
-    matches!(ending, Ending::Stuck)
 }
 
 /// A count, with one more or not.
@@ -115,23 +121,20 @@ pub(crate) fn note(
 {
     let Tally {
         runs,
-        alarm: first_alarm,
-        stuck,
-        refused,
+        findings,
         alarms,
         blamed,
     } = tally;
-    let has_alarm = alarm.is_some();
-    let first_alarm = first_of(alloc, first_alarm, has_alarm, schedule)?;
-    let stuck = first_of(alloc, stuck, ends_stuck(ending), schedule)?;
-    let refused = first_refused(alloc, refused, ending, schedule)?;
+    let outcome = Outcome {
+        alarm: alarm.is_some(),
+        ending,
+    };
+    let findings = findings_with(alloc, findings, outcome, schedule)?;
     let blamed = blamed_with(alloc, blamed, alarm)?;
     Ok(Tally {
         runs: runs + 1,
-        alarm: first_alarm,
-        stuck,
-        refused,
-        alarms: count_if(alarms, has_alarm),
+        findings,
+        alarms: count_if(alarms, outcome.alarm),
         blamed,
     })
 }

@@ -1,9 +1,11 @@
 //! Runs by schedules that are given, or by chance.
-ghost use Rattle.std.specs.Prelude.{◌≡◌, ◌+◌, ◌-◌, ◌<◌, ◌^◌, ◌∷◌, ◌++◌, [], ℕ, List, map, IfOk, IfSome};
+ghost use Rattle.std.specs.Prelude.{◌≡◌, ◌+◌, ◌-◌, ◌<◌, ◌^◌, ◌∷◌, ◌++◌, [], ℕ, List, map, IfOk};
 ghost use Rattle.std.specs.List.Sorted.{IsNonDecreasingBy};
 ghost use Rattle.velo_events.specs.declared.config.Config.{Config as ConfigOf};
 ghost use Rattle.velo_events.specs.declared.event.ThreadId.{ThreadId as Turn};
-ghost use Rattle.velo_schedules.specs.Told.{ShowsAlarm, ShowsStuck, ShowsRefusal};
+ghost use Rattle.velo_explore.specs.declared.fault.Fault.{Fault as FaultOf};
+ghost use Rattle.velo_schedules.specs.Goals.{IsWitness, finding_of};
+ghost use Rattle.velo_schedules.specs.Told.{OnShown};
 ghost use Rattle.velo_workload.specs.Program.{Program};
 ghost use Rattle.velo_chance.specs.Tallies.{IsTried, IsTriedBy, rank};
 
@@ -15,7 +17,7 @@ use rand_core::SeedableRng;
 use rand_xoshiro::Xoshiro256PlusPlus;
 use std::alloc::Global;
 use velo_events::{Config, Memory, ThreadId};
-use velo_schedules::replayed;
+use velo_schedules::{Finding, Findings, replayed};
 use velo_workload::Workload;
 
 /// The seed where none is named.
@@ -28,9 +30,11 @@ fn no_runs(alloc: Global) -> Tally
 {
     Tally {
         runs: 0,
-        alarm: None,
-        stuck: None,
-        refused: None,
+        findings: Findings {
+            alarm: Finding::Never,
+            stuck: Finding::Never,
+            refused: Finding::Never,
+        },
         alarms: 0,
         blamed: Vec::new(alloc),
     }
@@ -56,8 +60,8 @@ fn run_once(
     noted
 }
 
-/// Makes a run by each of these schedules, and then in rounds, and tells what they come to. The configuration has to have the
-/// workload's bounds.
+/// Makes a run by each of these schedules, and then in rounds, and tells what they come to. The
+/// configuration has to have the workload's bounds.
 ///
 /// # Errors
 /// `Memory` where a growth was refused.
@@ -79,15 +83,16 @@ pub fn try_all(
     Ok(tally)
 }
 
-/// Makes so many runs, each by a schedule that is drawn by chance and then in rounds, and tells what they come to. The
-/// configuration has to have the workload's bounds.
+/// Makes so many runs, each by a schedule that is drawn by chance and then in rounds, and tells
+/// what they come to. The configuration has to have the workload's bounds.
 ///
-/// Each turn of a schedule is any thread's, all alike. A thread that can't act in its turn passes, so among those that can
-/// act each is as likely as any other. A schedule has as many turns as the bodies have events, times the threads, and at
-/// most [`MAX_TURNS`](velo_turns::MAX_TURNS). The schedules are those that xoshiro256++ draws from the seed.
+/// Each turn of a schedule is any thread's, all alike. A thread that can't act in its turn passes,
+/// so among those that can act each is as likely as any other. A schedule has as many turns as the
+/// bodies have events, times the threads, and at most [`MAX_TURNS`](velo_turns::MAX_TURNS). The
+/// schedules are those that xoshiro256++ draws from the seed.
 ///
-/// What is shown was replayed, and each count is of runs that were replayed. Where nothing is shown, none of these runs shows
-/// it: of other schedules nothing is said.
+/// What is shown was replayed, and each count is of runs that were replayed. Where nothing is
+/// shown, none of these runs shows it: of other schedules nothing is said.
 ///
 /// # Errors
 /// `Memory` where a growth was refused.
@@ -101,9 +106,8 @@ pub fn try_by_chance(
     requires bounds { config.bounds ≡ workload.now.bounds }
     ensures tried { IfOk result (IsTried workload.now config seed runs) }
     ensures order { IfOk result (λ tally. IsNonDecreasingBy rank tally.blamed.items) }
-    ensures alarm { IfOk result (λ tally. IfSome tally.alarm (λ schedule. ShowsAlarm workload.now config schedule.items)) }
-    ensures stuck { IfOk result (λ tally. IfSome tally.stuck (λ schedule. ShowsStuck workload.now config schedule.items)) }
-    ensures refused { IfOk result (λ tally. IfSome tally.refused (ShowsRefusal workload.now config)) }
+    ensures shows { IfOk result (λ tally. (fault : FaultOf) →
+        OnShown (finding_of tally.findings fault) (IsWitness workload.now config fault)) }
 {
     let mut random = Xoshiro256PlusPlus::seed_from_u64(seed);
     let turns = turns_for(workload);

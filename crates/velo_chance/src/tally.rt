@@ -1,17 +1,14 @@
-use velo_events::{Label, ThreadId};
-use velo_schedules::RefusedRun;
+use velo_events::Label;
+use velo_schedules::Findings;
 
 /// What some runs came to.
 #[derive(Debug, Drop)]
 pub struct Tally {
     /// How many runs were made.
     pub runs: u64,
-    /// The schedule of the first run with an alarm, or a simpler one with an alarm.
-    pub alarm: Option<Vec<ThreadId>>,
-    /// The schedule of the first run that is stuck, or a simpler one that is.
-    pub stuck: Option<Vec<ThreadId>>,
-    /// The first run that ends as a thread is refused, and not for want of room; or a simpler one that ends so.
-    pub refused: Option<RefusedRun>,
+    /// What the runs show: of each fault the first that has it, or that none has it. None is left
+    /// open.
+    pub findings: Findings,
     /// How many runs have an alarm.
     pub alarms: u64,
     /// The labels that alarms of these runs blame, each once, those of most alarms first.

@@ -1,9 +1,11 @@
 //! Random runs.
 use std::alloc::Global;
-use velo_chance::{Blamed, DEFAULT_SEED, Tally, explore_by_chance, try_all, try_by_chance};
-use velo_events::Config;
+use velo_chance::{Blamed, DEFAULT_SEED, Tally, try_all, try_by_chance};
+use velo_events::{Config, Memory};
+use velo_schedules::Finding;
+use velo_shrink::{Shrunk, shrink_findings};
 use velo_turns::{append_turns, turns_of};
-use velo_workload::parse;
+use velo_workload::{Workload, parse};
 
 /// The tally of `runs` random runs of a workload.
 fn tried(alloc: Global, text: &str, runs: u64, seed: u64) -> Option<Tally> {
@@ -30,9 +32,9 @@ fn findings_of(alloc: Global, text: &str, runs: u64, seed: u64) -> Option<Findin
         runs: tally.runs,
         some_alarms: tally.alarms > 0,
         all_alarms: tally.alarms == runs,
-        alarm: tally.alarm.is_some(),
-        stuck: tally.stuck.is_some(),
-        refused: tally.refused.is_some(),
+        alarm: tally.findings.alarm.witness().is_some(),
+        stuck: tally.findings.stuck.witness().is_some(),
+        refused: tally.findings.refused.witness().is_some(),
     })
 }
 
@@ -44,9 +46,8 @@ fn first_alarm(
     seed: u64,
 ) -> Option<(Vec<u8>, u64, Vec<Blamed>)> {
     let tally = tried(alloc, text, runs, seed)?;
-    let schedule = tally.alarm?;
     let mut short = Vec::new(alloc);
-    append_turns(&mut short, &schedule).ok()?;
+    append_turns(&mut short, &tally.findings.alarm.witness()?.schedule).ok()?;
     Some((short, tally.alarms, tally.blamed))
 }
 
@@ -63,19 +64,24 @@ fn words(text: &[u8]) -> usize {
     text.iter().filter(|byte| **byte == b' ').count()
 }
 
+/// The alarm of random runs of a workload, by a simple schedule.
+fn simple_alarm(alloc: Global, workload: &Workload, config: Config) -> Result<Finding, Memory>
+    requires bounds { config.bounds ≡ workload.now.bounds }
+{
+    let tally = try_by_chance(alloc, workload, 50, DEFAULT_SEED, config)?;
+    let Shrunk { findings, first } = shrink_findings(alloc, workload, tally.findings, config)?;
+    drop(first);
+    Ok(findings.alarm)
+}
+
 /// The schedule of an alarm that is reported, simplified.
 fn simple(alloc: Global, text: &str) -> Option<Vec<u8>> {
     let workload = parse(alloc, text).ok()?;
     let config = Config::new(1, workload.bounds(), 100_000, 64, false).ok()?;
-    let Tally { alarm, .. } = explore_by_chance(alloc, &workload, 50, DEFAULT_SEED, config).ok()?;
-    match alarm {
-        Some(schedule) => {
-            let mut short = Vec::new(alloc);
-            append_turns(&mut short, &schedule).ok()?;
-            Some(short)
-        }
-        None => None,
-    }
+    let alarm = simple_alarm(alloc, &workload, config).ok()?;
+    let mut short = Vec::new(alloc);
+    append_turns(&mut short, &alarm.witness()?.schedule).ok()?;
+    Some(short)
 }
 
 /// How many of the runs by these schedules have an alarm, how many labels are blamed, and in how

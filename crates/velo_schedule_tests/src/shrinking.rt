@@ -1,60 +1,53 @@
 //! How simple schedules become.
 use std::alloc::Global;
-use velo_events::{Config, ThreadId};
-use velo_schedules::{Exploration, Finding, Quiet, RefusalFinding, RefusedRun, explore};
-use velo_shrink::{Goal, MAX_TRIES, shrink};
+use velo_events::{Config, Memory, ThreadId};
+use velo_schedules::{Finding, Findings, Quiet, explore};
+use velo_shrink::{Shrunk, shrink_findings};
 use velo_turns::append_turns;
-use velo_workload::parse;
+use velo_workload::{Workload, parse};
+
+/// What all schedules of a workload show, by simple schedules.
+fn simple_findings(
+    alloc: Global,
+    workload: &Workload,
+    config: Config,
+) -> Result<Findings, Memory>
+    requires bounds { config.bounds ≡ workload.now.bounds }
+{
+    let told = explore(alloc, workload, 100_000, false, config, &mut Quiet)?;
+    let Shrunk { findings, first } = shrink_findings(alloc, workload, told.findings, config)?;
+    drop(first);
+    Ok(findings)
+}
+
+/// The same of a text.
+fn findings_of(alloc: Global, text: &str) -> Option<Findings> {
+    let workload = parse(alloc, text).ok()?;
+    let config = Config::new(1, workload.bounds(), 100_000, 64, false).ok()?;
+    simple_findings(alloc, &workload, config).ok()
+}
+
+/// The schedule of a finding that is shown.
+fn schedule_of(finding: Finding) -> Option<Vec<ThreadId>> {
+    match finding {
+        Finding::Shown(witness) => Some(witness.schedule),
+        Finding::Never | Finding::Open => None,
+    }
+}
 
 /// The simple schedule of the alarm of a workload.
 fn to_alarm(alloc: Global, text: &str) -> Option<Vec<ThreadId>> {
-    let workload = parse(alloc, text).ok()?;
-    let config = Config::new(1, workload.bounds(), 100_000, 64, false).ok()?;
-    let Exploration { alarm, .. } = explore(
-        alloc, &workload, 100_000, false, config, &mut Quiet,
-    ).ok()?;
-    match alarm {
-        Finding::Shown(schedule) => {
-            shrink(alloc, &workload, Goal::Alarm, schedule, MAX_TRIES, config).ok()
-        }
-        _ => None,
-    }
+    schedule_of(findings_of(alloc, text)?.alarm)
 }
 
 /// The simple schedule of the deadlock of a workload.
 fn to_deadlock(alloc: Global, text: &str) -> Option<Vec<ThreadId>> {
-    let workload = parse(alloc, text).ok()?;
-    let config = Config::new(1, workload.bounds(), 100_000, 64, false).ok()?;
-    let Exploration { stuck, .. } = explore(
-        alloc, &workload, 100_000, false, config, &mut Quiet,
-    ).ok()?;
-    match stuck {
-        Finding::Shown(schedule) => {
-            shrink(alloc, &workload, Goal::Stuck, schedule, MAX_TRIES, config).ok()
-        }
-        _ => None,
-    }
+    schedule_of(findings_of(alloc, text)?.stuck)
 }
 
 /// The simple schedule of the refusal of a workload.
 fn to_refusal(alloc: Global, text: &str) -> Option<Vec<ThreadId>> {
-    let workload = parse(alloc, text).ok()?;
-    let config = Config::new(1, workload.bounds(), 100_000, 64, false).ok()?;
-    let Exploration { refused, .. } = explore(
-        alloc, &workload, 100_000, false, config, &mut Quiet,
-    ).ok()?;
-    match refused {
-        RefusalFinding::Shown(run) => {
-            let RefusedRun {
-                schedule,
-                thread,
-                refusal,
-            } = run;
-            let goal = Goal::Refused(thread, refusal);
-            shrink(alloc, &workload, goal, schedule, MAX_TRIES, config).ok()
-        }
-        _ => None,
-    }
+    schedule_of(findings_of(alloc, text)?.refused)
 }
 
 /// Whether a schedule is found, and its short text is this one, each word after a space.

@@ -1,7 +1,7 @@
 //! Workloads, and what all their schedules lead to.
 use std::alloc::Global;
 use velo_events::Config;
-use velo_schedules::{Exploration, Finding, Quiet, RefusalFinding, explore};
+use velo_schedules::{Exploration, Finding, Quiet, explore};
 use velo_workload::parse;
 
 /// What is known of a fault.
@@ -39,20 +39,12 @@ fn known_of(finding: &Finding) -> Known {
     }
 }
 
-fn known_refusal(finding: &RefusalFinding) -> Known {
-    match finding {
-        RefusalFinding::Shown(_) => Known::Shown,
-        RefusalFinding::Never => Known::Never,
-        RefusalFinding::Open => Known::Open,
-    }
-}
-
 fn told_of(exploration: &Exploration) -> Told {
     Told {
         states: exploration.states,
-        alarm: known_of(&exploration.alarm),
-        stuck: known_of(&exploration.stuck),
-        refused: known_refusal(&exploration.refused),
+        alarm: known_of(&exploration.findings.alarm),
+        stuck: known_of(&exploration.findings.stuck),
+        refused: known_of(&exploration.findings.refused),
     }
 }
 

@@ -6,3 +6,4 @@ pub mod OnTold
 pub mod OnCounting
 pub mod OnFollowed
 pub mod OnShown
+pub mod OnFindings

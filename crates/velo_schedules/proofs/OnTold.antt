@@ -1,6 +1,8 @@
 -- What holds of all runs of a program's scripts holds of all its replays.
-use Rattle.std.proofs.Common.{◌≡◌, ℕ, ◌+◌, ◌-◌, ◌*◌, ◌^◌, ◌<◌, ◌≤◌, Bool, true, false, not, ◌||◌, List, [], ◌∷◌, length, length-append, map, Option, Some, None, refl, sym, ap, ◌∙◌, subst, arith, ⊎_elim, inl, inr}
-use Rattle.std.specs.Prelude.{IfSome, IsTrue, filter, slice_get, sum_by}
+use Rattle.std.proofs.Common.{◌≡◌, ℕ, ◌+◌, ◌-◌, ◌*◌, ◌^◌, ◌<◌, ◌≤◌, Bool, true, false, not, ◌&&◌, ◌||◌, List, [], ◌∷◌, length, length-append, map, Option, Some, None, refl, sym, ap, ◌∙◌, subst, arith, ⊎_elim, inl, inr}
+use Rattle.std.specs.Global.{Vec}
+use Rattle.std.specs.Option.{option_map}
+use Rattle.std.specs.Prelude.{IfSome, IsTrue, filter, is_some, slice_get, sum_by}
 use Rattle.std.proofs.lemmas.Bool.{and_parts, or_cases, false≢true}
 use Rattle.std.proofs.lemmas.List.{length-map}
 use Rattle.std.proofs.lemmas.List.Sums.{length-filter, get_or-le-sum_by}
@@ -14,7 +16,9 @@ use Rattle.velo_workload.specs.Program.{Program}
 use Rattle.velo_worker.specs.Counts.{has_event, body_events}
 use Rattle.velo_worker.specs.Walk.{walk_of}
 use Rattle.velo_explore.specs.declared.found.Found.{Found}
-use Rattle.velo_explore.specs.Faults.{Fault, Cycle, Stuck, Refusing, IsFault}
+use Rattle.velo_explore.specs.Faults.{IsFault}
+use Rattle.velo_explore.specs.declared.fault.Fault.{Fault}
+use Rattle.velo_explore.specs.declared.fault.Fault.TheVariants.{Cycle, Stuck, Refusing}
 use Rattle.velo_explore.specs.Runs.{script_of}
 use Rattle.velo_explore.specs.Runs as runs
 use Rattle.velo_explore.specs.Search as searched
@@ -25,13 +29,17 @@ use Rattle.velo_explore.specs.Trail.{LeadToCycles, LeadsTo}
 use Rattle.velo_events.specs.declared.event.ThreadId.{ThreadId}
 use Rattle.velo_schedules.specs.declared.finding.Finding.{Finding}
 use Rattle.velo_schedules.specs.declared.finding.Finding.TheVariants.{Shown, Never, Open}
-use Rattle.velo_schedules.specs.declared.finding.RefusalFinding.{RefusalFinding}
-use Rattle.velo_schedules.specs.declared.finding.RefusalFinding.TheVariants as refusals
-use Rattle.velo_schedules.specs.Told.{IsCutShort, IsLeftOpen, IsMissed, IsSomewhere, OnOpen, OnOpenRefusal}
-use Rattle.velo_schedules.specs.Logs.{AlwaysSerializable, NeverStuck, NeverRefused}
+use Rattle.velo_schedules.specs.Told.{IsCutShort, IsLeftOpen, IsMissed, IsSomewhere, NeverHas, OnOpen}
 use Rattle.velo_schedules.specs.Bodies.{operation, operations_of, operations_by, all_scripts}
+use Rattle.velo_schedules.proofs.OnShown.{of_mapped}
 use Rattle.velo_schedules.proofs.OnPlainLogs.{script_in, ArePlain-bodies, AlwaysSerializable-runs, NeverStuck-runs, NeverRefused-runs}
 use Rattle.velo_explore.proofs.OnWanted.{known-few, searched-stuck, searched-refused}
+
+-- what is so of each fault
+pub each_fault : (P : Fault → Type 0) → P Cycle → P Stuck → P Refusing → (fault : Fault) → P fault
+each_fault P cycle stuck refused Cycle = cycle
+each_fault P cycle stuck refused Stuck = stuck
+each_fault P cycle stuck refused Refusing = refused
 
 -- ---- what is open
 
@@ -41,11 +49,6 @@ OnOpen-map Open ruled_out P Q f p = f p.0 p.1
 OnOpen-map Never ruled_out P Q f p = tt
 OnOpen-map (Shown schedule) ruled_out P Q f p = tt
 
-pub OnOpenRefusal-map : (finding : RefusalFinding) (ruled_out : Bool) (P Q : Type 0) → (ruled_out ≡ false → P → Q) → OnOpenRefusal finding ((ruled_out ≡ false) × P) → OnOpenRefusal finding Q
-OnOpenRefusal-map refusals.Open ruled_out P Q f p = f p.0 p.1
-OnOpenRefusal-map refusals.Never ruled_out P Q f p = tt
-OnOpenRefusal-map (refusals.Shown run) ruled_out P Q f p = tt
-
 -- why a fault is open after a search that was cut short
 pub open-cut : (program : Program) (config : Config) (most : ℕ) (first : Bool) (states : ℕ) (fault : Fault) (found : Bool) →
     (found ≡ false → IsCutShort program config most first states fault) → (found ≡ true → IsSomewhere program fault) →
@@ -53,6 +56,28 @@ pub open-cut : (program : Program) (config : Config) (most : ℕ) (first : Bool)
 open-cut program config most first states fault false cut somewhere missed = inl (cut refl)
 open-cut program config most true states fault true cut somewhere missed = inl (inr (inl (refl, fault, somewhere refl)))
 open-cut program config most false states fault true cut somewhere missed = inr (missed refl refl)
+
+-- why it is open after a search
+pub open-told : (program : Program) (config : Config) (most : ℕ) (first : Bool) (states : ℕ) (fault : Fault) (whole found ruled : Bool) (shown : Option (Vec ThreadId)) (finding : Finding)
+    → ruled ≡ (whole && not found) → (whole ≡ false → found ≡ false → IsCutShort program config most first states fault) → (found ≡ true → IsSomewhere program fault)
+    → (whole ≡ true → found ≡ true → IsTrue (is_some (option_map (λ v. v.items) shown))) → (first ≡ false → found ≡ true → IsTrue (is_some (option_map (λ v. v.items) shown)))
+    → OnOpen finding ((ruled ≡ false) × IfSome shown (λ turns. IsMissed program config fault)) → OnOpen finding (IsLeftOpen program config most first states fault)
+open-told program config most first states fault whole found ruled shown finding is cut somewhere each each_all missed =
+    OnOpen-map finding ruled _ _ (λ none. by whole found (sym is ∙ none) cut somewhere each each_all) missed
+  where
+    by : (whole found : Bool) → (whole && not found) ≡ false → (whole ≡ false → found ≡ false → IsCutShort program config most first states fault) → (found ≡ true → IsSomewhere program fault)
+        → (whole ≡ true → found ≡ true → IsTrue (is_some (option_map (λ v. v.items) shown))) → (first ≡ false → found ≡ true → IsTrue (is_some (option_map (λ v. v.items) shown)))
+        → IfSome shown (λ turns. IsMissed program config fault) → IsLeftOpen program config most first states fault
+    by true false none cut somewhere each each_all missed = absurd (false≢true (sym none))
+    by true true none cut somewhere each each_all missed = inr (of_mapped (λ v. v.items) _ shown (each refl refl) missed)
+    by false found none cut somewhere each each_all missed =
+        open-cut program config most first states fault found (cut refl) somewhere (λ some all. of_mapped (λ v. v.items) _ shown (each_all all some) missed)
+
+-- a search that tried every run rules out what it did not find
+pub ruled-out : (whole found ruled : Bool) → ruled ≡ (whole && not found) → ruled ≡ true → (whole ≡ true) × (found ≡ false)
+ruled-out true true ruled is h = absurd (false≢true (sym is ∙ h))
+ruled-out true false ruled is h = (refl, refl)
+ruled-out false found ruled is h = absurd (false≢true (sym is ∙ h))
 
 -- a search that ended at the first finding has one
 ended_found : (first : Bool) (found : Found) → has_ended first found ≡ true → (first ≡ true) × (fault : Fault) × (has_fault found fault ≡ true)
@@ -62,11 +87,6 @@ ended_found first found ended =
     (λ early. ⊎_elim (λ alarm. (both.0, Cycle, alarm)) (λ stuck. (both.0, Stuck, stuck)) (or_cases found.alarm found.stuck early))
     (λ refused. (both.0, Refusing, refused))
     (or_cases (found.alarm || found.stuck) found.refused both.1)
-
--- what is not said not to be found was found
-pub was_found : (found : Bool) → not found ≡ false → found ≡ true
-was_found true h = refl
-was_found false h = absurd (false≢true (sym h))
 
 -- a search that would have ended at the first finding, and did not
 pub goes_on_all : (first : Bool) → ¬ IsTrue first → first ≡ false
@@ -126,19 +146,13 @@ module _ (program : Program) (bounds : Bounds) (same : bounds ≡ program.bounds
 
   -- ---- no run has the fault, so no replay has
 
-  pub alarm-ruled_out : runs.Never (IsFault bounds list Cycle) bounds list [] → AlwaysSerializable program
-  alarm-ruled_out never = AlwaysSerializable-runs program (subst (λ ks. runs.Never (IsFault program.bounds ks Cycle) program.bounds ks []) is (subst (λ b. runs.Never (IsFault b list Cycle) b list []) same never))
+  pub never-has : length program.bodies ≡ program.bounds.threads → (fault : Fault) → runs.Never (IsFault bounds list fault) bounds list [] → NeverHas program fault
+  never-has count fault never = by fault (subst (λ ks. runs.Never (IsFault program.bounds ks fault) program.bounds ks []) is (subst (λ b. runs.Never (IsFault b list fault) b list []) same never))
+    where
+      few : length (all_scripts program) ≤ program.bounds.threads
+      few = let long = length-map program.bodies (λ body. operations_of (walk_of body)) in omega (arith, long, count)
 
-  module _ (count : length program.bodies ≡ program.bounds.threads) where
-    few_scripts : length (all_scripts program) ≤ program.bounds.threads
-    few_scripts = let long = length-map program.bodies (λ body. operations_of (walk_of body)) in omega (arith, long, count)
-
-    pub stuck-ruled_out : runs.Never (IsFault bounds list Stuck) bounds list [] → NeverStuck program
-    stuck-ruled_out never =
-        let none = subst (λ ks. runs.Never (IsFault program.bounds ks Stuck) program.bounds ks []) is (subst (λ b. runs.Never (IsFault b list Stuck) b list []) same never) in
-        NeverStuck-runs program (λ more run stuck. none more run (searched-stuck program.bounds (all_scripts program) more (known-few program.bounds (all_scripts program) few_scripts more) stuck))
-
-    pub refusal-ruled_out : runs.Never (IsFault bounds list Refusing) bounds list [] → NeverRefused program
-    refusal-ruled_out never =
-        let none = subst (λ ks. runs.Never (IsFault program.bounds ks Refusing) program.bounds ks []) is (subst (λ b. runs.Never (IsFault b list Refusing) b list []) same never) in
-        NeverRefused-runs program (λ more run refused. none more run (searched-refused program.bounds (all_scripts program) more (known-few program.bounds (all_scripts program) few_scripts more) refused))
+      by : (fault : Fault) → runs.Never (IsFault program.bounds (all_scripts program) fault) program.bounds (all_scripts program) [] → NeverHas program fault
+      by Cycle none = AlwaysSerializable-runs program none
+      by Stuck none = NeverStuck-runs program (λ more run stuck. none more run (searched-stuck program.bounds (all_scripts program) more (known-few program.bounds (all_scripts program) few more) stuck))
+      by Refusing none = NeverRefused-runs program (λ more run refused. none more run (searched-refused program.bounds (all_scripts program) more (known-few program.bounds (all_scripts program) few more) refused))

@@ -1,3 +1,4 @@
 pub mod Logs
 pub mod Bodies
+pub mod Goals
 pub mod Told

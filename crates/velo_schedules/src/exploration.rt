@@ -1,4 +1,4 @@
-use crate::finding::{Finding, RefusalFinding};
+use crate::finding::Findings;
 use velo_events::ThreadId;
 
 /// What the schedules of a workload come to.
@@ -8,13 +8,10 @@ pub struct Exploration {
     pub events: u64,
     /// How many states were looked at.
     pub states: u64,
-    /// Logs that are not serializable.
-    pub alarm: Finding,
-    /// Replays that end as stuck.
-    pub stuck: Finding,
-    /// Replays that end as refused.
-    pub refused: RefusalFinding,
-    /// The schedules that lead to the first decisions that close a first cycle, for whoever asks whom the alarms blame: see
-    /// [`velo_explore::Schedules::alarms`]. Each leads to a cycle; none was replayed.
+    /// What is known of each fault.
+    pub findings: Findings,
+    /// The schedules that lead to the first decisions that close a first cycle, for whoever asks
+    /// whom the alarms blame: see [`velo_explore::Schedules::alarms`]. Each leads to a cycle; none
+    /// was replayed.
     pub alarms: Vec<Vec<ThreadId>>,
 }

@@ -1,13 +1,15 @@
--- What a run reaches, its schedule shows.
-use Rattle.std.proofs.Common.{◌≡◌, ◌∙◌, ◌+◌, ◌-◌, ◌<◌, ◌≤◌, ℕ, zero, suc, Bool, List, [], length, take, Option, Some, None, Result, Ok, Err, arith, inl, inr, refl, sym, subst, ⊎_elim}
+-- How soon a run reaches a goal, and what is made of its schedule.
+use Rattle.std.proofs.Common.{◌≡◌, ◌∙◌, ◌+◌, ◌-◌, ◌<◌, ◌≤◌, ℕ, zero, suc, Bool, true, false, List, [], length, take, Option, Some, None, Result, Ok, Err, ap, arith, inl, inr, refl, sym, subst, ⊎_elim}
 use Rattle.std.specs.Borrow.{Bor}
 use Rattle.std.specs.Global.{Vec}
-use Rattle.std.specs.Prelude.{◌⊎◌, ◌↔◌, IfNone, IfOk, IfSome, IsFalse, IsTrue, is_some}
+use Rattle.std.specs.Option.{option_or}
+use Rattle.std.specs.Prelude.{◌⊎◌, ◌↔◌, All, IfNone, IfOk, IfSome, IsFalse, IsTrue, is_some}
 use Rattle.std.proofs.lemmas.Bool.{cases_lt, false≢true}
 use Rattle.std.proofs.lemmas.Option.{none-some, same_Some}
 use Rattle.velo_events.specs.declared.config.Config.{Config}
 use Rattle.velo_events.specs.declared.event.ThreadId.{ThreadId}
 use Rattle.velo_events.specs.declared.event.Event.{Event}
+use Rattle.velo_events.specs.declared.limits.TheConstants.{MAX_THREADS}
 use Rattle.velo_events.specs.declared.refusal.Refusal.{Refusal}
 use Rattle.velo_events.specs.Graph.{HasCycle, IsClosing, Edge}
 use Rattle.velo_events.proofs.OnGraphs.{HasCycle-from_closing, HasCycle-from_take, IsCycle-none_by_rank}
@@ -17,49 +19,27 @@ use Rattle.velo_world.specs.World.{WorldState, IsAlarm}
 use Rattle.velo_worker.specs.declared.ending.Ending.{Ending}
 use Rattle.velo_worker.specs.declared.ending.Ending.TheVariants as endings
 use Rattle.velo_worker.specs.Schedule.{Replays}
-use Rattle.velo_shrink.specs.declared.goal.Goal.{Goal}
-use Rattle.velo_shrink.specs.declared.goal.Goal.TheVariants.{Alarm, Stuck, Refused}
-use Rattle.velo_shrink.specs.Shown.{Shows, Reaches, Reached}
-use Rattle.velo_shrink.specs.Simple.{IsAbove, IsLimited, IsNeeded, Misses, ReachesWithin, without}
+use Rattle.velo_schedules.specs.declared.finding.Finding.{Finding}
+use Rattle.velo_schedules.specs.declared.finding.Finding.TheVariants.{Shown, Never, Open}
+use Rattle.velo_schedules.specs.declared.finding.Witness.{Witness}
+use Rattle.velo_schedules.specs.declared.goal.Goal.{Goal}
+use Rattle.velo_schedules.specs.declared.goal.Goal.TheVariants.{Alarm, Stuck, Refused}
+use Rattle.velo_schedules.specs.Goals.{HasAlarm, Reached, Reaches, lacks_memory, shown_by}
+use Rattle.velo_shrink.specs.declared.findings.Replay.{Replay}
+use Rattle.velo_shrink.specs.Simple.{IsAbove, IsLimited, IsNeeded, IsReplayBy, IsReplayFor, IsSayable, KeepsFirst, KeepsReplay, Misses, ReachesWithin, without}
+use Rattle.velo_turns.specs.declared.limits.TheConstants.{MAX_TURNS}
+use Rattle.velo_turns.specs.Short.{short_text}
+use Rattle.velo_turns.proofs.OnShort.{short_reads_back}
+use Rattle.velo_turns.proofs.OnTexts.{threads_of_schedule}
 
--- an alarm is of a log with a cycle
-pub reaches-alarm : (goal : Goal) (ending : Ending) (closed : WorldState) (alarm : Option (Bor AlarmOf)) (some : Bool) → goal ≡ Alarm → some ≡ is_some alarm
-    → IfNone alarm (¬ HasCycle closed.log) → IfSome alarm (λ a. IsAlarm closed.log a.now) → IsTrue some ↔ Reaches goal ending closed
-reaches-alarm goal ending closed alarm some same is none shown = (
-  λ h. subst (λ g. Reaches g ending closed) (sym same) (cycle alarm shown (sym is ∙ h)),
-  λ r. is ∙ there alarm none (subst (λ g. Reaches g ending closed) same r),
-)
-  where
-    cycle : (alarm : Option (Bor AlarmOf)) → IfSome alarm (λ a. IsAlarm closed.log a.now) → IsTrue (is_some alarm) → HasCycle closed.log
-    cycle None shown h = absurd (false≢true h)
-    cycle (Some a) shown h = HasCycle-from_closing closed.log a.now.position shown.closing
-
-    there : (alarm : Option (Bor AlarmOf)) → IfNone alarm (¬ HasCycle closed.log) → HasCycle closed.log → IsTrue (is_some alarm)
-    there None none c = absurd (none c)
-    there (Some a) none c = refl
-
-pub shows-reached : (program : Program) (config : Config) (goal : Goal) (schedule : Vec ThreadId) (turns : List ThreadId) → turns ≡ schedule.items → Reached program config goal turns → Shows program config goal schedule
-shows-reached program config Alarm schedule turns same reached = record {
-  ending = reached.ending;
-  closed = reached.closed;
-  replays = subst (λ ts. Replays program ts config reached.ending reached.closed) same reached.replays;
-  cycle = reached.reaches;
-}
-shows-reached program config Stuck schedule turns same reached = record {
-  closed = reached.closed;
-  replays = subst (λ ts. Replays program ts config endings.Stuck reached.closed) same (subst (λ e. Replays program turns config e reached.closed) reached.reaches reached.replays);
-}
-shows-reached program config (Refused t r) schedule turns same reached = record {
-  closed = reached.closed;
-  replays = subst (λ ts. Replays program ts config (endings.Refused t r) reached.closed) same (subst (λ e. Replays program turns config e reached.closed) reached.reaches.0 reached.replays);
-  lasting = reached.reaches.1;
-}
-
--- what follows where it is claimed
-pub in_case : {X E : Type 0} (result : Result (Option X) E) {P Q : Type 0} → (P → Q) → IfOk result (λ found. IfSome found (λ x. P)) → IfOk result (λ found. IfSome found (λ x. Q))
-in_case (Ok (Some x)) step given = step given
-in_case (Ok None) step given = tt
-in_case (Err e) step given = tt
+-- what a run reaches, its turns reach
+pub reached : {X E : Type 0} (program : Program) (config : Config) (goal : Goal) (turns : List ThreadId) (ending : Ending) (closed : WorldState) → Replays program turns config ending closed → lacks_memory ending ≡ false
+    → (result : Result (Option X) E) → IfOk result (λ found. HasAlarm closed.log) → IfOk result (λ found. IfSome found (λ x. Reaches goal ending closed))
+    → IfOk result (λ found. IfSome found (λ x. Reached program config goal turns))
+reached program config goal turns ending closed replays memory (Ok (Some x)) known reaches =
+    record { closed = closed; replay = record { ending = ending; replays = replays; memory = memory; alarm = known; reaches = reaches } }
+reached program config goal turns ending closed replays memory (Ok None) known reaches = tt
+reached program config goal turns ending closed replays memory (Err e) known reaches = tt
 
 pub at_some : {X P : Type 0} (found : Option X) (x : X) → found ≡ Some x → IfSome found (λ y. P) → P
 at_some (Some y) x is given = given
@@ -141,3 +121,74 @@ at_is_some None is given = absurd (false≢true is)
 pub at_is_none : {X P : Type 0} (found : Option X) → IsFalse (is_some found) → IfNone found P → P
 at_is_none None is given = given
 at_is_none (Some y) is given = absurd (false≢true (sym is))
+
+-- ---- the best schedule
+
+module _ (program : Program) (config : Config) (goal : Goal) (schedule best now : Vec ThreadId) where
+  -- it shows the goal, and is no longer than the one that was found
+  abbrev IsGood : Type 0
+  IsGood = Reached program config goal now.items × (length now.items ≤ length schedule.items)
+
+  pub best-next : (turns : Vec ThreadId) (lent : List ThreadId) (found : Option (Vec ThreadId)) → found ≡ Some turns → now ≡ turns → lent ≡ best.items → length best.items ≤ length schedule.items
+      → IfSome found (λ t. Reached program config goal t.items) → IfSome found (λ t. length t.items ≤ length lent) → IsGood
+  best-next turns lent (Some t) is same value few shows shorter =
+      let one = same_Some t turns is ∙ sym same in (
+        subst (λ (v : Vec ThreadId). Reached program config goal v.items) one shows,
+        (let long = ap (λ (v : Vec ThreadId). length v.items) one in let lends = ap (λ (l : List ThreadId). length l) value in omega (arith, shorter, long, lends, few)),
+      )
+  best-next turns lent None is same value few shows shorter = absurd (none-some turns is)
+
+  pub best-stays : now ≡ best → Reached program config goal best.items → length best.items ≤ length schedule.items → IsGood
+  best-stays same shows few =
+      (subst (λ (v : Vec ThreadId). Reached program config goal v.items) (sym same) shows, subst (λ (v : Vec ThreadId). length v.items ≤ length schedule.items) (sym same) few)
+
+-- ---- what can be said
+
+pub sayable_by : (schedule : List ThreadId) → length schedule ≤ MAX_TURNS → All (λ t. t.0 < MAX_THREADS) schedule → IsSayable schedule
+sayable_by schedule few threads = short_reads_back schedule threads few
+
+pub threads_of_sayable : (schedule : List ThreadId) → IsSayable schedule → All (λ t. t.0 < MAX_THREADS) schedule
+threads_of_sayable schedule h = threads_of_schedule (short_text schedule) schedule h
+
+pub not_sayable : (result : Bool) (schedule lent : List ThreadId) → IsTrue result ↔ IsSayable lent → lent ≡ schedule → result ≡ false → ¬ IsSayable schedule
+not_sayable result schedule lent is same none = λ h. false≢true (sym none ∙ is.1 (subst IsSayable (sym same) h))
+
+-- ---- the replay of the first finding
+
+module _ (program : Program) (config : Config) where
+  -- what is kept after the finding, where this was kept before
+  kept : (shown : Option Witness) (old : Option Replay) (told : Finding) (now : Option Replay) → IsReplayFor program config shown old → KeepsFirst program config told old now
+      → IsReplayFor program config (option_or shown (shown_by told)) now
+  kept None None (Shown w) now before keeps = subst (IsReplayFor program config (Some w)) (sym keeps.2) keeps.1
+  kept None None Never now before keeps = subst (IsReplayFor program config None) (sym keeps) tt
+  kept None None Open now before keeps = subst (IsReplayFor program config None) (sym keeps) tt
+  kept (Some v) (Some replay) (Shown w) now before keeps = subst (IsReplayFor program config (Some v)) (sym keeps) before
+  kept (Some v) (Some replay) Never now before keeps = subst (IsReplayFor program config (Some v)) (sym keeps) before
+  kept (Some v) (Some replay) Open now before keeps = subst (IsReplayFor program config (Some v)) (sym keeps) before
+  kept None (Some replay) told now before keeps = absurd before
+  kept (Some v) None told now before keeps = absurd before
+
+  -- one that is kept stays, and where none is the replay is
+  pub keeps-old : (w : Witness) (old : Option Replay) → IsTrue (is_some old) → KeepsReplay program config w old old
+  keeps-old w (Some r) is = refl
+  keeps-old w None is = absurd (false≢true is)
+
+  pub keeps-new : (w : Witness) (old now : Option Replay) → is_some old ≡ false → IfSome now (IsReplayBy program config w) → is_some now ≡ true → KeepsReplay program config w old now
+  keeps-new w None (Some r) none shows is = (r, shows, refl)
+  keeps-new w None None none shows is = absurd (false≢true is)
+  keeps-new w (Some r) now none shows is = absurd (false≢true (sym none))
+
+  pub keeps-none : {D : Type 0} (old now : Option Replay) → is_some old ≡ false → IfNone now D → is_some now ≡ false → (now ≡ old) × D
+  keeps-none None None none lacks is = (refl, lacks)
+  keeps-none None (Some r) none lacks is = absurd (false≢true (sym is))
+  keeps-none (Some r) now none lacks is = absurd (false≢true (sym none))
+
+  assoc : (one two three : Option Witness) → option_or (option_or one two) three ≡ option_or one (option_or two three)
+  assoc None two three = refl
+  assoc (Some w) two three = refl
+
+  pub kept-first : (alarm stuck refused : Finding) (start one two three : Option Replay) → start ≡ None → KeepsFirst program config alarm start one → KeepsFirst program config stuck one two → KeepsFirst program config refused two three
+      → IsReplayFor program config (option_or (shown_by alarm) (option_or (shown_by stuck) (shown_by refused))) three
+  kept-first alarm stuck refused start one two three none a s r =
+      subst (λ (w : Option Witness). IsReplayFor program config w three) (assoc (shown_by alarm) (shown_by stuck) (shown_by refused))
+      (kept (option_or (shown_by alarm) (shown_by stuck)) two refused three (kept (shown_by alarm) one stuck two (kept None None alarm one tt (subst (λ (o : Option Replay). KeepsFirst program config alarm o one) none a)) s) r)

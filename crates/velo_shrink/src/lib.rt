@@ -3,14 +3,12 @@
 
 mod budget;
 mod edit;
-mod goal;
+mod findings;
 mod minimizing;
 mod plan;
 mod shrinking;
-mod told;
 mod trying;
 
-pub use goal::Goal;
+pub use findings::{Replay, Shrunk, shrink_findings};
 pub use minimizing::MAX_MINIMAL;
 pub use shrinking::{MAX_TRIES, shrink};
-pub use told::shrink_told;

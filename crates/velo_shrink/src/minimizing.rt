@@ -1,14 +1,14 @@
 //! Leaving out single turns of a schedule, until none can be left out.
 ghost use Rattle.std.specs.Prelude.{◌≡◌, ◌+◌, ◌<◌, ◌≤◌, length, IfNone, IfOk, IfSome};
-ghost use Rattle.velo_shrink.specs.Shown.{Shows};
+ghost use Rattle.velo_schedules.specs.Goals.{Reached};
 ghost use Rattle.velo_shrink.specs.Simple.{IsMinimal, IsNeeded};
 
 use crate::budget::Budget;
 use crate::edit::without_turn;
-use crate::goal::Goal;
 use crate::trying::{config_of_try, tried};
 use std::alloc::Global;
 use velo_events::{Config, Memory, ThreadId};
+use velo_schedules::Goal;
 use velo_workload::Workload;
 
 /// The most turns of a schedule of which each single one is tried to be left out.
@@ -27,7 +27,7 @@ fn leave_out(
 ) -> Result<Option<Vec<ThreadId>>, Memory>
     requires bounds { config.bounds ≡ workload.now.bounds }
     requires place { place < length schedule.now }
-    ensures shows { IfOk result (λ found. IfSome found (Shows workload.now config goal)) }
+    ensures shows { IfOk result (λ found. IfSome found (λ turns. Reached workload.now config goal turns.items)) }
     ensures shorter { IfOk result (λ found.
         IfSome found (λ turns. length turns.items < length schedule.now)) }
     ensures needed { IfOk result (λ found.
@@ -60,7 +60,7 @@ fn leave_one_out(
     budget: &mut Budget,
 ) -> Result<Option<Vec<ThreadId>>, Memory>
     requires bounds { config.bounds ≡ workload.now.bounds }
-    ensures shows { IfOk result (λ found. IfSome found (Shows workload.now config goal)) }
+    ensures shows { IfOk result (λ found. IfSome found (λ turns. Reached workload.now config goal turns.items)) }
     ensures shorter { IfOk result (λ found.
         IfSome found (λ turns. length turns.items < length schedule.now)) }
     ensures minimal { IfOk result (λ found.
@@ -88,8 +88,8 @@ pub(crate) fn minimal(
     budget: &mut Budget,
 ) -> Result<Vec<ThreadId>, Memory>
     requires bounds { config.bounds ≡ workload.now.bounds }
-    requires shows { Shows workload.now config goal schedule }
-    ensures shows { IfOk result (Shows workload.now config goal) }
+    requires shows { Reached workload.now config goal schedule.items }
+    ensures shows { IfOk result (λ turns. Reached workload.now config goal turns.items) }
     ensures shorter { IfOk result (λ turns. length turns.items ≤ length schedule.items) }
     ensures minimal { IfOk result (λ turns. IsMinimal workload.now config goal turns.items) }
 {

@@ -1,4 +1,5 @@
-//! Which changes are tried, one after another. Nothing is proved of it: what it leads to is replayed.
+//! Which changes are tried, one after another. Nothing is proved of it: what it leads to is
+//! replayed.
 use crate::edit::Edit;
 use velo_events::{MAX_THREADS, ThreadId};
 
@@ -21,7 +22,8 @@ enum Pass {
     Turns,
 }
 
-/// The first position behind the turn at a position, whose turn is another thread's, or where no turn is.
+/// The first position behind the turn at a position, whose turn is another thread's, or where no
+/// turn is.
 fn end_of(schedule: &[ThreadId], at: usize) -> usize {
     for place in at..schedule.len() {
         if schedule[place] != schedule[at] {
@@ -51,7 +53,8 @@ fn next_thread(schedule: &[ThreadId], from: usize) -> Option<ThreadId> {
     None
 }
 
-/// One of four ways to bring a stretch and the next one of its thread together: as wholes, or by one turn.
+/// One of four ways to bring a stretch and the next one of its thread together: as wholes, or by
+/// one turn.
 fn together(schedule: &[ThreadId], at: usize, end: usize, next: usize, way: usize) -> Edit {
     match way {
         0 => Edit::Moved(next, end_of(schedule, next), end),
@@ -87,7 +90,8 @@ impl Plan {
         }
     }
 
-    /// The change of the schedule that is tried next; none once a round of all of them has come to nothing.
+    /// The change of the schedule that is tried next; none once a round of all of them has come to
+    /// nothing.
     pub fn next(&mut self, schedule: &[ThreadId]) -> Option<Edit> {
         for _pass in 0..200 {
             if let Some(edit) = self.edit(schedule) {
@@ -169,7 +173,8 @@ impl Plan {
         }
     }
 
-    /// Goes on behind a change of the schedule that was taken up: what stands there now is changed next.
+    /// Goes on behind a change of the schedule that was taken up: what stands there now is changed
+    /// next.
     pub fn take_up(&mut self, schedule: &[ThreadId]) {
         self.changed = true;
         if self.pass == Pass::Whole {

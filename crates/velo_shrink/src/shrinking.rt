@@ -1,16 +1,16 @@
 //! Trying one change of a schedule after another.
 ghost use Rattle.std.specs.Prelude.{◌≡◌, ◌≤◌, length, IfOk};
-ghost use Rattle.velo_shrink.specs.Shown.{Shows};
+ghost use Rattle.velo_schedules.specs.Goals.{Reached};
 ghost use Rattle.velo_shrink.specs.Simple.{Simplifies};
 
 use crate::budget::Budget;
 use crate::edit::edited;
-use crate::goal::Goal;
 use crate::minimizing::{MAX_MINIMAL, minimal};
 use crate::plan::Plan;
 use crate::trying::simpler;
 use std::alloc::Global;
 use velo_events::{Config, Memory, ThreadId};
+use velo_schedules::Goal;
 use velo_workload::Workload;
 
 /// How many tries are enough for most schedules.
@@ -30,8 +30,8 @@ fn simplest(
     budget: &mut Budget,
 ) -> Result<Vec<ThreadId>, Memory>
     requires bounds { config.bounds ≡ workload.now.bounds }
-    requires shows { Shows workload.now config goal schedule }
-    ensures shows { IfOk result (Shows workload.now config goal) }
+    requires shows { Reached workload.now config goal schedule.items }
+    ensures shows { IfOk result (λ turns. Reached workload.now config goal turns.items) }
     ensures shorter { IfOk result (λ turns. length turns.items ≤ length schedule.items) }
 {
     let mut best = schedule;
@@ -78,8 +78,8 @@ pub fn shrink(
     config: Config,
 ) -> Result<Vec<ThreadId>, Memory>
     requires bounds { config.bounds ≡ workload.now.bounds }
-    requires shows { Shows workload.now config goal schedule }
-    ensures shows { IfOk result (Shows workload.now config goal) }
+    requires shows { Reached workload.now config goal schedule.items }
+    ensures shows { IfOk result (λ turns. Reached workload.now config goal turns.items) }
     ensures simple { IfOk result (λ turns.
         Simplifies workload.now config goal schedule.items turns.items) }
 {

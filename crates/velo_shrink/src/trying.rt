@@ -1,43 +1,18 @@
 //! One try: a schedule is replayed, and taken up if it shows the goal and is simpler.
-ghost use Rattle.std.specs.Prelude.{◌≡◌, ◌≤◌, ◌↔◌, ℕ, length, IsTrue, IsFalse, IfOk, IfSome};
+ghost use Rattle.std.specs.Prelude.{◌≡◌, ◌≤◌, ℕ, length, IsTrue, IfOk, IfSome};
 ghost use Rattle.velo_worker.specs.declared.ending.Ending.{Ending as EndingOf};
-ghost use Rattle.velo_worker.specs.declared.ending.Ending.TheVariants.{Refused};
-ghost use Rattle.velo_schedules.specs.Logs.{is_for_room};
-ghost use Rattle.velo_shrink.specs.Shown.{Reached, Reaches, Shows};
+ghost use Rattle.velo_schedules.specs.Goals.{HasAlarm, Reached, Reaches};
 ghost use Rattle.velo_shrink.specs.Simple.{IsAbove, IsLimited, Misses, ReachesWithin, stops};
 
 use crate::budget::Budget;
-use crate::goal::Goal;
 use std::alloc::Global;
 use velo_events::growth::reserve;
-use velo_events::{Config, Memory, Refusal, ThreadId};
-use velo_schedules::{lasting_refusal, replayed};
+use velo_events::{Config, Memory, ThreadId};
+use velo_schedules::{Goal, replayed};
 use velo_traces::Trace;
 use velo_worker::Ending;
 use velo_workload::Workload;
 use velo_world::Closed;
-
-/// Whether a run ended as this thread was refused, for this reason, which is no want of room.
-fn is_refused(ending: Ending, thread: ThreadId, refusal: Refusal) -> bool
-    ensures { IsTrue result
-        ↔ ((ending ≡ Refused thread refusal) × IsFalse (is_for_room refusal)) }
-{
-    match lasting_refusal(ending) {
-        Some((other, reason)) => other == thread && reason == refusal,
-        None => false,
-    }
-}
-
-/// Whether a run reaches the goal.
-fn is_reached(goal: Goal, closed: &Closed, ending: Ending) -> bool
-    ensures { IsTrue result ↔ Reaches goal ending closed.now }
-{
-    match goal {
-        Goal::Alarm => closed.alarm().is_some(),
-        Goal::Stuck => ending == Ending::Stuck,
-        Goal::Refused(thread, refusal) => is_refused(ending, thread, refusal),
-    }
-}
 
 /// The threads of the first events of a log, so many or as many as there are.
 fn threads_of(alloc: Global, log: &Trace, count: usize) -> Result<Vec<ThreadId>, Memory>
@@ -109,10 +84,11 @@ fn turns_if_reached(
 ) -> Result<Option<Vec<ThreadId>>, Memory>
     ensures reaches { IfOk result (λ found.
         IfSome found (λ turns. Reaches goal ending closed.now)) }
+    ensures known { IfOk result (λ found. HasAlarm closed.now.log) }
     ensures misses { IfOk result (λ found. (n : ℕ) → IsAbove n found →
         ¬ ReachesWithin n goal ending closed.now) }
 {
-    if !is_reached(goal, closed, ending) {
+    if !goal.is_reached(closed, ending) {
         return Ok(None);
     }
     let turns = own_turns(alloc, goal, closed)?;
@@ -181,7 +157,8 @@ pub(crate) fn simpler(
     budget: &mut Budget,
 ) -> Result<Option<Vec<ThreadId>>, Memory>
     requires bounds { config.bounds ≡ workload.now.bounds }
-    ensures shows { IfOk result (λ found. IfSome found (Shows workload.now config goal)) }
+    ensures shows { IfOk result (λ found.
+        IfSome found (λ turns. Reached workload.now config goal turns.items)) }
     ensures shorter { IfOk result (λ found.
         IfSome found (λ turns. length turns.items ≤ length best.now)) }
 {

@@ -1,7 +1,6 @@
-mod OnEndings
-mod OnFates
+mod OnTurns
 pub mod OnFindings
 mod OnPlaying
+mod OnReports
 mod OnSaving
 mod OnScheduling
-mod OnTurns

@@ -34,14 +34,8 @@ use Rattle.velo_fate.specs.Delivery.{Saves}
 use Rattle.velo_fate.specs.Fate.{fate_of_failure}
 use Rattle.velo_workload_commands.specs.Playing.{FitsNames, listed, text_of_names}
 use Rattle.velo_fate.specs.Saving.{text_of_log, is_text_saved}
-use Rattle.velo_workload_commands.specs.Steps.{AreNamesFor, IsSavedInTurn}
+use Rattle.velo_workload_commands.specs.Steps.{IsSavedInTurn}
 use Rattle.velo_fate.proofs.OnSaving.{whole_saved, log_unsaved, bytes_unsaved, bytes_at}
-
--- ---- on the way out
-
--- the text behind a reference
-pub names_lent : (path : Option (Bor (List ℕ))) (program : Program) (text lent : List ℕ) → lent ≡ text → AreNamesFor path program text → AreNamesFor path program lent
-names_lent path program text lent is h = subst (AreNamesFor path program) (sym is) h
 
 -- ---- what was saved one after another
 
@@ -50,7 +44,7 @@ module _ {F : Type 0} (disk : F → Disk) (first left : F) (bytes : Bor (List �
     abbrev log : List ℕ
     log = text_of_log closed.now
 
-    abbrev both : Option (Bor (List ℕ)) → List (Save Saved)
+    abbrev pub both : Option (Bor (List ℕ)) → List (Save Saved)
     both path = record { operand = at; path = target; text = saved.Log closed } ∷ bytes_at disk first left bytes named path ∷ []
 
     -- a log, and then a text

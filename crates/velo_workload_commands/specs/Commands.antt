@@ -22,8 +22,8 @@ use Rattle.velo_delivery.specs.Writing.{Writing}
 
 -- ---- what they share
 
--- the workload does not open, or two of the files are one; no file was opened to be written, nothing
--- was printed
+-- the workload does not open, or two of the files are one; no file was opened to be written,
+-- nothing was printed
 abbrev pub DoesNotPlay : Store → List ℕ → Option (Bor (List ℕ)) → Option (Bor (List ℕ)) → Writing
     → Fate → Type 0
 DoesNotPlay store input target names stdout f =
@@ -32,9 +32,9 @@ DoesNotPlay store input target names stdout f =
 -- ---- velodrome run FILE [--stop] [--log OUT] [--names-out NAMES] [--events N] [--nodes N]
 -- ---- [--certificate]
 
--- FILE is read whole, and its threads are played. The log of the run is saved at OUT, then the names
--- of the workload at NAMES, and then the report goes to standard output, and the certificate behind
--- it; or nothing, for a reason (`Playing`).
+-- FILE is read whole, and its threads are played. The log of the run is saved at OUT, then the
+-- names of the workload at NAMES, and then the report goes to standard output, and the certificate
+-- behind it; or nothing, for a reason (`Playing`).
 abbrev pub DoesPlay : Play → RunOptions → Store → Writing → Fate → Type 0
 DoesPlay play options store stdout f =
     DoesNotPlay store options.input.now options.target options.names_target stdout f
@@ -60,10 +60,11 @@ DoesReplay options store stdout f =
 -- ---- [--names-out NAMES] [--events N] [--nodes N] [--certificate]
 
 -- FILE is read whole, and all its schedules are tried; or with --random so many that are drawn by
--- chance (`ByChance`). Where one of them was found to have an alarm, a deadlock or a refusal, the log
--- of its replay is saved at OUT, and then the names of the workload at NAMES. What was found and who
--- is to blame goes to standard output, and then the report of this replay, and its certificate, and
--- behind that of a deadlock who waits for what; or nothing, for a reason (`Exploring`).
+-- chance (`ByChance`). Where one of them was found to have an alarm, a deadlock or a refusal, the
+-- log of its replay is saved at OUT, and then the names of the workload at NAMES. What was found
+-- and who is to blame goes to standard output, and then the report of this replay, and its
+-- certificate, and behind that of a deadlock who waits for what; or nothing, for a reason
+-- (`Exploring`).
 abbrev pub DoesExplore : ExploreOptions → Store → Writing → Fate → Type 0
 DoesExplore options store stdout f =
     DoesNotPlay store options.input.now options.target options.names_target stdout f

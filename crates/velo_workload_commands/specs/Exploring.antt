@@ -1,110 +1,70 @@
 -- What an exploration of a workload has to say, by the bytes of its text and by the definitions.
-use Rattle.std.specs.Prelude.{◌≡◌, ◌⊎◌, ◌≤◌, ◌-◌, ◌^◌, ◌++◌, [], ℕ, Bool, true, false, List, codes, decimal, map, min, slice_get, sum_by, take, Option, Some, None, if◌then◌else◌}
+use Rattle.std.specs.Prelude.{◌≡◌, ◌⊎◌, ◌≤◌, ◌-◌, ◌^◌, ◌++◌, ◌&&◌, [], ℕ, Bool, true, false, List, codes, decimal, map, min, slice_get, sum_by, take, Option, Some, None, if◌then◌else◌}
 use Rattle.std.specs.List.{flat_map}
 use Rattle.std.specs.Option.{option_map_or}
 use Rattle.velo_chance.specs.declared.tally.Blamed.{Blamed}
 use Rattle.velo_events.specs.declared.config.Config.{Config}
 use Rattle.velo_events.specs.declared.event.Event.{Event}
 use Rattle.velo_events.specs.declared.event.ThreadId.{ThreadId}
-use Rattle.velo_events.specs.Graph.{HasCycle}
-use Rattle.velo_report.specs.declared.names.Names.{Names}
+use Rattle.velo_explore.specs.declared.fault.Fault.{Fault}
 use Rattle.velo_schedules.specs.declared.exploration.Exploration.{Exploration}
 use Rattle.velo_schedules.specs.declared.finding.Finding.{Finding}
 use Rattle.velo_schedules.specs.declared.finding.Finding.TheVariants.{Shown, Never, Open}
-use Rattle.velo_schedules.specs.declared.finding.RefusalFinding.{RefusalFinding}
-use Rattle.velo_schedules.specs.declared.finding.RefusalFinding.TheVariants as refusals
-use Rattle.velo_schedules.specs.declared.finding.RefusedRun.{RefusedRun}
-use Rattle.velo_explore.specs.Faults.{Cycle, Refusing, Stuck as Stopping}
-use Rattle.velo_schedules.specs.Told.{AlarmTold, IsLeftOpen as IsOpenFor, OnOpen, OnOpenRefusal, RefusalTold, StuckTold}
-use Rattle.velo_shrink.specs.declared.goal.Goal.{Goal}
-use Rattle.velo_shrink.specs.declared.goal.Goal.TheVariants as goals
-use Rattle.velo_shrink.specs.Simple.{Simplifies}
+use Rattle.velo_schedules.specs.declared.finding.Findings.{Findings}
+use Rattle.velo_schedules.specs.declared.goal.Goal.{Goal}
+use Rattle.velo_schedules.specs.declared.goal.Goal.TheVariants.{Alarm, Refused}
+use Rattle.velo_schedules.specs.declared.goal.Goal.TheVariants as goals
+use Rattle.velo_schedules.specs.Goals.{finding_of, first_of}
+use Rattle.velo_schedules.specs.Told.{IsLeftOpen, IsTold, OnOpen}
+use Rattle.velo_shrink.specs.declared.findings.Replay.{Replay}
+use Rattle.velo_shrink.specs.Simple.{IsShrunkFrom}
 use Rattle.velo_waits.specs.Waits.{waits_text}
-use Rattle.velo_worker.specs.declared.ending.Ending.{Ending}
-use Rattle.velo_worker.specs.declared.ending.Ending.TheVariants.{Done, Refused, Stuck}
-use Rattle.velo_worker.specs.Causes.{EndsByGrowth}
+use Rattle.velo_worker.specs.declared.ending.Ending.TheVariants.{Done, Stuck}
+use Rattle.velo_worker.specs.declared.ending.Ending.TheVariants as ending
 use Rattle.velo_worker.specs.Counts.{body_events}
-use Rattle.velo_worker.specs.Schedule.{Replays}
 use Rattle.velo_workload.specs.Program.{Program}
-use Rattle.velo_world.specs.World.{WorldState}
 use Rattle.velo_fate.specs.declared.fate.Fate.{Fate}
 use Rattle.velo_fate.specs.declared.fate.Fate.TheVariants as fate
 use Rattle.velo_request.specs.declared.request.ExploreOptions.{ExploreOptions}
 use Rattle.velo_request.specs.declared.request.RandomRuns.{RandomRuns}
 use Rattle.velo_request.specs.declared.request.RunOptions.{RunOptions}
 use Rattle.velo_workload_commands.specs.declared.blaming.TheConstants.{MAX_BLAMING}
-use Rattle.velo_workload_commands.specs.declared.told.Found.{Found}
 use Rattle.velo_workload_commands.specs.declared.told.ToBlame.{ToBlame}
 use Rattle.velo_workload_commands.specs.declared.told.Told.{Told}
 use Rattle.velo_workload_commands.specs.declared.told.Tried.{Tried}
 use Rattle.velo_workload_commands.specs.declared.told.Tried.TheVariants as how
-use Rattle.velo_workload_commands.specs.ByChance.{AreSayable, IsBlameOf, IsByChance, IsLeftOpen}
-use Rattle.velo_fate.specs.Verdict.{IsOutputOf}
+use Rattle.velo_workload_commands.specs.ByChance.{IsBlameOf, IsByChance}
 use Rattle.velo_fate.specs.Delivery.{Answer, LacksMemory, printing, silent}
 use Rattle.velo_fate.specs.Fate.{number_of}
-use Rattle.velo_workload_commands.specs.Playing.{AreNamesOf, IsConfigOf, IsTextOf, IsUnread, is_unreported, text_of_names}
-use Rattle.velo_fate.specs.Saving.{text_of_log}
+use Rattle.velo_workload_commands.specs.Playing.{IsConfigOf, IsReported, IsTextOf, IsUnread, text_of_names}
 use Rattle.velo_turns.specs.Schedule.{spaced}
 use Rattle.velo_turns.specs.Short.{longest}
 
 -- ---- what is told of all schedules
 
--- What is found in the program is so, whatever the schedule: what is shown, its schedule shows; what
--- is never, is so by none. Of what is open nothing is said.
-pub record AreOfAll (program : Program) (config : Config) (found : Found) : Type 0 where
-  pub alarm : AlarmTold program config found.alarm
-  pub stuck : StuckTold program config found.stuck
-  pub refused : RefusalTold program config found.refused
-  pub sayable : AreSayable found
-
 -- the most replays that are asked whom they blame; none where the first finding ends the search
 abbrev pub most_to_blame : Bool → ℕ
 most_to_blame first = if first then 0 else MAX_BLAMING
 
--- what a search within the limits that were asked for may say of the program's schedules
+-- what a search within the limits that were asked for may say of the program's schedules: what is
+-- shown is so, what is never shown is so by no schedule, and what is open is so for a cause
 pub record IsSearchOf (program : Program) (config : Config) (options : ExploreOptions)
     (search : Exploration) : Type 0 where
   pub events : search.events ≡ min (sum_by body_events program.bodies) (2 ^ 64 - 1)
   pub states : search.states ≤ options.states
-  pub alarm : AlarmTold program config search.alarm
-  pub stuck : StuckTold program config search.stuck
-  pub refused : RefusalTold program config search.refused
-  pub open_alarm : OnOpen search.alarm (IsOpenFor program config options.states options.first search.states Cycle)
-  pub open_stuck : OnOpen search.stuck (IsOpenFor program config options.states options.first search.states Stopping)
-  pub open_refused : OnOpenRefusal search.refused
-      (IsOpenFor program config options.states options.first search.states Refusing)
+  pub told : (fault : Fault) → IsTold program config fault (finding_of search.findings fault)
+  pub left_open : (fault : Fault) → OnOpen (finding_of search.findings fault)
+      (IsLeftOpen program config options.states options.first search.states fault)
 
--- A finding of the search is told by its schedule, made simple; or it is left open.
-abbrev pub TellsFinding : Program → Config → Goal → Finding → Finding → Type 0
-TellsFinding program config goal (Shown found) (Shown told) =
-    Simplifies program config goal found.items told.items
-TellsFinding program config goal (Shown found) Open = IsLeftOpen program config goal found.items
-TellsFinding program config goal found told = told ≡ found
-
-abbrev pub TellsRefusal : Program → Config → RefusalFinding → RefusalFinding → Type 0
-TellsRefusal program config (refusals.Shown found) (refusals.Shown told) =
-    (told.thread ≡ found.thread) × (told.refusal ≡ found.refusal)
-    × Simplifies program config (goals.Refused found.thread found.refusal) found.schedule.items
-    told.schedule.items
-TellsRefusal program config (refusals.Shown found) refusals.Open =
-    IsLeftOpen program config (goals.Refused found.thread found.refusal) found.schedule.items
-TellsRefusal program config found told = told ≡ found
-
-pub record TellsSearch (program : Program) (config : Config) (search : Exploration)
-    (found : Found) : Type 0 where
-  pub alarm : TellsFinding program config goals.Alarm search.alarm found.alarm
-  pub stuck : TellsFinding program config goals.Stuck search.stuck found.stuck
-  pub refused : TellsRefusal program config search.refused found.refused
-
--- All schedules of the program are tried, and this is told of them. Whom the alarms blame is told of the replays by the first of
--- the schedules that the search hands out.
+-- All schedules of the program are tried, and what was found is told by simple schedules. Whom the
+-- alarms blame is told of the replays by the first of the schedules that the search hands out.
 pub record IsExplorationOf (program : Program) (config : Config) (options : ExploreOptions) (told : Told)
     : Type 0 where
   pub search : Exploration
   pub is_search : IsSearchOf program config options search
   pub tried : told.tried ≡ how.All search.events search.states
-  pub found : AreOfAll program config told.found
-  pub tells : TellsSearch program config search told.found
+  pub findings : IsShrunkFrom program config search.findings told.shrunk
+  pub is_so : (fault : Fault) → IsTold program config fault (finding_of told.shrunk.findings fault)
   pub blame : IsBlameOf program config
       (map (λ schedule. schedule.items) (take (most_to_blame options.first) search.alarms.items)) told.blame
 
@@ -122,26 +82,23 @@ IsToldOf program config options told = IsToldBy program config options options.r
 abbrev pub turns_text : List ThreadId → List ℕ
 turns_text schedule = spaced (longest schedule)
 
-abbrev pub finding_text : Finding → List ℕ
-finding_text (Shown schedule) = turns_text schedule.items
-finding_text Never = codes " none"
-finding_text Open = codes " open"
-
 -- a name behind a space, if there is one
 abbrev pub name_text : Option (List ℕ) → List ℕ
 name_text None = []
 name_text (Some name) = codes " " ++ name
 
--- " 12 thread 2 b 0*2 1"
-abbrev pub refused_text : Program → RefusedRun → List ℕ
-refused_text program run =
-    codes " " ++ decimal (number_of run.refusal) ++ codes " thread " ++ decimal run.thread.0
-    ++ name_text (slice_get program.thread_names run.thread.0) ++ turns_text run.schedule.items
+-- " 12 thread 2 b" of a refusal
+abbrev pub goal_text : Program → Goal → List ℕ
+goal_text program (Refused t r) =
+    codes " " ++ decimal (number_of r) ++ codes " thread " ++ decimal t.0
+    ++ name_text (slice_get program.thread_names t.0)
+goal_text program goal = []
 
-abbrev pub refusal_text : Program → RefusalFinding → List ℕ
-refusal_text program (refusals.Shown run) = refused_text program run
-refusal_text program refusals.Never = codes " none"
-refusal_text program refusals.Open = codes " open"
+abbrev pub finding_text : Program → Finding → List ℕ
+finding_text program (Shown witness) =
+    goal_text program witness.goal ++ turns_text witness.schedule.items
+finding_text program Never = codes " none"
+finding_text program Open = codes " open"
 
 -- "events 9\nstates 11" or "seed 1\nruns 100"
 abbrev pub tried_text : Tried → List ℕ
@@ -149,10 +106,11 @@ tried_text (how.All events states) =
     codes "events " ++ decimal events ++ codes "\nstates " ++ decimal states
 tried_text (how.ByChance seed runs) = codes "seed " ++ decimal seed ++ codes "\nruns " ++ decimal runs
 
-abbrev pub found_text : Program → Found → List ℕ
+abbrev pub found_text : Program → Findings → List ℕ
 found_text program found =
-    codes "\nalarm" ++ finding_text found.alarm ++ codes "\nstuck" ++ finding_text found.stuck
-    ++ codes "\nrefused" ++ refusal_text program found.refused ++ codes "\n"
+    codes "\nalarm" ++ finding_text program found.alarm ++ codes "\nstuck"
+    ++ finding_text program found.stuck ++ codes "\nrefused" ++ finding_text program found.refused
+    ++ codes "\n"
 
 -- the name of a label; its number, if it has none
 abbrev pub label_text : Program → ℕ → List ℕ
@@ -169,52 +127,33 @@ blame_text program blame = flat_map (blamed_text program blame.alarms) blame.lab
 
 abbrev pub told_text : Program → Told → List ℕ
 told_text program told =
-    tried_text told.tried ++ found_text program told.found ++ blame_text program told.blame
+    tried_text told.tried ++ found_text program told.shrunk.findings ++ blame_text program told.blame
 
 -- ---- what it comes to
 
--- an alarm; else a deadlock; else a refusal; else nothing, if all was tried
-abbrev pub fate_by : Finding → Finding → RefusalFinding → Fate
-fate_by (Shown schedule) stuck refused = fate.Finished Done true
-fate_by alarm (Shown schedule) refused = fate.Finished Stuck false
-fate_by alarm stuck (refusals.Shown run) = fate.Finished (Refused run.thread run.refusal) false
-fate_by Never Never refusals.Never = fate.Finished Done false
-fate_by alarm stuck refused = fate.Open
+abbrev pub fate_of_goal : Goal → Fate
+fate_of_goal Alarm = fate.Finished Done true
+fate_of_goal goals.Stuck = fate.Finished Stuck false
+fate_of_goal (Refused t r) = fate.Finished (ending.Refused t r) false
 
-abbrev pub fate_of_found : Found → Fate
-fate_of_found found = fate_by found.alarm found.stuck found.refused
+abbrev pub is_never : Finding → Bool
+is_never Never = true
+is_never finding = false
+
+-- nothing, if no schedule has any fault
+abbrev pub fate_of_rest : Findings → Fate
+fate_of_rest found =
+    if is_never found.alarm && (is_never found.stuck && is_never found.refused) then fate.Finished Done false
+    else fate.Open
+
+-- the first finding that is shown: an alarm, else a deadlock, else a refusal; else nothing, if all
+-- was tried
+abbrev pub fate_of_findings : Findings → Fate
+fate_of_findings found =
+    option_map_or (λ witness. fate_of_goal witness.goal) (first_of found) (fate_of_rest found)
 
 abbrev pub fate_of_told : Told → Fate
-fate_of_told told = fate_of_found told.found
-
--- ---- the replay that is reported
-
--- the schedule of the alarm, else of the deadlock, else of the refusal
-abbrev pub first_schedule : Finding → Finding → RefusalFinding → Option (List ThreadId)
-first_schedule (Shown schedule) stuck refused = Some schedule.items
-first_schedule alarm (Shown schedule) refused = Some schedule.items
-first_schedule alarm stuck (refusals.Shown run) = Some run.schedule.items
-first_schedule alarm stuck refused = None
-
-abbrev pub schedule_of : Found → Option (List ThreadId)
-schedule_of found = first_schedule found.alarm found.stuck found.refused
-
--- a run that ended so has the alarm, else the deadlock, else the refusal
-abbrev pub HasFirst : Finding → Finding → RefusalFinding → Ending → WorldState → Type 0
-HasFirst (Shown schedule) stuck refused ended w = HasCycle w.log
-HasFirst alarm (Shown schedule) refused ended w = ended ≡ Stuck
-HasFirst alarm stuck (refusals.Shown run) ended w = ended ≡ Refused run.thread run.refusal
-HasFirst alarm stuck refused ended w = ⊥
-
--- the replay by the schedule that is told first has what was found
-pub record IsFirstReplay (program : Program) (config : Config) (found : Found)
-    (ended : Ending) (w : WorldState) : Type 0 where
-  pub schedule : List ThreadId
-  pub told : schedule_of found ≡ Some schedule
-  pub replays : Replays program schedule config ended w
-  pub has_first : HasFirst found.alarm found.stuck found.refused ended w
-  pub cause : EndsByGrowth ended
-  pub reported : is_unreported ended ≡ false
+fate_of_told told = fate_of_findings told.shrunk.findings
 
 -- ---- the answer
 
@@ -231,35 +170,21 @@ run_of options =
     }
 
 -- behind the report of a deadlock, who waits for what (`Waits` of `velo_waits`)
-abbrev pub waits_behind : Finding → Finding → Program → List Event → List ℕ
-waits_behind (Shown schedule) stuck program log = []
-waits_behind alarm (Shown schedule) program log = waits_text program log
-waits_behind alarm stuck program log = []
+abbrev pub waits_of : Goal → Program → List Event → List ℕ
+waits_of goals.Stuck program log = waits_text program log
+waits_of goal program log = []
 
--- The log of the replay is to be saved. What is told is printed, and behind it the report of this
--- log by the program's names, with its certificate if that is asked for; and behind that of a
--- deadlock who waits for what.
-pub record ReportsReplay (options : ExploreOptions) (program : Program) (config : Config)
-    (told : Told) (answer : Answer) : Type 0 where
-  pub ended : Ending
-  pub world : WorldState
-  pub replay : IsFirstReplay program config told.found ended world
-  pub names : Names
-  pub are_names : AreNamesOf program names
-  pub report : List ℕ
-  pub is_report : IsOutputOf names options.certificate world report
-  pub said : answer ≡ record {
-    saved = Some (text_of_log world);
-    printed = Some (told_text program told
-        ++ (report ++ waits_behind told.found.alarm told.found.stuck program world.log));
-    fate = fate_of_told told;
-  }
+abbrev pub waits_after : Program → Replay → List ℕ
+waits_after program replay = waits_of replay.goal program replay.closed.log
 
--- where no schedule is told the rest is printed alone, and there is nothing to be saved
-abbrev pub IsPrintedAlone : Program → Told → Answer → Type 0
-IsPrintedAlone program told answer =
-    (schedule_of told.found ≡ None)
-    × (answer ≡ printing (told_text program told) (fate_of_told told))
+-- What is told is printed, and behind it the replay of the first finding is reported, and behind a
+-- deadlock who waits for what; where none is shown the text is printed alone, and there is nothing
+-- to be saved.
+abbrev pub IsSaidOf : Program → Bool → Told → Option Replay → Answer → Type 0
+IsSaidOf program certificate told (Some replay) answer =
+    IsReported program certificate (told_text program told) replay.closed (waits_after program replay)
+    (fate_of_told told) answer
+IsSaidOf program certificate told None answer = answer ≡ printing (told_text program told) (fate_of_told told)
 
 -- the schedules of the program are tried within the limits that were asked for, and this is said
 pub record IsExplored (options : ExploreOptions) (program : Program) (answer : Answer)
@@ -268,8 +193,7 @@ pub record IsExplored (options : ExploreOptions) (program : Program) (answer : A
   pub configured : IsConfigOf program (run_of options) config
   pub told : Told
   pub is_so : IsToldOf program config options told
-  pub says : ReportsReplay options program config told answer
-      ⊎ IsPrintedAlone program told answer
+  pub says : IsSaidOf program options.certificate told told.shrunk.first answer
 
 -- What an exploration of the workload that was read has to say, and the text of its names; or
 -- nothing, for a reason.

@@ -1,7 +1,7 @@
 pub mod ByChance
 pub mod Commands
 pub mod Exploring
-pub mod Findings
 pub mod Playing
+pub mod Reporting
 pub mod Scheduling
 pub mod Steps

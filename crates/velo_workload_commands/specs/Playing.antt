@@ -1,5 +1,5 @@
 -- What a run of a workload has to say, by the bytes of its text and by the definitions.
-use Rattle.std.specs.Prelude.{◌≡◌, ◌⊎◌, ◌≤◌, ◌<◌, ◌+◌, ℕ, Bool, true, false, List, length, map, string_bytes, Option, Some, IfSome, Ok, Err}
+use Rattle.std.specs.Prelude.{◌≡◌, ◌⊎◌, ◌≤◌, ◌<◌, ◌+◌, ◌++◌, [], ℕ, Bool, true, false, List, length, map, string_bytes, Option, Some, IfSome, Ok, Err}
 use Rattle.std.specs.Str.{IsUtf8}
 use Rattle.velo_events.specs.declared.config.Config.{Config}
 use Rattle.velo_events.specs.declared.event.ThreadId.{ThreadId}
@@ -24,7 +24,7 @@ use Rattle.velo_fate.specs.declared.verdict.Verdict.{Verdict}
 use Rattle.velo_fate.specs.declared.fate.Fate.{Fate}
 use Rattle.velo_fate.specs.declared.fate.Fate.TheVariants.{Finished, Lost, Work}
 use Rattle.velo_request.specs.declared.request.RunOptions.{RunOptions}
-use Rattle.velo_fate.specs.Verdict.{IsOutput, IsVerdict, is_alarm}
+use Rattle.velo_fate.specs.Verdict.{IsOutputOf, IsVerdict, is_alarm}
 use Rattle.velo_fate.specs.Delivery.{Answer, LacksMemory, silent}
 use Rattle.velo_fate.specs.Format.{Format, SaysNone}
 use Rattle.velo_fate.specs.Saving.{text_of_log}
@@ -139,34 +139,29 @@ pub record FitsNames (program : Program) : Type 0 where
       + (length program.lock_names + length program.label_names)) ≤ MAX_NAME_LINES
   pub few_bytes : length (text_of_names program) ≤ MAX_NAMES_BYTES
 
--- what is said of the log of a world by this report and this verdict: the text of the log is to be
--- saved, the report printed
-abbrev pub reported : Ending → WorldState → List ℕ → Verdict → Answer
-reported ended w text verdict =
-    record {
-      saved = Some (text_of_log w);
-      printed = Some text;
-      fate = Finished ended (is_alarm verdict);
-    }
-
--- the text is the report by these names, with its certificate if that is asked for, and the verdict
--- is that of the log
-pub record IsReported (names : Names) (certificate : Bool) (ended : Ending) (w : WorldState)
-    (answer : Answer) : Type 0 where
-  pub text : List ℕ
-  pub output : IsOutput names certificate w.config.bounds.threads w.log text
-  pub verdict : Verdict
-  pub is_verdict : IsVerdict w.log verdict
-  pub said : answer ≡ reported ended w text verdict
+-- The text of the log is to be saved. The report of the log by the program's names, with its
+-- certificate if that is asked for, is printed between these texts; and it comes to this end.
+pub record IsReported (program : Program) (certificate : Bool) (before : List ℕ) (w : WorldState)
+    (after : List ℕ) (end : Fate) (answer : Answer) : Type 0 where
+  pub names : Names
+  pub are_names : AreNamesOf program names
+  pub report : List ℕ
+  pub is_report : IsOutputOf names certificate w report
+  pub said : answer ≡ record {
+    saved = Some (text_of_log w);
+    printed = Some (before ++ (report ++ after));
+    fate = end;
+  }
 
 -- only the ending is said
 abbrev pub IsSilentEnding : Ending → Answer → Type 0
 IsSilentEnding ended answer = answer ≡ silent (Finished ended false)
 
--- the log is reported by the program's names
+-- the log is reported, and it comes to its verdict
 abbrev pub IsRunReport : Program → Bool → Ending → WorldState → Answer → Type 0
 IsRunReport program certificate ended w answer =
-    (names : Names) × AreNamesOf program names × IsReported names certificate ended w answer
+    (verdict : Verdict) × IsVerdict w.log verdict
+    × IsReported program certificate [] w [] (Finished ended (is_alarm verdict)) answer
 
 -- what is said of a run, by whether its ending has a report
 abbrev pub IsSaidOfRun : Program → Bool → Ending → WorldState → Answer → Type 0
@@ -191,8 +186,8 @@ abbrev pub IsRunAnswer : Play → RunOptions → Program → Answer → Type 0
 IsRunAnswer play options program answer =
     IsPlayed play options program answer ⊎ (LosesSeat play answer ⊎ LacksMemory answer)
 
--- What a run of the workload that was read has to say, and the text of its names; or nothing, for the
--- reason that there is none.
+-- What a run of the workload that was read has to say, and the text of its names; or nothing, for
+-- the reason that there is none.
 abbrev pub IsPlayAnswer : Play → RunOptions → Option (List ℕ) → Answer → List ℕ → Type 0
 IsPlayAnswer play options read answer names =
     ((program : Program) × IsTextOf read program × (names ≡ text_of_names program)

@@ -1,4 +1,5 @@
--- The schedule that a replay is given: by its text, by its turns or by the path of a file with these.
+-- The schedule that a replay is given: by its text, by its turns or by the path of a file with
+-- these.
 use Rattle.std.specs.Prelude.{◌≡◌, List, ℕ, Option, IfSome}
 use Rattle.velo_events.specs.declared.event.ThreadId.{ThreadId}
 use Rattle.velo_events.specs.Refusals.{GrowthRefused}

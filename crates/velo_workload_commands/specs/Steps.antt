@@ -1,18 +1,21 @@
 -- Words of the contracts within the crate: how far each step has come. What the commands do is
 -- said without them.
 use Rattle.std.specs.Borrow.{Bor}
-use Rattle.std.specs.Prelude.{◌≡◌, ◌⊎◌, ⊤, ℕ, Bool, List, Option, Some, None, Result}
-use Rattle.velo_report.specs.declared.names.Names.{Names}
+use Rattle.std.specs.Prelude.{◌≡◌, ◌⊎◌, ℕ, List, Option, Some, None, Result}
 use Rattle.velo_worker.specs.declared.ending.Ending.{Ending}
 use Rattle.velo_workload.specs.Program.{Program}
 use Rattle.velo_world.specs.World.{WorldState}
 use Rattle.velo_fate.specs.declared.fate.Fate.{Fate}
+use Rattle.velo_request.specs.declared.request.ExploreOptions.{ExploreOptions}
 use Rattle.velo_request.specs.declared.request.RunOptions.{RunOptions}
-use Rattle.velo_workload_commands.specs.declared.saving.Saving.{Saving}
-use Rattle.velo_fate.specs.Delivery.{Answer, IsDeliveredInTurn, LacksMemory, Saves}
+use Rattle.velo_shrink.specs.declared.findings.Replay.{Replay}
+use Rattle.velo_workload_commands.specs.declared.told.Told.{Told}
+use Rattle.velo_workload_commands.specs.Exploring.{IsExplored, IsSaidOf}
+use Rattle.velo_fate.specs.Verdict.{HasAlarm}
+use Rattle.velo_fate.specs.Delivery.{Answer, IsDeliveredInTurn, IsPrinted, LacksMemory, Saves, printing}
 use Rattle.velo_delivery.specs.Disk.{Disk, Store, behind, up_to}
 use Rattle.velo_fate.specs.Barred.{IsBarredRun}
-use Rattle.velo_workload_commands.specs.Playing.{IsReported, IsRunAnswer, IsSaidOfRun, Play, text_of_names, workload_file}
+use Rattle.velo_workload_commands.specs.Playing.{IsRunAnswer, IsSaidOfRun, Play, text_of_names, workload_file}
 use Rattle.velo_fate.specs.Saving.{IsSaved, IsUnsaved}
 use Rattle.velo_fate.specs.Format.{ReadsNone}
 use Rattle.velo_delivery.specs.Writing.{Writing}
@@ -28,18 +31,7 @@ IsSavedInTurn store target (Some path) names log result =
     ⊎ ((between : store.State) × Saves (up_to store between) target (Some log)
     × IsSaved (behind store between) (Some path) names result)
 
--- the text is that of the names of the program, where there is a path for it
-abbrev pub AreNamesFor : Option (Bor (List ℕ)) → Program → List ℕ → Type 0
-AreNamesFor None program text = ⊤
-AreNamesFor (Some path) program text = text ≡ text_of_names program
-
 -- ---- a run
-
--- what writing a report came to, whose log and names were written before
-abbrev pub Reports : Names → Bool → Ending → WorldState → Store → Saving → Writing → Fate → Type 0
-Reports names certificate ended w store saving stdout f =
-    (answer : Answer) × (IsReported names certificate ended w answer ⊎ LacksMemory answer)
-    × IsDeliveredInTurn store saving.target saving.names_target saving.names.now stdout answer f
 
 -- what telling how a run ended came to
 abbrev pub TellsEnd : Program → RunOptions → Ending → WorldState → Store → Writing → Fate → Type 0
@@ -63,3 +55,27 @@ abbrev pub OpensNoProgram : Disk → RunOptions → Fate → Type 0
 OpensNoProgram disk options f =
     ReadsNone workload_file disk options.input.now f
     ⊎ IsBarredRun disk options.input.now options.target options.names_target f
+
+-- ---- an exploration
+
+-- the replay is of the program, and its alarm is known
+pub record IsReportable (program : Program) (replay : Replay) : Type 0 where
+  pub bounds : replay.closed.config.bounds ≡ program.bounds
+  pub alarm : HasAlarm replay.closed.log
+
+-- what printing a text alone came to
+abbrev pub PrintsAlone : List ℕ → Fate → Writing → Fate → Type 0
+PrintsAlone text end stdout f = IsPrinted stdout (printing text end) f
+
+-- what saying what is told of the schedules came to
+abbrev pub SaysTold : Program → Told → RunOptions → Store → Writing → Fate → Type 0
+SaysTold program told options store stdout f =
+    (answer : Answer)
+    × (IsSaidOf program options.certificate told told.shrunk.first answer ⊎ LacksMemory answer)
+    × IsDeliveredInTurn store options.target options.names_target (text_of_names program) stdout answer f
+
+-- what exploring a workload came to
+abbrev pub Explores : ExploreOptions → Program → Store → Writing → Fate → Type 0
+Explores options program store stdout f =
+    (answer : Answer) × (IsExplored options program answer ⊎ LacksMemory answer)
+    × IsDeliveredInTurn store options.target options.names_target (text_of_names program) stdout answer f

@@ -1,27 +1,16 @@
 //! The text of what is told of the schedules of a workload.
 ghost use Rattle.std.specs.Prelude.{◌≡◌, ◌++◌, slice_get, IfOk, OnOk};
-ghost use Rattle.velo_workload_commands.specs.Exploring.{blame_text, blamed_text, finding_text, found_text, label_text, name_text, refused_text, refusal_text, told_text, tried_text};
+ghost use Rattle.velo_workload_commands.specs.Exploring.{blame_text, blamed_text, finding_text, found_text, goal_text, label_text, name_text, told_text, tried_text};
 
-use crate::told::{Found, ToBlame, Told, Tried};
+use crate::told::{ToBlame, Told, Tried};
 use std::alloc::Global;
 use velo_bytes::{append, append_number};
 use velo_chance::Blamed;
 use velo_events::{Label, Memory, ThreadId};
 use velo_fate::number_of;
-use velo_schedules::{Finding, RefusalFinding, RefusedRun};
+use velo_schedules::{Finding, Findings, Goal};
 use velo_turns::append_turns;
 use velo_workload::Workload;
-
-/// Adds what stands behind the word of a finding.
-fn add_finding(text: &mut Vec<u8>, finding: &Finding) -> Result<(), Memory>
-    ensures { OnOk result (text.new.items ≡ text.old.items ++ finding_text finding.now) }
-{
-    match finding {
-        Finding::Shown(schedule) => append_turns(text, schedule),
-        Finding::Never => append(text, b" none"),
-        Finding::Open => append(text, b" open"),
-    }
-}
 
 /// Adds the name of a thread behind a space, if it has one.
 fn add_name(text: &mut Vec<u8>, workload: &Workload, thread: ThreadId) -> Result<(), Memory>
@@ -37,32 +26,35 @@ fn add_name(text: &mut Vec<u8>, workload: &Workload, thread: ThreadId) -> Result
     }
 }
 
-/// Adds the number of a refusal, its thread, and its schedule.
-fn add_refused(text: &mut Vec<u8>, workload: &Workload, run: &RefusedRun) -> Result<(), Memory>
-    ensures { OnOk result (text.new.items
-        ≡ text.old.items ++ refused_text workload.now run.now) }
+/// Adds what a witness shows beside the word of its finding: of a refusal its number and its
+/// thread.
+fn add_goal(text: &mut Vec<u8>, workload: &Workload, goal: Goal) -> Result<(), Memory>
+    ensures { OnOk result (text.new.items ≡ text.old.items ++ goal_text workload.now goal) }
 {
-    append(text, b" ")?;
-    append_number(text, u64::from(number_of(run.refusal)))?;
-    append(text, b" thread ")?;
-    append_number(text, u64::from(run.thread.0))?;
-    add_name(text, workload, run.thread)?;
-    append_turns(text, &run.schedule)
+    match goal {
+        Goal::Alarm | Goal::Stuck => Ok(()),
+        Goal::Refused(thread, refusal) => {
+            append(text, b" ")?;
+            append_number(text, u64::from(number_of(refusal)))?;
+            append(text, b" thread ")?;
+            append_number(text, u64::from(thread.0))?;
+            add_name(text, workload, thread)
+        }
+    }
 }
 
-/// Adds what stands behind the word of refusals.
-fn add_refusal(
-    text: &mut Vec<u8>,
-    workload: &Workload,
-    finding: &RefusalFinding,
-) -> Result<(), Memory>
+/// Adds what stands behind the word of a finding.
+fn add_finding(text: &mut Vec<u8>, workload: &Workload, finding: &Finding) -> Result<(), Memory>
     ensures { OnOk result (text.new.items
-        ≡ text.old.items ++ refusal_text workload.now finding.now) }
+        ≡ text.old.items ++ finding_text workload.now finding.now) }
 {
     match finding {
-        RefusalFinding::Shown(run) => add_refused(text, workload, run),
-        RefusalFinding::Never => append(text, b" none"),
-        RefusalFinding::Open => append(text, b" open"),
+        Finding::Shown(witness) => {
+            add_goal(text, workload, witness.goal)?;
+            append_turns(text, &witness.schedule)
+        }
+        Finding::Never => append(text, b" none"),
+        Finding::Open => append(text, b" open"),
     }
 }
 
@@ -87,16 +79,16 @@ fn add_tried(text: &mut Vec<u8>, tried: Tried) -> Result<(), Memory>
 }
 
 /// Adds the lines of what was found.
-fn add_found(text: &mut Vec<u8>, workload: &Workload, found: &Found) -> Result<(), Memory>
+fn add_found(text: &mut Vec<u8>, workload: &Workload, found: &Findings) -> Result<(), Memory>
     ensures { OnOk result (text.new.items
         ≡ text.old.items ++ found_text workload.now found.now) }
 {
     append(text, b"\nalarm")?;
-    add_finding(text, &found.alarm)?;
+    add_finding(text, workload, &found.alarm)?;
     append(text, b"\nstuck")?;
-    add_finding(text, &found.stuck)?;
+    add_finding(text, workload, &found.stuck)?;
     append(text, b"\nrefused")?;
-    add_refusal(text, workload, &found.refused)?;
+    add_finding(text, workload, &found.refused)?;
     append(text, b"\n")
 }
 
@@ -151,7 +143,7 @@ pub fn text_of_told(alloc: Global, workload: &Workload, told: &Told) -> Result<V
 {
     let mut text = Vec::new(alloc);
     add_tried(&mut text, told.tried)?;
-    add_found(&mut text, workload, &told.found)?;
+    add_found(&mut text, workload, &told.shrunk.findings)?;
     add_blame(&mut text, workload, &told.blame)?;
     Ok(text)
 }

@@ -4,7 +4,8 @@ use velo_schedules::{Progress, Quiet};
 
 /// Where an exploration tells how far its search is.
 pub trait ExploreProgress: Progress {
-    /// A search begins, which is to be told of wherever this goes, if `always`, and else where somebody looks.
+    /// A search begins, which is to be told of wherever this goes, if `always`, and else where
+    /// somebody looks.
     fn begin(&mut self, always: bool);
 
     /// The search is over, and its report follows.

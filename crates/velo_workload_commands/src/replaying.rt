@@ -57,8 +57,8 @@ fn replay_by<F: Files, O: Sink>(
     }
 }
 
-/// Replays the workload that was asked for, and writes what it shows. The schedule is read before the workload, and where it is
-/// none that is told.
+/// Replays the workload that was asked for, and writes what it shows. The schedule is read before
+/// the workload, and where it is none that is told.
 pub fn replay_file<F: Files, O: Sink>(
     alloc: Global,
     options: &ReplayOptions,

@@ -35,11 +35,12 @@ fn schedule_at<F: Files>(alloc: Global, path: &str, files: &F) -> Result<Vec<Thr
     schedule_of_bytes(alloc, &bytes)
 }
 
-/// The schedule that a replay is given: by its text, by its turns or by the path of a file with these.
+/// The schedule that a replay is given: by its text, by its turns or by the path of a file with
+/// these.
 ///
 /// # Errors
-/// `Schedule` where there is none; for a file also `CannotOpen` where it does not open, `ReadFailed` where it failed, `Memory`
-/// where a growth was refused.
+/// `Schedule` where there is none; for a file also `CannotOpen` where it does not open,
+/// `ReadFailed` where it failed, `Memory` where a growth was refused.
 pub fn schedule_of_source<F: Files>(
     alloc: Global,
     source: ScheduleSource,

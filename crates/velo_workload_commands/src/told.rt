@@ -1,7 +1,6 @@
 //! What is told of the schedules of a workload.
-
 use velo_chance::Blamed;
-use velo_schedules::{Finding, RefusalFinding};
+use velo_shrink::Shrunk;
 
 /// How the schedules of a workload were tried.
 #[derive(Clone, Copy, Debug, PartialEq, Eq)]
@@ -13,24 +12,13 @@ pub enum Tried {
         /// How many states were looked at.
         states: u64,
     },
-    /// Some of them, drawn by chance.
+    /// Some of them, drawn randomly.
     ByChance {
         /// The seed that they were drawn by.
         seed: u64,
         /// How many runs were made.
         runs: u64,
     },
-}
-
-/// What the schedules show.
-#[derive(Debug, Drop)]
-pub struct Found {
-    /// Logs that are not serializable.
-    pub alarm: Finding,
-    /// Replays that end as stuck.
-    pub stuck: Finding,
-    /// Replays that end as refused.
-    pub refused: RefusalFinding,
 }
 
 /// Who is to blame for the alarms of some runs.
@@ -47,8 +35,8 @@ pub struct ToBlame {
 pub struct Told {
     /// How they were tried.
     pub tried: Tried,
-    /// What they show.
-    pub found: Found,
+    /// What they show, by simple schedules, and the replay of the first finding.
+    pub shrunk: Shrunk,
     /// Who is to blame.
     pub blame: ToBlame,
 }

@@ -4,7 +4,7 @@ use Rattle.velo_events.specs.declared.event.ThreadId.{ThreadId}
 use Rattle.velo_chance.specs.Drawing.{all_drawn, drawn, stream, stream_of_seed}
 use Rattle.velo_chance.specs.Tallies.{IsTriedBy}
 use Rattle.velo_chance.proofs.OnDrawing.{behind-no_runs, behind-runs, none_drawn, one_more_drawn}
-use Rattle.velo_chance.proofs.OnRuns.{IsTriedBy-ordered, alarm-shown, stuck-shown, refused-shown}
+use Rattle.velo_chance.proofs.OnRuns.{IsTriedBy-ordered, are-shown}
 use Rattle.velo_chance.proofs.running.try_by_chance.Goals as goal
 
 pub loop-init : goal.loop-init
@@ -37,11 +37,5 @@ returns-clause-tried c =
     (subst (λ (n : ℕ). IsTriedBy c.args.workload.now c.args.config (all_drawn n threads c.turns_for-turns.result (stream_of_seed c.args.seed)) done) all
     (IsTriedBy-ordered c.args.workload.now c.args.config _ c.loop.tally done refl c.put_in_order.ensures.moved c.loop.invariant.tried))
 
-pub returns-clause-alarm : goal.returns-clause-alarm
-returns-clause-alarm c = alarm-shown c.args.workload.now c.args.config _ c.loop.tally c.loop.invariant.tried
-
-pub returns-clause-stuck : goal.returns-clause-stuck
-returns-clause-stuck c = stuck-shown c.args.workload.now c.args.config _ c.loop.tally c.loop.invariant.tried
-
-pub returns-clause-refused : goal.returns-clause-refused
-returns-clause-refused c = refused-shown c.args.workload.now c.args.config _ c.loop.tally c.loop.invariant.tried
+pub returns-clause-shows : goal.returns-clause-shows
+returns-clause-shows c = λ fault. are-shown c.args.workload.now c.args.config _ c.loop.tally c.loop.invariant.tried fault

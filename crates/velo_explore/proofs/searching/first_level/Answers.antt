@@ -1,4 +1,4 @@
-use Rattle.std.proofs.Common.{[], false, true, refl, sym, ◌∙◌, subst}
+use Rattle.std.proofs.Common.{[], refl, sym, subst}
 use Rattle.std.specs.Prelude.{All}
 use Rattle.std.proofs.lemmas.Bool.{false≢true}
 use Rattle.std.proofs.lemmas.List.Elements.{All-nil}

@@ -1,76 +1,66 @@
-use Rattle.std.proofs.Common.{sym, ◌∙◌, inl, inr}
-use Rattle.std.proofs.lemmas.Bool.{false≢true}
-use Rattle.velo_explore.specs.Faults.{Cycle, Stuck, Refusing}
+use Rattle.velo_explore.specs.declared.fault.Fault.{Fault}
+use Rattle.velo_explore.specs.declared.fault.Fault.TheVariants.{Cycle, Stuck, Refusing}
 use Rattle.velo_explore.specs.Trail.{LeadsTo}
+use Rattle.velo_schedules.specs.declared.finding.Findings.{Findings}
 use Rattle.velo_schedules.specs.Bodies.{all_scripts}
-use Rattle.velo_schedules.proofs.OnShown.{alarms-told, not_found, of_alarm, of_stuck, of_refused, in_alarm, in_stuck, in_refused}
-use Rattle.velo_schedules.proofs.OnTold.{OnOpen-map, OnOpenRefusal-map, open-cut, was_found}
+use Rattle.velo_schedules.specs.Goals.{finding_of}
+use Rattle.velo_schedules.specs.Told.{IsLeftOpen, IsTold, OnOpen}
+use Rattle.velo_schedules.proofs.OnShown.{IfSome-mapped, alarms-told, no-alarms}
+use Rattle.velo_schedules.proofs.OnTold.{each_fault, open-told, ruled-out}
 use Rattle.velo_schedules.proofs.exploring.explore.Goals as goal
-use Rattle.velo_schedules.proofs.exploring.explore.Goals.{then-whole, else-whole, then-whole-2, else-whole-2, then-whole-3, else-whole-3}
 
-pub tell_alarm-requires-clause-ruled_out : goal.tell_alarm-requires-clause-ruled_out
-tell_alarm-requires-clause-ruled_out g c = λ ruled_out.
-    elim c.if-whole.branch [
-      | then-whole w ↦ c.in_ok-found.ensures.alarm w.if-whole.true (not_found _ (sym w.alarm_ruled_out-is ∙ ruled_out))
-      | else-whole w ↦ absurd (false≢true (sym w.if-whole.false ∙ (sym w.alarm_ruled_out-is ∙ ruled_out)))
-    ]
+pub tell-requires-clause-ruled_out : goal.tell-requires-clause-ruled_out
+tell-requires-clause-ruled_out g c = λ ruled.
+    let x = c.in_ok-searched.searched in
+    let w = ruled-out x.whole x.found.alarm c.rules_out-no_alarm.result c.rules_out-no_alarm.ensures ruled in
+    c.in_ok-searched.ensures.never w.0 Cycle w.1
 
-pub tell_stuck-requires-clause-ruled_out : goal.tell_stuck-requires-clause-ruled_out
-tell_stuck-requires-clause-ruled_out g c = λ ruled_out.
-    elim c.if-whole-2.branch [
-      | then-whole-2 w ↦ c.in_ok-found.ensures.stuck w.if-whole-2.true (not_found _ (sym w.stuck_ruled_out-is ∙ ruled_out))
-      | else-whole-2 w ↦ absurd (false≢true (sym w.if-whole-2.false ∙ (sym w.stuck_ruled_out-is ∙ ruled_out)))
-    ]
+pub tell-requires-2-clause-ruled_out : goal.tell-requires-2-clause-ruled_out
+tell-requires-2-clause-ruled_out g c = λ ruled.
+    let x = c.in_ok-searched.searched in
+    let w = ruled-out x.whole x.found.stuck c.rules_out-no_deadlock.result c.rules_out-no_deadlock.ensures ruled in
+    c.in_ok-searched.ensures.never w.0 Stuck w.1
 
-pub tell_refused-requires-clause-ruled_out : goal.tell_refused-requires-clause-ruled_out
-tell_refused-requires-clause-ruled_out g c = λ ruled_out.
-    elim c.if-whole-3.branch [
-      | then-whole-3 w ↦ c.in_ok-found.ensures.refused w.if-whole-3.true (not_found _ (sym w.refusal_ruled_out-is ∙ ruled_out))
-      | else-whole-3 w ↦ absurd (false≢true (sym w.if-whole-3.false ∙ (sym w.refusal_ruled_out-is ∙ ruled_out)))
-    ]
+pub tell-requires-3-clause-ruled_out : goal.tell-requires-3-clause-ruled_out
+tell-requires-3-clause-ruled_out g c = λ ruled.
+    let x = c.in_ok-searched.searched in
+    let w = ruled-out x.whole x.found.refused c.rules_out-no_refusal.result c.rules_out-no_refusal.ensures ruled in
+    c.in_ok-searched.ensures.never w.0 Refusing w.1
 
-pub returns-clause-open_alarm : goal.returns-clause-open_alarm
-returns-clause-open_alarm g c =
-    OnOpen-map c.in_ok-alarm.alarm _ _ _
-    (λ none missed. elim c.if-whole.branch [
-      | then-whole v ↦ inr (of_alarm c.in_ok-found.field-0.schedules _ (c.in_ok-found.ensures.each v.if-whole.true Cycle (was_found _ (sym v.alarm_ruled_out-is ∙ none))) missed)
-      | else-whole v ↦ open-cut c.args.workload.now c.args.config c.args.most_states c.args.first c.in_ok-found.field-0.states Cycle c.in_ok-found.field-0.found.alarm
-          (c.in_ok-found.ensures.cut v.if-whole.false Cycle) (c.in_ok-found.ensures.found Cycle)
-          (λ some all. of_alarm c.in_ok-found.field-0.schedules _ (c.in_ok-found.ensures.each_all all Cycle some) missed)
-    ])
-    c.in_ok-alarm.ensures.missed
+pub tell-requires-clause-leads : goal.tell-requires-clause-leads
+tell-requires-clause-leads g c =
+    IfSome-mapped (λ v. v.items) (LeadsTo c.args.workload.now.bounds (all_scripts c.args.workload.now) Cycle) c.in_ok-searched.searched.schedules.alarm (c.in_ok-searched.ensures.leads Cycle)
 
-pub returns-clause-open_stuck : goal.returns-clause-open_stuck
-returns-clause-open_stuck g c =
-    OnOpen-map c.in_ok-stuck.stuck _ _ _
-    (λ none missed. elim c.if-whole-2.branch [
-      | then-whole-2 v ↦ inr (of_stuck c.in_ok-found.field-0.schedules _ (c.in_ok-found.ensures.each v.if-whole-2.true Stuck (was_found _ (sym v.stuck_ruled_out-is ∙ none))) missed)
-      | else-whole-2 v ↦ open-cut c.args.workload.now c.args.config c.args.most_states c.args.first c.in_ok-found.field-0.states Stuck c.in_ok-found.field-0.found.stuck
-          (c.in_ok-found.ensures.cut v.if-whole-2.false Stuck) (c.in_ok-found.ensures.found Stuck)
-          (λ some all. of_stuck c.in_ok-found.field-0.schedules _ (c.in_ok-found.ensures.each_all all Stuck some) missed)
-    ])
-    c.in_ok-stuck.ensures.missed
+pub tell-requires-2-clause-leads : goal.tell-requires-2-clause-leads
+tell-requires-2-clause-leads g c =
+    IfSome-mapped (λ v. v.items) (LeadsTo c.args.workload.now.bounds (all_scripts c.args.workload.now) Stuck) c.in_ok-searched.searched.schedules.stuck (c.in_ok-searched.ensures.leads Stuck)
 
-pub returns-clause-open_refused : goal.returns-clause-open_refused
-returns-clause-open_refused g c =
-    OnOpenRefusal-map c.in_ok-refused.refused _ _ _
-    (λ none missed. elim c.if-whole-3.branch [
-      | then-whole-3 v ↦ inr (of_refused c.in_ok-found.field-0.schedules _ (c.in_ok-found.ensures.each v.if-whole-3.true Refusing (was_found _ (sym v.refusal_ruled_out-is ∙ none))) missed)
-      | else-whole-3 v ↦ open-cut c.args.workload.now c.args.config c.args.most_states c.args.first c.in_ok-found.field-0.states Refusing c.in_ok-found.field-0.found.refused
-          (c.in_ok-found.ensures.cut v.if-whole-3.false Refusing) (c.in_ok-found.ensures.found Refusing)
-          (λ some all. of_refused c.in_ok-found.field-0.schedules _ (c.in_ok-found.ensures.each_all all Refusing some) missed)
-    ])
-    c.in_ok-refused.ensures.missed
+pub tell-requires-3-clause-leads : goal.tell-requires-3-clause-leads
+tell-requires-3-clause-leads g c =
+    IfSome-mapped (λ v. v.items) (LeadsTo c.args.workload.now.bounds (all_scripts c.args.workload.now) Refusing) c.in_ok-searched.searched.schedules.refused (c.in_ok-searched.ensures.leads Refusing)
 
-pub tell_alarm-requires-clause-leads : goal.tell_alarm-requires-clause-leads
-tell_alarm-requires-clause-leads g c = in_alarm c.in_ok-found.field-0.schedules (LeadsTo c.args.workload.now.bounds (all_scripts c.args.workload.now) Cycle) (c.in_ok-found.ensures.leads Cycle)
+pub returns-clause-told : goal.returns-clause-told
+returns-clause-told g c =
+    let found : Findings = record { alarm = c.in_ok-alarm.alarm; stuck = c.in_ok-stuck.stuck; refused = c.in_ok-refused.refused } in
+    each_fault (λ (f : Fault). IsTold c.args.workload.now c.args.config f (finding_of found f)) c.in_ok-alarm.ensures.told c.in_ok-stuck.ensures.told c.in_ok-refused.ensures.told
 
-pub tell_stuck-requires-clause-leads : goal.tell_stuck-requires-clause-leads
-tell_stuck-requires-clause-leads g c = in_stuck c.in_ok-found.field-0.schedules (LeadsTo c.args.workload.now.bounds (all_scripts c.args.workload.now) Stuck) (c.in_ok-found.ensures.leads Stuck)
-
-pub tell_refused-requires-clause-leads : goal.tell_refused-requires-clause-leads
-tell_refused-requires-clause-leads g c = in_refused c.in_ok-found.field-0.schedules (LeadsTo c.args.workload.now.bounds (all_scripts c.args.workload.now) Refusing) (c.in_ok-found.ensures.leads Refusing)
+pub returns-clause-left_open : goal.returns-clause-left_open
+returns-clause-left_open g c =
+    let found : Findings = record { alarm = c.in_ok-alarm.alarm; stuck = c.in_ok-stuck.stuck; refused = c.in_ok-refused.refused } in
+    let x = c.in_ok-searched.searched in
+    let says = c.in_ok-searched.ensures in
+    each_fault (λ (f : Fault). OnOpen (finding_of found f) (IsLeftOpen c.args.workload.now c.args.config c.args.most_states c.args.first x.states f))
+    (open-told c.args.workload.now c.args.config c.args.most_states c.args.first x.states Cycle x.whole x.found.alarm c.rules_out-no_alarm.result x.schedules.alarm c.in_ok-alarm.alarm
+    c.rules_out-no_alarm.ensures (λ part. says.cut part Cycle) (says.found Cycle) (λ whole. says.each whole Cycle) (λ all. says.each_all all Cycle) c.in_ok-alarm.ensures.missed)
+    (open-told c.args.workload.now c.args.config c.args.most_states c.args.first x.states Stuck x.whole x.found.stuck c.rules_out-no_deadlock.result x.schedules.stuck c.in_ok-stuck.stuck
+    c.rules_out-no_deadlock.ensures (λ part. says.cut part Stuck) (says.found Stuck) (λ whole. says.each whole Stuck) (λ all. says.each_all all Stuck) c.in_ok-stuck.ensures.missed)
+    (open-told c.args.workload.now c.args.config c.args.most_states c.args.first x.states Refusing x.whole x.found.refused c.rules_out-no_refusal.result x.schedules.refused c.in_ok-refused.refused
+    c.rules_out-no_refusal.ensures (λ part. says.cut part Refusing) (says.found Refusing) (λ whole. says.each whole Refusing) (λ all. says.each_all all Refusing) c.in_ok-refused.ensures.missed)
 
 pub returns-clause-alarms : goal.returns-clause-alarms
 returns-clause-alarms g c =
-    alarms-told c.args.workload.now c.args.config c.requires.bounds c.args.first c.in_ok-alarm.alarm c.in_ok-found.field-0.schedules c.in_ok-found.ensures.alarms c.in_ok-alarm.ensures.from
+    alarms-told c.args.workload.now c.args.config c.requires.bounds c.args.first c.in_ok-alarm.alarm c.in_ok-searched.searched.schedules c.in_ok-searched.ensures.alarms c.in_ok-alarm.ensures.from
+
+pub returns-then-events-from-clause-alarms : goal.returns-then-events-from-clause-alarms
+returns-then-events-from-clause-alarms g c =
+    no-alarms c.args.workload.now c.args.config c.args.first c.untried.result.findings.alarm c.untried.result.alarms.items (c.untried.ensures.findings Cycle) c.untried.ensures.alarms

@@ -1,8 +1,7 @@
 use Rattle.std.proofs.Common.{sym, ◌∙◌, arith}
 use Rattle.std.proofs.lemmas.Bool.{false≢true}
 use Rattle.velo_explore.specs.Trail.{turns_for}
-use Rattle.velo_schedules.proofs.OnTold.{alarms-bodies, cut-search, goes_on_all, leads-bodies, plain-scripts, short-scripts, alarm-ruled_out, stuck-ruled_out, refusal-ruled_out}
-use Rattle.velo_explore.specs.Faults.{Cycle, Stuck, Refusing}
+use Rattle.velo_schedules.proofs.OnTold.{alarms-bodies, cut-search, goes_on_all, leads-bodies, never-has, plain-scripts, short-scripts}
 use Rattle.velo_schedules.proofs.exploring.search_all.Goals as goal
 
 pub search-requires-clause-plain : goal.search-requires-clause-plain
@@ -12,17 +11,9 @@ pub search-requires-clause-short : goal.search-requires-clause-short
 search-requires-clause-short g c =
     short-scripts c.args.workload.now c.args.config.now.bounds c.requires.bounds c.in_ok-scripts.scripts c.in_ok-scripts.ensures.scripts c.args.config.now.events c.requires.few (let few = c.args.config.now.few_events in omega (arith, few))
 
-pub returns-clause-alarm : goal.returns-clause-alarm
-returns-clause-alarm g c = λ whole none.
-    alarm-ruled_out c.args.workload.now c.args.config.now.bounds c.requires.bounds c.in_ok-scripts.scripts c.in_ok-scripts.ensures.scripts (c.in_ok-searched.ensures.whole whole Cycle none)
-
-pub returns-clause-stuck : goal.returns-clause-stuck
-returns-clause-stuck g c = λ whole none.
-    stuck-ruled_out c.args.workload.now c.args.config.now.bounds c.requires.bounds c.in_ok-scripts.scripts c.in_ok-scripts.ensures.scripts c.in_ok-scripts.ensures.count (c.in_ok-searched.ensures.whole whole Stuck none)
-
-pub returns-clause-refused : goal.returns-clause-refused
-returns-clause-refused g c = λ whole none.
-    refusal-ruled_out c.args.workload.now c.args.config.now.bounds c.requires.bounds c.in_ok-scripts.scripts c.in_ok-scripts.ensures.scripts c.in_ok-scripts.ensures.count (c.in_ok-searched.ensures.whole whole Refusing none)
+pub returns-clause-never : goal.returns-clause-never
+returns-clause-never g c = λ whole fault none.
+    never-has c.args.workload.now c.args.config.now.bounds c.requires.bounds c.in_ok-scripts.scripts c.in_ok-scripts.ensures.scripts c.in_ok-scripts.ensures.count fault (c.in_ok-searched.ensures.whole whole fault none)
 
 pub returns-clause-cut : goal.returns-clause-cut
 returns-clause-cut g c = λ part fault none.

@@ -1,6 +1,15 @@
-use Rattle.std.proofs.Common.{refl}
-use Rattle.velo_schedules.proofs.OnShown.{outcome-is}
+use Rattle.std.proofs.Common.{◌≡◌, false, subst, sym}
+use Rattle.velo_worker.specs.Schedule.{Replays}
+use Rattle.velo_schedules.specs.Goals.{lacks_memory}
 use Rattle.velo_schedules.proofs.showing.outcome_of.Goals as goal
 
 pub returns : goal.returns
-returns c = outcome-is _ _ _ _ _ _ refl c.in_ok-run.ensures c.alarm.result c.is_some.ensures c.alarm.ensures.none c.alarm.ensures.some
+returns c =
+    let ended = sym c.of-outcome.ensures.ending in
+    record {
+      closed = c.in_ok-closed.closed;
+      replays = subst (λ e. Replays c.args.workload.now c.args.schedule.now c.args.config e c.in_ok-closed.closed) ended c.in_ok-closed.ensures.run;
+      memory = subst (λ e. lacks_memory e ≡ false) ended c.in_ok-closed.ensures.memory;
+      known = c.of-outcome.ensures.known;
+      cycle = c.of-outcome.ensures.alarm;
+    }

@@ -1,6 +1,8 @@
-use Rattle.std.proofs.Common.{◌≡◌, ◌∙◌, ◌-◌, ◌<◌, ℕ, arith, inl, inr, length, refl, subst, sym}
+use Rattle.std.proofs.Common.{◌≡◌, ◌∙◌, ◌-◌, ◌<◌, ℕ, List, arith, inl, inr, length, refl, subst, sym}
+use Rattle.velo_events.specs.declared.event.ThreadId.{ThreadId}
+use Rattle.velo_schedules.specs.Goals.{Reached}
 use Rattle.velo_shrink.specs.Simple.{IsLimited}
-use Rattle.velo_shrink.proofs.OnShown.{above-none, above-some, at_is_some, at_some, needed, shows-reached}
+use Rattle.velo_shrink.proofs.OnShown.{above-none, above-some, at_is_some, at_some, needed}
 use Rattle.velo_shrink.proofs.minimizing.leave_out.Goals as goal
 
 pub returns-in_default-clause-needed : goal.returns-in_default-clause-needed
@@ -23,12 +25,12 @@ returns-then-len-clause-needed c =
 
 pub returns-then-is_some-clause-shows : goal.returns-then-is_some-clause-shows
 returns-then-is_some-clause-shows c =
-    shows-reached c.args.workload.now c.args.config c.args.goal c.in-Some.turns c.deref-2.result.now c.deref-2.ensures.value
+    subst (λ (turns : List ThreadId). Reached c.args.workload.now c.args.config c.args.goal turns) c.deref-2.ensures.value
     (at_is_some c.in_ok-tried.field-0 (sym c.is_some.ensures ∙ c.if-is_some.true) c.in_ok-tried.ensures.reached)
 
 pub returns-in-Some-2-clause-shows : goal.returns-in-Some-2-clause-shows
 returns-in-Some-2-clause-shows c =
-    shows-reached c.args.workload.now c.args.config c.args.goal c.in_ok-others.others c.deref-3.result.now c.deref-3.ensures.value
+    subst (λ (turns : List ThreadId). Reached c.args.workload.now c.args.config c.args.goal turns) c.deref-3.ensures.value
     (at_some c.in_ok-tried-2.field-0 c.in-Some-2.field-0 c.in-Some-2.is c.in_ok-tried-2.ensures.reached)
 
 pub returns-in-None-clause-needed : goal.returns-in-None-clause-needed

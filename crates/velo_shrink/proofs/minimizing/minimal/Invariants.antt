@@ -1,10 +1,10 @@
 use Rattle.std.proofs.Common.{◌≤◌, length}
-use Rattle.velo_shrink.specs.Shown.{Shows}
+use Rattle.velo_schedules.specs.Goals.{Reached}
 use Rattle.velo_shrink.proofs.minimizing.minimal.Given as goal
 
 abbrev pub invariant-loop-best : goal.invariant-loop-best
 invariant-loop-best l = record {
-  shows : Shows l.fn.workload l.fn.config l.fn.goal l.best;
+  shows : Reached l.fn.workload l.fn.config l.fn.goal l.best.items;
   shorter : length l.best.items ≤ length l.fn.schedule.items;
 }
 

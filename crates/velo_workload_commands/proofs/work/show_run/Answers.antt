@@ -1,7 +1,8 @@
-use Rattle.std.proofs.Common.{◌∙◌, false, inl, inr, refl, sym, rules}
-use Rattle.velo_fate.specs.declared.fate.Fate.TheVariants.{Finished, Memory}
+use Rattle.std.proofs.Common.{◌∙◌, [], Bool, false, inl, inr, refl, subst, sym, ⊎_elim}
+use Rattle.velo_fate.specs.declared.fate.Fate.TheVariants.{Finished}
 use Rattle.velo_fate.specs.Delivery.{silent}
-use Rattle.velo_workload_commands.proofs.OnSaving.{names_lent}
+use Rattle.velo_workload_commands.specs.Playing.{IsReported}
+use Rattle.velo_workload_commands.proofs.OnFindings.{plain_finished}
 use Rattle.velo_workload_commands.proofs.work.show_run.Goals as goal
 
 pub returns-then-is_unreported : goal.returns-then-is_unreported
@@ -11,11 +12,26 @@ returns-then-is_unreported g c = (
   (refl, refl, (refl, refl)),
 )
 
-pub show_with-fate-requires-clause-reported : goal.show_with-fate-requires-clause-reported
-show_with-fate-requires-clause-reported g c = sym c.is_unreported.ensures ∙ c.if-is_unreported.false
+pub report_run-requires-clause-judged : goal.report_run-requires-clause-judged
+report_run-requires-clause-judged g c = c.verdict_of.ensures.alarm
 
-pub show_with-fate-requires-clause-names : goal.show_with-fate-requires-clause-names
-show_with-fate-requires-clause-names g c = names_lent c.args.options.now.names_target c.args.workload.now _ _ c.deref.ensures.value c.in-Ok.ensures
+pub report_run-requires-clause-plain : goal.report_run-requires-clause-plain
+report_run-requires-clause-plain g c = plain_finished _ _
 
-pub returns-in-Err : goal.returns-in-Err
-returns-in-Err g c = (silent Memory, inr (search rules, refl), (refl, refl, (refl, refl)))
+pub returns : goal.returns
+returns g c =
+    let said = c.report_run.ensures in (
+      said.0,
+      ⊎_elim
+          (λ reported. inl (inr (
+            sym c.is_unreported.ensures ∙ c.if-is_unreported.false,
+            (
+              c.verdict_of.result,
+              c.verdict_of.ensures.verdict,
+              subst (λ (a : Bool). IsReported c.args.workload.now c.args.options.now.certificate [] c.args.closed.now [] (Finished c.args.ending a) said.0) c.is_alarm-alarm.ensures reported,
+            ),
+          )))
+          (λ lacks. inr lacks)
+          said.1,
+      said.2,
+    )

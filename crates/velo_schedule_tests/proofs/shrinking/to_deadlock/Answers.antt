@@ -1,9 +1,0 @@
-use Rattle.std.proofs.Common.{subst}
-use Rattle.velo_schedules.specs.Told.{StuckTold}
-use Rattle.velo_schedule_tests.proofs.OnTold.{told}
-use Rattle.velo_schedule_tests.proofs.shrinking.to_deadlock.Goals as goal
-
-pub shrink-requires-clause-shows : goal.shrink-requires-clause-shows
-shrink-requires-clause-shows c =
-    subst (StuckTold c.in_ok-workload.workload c.in_ok-config.config) c.in-Shown.is
-    (told (λ x. StuckTold c.in_ok-workload.workload c.in_ok-config.config x.stuck) c.explore.result c.ok-3.result c.in_ok-stuck.field-0 c.ok-3.ensures.value c.in_ok-stuck.was c.explore.ensures.stuck)

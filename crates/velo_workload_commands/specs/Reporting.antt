@@ -1,0 +1,48 @@
+-- How a run is reported: what is saved, and what is printed.
+use Rattle.std.specs.Borrow.{Bor}
+use Rattle.std.specs.Prelude.{◌≡◌, ◌≢◌, ◌⊎◌, ◌++◌, ⊤, ℕ, Bool, true, false, List, Option, Some, None, is_some}
+use Rattle.velo_events.specs.declared.event.Event.{Event}
+use Rattle.velo_report.specs.declared.names.Names.{Names}
+use Rattle.velo_workload.specs.Program.{Program}
+use Rattle.velo_world.specs.World.{WorldState}
+use Rattle.velo_delivery.specs.Disk.{Store}
+use Rattle.velo_delivery.specs.Writing.{Writing}
+use Rattle.velo_fate.specs.declared.fate.Fate.{Fate}
+use Rattle.velo_fate.specs.declared.fate.Fate.TheVariants.{CannotOpen, WriteFailed}
+use Rattle.velo_fate.specs.Delivery.{Answer, IsDeliveredInTurn, LacksMemory}
+use Rattle.velo_fate.specs.Saving.{text_of_log}
+use Rattle.velo_fate.specs.Verdict.{IsOrderOrCycle, IsOutputOf}
+use Rattle.velo_request.specs.declared.request.RunOptions.{RunOptions}
+use Rattle.velo_workload_commands.specs.Playing.{IsReported, text_of_names}
+use Rattle.velo_workload_commands.specs.declared.page.Page.{Page}
+use Rattle.velo_workload_commands.specs.declared.reporting.RunReport.{RunReport}
+
+-- the text of a page: the output of its world between the two texts
+abbrev pub is_page : Page → List ℕ → Type 0
+is_page page text =
+    (report : List ℕ) × IsOutputOf page.names (is_some page.list) page.closed.now report
+    × (text ≡ page.before.now ++ (report ++ page.after.now))
+
+-- the text is that of the names of the program, where there is a path for it
+abbrev pub AreNamesFor : Option (Bor (List ℕ)) → Program → List ℕ → Type 0
+AreNamesFor None program text = ⊤
+AreNamesFor (Some path) program text = text ≡ text_of_names program
+
+-- there is an order or a cycle of the log exactly where a certificate is asked for
+abbrev pub IsListFor : Bool → List Event → Option (List ℕ) → Type 0
+IsListFor true log (Some list) = IsOrderOrCycle log list
+IsListFor false log None = ⊤
+IsListFor certificate log list = ⊥
+
+-- it comes on no way out: it is no failure of a file
+pub record IsPlain (f : Fate) : Type 0 where
+  pub opened : f ≢ CannotOpen
+  pub written : f ≢ WriteFailed
+
+-- what reporting a run came to
+abbrev pub Reports : Program → RunOptions → RunReport → Store → Writing → Fate → Type 0
+Reports program options report store stdout f =
+    (answer : Answer)
+    × (IsReported program options.certificate report.before.now report.closed.now report.after.now report.end answer
+    ⊎ LacksMemory answer)
+    × IsDeliveredInTurn store options.target options.names_target (text_of_names program) stdout answer f

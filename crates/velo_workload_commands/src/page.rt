@@ -1,0 +1,39 @@
+//! What is printed of a run.
+ghost use Rattle.std.specs.Prelude.{IfSome};
+ghost use Rattle.velo_delivery.specs.Answers.{WritesText};
+ghost use Rattle.velo_delivery.specs.Writing.{writing};
+ghost use Rattle.velo_fate.specs.Verdict.{HasAlarm, IsOrderOrCycle};
+ghost use Rattle.velo_workload_commands.specs.Reporting.{is_page};
+
+use velo_bytes::{Sink, WriteFault, write_all};
+use velo_fate::write_output;
+use velo_report::Names;
+use velo_world::Closed;
+
+/// The report of a run's log and its certificate, if there is one, between two other texts.
+#[derive(Drop)]
+pub struct Page<'a> {
+    /// The text before it.
+    pub before: &'a [u8],
+    /// The world that the run left.
+    pub closed: &'a Closed,
+    /// The names of its threads and labels.
+    pub names: Names<'a>,
+    /// The serial order or the cycle of its log, where a certificate is asked for.
+    pub list: Option<&'a [usize]>,
+    /// The text after it.
+    pub after: &'a [u8],
+}
+
+/// Prints a page.
+pub fn print_page<O: Sink>(page: &Page, out: &mut O) -> Result<(), WriteFault>
+    requires list { IfSome page.now.list
+        (λ list. IsOrderOrCycle page.now.closed.now.log list.now) }
+    requires judged { HasAlarm page.now.closed.now.log }
+    ensures { WritesText (is_page page.now)
+        (writing O.contents O.failures out.old out.new) result }
+{
+    write_all(out, page.before)?;
+    write_output(page.closed, &page.names, page.list, out)?;
+    write_all(out, page.after)
+}
