@@ -3,8 +3,6 @@
 
 mod piece;
 mod reading;
-#[cfg(test)]
-mod tests;
 mod watch;
 mod whole;
 
