@@ -1,4 +1,6 @@
 //! Random runs.
+ghost use Rattle.std.specs.Prelude.{◌≡◌};
+
 use std::alloc::Global;
 use velo_chance::{Blamed, DEFAULT_SEED, Tally, try_all, try_by_chance};
 use velo_events::{Config, Memory};

@@ -1,4 +1,6 @@
 //! How simple schedules become.
+ghost use Rattle.std.specs.Prelude.{◌≡◌};
+
 use std::alloc::Global;
 use velo_events::{Config, Memory, ThreadId};
 use velo_schedules::{Finding, Findings, Quiet, explore};

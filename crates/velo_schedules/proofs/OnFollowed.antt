@@ -1,5 +1,5 @@
 -- By the turns of a run of its scripts a program replays along it, unless it meets a limit, or halts as it has a cycle.
-use Rattle.std.proofs.Common.{◌≡◌, ◌≢◌, ℕ, ◌+◌, Bool, true, false, List, [], ◌∷◌, ◌++◌, append_assoc, append-nil, length, map, Option, Some, None, Result, Ok, Err, refl, sym, ap, ◌∙◌, subst, arith, ⊎_elim, inl, inr}
+use Rattle.std.proofs.Common.{◌≡◌, ℕ, Bool, true, false, List, [], ◌∷◌, ◌++◌, append_assoc, append-nil, length, map, Option, Some, None, Result, Ok, Err, refl, sym, ap, ◌∙◌, subst, arith, ⊎_elim, inl, inr}
 use Rattle.std.specs.Prelude.{◌⊎◌, ⊤, not, nat_le, if◌then◌else◌, slice_get, IsTrue, IsFalse}
 use Rattle.std.proofs.lemmas.Bool.{cases_Bool, false≢true}
 use Rattle.std.proofs.lemmas.List.{map-append}
@@ -38,7 +38,6 @@ use Rattle.velo_explore.proofs.OnRuns.{IsRunOf-before, IsNext-last}
 use Rattle.velo_explore.proofs.OnRunsOfScripts.{length-own}
 use Rattle.velo_moves.specs.Programs.{own}
 use Rattle.velo_moves.specs.Scripts.{plain}
-use Rattle.velo_moves.specs.Wants as threads
 use Rattle.velo_moves.proofs.OnWants.{refusal-same}
 use Rattle.velo_schedules.specs.Logs.{is_for_room, ends_refused}
 use Rattle.velo_schedules.specs.Bodies.{all_scripts}

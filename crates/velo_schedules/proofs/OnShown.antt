@@ -1,5 +1,5 @@
 -- What is shown was replayed.
-use Rattle.std.proofs.Common.{◌≡◌, ◌≢◌, ◌↔◌, Bool, true, false, ℕ, ◌<◌, List, [], ◌∷◌, ◌++◌, append-nil, length, Option, Some, None, Result, Ok, Err, map, refl, sym, ap, subst, ◌∙◌, ⊎_elim, arith}
+use Rattle.std.proofs.Common.{◌≡◌, ◌↔◌, Bool, true, false, ℕ, ◌<◌, List, [], ◌∷◌, ◌++◌, append-nil, length, Option, Some, None, Result, Ok, Err, map, refl, sym, ap, subst, ◌∙◌, ⊎_elim, arith}
 use Rattle.std.specs.Borrow.{Bor}
 use Rattle.std.specs.Global.{Vec}
 use Rattle.std.specs.Option.{option_map}
@@ -19,7 +19,6 @@ use Rattle.velo_worker.specs.declared.ending.Ending.TheVariants as endings
 use Rattle.velo_worker.specs.Schedule.{Replays}
 use Rattle.velo_schedules.specs.declared.finding.Finding.{Finding}
 use Rattle.velo_schedules.specs.declared.finding.Finding.TheVariants.{Shown, Never, Open}
-use Rattle.velo_schedules.specs.declared.finding.Witness.{Witness}
 use Rattle.velo_schedules.specs.declared.goal.Goal.{Goal}
 use Rattle.velo_schedules.specs.declared.goal.Goal.TheVariants.{Alarm, Stuck, Refused}
 use Rattle.velo_schedules.specs.declared.outcome.Outcome.{Outcome}
@@ -31,7 +30,7 @@ use Rattle.velo_explore.specs.declared.fault.Fault.TheVariants as faults
 use Rattle.velo_explore.specs.declared.fault.Fault.{Fault}
 use Rattle.velo_explore.specs.declared.fault.Fault.TheVariants.{Cycle, Refusing}
 use Rattle.velo_explore.specs.declared.schedules.Schedules.{Schedules}
-use Rattle.velo_explore.specs.Trail.{LeadToCycles, LeadsTo, alarms_of, turns_for}
+use Rattle.velo_explore.specs.Trail.{LeadToCycles, LeadsTo, alarms_of}
 use Rattle.velo_schedules.proofs.OnFollowed.{follows-cycle, follows-stuck, follows-refused}
 
 -- an alarm is kept exactly where the log has a cycle

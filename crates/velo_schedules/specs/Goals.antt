@@ -16,7 +16,7 @@ use Rattle.velo_worker.specs.declared.ending.Ending.{Ending}
 use Rattle.velo_worker.specs.declared.ending.Ending.TheVariants as endings
 use Rattle.velo_worker.specs.Schedule.{Replays}
 use Rattle.velo_schedules.specs.declared.finding.Finding.{Finding}
-use Rattle.velo_schedules.specs.declared.finding.Finding.TheVariants.{Shown, Never, Open}
+use Rattle.velo_schedules.specs.declared.finding.Finding.TheVariants.{Shown}
 use Rattle.velo_schedules.specs.declared.finding.Findings.{Findings}
 use Rattle.velo_schedules.specs.declared.finding.Witness.{Witness}
 use Rattle.velo_schedules.specs.declared.goal.Goal.{Goal}
