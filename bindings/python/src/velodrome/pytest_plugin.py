@@ -71,14 +71,19 @@ def _run_once(item: pytest.Item, body: Callable[[], None], options: dict[str, An
         with velodrome.patched() if item.config.getini('velodrome_patch') else contextlib.nullcontext():
             body()
     except BaseException:
-        run.finish(item.nodeid)
+        run.finish(_name(item))
         if not run.outcome.clean:
             item.add_report_section('call', 'velodrome', run.outcome.text)
         raise
-    if run.finish(item.nodeid):
+    if run.finish(_name(item)):
         raise velodrome.Alarm(run.outcome.text)
     if not run.outcome.clean:
         item.warn(Incomplete(run.outcome.text))
+
+
+def _name(item: pytest.Item) -> str:
+    # the id of a test outside pytest's root folder has no path: its log would be a hidden file
+    return item.nodeid.lstrip('./:')
 
 
 @contextlib.contextmanager
