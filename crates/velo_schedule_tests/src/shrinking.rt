@@ -9,11 +9,7 @@ use velo_turns::append_turns;
 use velo_workload::{Workload, parse};
 
 /// What all schedules of a workload show, by simple schedules.
-fn simple_findings(
-    alloc: Global,
-    workload: &Workload,
-    config: Config,
-) -> Result<Findings, Memory>
+fn simple_findings(alloc: Global, workload: &Workload, config: Config) -> Result<Findings, Memory>
     requires bounds { config.bounds ≡ workload.now.bounds }
 {
     let told = explore(alloc, workload, 100_000, false, config, &mut Quiet)?;
