@@ -5,7 +5,8 @@ mod request;
 pub mod status;
 
 pub use request::{
-    AuditOptions, CarryOptions, CheckOptions, DEFAULT_SEED, ExplainOptions, ExploreOptions,
-    Ignorable, Limits, MAX_RUNS, MAX_STATES, RandomRuns, ReplayOptions, Request, RunOptions,
-    ScheduleSource, WatchOptions,
+    AuditOptions, CarryOptions, CheckOptions, DEFAULT_SEED, DEFAULT_TRIES, EndlessOptions,
+    ExplainOptions, ExploreOptions, Ignorable, Limits, MAX_RUNS, MAX_STATES, MAX_TRIES,
+    PredictOptions, RandomRuns, ReplayOptions, Request, RunOptions, ScheduleSource, ThinOptions,
+    WatchOptions,
 };

@@ -1,7 +1,7 @@
 //! What the program can be asked for.
 ghost use Rattle.std.specs.Prelude.{◌≤◌};
 ghost use Rattle.velo_events.specs.declared.limits.TheConstants.{MAX_EVENTS, MAX_NODES};
-ghost use Rattle.velo_request.specs.declared.request.TheConstants.{MAX_RUNS, MAX_STATES};
+ghost use Rattle.velo_request.specs.declared.request.TheConstants.{MAX_RUNS, MAX_STATES, MAX_TRIES};
 
 /// The limits of a run.
 #[derive(Clone, Copy, Debug)]
@@ -95,7 +95,7 @@ pub const MAX_STATES: u32 = 16_777_216;
 /// The most random runs: each is a whole replay.
 pub const MAX_RUNS: u32 = 1_000_000;
 
-/// The seed of random runs where none is given.
+/// The seed of random runs, and of the search for predictions, where none is given.
 pub const DEFAULT_SEED: u64 = 1;
 
 /// Random runs of a workload: their turns are drawn randomly.
@@ -149,6 +149,64 @@ pub struct WatchOptions<'a> {
     pub names: Option<&'a str>,
 }
 
+/// What `velodrome watch --endless` was asked for.
+#[derive(Clone, Copy, Debug)]
+pub struct EndlessOptions<'a> {
+    /// The path of the log, or `-`.
+    pub input: &'a str,
+    /// Whether the event that closes the first cycle ends the watch.
+    pub stop: bool,
+    /// The most events that are kept at one time, and the most nodes of their graph.
+    pub limits: Limits,
+    /// The path of the names that the report prints, or `-`.
+    pub names: Option<&'a str>,
+}
+
+/// What `velodrome thin` was asked for.
+#[derive(Clone, Copy, Debug)]
+pub struct ThinOptions<'a> {
+    /// The path of the log, or `-`.
+    pub input: &'a str,
+    /// The path where what is left of it is saved.
+    pub target: &'a str,
+    /// The path where the position in the log of each event that is left is saved.
+    pub map: Option<&'a str>,
+}
+
+/// The most delays that a search for predictions tries for each label in a round.
+pub const MAX_TRIES: u32 = 1_000_000;
+
+/// So many delays a search for predictions tries for each label in a round where no number is given.
+pub const DEFAULT_TRIES: u32 = 200;
+
+/// What `velodrome predict` was asked for.
+#[derive(Clone, Copy, Debug)]
+pub struct PredictOptions<'a> {
+    /// The path of the log, or `-`.
+    pub input: &'a str,
+    /// The path of the names that are printed, or `-`.
+    pub names: Option<&'a str>,
+    /// The path of the list of labels that are known already, or `-`.
+    pub known: Option<&'a str>,
+    /// The locks that are left out, each a number or a name.
+    pub ignored_locks: &'a [&'a str],
+    /// The variables that are left out, each a number or a name.
+    pub ignored_variables: &'a [&'a str],
+    /// Whether the values in the log are those of the program. If not, two reads have the same value
+    /// where they read from the same write.
+    pub values: bool,
+    /// How many delays are tried for each label in a round, 1 to [`MAX_TRIES`].
+    pub tries: u32,
+    /// The seed that the delays are drawn by.
+    pub seed: u64,
+    /// The path where the trace of the first prediction is saved as a log.
+    pub target: Option<&'a str>,
+    /// The limits within which the log is checked.
+    pub limits: Limits,
+    ghost some_try: { 1 ≤ tries },
+    ghost few_tries: { tries ≤ MAX_TRIES },
+}
+
 /// What `velodrome audit` was asked for.
 #[derive(Clone, Copy, Debug)]
 pub struct AuditOptions<'a> {
@@ -194,6 +252,12 @@ pub enum Request<'a> {
     Explore(ExploreOptions<'a>),
     /// To check a log as it comes.
     Watch(WatchOptions<'a>),
+    /// To check a log of any length as it comes.
+    WatchEndless(EndlessOptions<'a>),
     /// To list the labels of a recorded log whose blocks are not atomic.
     Audit(AuditOptions<'a>),
+    /// To leave out of a recorded log what adds nothing to its verdict.
+    Thin(ThinOptions<'a>),
+    /// To search for what other runs of the program of a recorded log can show.
+    Predict(PredictOptions<'a>),
 }
