@@ -1,0 +1,4 @@
+pub mod Lines
+pub mod Header
+pub mod Line
+pub mod Log
