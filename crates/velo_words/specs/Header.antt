@@ -23,7 +23,7 @@ is_workload bytes =
 abbrev pub most : ℕ
 most = 2 ^ 64 - 1
 
--- ---- behind `vlog `: version, threads, variables and locks, each as large as a number can be. The
+-- ---- after `vlog `: version, threads, variables and locks, each as large as a number can be. The
 -- first of them that may not be so large is the fault
 
 abbrev pub locks_of : Taken ℕ → HeaderFault
@@ -59,13 +59,13 @@ version_fault bytes = version_of (spaced_number_at most bytes)
 
 -- ---- of the first line
 
-abbrev pub behind_word : Option (List ℕ) → HeaderFault
-behind_word (Some rest) = version_fault rest
-behind_word None = Other
+abbrev pub rest_of_word : Option (List ℕ) → HeaderFault
+rest_of_word (Some rest) = version_fault rest
+rest_of_word None = Other
 
 unfoldable pub header_fault_of : List ℕ → HeaderFault
 header_fault_of bytes =
     if looks_marked bytes then Marked
     else if is_workload bytes then Workload
     else if ends_in_return (first_line bytes) then Returned
-    else behind_word (after_word (codes "vlog ") bytes)
+    else rest_of_word (after_word (codes "vlog ") bytes)

@@ -2,3 +2,4 @@ pub mod Lines
 pub mod Header
 pub mod Line
 pub mod Log
+pub mod Saying

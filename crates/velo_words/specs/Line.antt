@@ -13,7 +13,7 @@ use Rattle.velo_words.specs.Lines.{ends_in_return}
 abbrev pub has_tab : List ℕ → Bool
 has_tab line = list_any (λ b. b == 9) line
 
--- bytes behind this byte have a space behind a space, or end in one
+-- bytes after this byte have a space after a space, or end in one
 abbrev pub is_spaced : ℕ → List ℕ → Bool
 is_spaced before [] = before == 32
 is_spaced before (b ∷ bs) = (before == 32 && b == 32) || is_spaced b bs
@@ -33,15 +33,15 @@ likely bytes =
 
 -- ---- operands
 
--- what stands behind a word and its space; nothing where the word is alone
-abbrev pub behind : List ℕ → Option (List ℕ)
-behind [] = Some []
-behind (b ∷ bs) = after_word (codes " ") (b ∷ bs)
+-- what stands after a word and its space; nothing where the word is alone
+abbrev pub operands_of : List ℕ → Option (List ℕ)
+operands_of [] = Some []
+operands_of (b ∷ bs) = after_word (codes " ") (b ∷ bs)
 
 abbrev pub operand_at : List ℕ → List ℕ → Option (List ℕ)
-operand_at word bytes = after_word word bytes >>= behind
+operand_at word bytes = after_word word bytes >>= operands_of
 
--- by what stands behind a word, if the word is there
+-- by what stands after a word, if the word is there
 abbrev pub by_operand : Option (List ℕ) → (List ℕ → LineFault) → LineFault → LineFault
 by_operand (Some rest) fault otherwise = fault rest
 by_operand None fault otherwise = otherwise
@@ -97,7 +97,7 @@ operation_fault words =
 
 -- ---- a line
 
--- a thread, and behind a space an operation
+-- a thread, and after a space an operation
 abbrev pub event_fault : List ℕ → LineFault
 event_fault line = by_number (number_at 255 line) Thread (λ rest.
     by_operand (after_word (codes " ") rest) operation_fault Thread)

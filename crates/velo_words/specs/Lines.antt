@@ -26,7 +26,7 @@ shown_byte b = if nat_le 32 b && nat_le b 126 then b else 63
 abbrev pub shown : List ℕ → List ℕ
 shown line = map shown_byte (take 64 line)
 
--- a line behind four spaces, with its newline
+-- a line after four spaces, with its newline
 unfoldable pub shown_line : List ℕ → List ℕ
 shown_line line = codes "    " ++ (shown line ++ codes "\n")
 

@@ -5,7 +5,7 @@ mod header;
 mod line;
 mod lines;
 mod log;
-//mod saying;
+mod saying;
 
 pub use header::{HeaderFault, header_fault_of};
-//pub use saying::end_in_words;
+pub use saying::end_in_words;

@@ -41,7 +41,7 @@ pub enum LineFault {
     Tab,
     /// It ends in a carriage return.
     Returned,
-    /// It has a space at its front, at its end or behind another one.
+    /// It has a space at its front, at its end or after another one.
     Spaces,
     /// It has more bytes than a line may have.
     Long,
@@ -61,7 +61,7 @@ pub enum LineFault {
     Label,
     /// It has no other thread where one is to be.
     Other,
-    /// It goes on behind its event.
+    /// It goes on after its event.
     More,
     /// Nothing: it is the line of an event.
     Sound,
@@ -74,7 +74,7 @@ fn has_tab(line: &[u8]) -> bool
     line.contains(&b'\t')
 }
 
-/// Whether a line has a space at its front, at its end or behind another one.
+/// Whether a line has a space at its front, at its end or after another one.
 fn is_spaced(line: &[u8]) -> bool
     ensures { result ≡ is_spaced 32 line.now }
 {
@@ -120,7 +120,7 @@ fn likely(bytes: &[u8]) -> Option<Word>
     None
 }
 
-/// What stands behind the word at the front and its space; nothing where the word is alone.
+/// What stands after the word at the front and its space; nothing where the word is alone.
 fn operand<'a>(bytes: &'a [u8], word: &[u8]) -> Option<&'a [u8]>
     ensures { option_map (λ r. r.now) result ≡ operand_at word.now bytes.now }
 {
@@ -135,7 +135,11 @@ fn operand<'a>(bytes: &'a [u8], word: &[u8]) -> Option<&'a [u8]>
 fn ends(bytes: &[u8], fault: LineFault) -> LineFault
     ensures { result ≡ ends bytes.now fault }
 {
-    if bytes.is_empty() { fault } else { LineFault::More }
+    if bytes.is_empty() {
+        fault
+    } else {
+        LineFault::More
+    }
 }
 
 /// What is wrong with a number up to `most` that ends the line.
@@ -185,7 +189,12 @@ fn block_fault(words: &[u8]) -> LineFault
     ensures { result ≡ block_fault words.now }
 {
     if let Some(rest) = operand(words, b"begin") {
-        return number_fault(rest, u64::from(u32::MAX), LineFault::Label, LineFault::Sound);
+        return number_fault(
+            rest,
+            u64::from(u32::MAX),
+            LineFault::Label,
+            LineFault::Sound,
+        );
     }
     match operand(words, b"end") {
         Some(rest) => ends(rest, LineFault::Sound),

@@ -50,7 +50,11 @@ pub fn ends_in_return(line: &[u8]) -> bool
 fn shown_byte(byte: u8) -> u8
     ensures { result ≡ shown_byte byte }
 {
-    if 32 <= byte && byte <= 126 { byte } else { b'?' }
+    if 32 <= byte && byte <= 126 {
+        byte
+    } else {
+        b'?'
+    }
 }
 
 /// A line as it is shown.
@@ -65,7 +69,17 @@ pub(crate) fn shown(alloc: Global, line: &[u8]) -> Result<Vec<u8>, Memory>
     Ok(text)
 }
 
-/// Adds a line behind four spaces.
+/// Adds a text.
+///
+/// # Errors
+/// `Memory` if an allocation failed.
+pub(crate) fn add_text(page: &mut Page, text: &str) -> Result<(), Memory>
+    ensures { OnOk result (page.new ≡ page.old ++ text.now) }
+{
+    page.add(&[Piece::Text(text)])
+}
+
+/// Adds a line after four spaces.
 ///
 /// # Errors
 /// `Memory` if an allocation failed.
@@ -89,7 +103,11 @@ pub(crate) fn add_shown(page: &mut Page, alloc: Global, line: &[u8]) -> Result<(
 pub(crate) fn add_file(page: &mut Page, path: &str) -> Result<(), Memory>
     ensures { OnOk result (page.new ≡ page.old ++ of_file path.now) }
 {
-    page.add(&[Piece::Text("velodrome: "), Piece::Text(path), Piece::Text(": ")])
+    page.add(&[
+        Piece::Text("velodrome: "),
+        Piece::Text(path),
+        Piece::Text(": "),
+    ])
 }
 
 /// Adds which line of a file it is.
