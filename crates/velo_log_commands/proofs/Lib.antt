@@ -5,4 +5,5 @@ mod OnIgnoring
 mod OnListing
 mod OnNaming
 mod OnSiting
+pub mod OnThinning
 mod OnWatching

@@ -9,4 +9,5 @@ pub mod Listing
 pub mod Naming
 pub mod Siting
 pub mod Steps
+pub mod Thinning
 pub mod Watching

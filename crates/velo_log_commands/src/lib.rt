@@ -9,10 +9,12 @@ mod ignoring;
 mod listing;
 mod naming;
 mod siting;
+mod thinning;
 mod watching;
 
 pub use auditing::audit_file;
 pub use carrying::{CarryFault, carry_file, carry_run};
 pub use check::{check_file, check_run, config_of, do_log};
 pub use explaining::explain_file;
+pub use thinning::thin_file;
 pub use watching::watch_file;
