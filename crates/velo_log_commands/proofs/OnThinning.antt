@@ -1,6 +1,6 @@
 -- What thinning comes to.
 use Rattle.std.proofs.Common.{◌≡◌, Ok, Err, inl, inr, refl, subst, sym}
-use Rattle.std.specs.Prelude.{⊤, ℕ, List, Result}
+use Rattle.std.specs.Prelude.{⊤, ℕ, [], ◌∷◌, List, Option, Result}
 use Rattle.std.specs.Borrow.{Bor}
 use Rattle.velo_events.specs.Refusals.{GrowthRefused}
 use Rattle.velo_delivery.specs.declared.answer.Save.{Save}
@@ -21,16 +21,16 @@ use Rattle.velo_request.specs.declared.request.ThinOptions.{ThinOptions}
 use Rattle.velo_fate.specs.declared.fate.Fate.{Fate}
 use Rattle.velo_fate.specs.declared.fate.Fate.TheVariants.{Check}
 use Rattle.velo_fate.specs.Failures.{failures_told}
-use Rattle.velo_log_commands.specs.Thinning.{GoesOutTo, check_fault_by, fate_of_delivery, targets_of}
+use Rattle.velo_log_commands.specs.Thinning.{ThinsLog, check_fault_by, fate_of_delivery, targets_of}
 
 -- ---- how often the source has failed
 
-told_by_log : (fault : LogFault) (count : ℕ) → failures_by {X = ⊤} (Err (Log fault)) count ≡ failures_told (Check (check_fault_by (Log fault))) count
+told_by_log : (fault : LogFault) (count : ℕ) → failures_by {X = ThinnedLog} (Err (Log fault)) count ≡ failures_told (Check (check_fault_by (Log fault))) count
 told_by_log Read count = refl
 told_by_log fault count = refl
 
 -- a fault is told as a failed read where it is one
-pub told_by_fault : {X : Type 0} (fault : ThinFault) (count : ℕ) → failures_by {X = X} (Err fault) count ≡ failures_told (Check (check_fault_by fault)) count
+pub told_by_fault : (fault : ThinFault) (count : ℕ) → failures_by {X = ThinnedLog} (Err fault) count ≡ failures_told (Check (check_fault_by fault)) count
 told_by_fault (Log fault) count = told_by_log fault count
 told_by_fault (Refused p refusal) count = refl
 told_by_fault (WrongValue p) count = refl
@@ -72,6 +72,8 @@ module _ (options : ThinOptions) (thinned : Bor ThinnedLog) (store : Store) (std
   sent_reads (Err failure_of.PrintFailed) count out = refl
   sent_reads (Err (failure_of.Memory memory)) count out = refl
 
-  -- what goes out is not told as a failed read
-  pub out_reads : (f : Fate) (count : ℕ) → GoesOutTo options thinned store stdout f → failures_told f count ≡ count
-  out_reads f count (result, out, is) = subst (λ f. failures_told f count ≡ count) (sym is) (sent_reads result count out)
+-- a log that was thinned is not told as one that was not read
+pub thins_reads : (options : ThinOptions) (read : Option (List ℕ)) (store : Store) (stdout : Writing) (f : Fate) (count : ℕ) → ThinsLog options read store stdout f → failures_told f count ≡ count
+thins_reads options read store stdout f count thins =
+    let out = thins.goes_out in
+    subst (λ f. failures_told f count ≡ count) (sym out.4) (sent_reads options out.0 store stdout out.2 count out.3)

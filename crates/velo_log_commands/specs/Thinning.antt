@@ -47,18 +47,18 @@ fate_of_delivery (Err failure) = fate_of_failure failure
 -- ---- what is done
 
 -- what is left of a log went out, or a part of it, and this is the fate
-abbrev pub GoesOutTo : ThinOptions → Bor ThinnedLog → Store → Writing → Fate → Type 0
+abbrev pub GoesOutTo : ThinOptions → ThinnedLog → Store → Writing → Fate → Type 0
 GoesOutTo options thinned store stdout f =
-    (result : Result ⊤ Failure) × GoesOut thinned (targets_of options) store stdout result
-    × (f ≡ fate_of_delivery result)
+    (held : Bor ThinnedLog) × (held.now ≡ thinned) × (result : Result ⊤ Failure)
+    × GoesOut held (targets_of options) store stdout result × (f ≡ fate_of_delivery result)
 
 -- The log of the input can come about, and what is left of it went out. With every block there, and
 -- whichever labels are left out, the log has a cycle exactly where what is left has one, the same
 -- event closes the first one, and the same blocks are to blame (`IsThinnedLog`).
 pub record ThinsLog (options : ThinOptions) (read : Option (List ℕ)) (store : Store) (stdout : Writing)
     (f : Fate) : Type 0 where
-  pub thinned : Bor ThinnedLog
-  pub thins : IsThinningOf read thinned.now
+  pub thinned : ThinnedLog
+  pub thins : IsThinningOf read thinned
   pub goes_out : GoesOutTo options thinned store stdout f
 
 -- nothing is written where the input has this fault

@@ -34,7 +34,7 @@ fn send_thinned<F: Files, O: Sink>(
     files: &mut F,
     out: &mut O,
 ) -> Fate
-    ensures { GoesOutTo options.now thinned.entry (store F.disk files.old files.new)
+    ensures { GoesOutTo options.now thinned.now (store F.disk files.old files.new)
         (writing O.contents O.failures out.old out.new) result }
 {
     let targets = Targets {

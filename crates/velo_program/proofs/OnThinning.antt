@@ -39,5 +39,5 @@ module _ (needs : Needs) (options : ThinOptions) where
   pub of_thin : (read : Option (List ℕ)) (store : Store) (stdout : Writing) (f : Fate) → EndsByRefusal needs Done → ThinsInput options read store stdout f → ComesByRefusal needs f
   of_thin read store stdout f done (inl thins) =
       let out = thins.goes_out in
-      subst (ComesByRefusal needs) (sym out.2) (of_delivery thins.thinned store stdout out.0 done out.1)
+      subst (ComesByRefusal needs) (sym out.4) (of_delivery out.0 store stdout out.2 done out.3)
   of_thin read store stdout f done (inr (fault, is, told, nothing)) = subst (ComesByRefusal needs) (sym told) (of_fault read fault is)
