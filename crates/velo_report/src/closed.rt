@@ -166,11 +166,12 @@ pub fn report<S: Sink>(closed: &Closed, names: &Names, sink: &mut S) -> Result<(
     ensures no_failure { OnOk result (S.failures sink.new ≡ S.failures sink.old) }
     ensures failure { OnErr result (S.failures sink.new ≡ with_failure (S.failures sink.old)) }
 {
-    let counts = counts_in(closed.book(), closed.bounds().threads);
-    let threads = usize::from(closed.bounds().threads);
+    let total = closed.total();
+    let threads = closed.bounds().threads;
+    let counts = counts_in(closed.book(), threads);
     report_counts(
-        closed.total(),
-        &counts[..threads],
+        total,
+        &counts[..usize::from(threads)],
         closed.alarm(),
         names,
         sink,
@@ -190,10 +191,16 @@ pub fn report_so_far<S: Sink>(world: &World, names: &Names, sink: &mut S) -> Res
     ensures no_failure { OnOk result (S.failures sink.new ≡ S.failures sink.old) }
     ensures failure { OnErr result (S.failures sink.new ≡ with_failure (S.failures sink.old)) }
 {
-    let counts = counts_in(world.book(), world.threads());
     let total = world.log().len() as u64;
-    let threads = usize::from(world.threads());
-    report_counts(total, &counts[..threads], world.alarm(), names, sink)
+    let threads = world.threads();
+    let counts = counts_in(world.book(), threads);
+    report_counts(
+        total,
+        &counts[..usize::from(threads)],
+        world.alarm(),
+        names,
+        sink,
+    )
 }
 
 /// How many events each thread of a book has, at its place.

@@ -29,17 +29,15 @@ pub fn alarm_at(alloc: Global, clocks: &Clocks, events: &[Event], closing: Closi
     ensures alarm { IsAlarm events.now result }
     ensures position { result.position ≡ closing.position }
 {
-    let Closing {
-        position,
-        transaction,
-    } = closing;
+    let position = closing.position;
     let event = &events[position];
     // the transaction begins with the outermost of its open blocks
-    let blocks = open_blocks_since(&events[..position + 1], event.thread, transaction, alloc);
+    let so_far = &events[..position + 1];
+    let blocks = open_blocks_since(so_far, event.thread, closing.transaction, alloc);
     let blamed = clocks.blamed(&blocks, position, event);
     Alarm {
-        position,
-        transaction,
+        position: closing.position,
+        transaction: closing.transaction,
         blamed,
     }
 }
