@@ -28,7 +28,7 @@ use velo_report::Names;
 use velo_request::{CheckOptions, Limits};
 use velo_traces::Trace;
 use velo_worker::Ending;
-use velo_world::{Closed, LogReplayFault, World};
+use velo_world::{Closed, LogReplayFault};
 
 /// The same fault of a check.
 pub fn fault_of(fault: LogReplayFault) -> CheckFault
@@ -54,16 +54,12 @@ pub fn do_log(alloc: Global, config: Config, log: Trace) -> Result<Closed, Check
     ensures short { IfOk result (λ closed. length closed.log ≤ closed.config.events) }
     ensures err { IfErr result (λ fault. IsFaultOfLog config log.events fault) }
 {
-    let (world, shares) = match World::from_log(alloc, config, log) {
-        Ok(replayed) => replayed,
-        Err(fault) => return Err(fault_of(fault)),
-    };
-    match world.close(shares) {
+    match Closed::of_log(alloc, config, log) {
         Ok(closed) => {
             prove!(closed.log().len() <= config.events as usize);
             Ok(closed)
         }
-        Err(_) => unreachable!(),
+        Err(fault) => Err(fault_of(fault)),
     }
 }
 
