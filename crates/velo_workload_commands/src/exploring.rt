@@ -36,6 +36,7 @@ fn run_of<'a>(options: &ExploreOptions<'a>) -> RunOptions<'a>
         names_target: options.names_target,
         limits: options.limits,
         certificate: options.certificate,
+        why: false,
     }
 }
 
