@@ -137,7 +137,16 @@ fn tell<F: Files, O: Sink>(
     };
     let alarm = is_something_told(rounds, founds);
     let target = inquiry.options.target;
-    save_and_print(alloc, bounds, words.as_slice(), alarm, founds, target, files, out)
+    save_and_print(
+        alloc,
+        bounds,
+        words.as_slice(),
+        alarm,
+        founds,
+        target,
+        files,
+        out,
+    )
 }
 
 /// Searches a log whose rounds are these, and tells what they and the search found.
