@@ -36,7 +36,8 @@ def rows_of(page, title):
 
 def options_in_page(page, command):
     rows = [row for row in rows_of(page, "## Options") if f"`{command}`" in row[1] or row[1] == "all"]
-    return {re.search(r"--[\w-]+", row[0]).group(): (numbers_in(row[2]), numbers_in(row[3])) for row in rows}
+    parts = {re.search(r"--[\w-]+", row[0]).group(): row[2].partition("(") for row in rows}
+    return {name: (numbers_in(span), numbers_in(default)) for name, (span, _, default) in parts.items()}
 
 
 def options_in_help(text):

@@ -35,6 +35,9 @@ The names: each line is 'thread N NAME', 'variable N NAME', 'lock N NAME' or 'la
 or a comment that begins with '#'. With --names they are read before the log, and the report has the
 names of threads and labels after their numbers. Only one of LOG and FILE can be -.
 
+With --why words come before the line on standard error: the path, the line and its text, and what is
+wrong with it.
+
 Statuses, each with the lines on standard error:
   0  no alarm, or help
   2  usage; 'error: standard input can be read once'; the text is no log: 'log fault K',
@@ -101,6 +104,9 @@ The names: --names-out writes the names of the workload to NAMES, after the log,
 FILE, OUT and NAMES must be different files; otherwise the command stops before it writes to them.
 Standard input is not compared with OUT and NAMES.
 
+With --why words come before the line on standard error: the path, the line and its text, and what is
+wrong with it.
+
 Statuses, each with the lines on standard error:
   0  the run ended without an alarm, or help
   2  usage; 'error: standard input can be read once'; 'error: --names-out goes only with --log';
@@ -138,6 +144,9 @@ The names: --names-out writes the names of the workload to NAMES, after the log,
 
 FILE, OUT and NAMES must be different files; otherwise the command stops before it writes to them.
 Standard input is not compared with OUT and NAMES.
+
+With --why words come before the line on standard error: the path, the line and its text, and what is
+wrong with it.
 
 Statuses, each with the lines on standard error:
   0  the run ended without an alarm, or help
@@ -200,6 +209,9 @@ is no log, OUT stays empty.
 
 LOG and OUT must be different files; otherwise the command stops before it writes. Standard input is
 not compared with OUT: if it comes from that file, the log is lost.
+
+With --why words come before the line on standard error: the path, the line and its text, and what is
+wrong with it.
 
 Statuses, each with the lines on standard error:
   0  done, or help
