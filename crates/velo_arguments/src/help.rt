@@ -35,6 +35,9 @@ The names: each line is 'thread N NAME', 'variable N NAME', 'lock N NAME' or 'la
 or a comment that begins with '#'. With --names they are read before the log, and the report has the
 names of threads and labels after their numbers. Only one of LOG and FILE can be -.
 
+With --why words come before the line on standard error: the path, the line and its text, and what is
+wrong with it.
+
 Statuses, each with the lines on standard error:
   0  no alarm, or help
   2  usage; 'error: standard input can be read once'; the text is no log: 'log fault K',
@@ -101,6 +104,9 @@ The names: --names-out writes the names of the workload to NAMES, after the log,
 FILE, OUT and NAMES must be different files; otherwise the command stops before it writes to them.
 Standard input is not compared with OUT and NAMES.
 
+With --why words come before the line on standard error: the path, the line and its text, and what is
+wrong with it.
+
 Statuses, each with the lines on standard error:
   0  the run ended without an alarm, or help
   2  usage; 'error: standard input can be read once'; 'error: --names-out goes only with --log';
@@ -138,6 +144,9 @@ The names: --names-out writes the names of the workload to NAMES, after the log,
 
 FILE, OUT and NAMES must be different files; otherwise the command stops before it writes to them.
 Standard input is not compared with OUT and NAMES.
+
+With --why words come before the line on standard error: the path, the line and its text, and what is
+wrong with it.
 
 Statuses, each with the lines on standard error:
   0  the run ended without an alarm, or help
@@ -200,6 +209,9 @@ is no log, OUT stays empty.
 
 LOG and OUT must be different files; otherwise the command stops before it writes. Standard input is
 not compared with OUT: if it comes from that file, the log is lost.
+
+With --why words come before the line on standard error: the path, the line and its text, and what is
+wrong with it.
 
 Statuses, each with the lines on standard error:
   0  done, or help
@@ -278,8 +290,8 @@ their numbers. The line of the alarm has numbers alone. Only one of LOG and FILE
 LOG is a pipe, a FIFO or a regular file. A regular file is read to its end. To follow one that grows:
 tail -c +1 -f LOG | velodrome watch -
 
-With --endless the log may be of any length, in the memory of --events events. Where no thread has a
-block open, what came before is replaced by a few events that leave the same values, locks and threads.
+With --endless the log may be of any length, and no more events are kept than --events. Where no thread
+has a block open, a few events that leave the same values, locks and threads replace what came before.
 The alarm, the report and the lines on standard error are those of the whole log. 'refused 17 at P' comes
 only if a block stays open for too many events, or if the values and locks alone are too many.
 
@@ -361,7 +373,7 @@ needs all reads.
 
 LOG, OUT and MAP must be different files; otherwise the command stops before it writes. Standard input
 is not compared with OUT and MAP. If LOG has a fault, or an event that cannot happen, OUT and MAP are
-not opened. It uses the greatest limits, 16777216 events and 4096 nodes, which no log exceeds.
+not opened. LOG may have up to 16777216 events.
 
 Statuses, each with the lines on standard error:
   0  done, whatever the verdict, or help
@@ -378,8 +390,8 @@ Example, two threads that take one lock twice in a block, one thread after the o
   printf 'vlog 2 2 1 1\\n0 fork 1\\n0 begin 7\\n0 acq 0\\n0 rd 0 0\\n0 rel 0\\n0 acq 0\\n0 wr 0 5\\n0 rel 0\\n0 end\\n' > log
   printf '1 begin 7\\n1 acq 0\\n1 rd 0 5\\n1 rel 0\\n1 acq 0\\n1 wr 0 6\\n1 rel 0\\n1 end\\n' >> log
   velodrome predict log --log witness.log
-'velodrome check' has no alarm for this log. It reports that label 7 is not atomic in another run, with
-status 3, and 'velodrome explain witness.log' shows how.
+'velodrome check' has no alarm for this log. This command reports that label 7 is not atomic in another
+run, with status 3. 'velodrome explain witness.log' shows how.
 
 It reads and judges the whole log first, and finds the labels that are not atomic in this run, as
 'velodrome audit' does. Then it looks for more that are not atomic in other runs of the same program: it
