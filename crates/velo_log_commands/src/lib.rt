@@ -4,6 +4,7 @@
 mod auditing;
 mod carrying;
 mod check;
+mod endless;
 mod explaining;
 mod ignoring;
 mod listing;
@@ -14,5 +15,6 @@ mod watching;
 pub use auditing::audit_file;
 pub use carrying::{CarryFault, carry_file, carry_run};
 pub use check::{check_file, check_run, config_of, do_log};
+pub use endless::watch_endless_file;
 pub use explaining::explain_file;
 pub use watching::watch_file;
