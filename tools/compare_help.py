@@ -10,7 +10,7 @@ import subprocess
 import sys
 
 ROOT = os.path.dirname(os.path.dirname(os.path.abspath(__file__)))
-COMMANDS = ("check", "explain", "audit", "watch", "replay", "run", "explore", "carry")
+COMMANDS = ("check", "explain", "audit", "predict", "watch", "replay", "run", "explore", "carry", "thin")
 
 
 def numbers_in(text):

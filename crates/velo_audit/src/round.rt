@@ -11,10 +11,9 @@ use crate::witness::place_at;
 use std::alloc::Global;
 use thiserror::Error;
 use velo_events::{Config, Memory, Refusal};
-use velo_ledger::Shares;
 use velo_thin::{LeftOut, Thinned, thin};
 use velo_traces::Trace;
-use velo_world::{LogReplayFault, World};
+use velo_world::{Closed, LogReplayFault};
 
 /// How many nodes the graph of a round has at least, where there may be as many.
 const FEW_NODES: u32 = 256;
@@ -44,7 +43,7 @@ impl From<Memory> for AuditFault {
     }
 }
 
-/// Checks the rest of a log that can come about, within its limits. The configuration has to go on after an alarm.
+/// Checks the rest of a log that can happen, within its limits. The configuration has to go on after an alarm.
 ///
 /// # Errors
 /// `GraphFull` where the graph of the rest needs more nodes than there may be, `Memory` where a growth was refused.
@@ -67,7 +66,7 @@ pub fn round(
     }
 }
 
-/// Checks a trace, and tells of its alarm by the places for which its positions stand.
+/// Checks a trace, and reports its alarm by the places of its positions in the log.
 fn check(
     alloc: Global,
     config: &Config,
@@ -83,7 +82,7 @@ fn check(
 {
     let Thinned { trace, places } = thinned;
     match replayed(alloc, config, trace) {
-        Ok(replayed) => tell(alloc, asked, replayed, &places),
+        Ok(closed) => tell(alloc, asked, closed, &places),
         Err(
             LogReplayFault::Refused {
                 position,
@@ -97,17 +96,17 @@ fn check(
     }
 }
 
-/// The world of a recorded log, whose graph has no more nodes than a round has use for.
-fn replayed(alloc: Global, config: &Config, log: Trace) -> Result<(World, Shares), LogReplayFault>
+/// The closed world of a recorded log, whose graph has no more nodes than a round has use for.
+fn replayed(alloc: Global, config: &Config, log: Trace) -> Result<Closed, LogReplayFault>
     requires goes_on { config.now.stop ≡ false }
-    ensures log { IfOk result (λ replayed. replayed.0.log ≡ log.events) }
+    ensures log { IfOk result (λ closed. closed.log ≡ log.events) }
     ensures fault { IfErr result (λ fault. IsFaultOfLog config.now log.events fault) }
 {
-    World::from_log(alloc, with_few_nodes(config), log)
+    Closed::of_log(alloc, with_few_nodes(config), log)
 }
 
 /// The same, but for nodes that only make compactions rarer. As many as the threads squared are enough for any run. With four
-/// times as many, most come free in each. Every round makes a graph anew, so fewer nodes are soon made.
+/// times as many, most come free in each. Every round makes a new graph, so fewer nodes are soon made.
 fn with_few_nodes(config: &Config) -> Config
     ensures bounds { result.bounds ≡ config.now.bounds }
     ensures events { result.events ≡ config.now.events }
@@ -126,39 +125,39 @@ fn with_few_nodes(config: &Config) -> Config
     }
 }
 
-/// What is told of a world's alarm, if it has one. The world is given up.
+/// What is reported of a world's alarm, if it has one. The world is dropped.
 fn tell(
     alloc: Global,
     asked: bool,
-    replayed: (World, Shares),
+    closed: Closed,
     places: &[u32],
 ) -> Result<Option<Told>, AuditFault>
-    requires { length places.now ≡ length replayed.0.log }
-    ensures tells { IfOk result (CheckTells asked replayed.0.log places.now) }
+    requires { length places.now ≡ length closed.log }
+    ensures tells { IfOk result (CheckTells asked closed.log places.now) }
     ensures fault { OnErr result GrowthRefused }
     ensures memory { IfErr result (λ fault. fault ≡ out_of_memory) }
 {
-    let told = told_in(alloc, asked, &replayed.0, places);
-    drop(replayed);
+    let told = told_in(alloc, asked, &closed, places);
+    drop(closed);
     told
 }
 
-/// What is told of a world's alarm, if it has one.
+/// What is reported of a world's alarm, if it has one.
 fn told_in(
     alloc: Global,
     asked: bool,
-    world: &World,
+    closed: &Closed,
     places: &[u32],
 ) -> Result<Option<Told>, AuditFault>
-    requires { length places.now ≡ length world.now.log }
-    ensures tells { IfOk result (CheckTells asked world.now.log places.now) }
+    requires { length places.now ≡ length closed.now.log }
+    ensures tells { IfOk result (CheckTells asked closed.now.log places.now) }
     ensures fault { OnErr result GrowthRefused }
     ensures memory { IfErr result (λ fault. fault ≡ out_of_memory) }
 {
-    let Some(alarm) = world.alarm() else {
+    let Some(alarm) = closed.alarm() else {
         return Ok(None);
     };
-    match told_of(alloc, asked, world.log(), places, alarm) {
+    match told_of(alloc, asked, closed.log(), places, alarm) {
         Ok(told) => Ok(Some(told)),
         Err(Memory) => Err(AuditFault::Memory),
     }

@@ -28,7 +28,7 @@ use velo_report::Names;
 use velo_request::{CheckOptions, Limits};
 use velo_traces::Trace;
 use velo_worker::Ending;
-use velo_world::{Closed, LogReplayFault, World};
+use velo_world::{Closed, LogReplayFault};
 
 /// The same fault of a check.
 pub fn fault_of(fault: LogReplayFault) -> CheckFault
@@ -41,7 +41,7 @@ pub fn fault_of(fault: LogReplayFault) -> CheckFault
     }
 }
 
-/// The world of a log, all of whose events came about again in it, after its end. The log becomes
+/// The world of a log, in which all of its events happened again, after its end. The log becomes
 /// the world's. The configuration has to go on after an alarm.
 ///
 /// # Errors
@@ -54,16 +54,12 @@ pub fn do_log(alloc: Global, config: Config, log: Trace) -> Result<Closed, Check
     ensures short { IfOk result (λ closed. length closed.log ≤ closed.config.events) }
     ensures err { IfErr result (λ fault. IsFaultOfLog config log.events fault) }
 {
-    let (world, shares) = match World::from_log(alloc, config, log) {
-        Ok(replayed) => replayed,
-        Err(fault) => return Err(fault_of(fault)),
-    };
-    match world.close(shares) {
+    match Closed::of_log(alloc, config, log) {
         Ok(closed) => {
             prove!(closed.log().len() <= config.events as usize);
             Ok(closed)
         }
-        Err(_) => unreachable!(),
+        Err(fault) => Err(fault_of(fault)),
     }
 }
 
@@ -104,7 +100,7 @@ fn show<O: Sink>(
 }
 
 /// Writes what a closed world shows. The certificate, if it is asked for, is made before the first
-/// byte goes out.
+/// byte is written.
 fn write_answer<O: Sink>(
     alloc: Global,
     closed: &Closed,
@@ -140,7 +136,7 @@ pub fn finish<O: Sink>(
     answer
 }
 
-/// The world of the log that a source gives, all of whose events came about again in it, after its
+/// The world of the log that a source gives, in which all of its events happened again, after its
 /// end.
 ///
 /// # Errors

@@ -65,44 +65,24 @@ module _ (line : ℕ → List ℕ) (t : ℕ) where
       ∙ ap (λ (u : List ℕ). u ++ later n) (sym threads-more)
       ∙ append_assoc (flat_map line (range_with_len 0 t)) (line t) (later n)
 
--- a row of the book of a world says how many events the thread has
-pub tally_events : (w : WorldState) (book : Accounts) (t : ℕ) (row : Tally) → IsBookOf w book → slice_get book.rows t ≡ Some row → row.events ≡ events_of w.log t
-tally_events w book t row is here =
-    let same : Some row ≡ Some (tally_of w.log t) = sym here ∙ is.rows.each t (slice_get_within book.rows t row here) in
-    ap (λ (r : Tally). r.events) (same_Some row (tally_of w.log t) same)
-
 -- a count at its place is that of the thread
 pub counted_events : (log : List Event) (counts : List ℕ) (t : ℕ) → AreEventsOf log counts → t < length counts → get_or counts t 0 ≡ events_of log t
 counted_events log counts t are within = get_or_from_slice_get counts t (events_of log t) 0 (are.each t within)
 
 -- ---- the whole
 
--- the alarm that a closed world tells is that of its log
-told_alarm : (log : List Event) (told : Option (Bor Alarm)) → IfNone told (¬ HasCycle log) → IfSome told (λ alarm. IsAlarm log alarm.now) → AlarmOf log (option_copied told)
-told_alarm log None none some = none
-told_alarm log (Some alarm) none some = some
-
 abbrev pub total_line : ℕ → List ℕ
 total_line total = line_of (codes "events") (decimal total ∷ [])
 
--- and back
-pub alarm_none : (log : List Event) (told : Option (Bor Alarm)) → AlarmOf log (option_copied told) → IfNone told (¬ HasCycle log)
-alarm_none log None exact = exact
-alarm_none log (Some alarm) exact = tt
-
-pub alarm_some : (log : List Event) (told : Option (Bor Alarm)) → AlarmOf log (option_copied told) → IfSome told (λ alarm. IsAlarm log alarm.now)
-alarm_some log None exact = tt
-alarm_some log (Some alarm) exact = exact
-
--- what is written of a closed world that tells this alarm and this count of events, behind what was gathered before
-module _ (names : Names) (threads : ℕ) (log : List Event) (told : Option (Bor Alarm)) (total : ℕ) (none : IfNone told (¬ HasCycle log)) (some : IfSome told (λ alarm. IsAlarm log alarm.now)) (count : total ≡ length log) where
+-- what is written of a log that has this alarm and this count of events, behind what was gathered before
+module _ (names : Names) (threads : ℕ) (log : List Event) (told : Option (Bor Alarm)) (total : ℕ) (exact : AlarmOf log (option_copied told)) (count : total ≡ length log) where
   abbrev pub text_told : List ℕ
   text_told = total_line total ++ (thread_lines names log threads ++ verdict_lines names (option_copied told))
 
   is_report : IsReport names threads log text_told
   is_report = record {
     alarm = option_copied told;
-    exact = told_alarm log told none some;
+    exact = exact;
     lines = ap (λ (n : ℕ). total_line n ++ (thread_lines names log threads ++ verdict_lines names (option_copied told))) count;
   }
 

@@ -1,14 +1,20 @@
 //! The report of a world.
-ghost use Rattle.std.specs.Prelude.{◌≡◌, ◌<◌, ◌++◌, ◌∷◌, [], codes, decimal, length, Some, OnOk, OnErr};
+ghost use Rattle.std.specs.Prelude.{◌≡◌, ◌≤◌, ◌++◌, List, length, take, Some, OnOk, OnErr};
 ghost use Rattle.std.specs.Option.{option_copied};
+ghost use Rattle.velo_events.specs.declared.event.Event.{Event};
+ghost use Rattle.velo_events.specs.declared.limits.TheConstants.{MAX_THREADS};
+ghost use Rattle.velo_ledger.specs.Logs.{AreTalliesOf};
 ghost use Rattle.velo_bytes.specs.Device.{with_failure, AppendsBeginning};
 ghost use Rattle.velo_report.specs.Lines.{Buffers};
-ghost use Rattle.velo_report.specs.Report.{count_line, thread_lines, blame_line, blame_lines, verdict_lines, AppendsReport, AppendsPartOfReport};
+ghost use Rattle.velo_report.specs.Counted.{AreEventsOf};
+ghost use Rattle.velo_report.specs.Report.{count_line, blame_line, blame_lines, verdict_lines, AppendsReport, AppendsPartOfReport};
 
+use crate::counted::report_counts;
 use crate::lines::{Lines, Word};
 use crate::names::Names;
 use velo_bytes::{Sink, WriteFault};
-use velo_events::ThreadId;
+use velo_events::{MAX_THREADS, ThreadId};
+use velo_ledger::Book;
 use velo_names::NameKind;
 use velo_traces::Block;
 use velo_world::{Alarm, Closed, World};
@@ -44,27 +50,6 @@ pub(crate) fn add_thread<S: Sink>(
         ),
         None => lines.add_line(sink, "thread", &[Word::Number(number), Word::Number(count)]),
     }
-}
-
-/// Adds the line of each thread.
-fn add_threads<S: Sink>(
-    lines: &mut Lines,
-    sink: &mut S,
-    names: &Names,
-    world: &World,
-) -> Result<(), WriteFault>
-    ensures ok { OnOk result (Buffers (S.contents sink.old) (S.contents sink.new)
-        lines.old lines.new (thread_lines names.now world.now.log world.now.config.bounds.threads)) }
-    ensures err { OnErr result (AppendsBeginning (S.contents sink.old) (S.contents sink.new)
-        (lines.old ++ thread_lines names.now world.now.log world.now.config.bounds.threads)) }
-    ensures no_failure { OnOk result (S.failures sink.new ≡ S.failures sink.old) }
-    ensures failure { OnErr result (S.failures sink.new ≡ with_failure (S.failures sink.old)) }
-{
-    for t in 0..world.bounds().threads {
-        let count = world.book().tally(ThreadId(t)).events;
-        add_thread(lines, sink, names, ThreadId(t), count)?;
-    }
-    Ok(())
 }
 
 /// Adds the line of a blamed block.
@@ -181,7 +166,16 @@ pub fn report<S: Sink>(closed: &Closed, names: &Names, sink: &mut S) -> Result<(
     ensures no_failure { OnOk result (S.failures sink.new ≡ S.failures sink.old) }
     ensures failure { OnErr result (S.failures sink.new ≡ with_failure (S.failures sink.old)) }
 {
-    report_so_far(closed.world(), names, sink)
+    let total = closed.total();
+    let threads = closed.bounds().threads;
+    let counts = counts_in(closed.book(), threads);
+    report_counts(
+        total,
+        &counts[..usize::from(threads)],
+        closed.alarm(),
+        names,
+        sink,
+    )
 }
 
 /// Writes the report of the events so far of a world that may go on: what `report` would write, were it closed now.
@@ -197,11 +191,27 @@ pub fn report_so_far<S: Sink>(world: &World, names: &Names, sink: &mut S) -> Res
     ensures no_failure { OnOk result (S.failures sink.new ≡ S.failures sink.old) }
     ensures failure { OnErr result (S.failures sink.new ≡ with_failure (S.failures sink.old)) }
 {
-    let alarm = world.alarm();
-    let total = world.log().len();
-    let mut lines = Lines::new();
-    lines.add_line(sink, "events", &[Word::Number(total as u64)])?;
-    add_threads(&mut lines, sink, names, world)?;
-    add_verdict(&mut lines, sink, names, alarm)?;
-    lines.flush(sink)
+    let total = world.log().len() as u64;
+    let threads = world.threads();
+    let counts = counts_in(world.book(), threads);
+    report_counts(
+        total,
+        &counts[..usize::from(threads)],
+        world.alarm(),
+        names,
+        sink,
+    )
+}
+
+/// How many events each thread of a book has, at its place.
+fn counts_in(book: &Book, threads: u8) -> [u64; MAX_THREADS as usize]
+    requires all { length book.now.rows ≡ threads }
+    requires few { threads ≤ MAX_THREADS }
+    ensures { (log : List Event) → AreTalliesOf log book.now.rows → AreEventsOf log (take threads result) }
+{
+    let mut counts = [0; MAX_THREADS as usize];
+    for t in 0..threads {
+        counts[usize::from(t)] = book.tally(ThreadId(t)).events;
+    }
+    counts
 }

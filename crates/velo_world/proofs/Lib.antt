@@ -1,4 +1,5 @@
 pub mod OnAlarms
+pub mod OnNodeRoom
 pub mod OnAnalyses
 pub mod OnLoggedRuns
 pub mod OnAnswers
@@ -8,5 +9,6 @@ pub mod OnWorlds
 pub mod OnSequences
 pub mod OnClosing
 pub mod OnReadiness
+pub mod OnFirstCycle
 pub mod OnLogReplays
 pub mod OnHandingOut

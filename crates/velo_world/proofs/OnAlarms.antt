@@ -23,12 +23,12 @@ use Rattle.velo_world.specs.World.{IsAlarm, AlarmOf}
 
 -- ---- the blocks of an alarm in a longer log
 
-blocks-push : (log : List Event) (e : Event) (xs : List ℕ) → ((b : ℕ) → Contains xs b → b < length log) → map (block_at (log ++ e ∷ [])) xs ≡ map (block_at log) xs
-blocks-push log e [] within = refl
-blocks-push log e (x ∷ xs) within =
-    let first : block_at (log ++ e ∷ []) x ≡ block_at log x = ap (λ (o : Option Event). record { first = x; label = option_map_or (λ f. label_of f.kind) o (record { 0 = 0 }) }) (slice_get-append log (e ∷ []) x (within x (0, omega arith, refl))) in
-    ap (λ b. b ∷ map (block_at (log ++ e ∷ [])) xs) first
-    ∙ ap (λ ys. block_at log x ∷ ys) (blocks-push log e xs (λ b w. within b (suc w.0, omega (arith, w.1), w.2)))
+blocks-append : (log more : List Event) (xs : List ℕ) → ((b : ℕ) → Contains xs b → b < length log) → map (block_at (log ++ more)) xs ≡ map (block_at log) xs
+blocks-append log more [] within = refl
+blocks-append log more (x ∷ xs) within =
+    let first : block_at (log ++ more) x ≡ block_at log x = ap (λ (o : Option Event). record { first = x; label = option_map_or (λ f. label_of f.kind) o (record { 0 = 0 }) }) (slice_get-append log more x (within x (0, omega arith, refl))) in
+    ap (λ b. b ∷ map (block_at (log ++ more)) xs) first
+    ∙ ap (λ ys. block_at log x ∷ ys) (blocks-append log more xs (λ b w. within b (suc w.0, omega (arith, w.1), w.2)))
 
 blamed-within : (log : List Event) (p : ℕ) (blamed : List ℕ) → p < length log → AreBlamedAt log p blamed → (b : ℕ) → Contains blamed b → b < length log
 blamed-within log p blamed lt are b w =
@@ -37,23 +37,26 @@ blamed-within log p blamed lt are b w =
     let long = length-take-le (p + 1) log (omega (arith, lt)) in
     omega (arith, inside, long)
 
-AreBlamedAt-push : (log : List Event) (e : Event) (p : ℕ) (blamed : List ℕ) → p < length log → AreBlamedAt log p blamed → AreBlamedAt (log ++ e ∷ []) p blamed
-AreBlamedAt-push log e p blamed lt are =
-    let events : take (p + 1) (log ++ e ∷ []) ≡ take (p + 1) log = take-append-le (p + 1) log (e ∷ []) (omega arith) in
-    let thread : thread_at (log ++ e ∷ []) p ≡ thread_at log p = ap (λ (o : Option Event). option_map_or thread_of o 0) (slice_get-append log (e ∷ []) p lt) in
-    subst (λ t. AreBlamed (take (p + 1) (log ++ e ∷ [])) t blamed) (sym thread) (subst (λ xs. AreBlamed xs (thread_at log p) blamed) (sym events) are)
+AreBlamedAt-append : (log more : List Event) (p : ℕ) (blamed : List ℕ) → p < length log → AreBlamedAt log p blamed → AreBlamedAt (log ++ more) p blamed
+AreBlamedAt-append log more p blamed lt are =
+    let events : take (p + 1) (log ++ more) ≡ take (p + 1) log = take-append-le (p + 1) log more (omega (arith, lt)) in
+    let thread : thread_at (log ++ more) p ≡ thread_at log p = ap (λ (o : Option Event). option_map_or thread_of o 0) (slice_get-append log more p lt) in
+    subst (λ t. AreBlamed (take (p + 1) (log ++ more)) t blamed) (sym thread) (subst (λ xs. AreBlamed xs (thread_at log p) blamed) (sym events) are)
 
 -- ---- the alarm
 
--- an alarm stays
+-- an alarm stays however the log goes on
+pub IsAlarm-append : (log more : List Event) (alarm : Alarm) → IsAlarm log alarm → IsAlarm (log ++ more) alarm
+IsAlarm-append log more alarm h = record {
+  closing = IsClosing-append log more alarm.position h.closing;
+  transaction = h.transaction ∙ sym (owner-append log more alarm.position h.closing.in_trace);
+  blamed = AreBlamedAt-append log more alarm.position (begins_of alarm.blamed.items) h.closing.in_trace h.blamed;
+  blocks = h.blocks ∙ sym (blocks-append log more (begins_of alarm.blamed.items) (blamed-within log alarm.position (begins_of alarm.blamed.items) h.closing.in_trace h.blamed));
+}
+
 pub AlarmOf-stays : (log : List Event) (e : Event) (alarm : Option Alarm) → IsTrue (is_some alarm) → AlarmOf log alarm → AlarmOf (log ++ e ∷ []) alarm
 AlarmOf-stays log e None some h = absurd (false≢true some)
-AlarmOf-stays log e (Some a) some h = record {
-  closing = IsClosing-append log (e ∷ []) a.position h.closing;
-  transaction = h.transaction ∙ sym (owner-append log (e ∷ []) a.position h.closing.in_trace);
-  blamed = AreBlamedAt-push log e a.position (begins_of a.blamed.items) h.closing.in_trace h.blamed;
-  blocks = h.blocks ∙ sym (blocks-push log e (begins_of a.blamed.items) (blamed-within log a.position (begins_of a.blamed.items) h.closing.in_trace h.blamed));
-}
+AlarmOf-stays log e (Some a) some h = IsAlarm-append log (e ∷ []) a h
 
 -- the alarm of the event that closes the first cycle
 pub IsAlarm-closing : (log : List Event) (e : Event) (alarm : Alarm) → ¬ HasCycle log → HasCycle (log ++ e ∷ []) → alarm.position ≡ length log → alarm.transaction ≡ owner (log ++ e ∷ []) alarm.position → AreBlamedAt (log ++ e ∷ []) alarm.position (begins_of alarm.blamed.items) → alarm.blamed.items ≡ map (block_at (log ++ e ∷ [])) (begins_of alarm.blamed.items) → IsAlarm (log ++ e ∷ []) alarm

@@ -26,7 +26,9 @@ use Rattle.velo_events.specs.WellFormed.{IsWellFormed, MayFollow}
 use Rattle.velo_events.proofs.OnWellFormed.{IsWellFormed-push}
 use Rattle.velo_blame.specs.Clocks.{RunClocks}
 use Rattle.velo_world.specs.World.{IsAlarm, AlarmOf, IsWatchedPart}
-use Rattle.velo_world.specs.Analysis.{events_watched, IsWatched, IsAnalysisOf, HasSlotFor, HasRoomForNext, ComesNext}
+use Rattle.velo_world.specs.FirstCycle.{events_watched}
+use Rattle.velo_world.proofs.OnNodeRoom.{HasSlot-reserved}
+use Rattle.velo_world.specs.Analysis.{IsWatched, IsAnalysisOf, HasSlotFor, HasRoomForNext, ComesNext}
 use Rattle.velo_world.proofs.OnAlarms.{AlarmOf-stays, AlarmOf-quiet}
 use Rattle.velo_world.specs.declared.analysis.Analysis.{Analysis}
 
@@ -59,29 +61,6 @@ events_watched-part log trace (Some a) are part =
 
 -- ---- room
 
-pub used-le : (slots : Slots) → used_in slots ≤ limit_of slots
-used-le slots = count_by-le-length is_some slots.nodes
-
-pub many-live : (trace : List Event) (slots : Slots) (used nodes : ℕ) → limit_of slots ≡ nodes → used ≡ used_in slots → nodes ≤ used → HasManyLive trace used → HasManyLive trace nodes
-many-live trace slots used nodes limit is full live = subst (HasManyLive trace) (let le = used-le slots in omega (arith, le, limit, is, full)) live
-
-filter_map-same : {X Y : Type 0} (f g : X → Option Y) (xs : List X) → ((x : X) → f x ≡ g x) → filter_map f xs ≡ filter_map g xs
-filter_map-same f g [] same = refl
-filter_map-same f g (x ∷ xs) same = rw (same x, filter_map-same f g xs same) refl
-
-steps-reserved : (old new : LastAccesses) (e : Event) → ((p : Place) → entry new p ≡ entry old p) → steps_looked_up new e ≡ steps_looked_up old e
-unfolding steps_looked_up
-steps-reserved old new e same = filter_map-same (entry new) (entry old) (looked_up e) same
-
--- a monitor that made room looks up the same steps
-pub NeedsNode-reserved : (old new : Watched) (trace : List Event) (e : Event) → new.nodes ≡ old.nodes → ((p : Place) → entry new.kept p ≡ entry old.kept p) → NeedsNode new trace e → NeedsNode old trace e
-NeedsNode-reserved old new trace e nodes same needs =
-    ⊎_elim inl (λ outside. inr (
-      outside.0,
-      subst (λ (n : Nodes). GetsNew n (live_stamps n (steps_looked_up old.kept e))) nodes
-          (subst (λ steps. GetsNew new.nodes (live_stamps new.nodes steps)) (steps-reserved old.kept new.kept e same) outside.1),
-    )) needs
-
 pub OnOk-then : {T E : Type 0} (result : Result T E) (P Q : Type 0) → OnOk result P → (P → Q) → OnOk result Q
 OnOk-then (Ok x) P Q h f = f h
 OnOk-then (Err x) P Q h f = tt
@@ -90,7 +69,7 @@ OnOk-then (Err x) P Q h f = tt
 pub room-reserved : (old new : Analysis) (trace : List Event) (e : Event) → new.alarm ≡ old.alarm → new.monitor.nodes ≡ old.monitor.nodes → ((p : Place) → entry new.monitor.kept p ≡ entry old.monitor.kept p) → HasSlotFor old trace e → (new.alarm ≡ None → HasRoomFor new.monitor.kept e) → HasRoomToNote new.clocks.bounds.threads new.clocks.state e → HasRoomForNext new trace e
 room-reserved old new trace e alarm nodes entries slot monitor clocks = record {
   monitor = monitor;
-  slot = record { slot = λ none needs. rw nodes (slot.slot (sym alarm ∙ none) (NeedsNode-reserved old.monitor new.monitor trace e nodes entries needs)) };
+  slot = record { slot = λ none. HasSlot-reserved old.monitor new.monitor trace e nodes entries (slot.slot (sym alarm ∙ none)) };
   clocks = λ _. clocks;
 }
 
@@ -147,22 +126,6 @@ IsAnalysisOf-reserved analysis monitor clocks trace same known bounds_are is = r
     bounds_are = bounds_are ∙ is.watched.bounds_are;
   };
 }
-
--- and so does a monitor of the same events after a compaction
-pub IsAnalysisOf-compacted : (analysis : Analysis) (monitor : Watched) (trace : List Event) → IsFalse (is_some analysis.alarm) → ((bounds : Bounds) → IsMonitorOf bounds analysis.monitor trace → IsMonitorOf bounds monitor trace) → IsAnalysisOf analysis trace → IsAnalysisOf (record analysis { monitor = monitor }) trace
-IsAnalysisOf-compacted analysis monitor trace quiet same is = record {
-  heap = is.heap;
-  watched = record {
-    alarm = is.watched.alarm;
-    monitor = subst (IsMonitorOf (bounds_of analysis.heap) monitor) (sym (events_watched-none trace analysis.alarm quiet)) (same (bounds_of analysis.heap) (monitor-quiet analysis (bounds_of analysis.heap) trace quiet is.watched));
-    clocks = is.watched.clocks;
-    bounds_are = is.watched.bounds_are;
-  };
-}
-
--- where fewer are in use than so many, and these are at most the limit, one is free
-pub slot-left : (analysis : Analysis) (trace : List Event) (e : Event) (many : ℕ) → used_in analysis.monitor.nodes.slots < many → many ≤ limit_of analysis.monitor.nodes.slots → HasSlotFor analysis trace e
-slot-left analysis trace e many few within = record { slot = λ none needs. omega (arith, few, within) }
 
 -- the heap goes on beside them
 pub IsAnalysisOf-applied : (analysis : Analysis) (heap : Contents) (bounds : Bounds) (trace : List Event) → IsHeapOf heap trace → bounds_of heap ≡ bounds → IsWatched analysis bounds trace → IsAnalysisOf (record analysis { heap = heap }) trace

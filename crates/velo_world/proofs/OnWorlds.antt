@@ -16,7 +16,7 @@ use Rattle.velo_world.specs.World.{WorldState, meaning, FitsLog, OthersStillFit,
 use Rattle.velo_world.specs.LoggedRun.{logged_state, FollowsFromItsLog, AddsToLog}
 use Rattle.velo_world.specs.Inside.{state_of, IsWorldOfItsLog}
 use Rattle.velo_world.specs.Kept.{left_by}
-use Rattle.velo_world.specs.Analysis.{events_watched}
+use Rattle.velo_world.specs.FirstCycle.{events_watched}
 use Rattle.velo_world.proofs.OnLoggedRuns.{well_formed-logged}
 use Rattle.velo_world.proofs.OnAnalyses.{events_watched-part}
 use Rattle.velo_world.proofs.OnSteps.{CanEnter-added, IsBookOf-added, KeepsUnborn-added, Acts-added, FitsLog-acts, OthersStillFit-acts, born-committed, FitsLog-forked-added}

@@ -1,24 +1,19 @@
 -- How heap, monitor, clocks and alarm of a run follow from its events. Private contracts cite these words.
-use Rattle.std.specs.Prelude.{◌≡◌, ◌<◌, ℕ, List, length, take, Option, Some, None}
+use Rattle.std.specs.Prelude.{◌≡◌, ◌<◌, ℕ, List, length, Some, None}
 use Rattle.velo_events.specs.declared.config.Bounds.{Bounds}
 use Rattle.velo_events.specs.declared.event.Event.{Event}
 use Rattle.velo_events.specs.declared.limits.TheConstants.{MAX_EVENTS}
 use Rattle.velo_events.specs.WellFormed.{MayFollow}
 use Rattle.velo_heap.specs.Contents.{bounds_of, IsHeapOf}
-use Rattle.velo_arena.specs.Slots.{used_in, limit_of}
 use Rattle.velo_clocks.specs.Clocks.{AreClocksOf}
 use Rattle.velo_tables.specs.LastAccesses.{HasRoomFor}
 use Rattle.velo_clocks.specs.Noted.{HasRoomToNote}
-use Rattle.velo_monitor.specs.Answers.{NeedsNode}
 use Rattle.velo_monitor.specs.Watched.{IsMonitorOf}
+use Rattle.velo_world.specs.FirstCycle.{events_watched}
+use Rattle.velo_world.specs.NodeRoom.{HasSlot}
 use Rattle.velo_world.specs.World.{AlarmOf, IsAlarm}
 use Rattle.velo_world.specs.declared.analysis.Alarm.{Alarm}
 use Rattle.velo_world.specs.declared.analysis.Analysis.{Analysis}
-
--- the events that monitor and clocks took in: all, or with an alarm those before it
-abbrev pub events_watched : List Event → Option Alarm → List Event
-events_watched log None = log
-events_watched log (Some alarm) = take alarm.position log
 
 -- the alarm is that of the events, and monitor and clocks are those of the events before it
 pub record IsWatched (analysis : Analysis) (bounds : Bounds) (trace : List Event) : Type 0 where
@@ -41,7 +36,7 @@ pub record IsAnalysisOf (analysis : Analysis) (trace : List Event) : Type 0 wher
 
 -- the event finds a slot for its node, if it needs one. After an alarm it needs none
 pub record HasSlotFor (analysis : Analysis) (trace : List Event) (e : Event) : Type 0 where
-  pub slot : analysis.alarm ≡ None → NeedsNode analysis.monitor trace e → used_in analysis.monitor.nodes.slots < limit_of analysis.monitor.nodes.slots
+  pub slot : analysis.alarm ≡ None → HasSlot analysis.monitor trace e
 
 -- monitor and clocks can take in the event without memory
 pub record HasRoomForNext (analysis : Analysis) (trace : List Event) (e : Event) : Type 0 where

@@ -1,8 +1,11 @@
 pub mod World
 pub mod Faults
 pub mod Recorded
+pub mod FirstCycle
+pub mod NodeRoom
 pub mod Analysis
 pub mod LoggedRun
 pub mod Kept
 pub mod LogReplay
 pub mod Inside
+pub mod InsideClosed

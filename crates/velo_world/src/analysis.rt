@@ -1,16 +1,17 @@
 //! What follows from the events of a run.
-ghost use Rattle.std.specs.Prelude.{◌≡◌, [], ◌∷◌, ◌++◌, List, Some, None, take, slice_get, IsTrue, IfOk, OnOk, OnErr};
+ghost use Rattle.std.specs.Prelude.{◌≡◌, [], ◌∷◌, ◌++◌, List, Some, take, slice_get, IsTrue, IfOk, OnOk, OnErr};
 ghost use Rattle.velo_events.specs.declared.event.Event.{Event as EventOf};
 ghost use Rattle.velo_events.specs.Block.{owner};
-ghost use Rattle.velo_monitor.specs.Collection.{HasManyLive};
 ghost use Rattle.velo_events.specs.Graph.{HasCycle};
 ghost use Rattle.velo_events.specs.WellFormed.{IsWellFormed, MayFollow};
 ghost use Rattle.velo_arena.specs.Slots.{limit_of};
 ghost use Rattle.velo_heap.specs.Contents.{bounds_of};
 ghost use Rattle.velo_clocks.specs.Clocks.{AreClocksOf};
-ghost use Rattle.velo_world.specs.World.{FindsNoNode, IsAlarm};
+ghost use Rattle.velo_world.specs.World.{FindsNoNode};
 ghost use Rattle.velo_world.specs.Analysis.{ComesNext, HasRoomForNext, FindsRoom, HasSlotFor, IsAnalysisOf, IsWatched, Raises};
 
+use crate::first_cycle::{Closing, alarm_at};
+use crate::node_room::make_node_room;
 use smallvec::SmallVec;
 use std::alloc::Global;
 use velo_arena::GraphFull;
@@ -18,7 +19,7 @@ use velo_blame::Clocks;
 use velo_events::{Config, Event, MAX_OPEN_BLOCKS, Memory, Resolved};
 use velo_heap::Heap;
 use velo_monitor::{Monitor, Seen};
-use velo_traces::{Block, open_blocks_since};
+use velo_traces::Block;
 
 /// The first event that closed a cycle.
 #[derive(Drop, Debug, PartialEq, Eq)]
@@ -51,10 +52,11 @@ pub struct Analysis {
     /// The monitor of the events before the alarm.
     pub monitor: Monitor,
     /// The clocks of the events before the alarm.
-    clocks: Clocks,
+    pub clocks: Clocks,
     /// The alarm, once an event has closed a cycle.
     pub alarm: Option<Alarm>,
-    alloc: Global,
+    /// Where an alarm takes what it needs.
+    pub alloc: Global,
 }
 
 impl Analysis {
@@ -79,11 +81,11 @@ impl Analysis {
         })
     }
 
-    /// Makes room for the node of the next event, if it needs one: where all that there may be are in use, the graph is
-    /// compacted. After an alarm no event needs one. The events are those so far.
+    /// Makes room for the node of the next event, if it needs one. After an alarm no event needs one. The events are those so
+    /// far.
     ///
     /// # Errors
-    /// `GraphFull` where these are too few for a compaction. Nothing changes then.
+    /// `GraphFull` where there may be too few nodes for a compaction. Nothing changes then.
     #[inline]
     pub fn make_node_room(
         &mut self,
@@ -105,43 +107,7 @@ impl Analysis {
         if self.alarm.is_some() {
             return Ok(());
         }
-        if self.monitor.used() < config.nodes {
-            return Ok(());
-        }
-        self.compact_for(events, event, config)
-    }
-
-    /// Makes the room where all nodes that there may be are in use and no alarm is kept. If they are enough for it, a
-    /// compaction leaves one for the event.
-    #[inline(never)]
-    fn compact_for(
-        &mut self,
-        events: &[Event],
-        event: &Event,
-        config: &Config,
-    ) -> Result<(), GraphFull>
-        requires quiet { self.old.alarm ≡ None }
-        requires many { HasManyLive events.now config.now.nodes }
-        requires limit { limit_of self.old.monitor.nodes.slots ≡ config.now.nodes }
-        requires bounds { bounds_of self.old.heap ≡ config.now.bounds }
-        requires stands { IsAnalysisOf self.old events.now }
-        requires follows { MayFollow (bounds_of self.old.heap) events.now event.now }
-        ensures heap { self.new.heap ≡ self.old.heap }
-        ensures limit { limit_of self.new.monitor.nodes.slots ≡ config.now.nodes }
-        ensures stands { IsAnalysisOf self.new events.now }
-        ensures slot { OnOk result (HasSlotFor self.new events.now event.now) }
-        ensures full { OnErr result (FindsNoNode config.now.bounds.threads events.now event.now config.now.nodes) }
-        ensures same { OnErr result (self.new ≡ self.old) }
-    {
-        if !self.monitor.needs_node(event) {
-            return Ok(());
-        }
-        let threads = config.bounds.threads as u16;
-        if config.nodes < threads * threads {
-            return Err(GraphFull);
-        }
-        self.monitor.compact(events);
-        Ok(())
+        make_node_room(&mut self.monitor, events, event, config)
     }
 
     /// Makes room for the next event, which finds a slot for its node if it needs one. After an alarm no event needs room.
@@ -232,34 +198,11 @@ impl Analysis {
         requires transaction { transaction ≡ owner (take position events.now ++ event.now ∷ []) position }
         ensures { Raises self.old (take position events.now ++ event.now ∷ []) position self.new }
     {
-        self.alarm = Some(self.alarm_at(events, position, event, transaction));
-    }
-
-    /// The alarm of the event at the position, which closes the first cycle.
-    fn alarm_at(
-        &self,
-        events: &[Event],
-        position: usize,
-        event: &Event,
-        transaction: usize,
-    ) -> Alarm
-        requires here { slice_get events.now position ≡ Some event.now }
-        requires clocks { AreClocksOf self.now.clocks.state (take position events.now) }
-        requires well_formed { IsWellFormed self.now.clocks.bounds (take position events.now ++ event.now ∷ []) }
-        requires acyclic { ¬ HasCycle (take position events.now) }
-        requires closes { HasCycle (take position events.now ++ event.now ∷ []) }
-        requires transaction { transaction ≡ owner (take position events.now ++ event.now ∷ []) position }
-        ensures alarm { IsAlarm (take position events.now ++ event.now ∷ []) result }
-        ensures position { result.position ≡ position }
-    {
         let so_far = &events[..position + 1];
-        // the transaction begins with the outermost of its open blocks
-        let blocks = open_blocks_since(so_far, event.thread, transaction, self.alloc);
-        let blamed = self.clocks.blamed(&blocks, position, event);
-        Alarm {
+        let closing = Closing {
             position,
             transaction,
-            blamed,
-        }
+        };
+        self.alarm = Some(alarm_at(self.alloc, &self.clocks, so_far, closing));
     }
 }

@@ -4,21 +4,31 @@ ghost use Rattle.velo_events.specs.Reordering.{IsSerializable};
 ghost use Rattle.velo_events.specs.WellFormed.{IsWellFormed};
 ghost use Rattle.velo_heap.specs.Contents.{bounds_of, IsHeapOf};
 ghost use Rattle.velo_ledger.specs.Logs.{tally_of, events_below};
-ghost use Rattle.velo_world.specs.World.{IsAlarm};
+ghost use Rattle.velo_world.specs.World.{IsAlarm, IsBookOf};
 
 use crate::analysis::Alarm;
-use crate::world::World;
+use std::fmt;
 use std::marker::Model;
-use velo_events::{Bounds, ThreadId};
+use velo_events::{Bounds, Config, ThreadId};
 use velo_heap::Heap;
-use velo_ledger::Tally;
+use velo_ledger::{Book, Tally};
 use velo_traces::Trace;
 
 /// A world after its end, in which nobody acts any more.
-#[derive(Drop, Debug)]
+#[derive(Drop)]
 pub struct Closed {
-    /// The world.
-    pub(crate) world: World,
+    /// What it was opened with.
+    pub(crate) config: Config,
+    /// Whether it was halted.
+    pub(crate) halted: bool,
+    /// All events.
+    pub(crate) log: Trace,
+    /// The heap that they leave.
+    pub(crate) heap: Heap,
+    /// Their alarm.
+    pub(crate) alarm: Option<Alarm>,
+    /// A row for each thread.
+    pub(crate) book: Book,
 }
 
 impl Model for Closed {
@@ -26,22 +36,30 @@ impl Model for Closed {
 
     ghost Value = { WorldState };
 
-    ghost view = { λ closed. closed.world };
+    ghost use Rattle.velo_world.specs.InsideClosed.{closed_state, FollowsFromItsEvents};
+
+    ghost view = { closed_state };
+
+    ghost invariant = { FollowsFromItsEvents };
+}
+
+impl fmt::Debug for Closed {
+    fn fmt<W: fmt::Write>(&self, f: &mut fmt::Formatter<W>) -> fmt::Result {
+        f.debug_struct("Closed")
+            .field("config", &self.config)
+            .field("halted", &self.halted)
+            .field("events", &self.log.len())
+            .field("alarm", &self.alarm)
+            .finish_non_exhaustive()
+    }
 }
 
 impl Closed {
-    /// The world, as it was when it was closed.
-    pub fn world(&self) -> &World
-        ensures { result.now ≡ self.now }
-    {
-        &self.world
-    }
-
     /// How many threads, variables and locks there are.
     pub fn bounds(&self) -> Bounds
         ensures { result ≡ self.now.config.bounds }
     {
-        self.world.bounds()
+        self.config.bounds
     }
 
     /// All events.
@@ -50,7 +68,7 @@ impl Closed {
         ensures well_formed { IsWellFormed self.now.config.bounds self.now.log }
         ensures limit { length self.now.log ≤ self.now.config.events }
     {
-        self.world.log()
+        &self.log
     }
 
     /// The heap that the log leaves.
@@ -58,7 +76,7 @@ impl Closed {
         ensures stands { IsHeapOf result.now self.now.log }
         ensures bounds { bounds_of result.now ≡ self.now.config.bounds }
     {
-        self.world.heap()
+        &self.heap
     }
 
     /// The alarm, if the log has a cycle, that is, if no reordering of it is serial.
@@ -68,7 +86,14 @@ impl Closed {
         ensures serial_none { IfNone result (IsSerializable self.now.log) }
         ensures serial_some { IfSome result (λ alarm. ¬ IsSerializable self.now.log) }
     {
-        self.world.alarm()
+        self.alarm.as_ref()
+    }
+
+    /// The book of the log, with a row for each thread.
+    pub fn book(&self) -> &Book
+        ensures { IsBookOf self.now result.now }
+    {
+        &self.book
     }
 
     /// What the events of a thread come to.
@@ -76,7 +101,7 @@ impl Closed {
         requires { thread.0 < self.now.config.bounds.threads }
         ensures { result ≡ tally_of self.now.log thread.0 }
     {
-        self.world.book().tally(thread)
+        self.book.tally(thread)
     }
 
     /// How many events there are, which is the sum of the tallies' counts.
@@ -84,6 +109,6 @@ impl Closed {
         ensures log { result ≡ length self.now.log }
         ensures tallies { result ≡ events_below self.now.log self.now.config.bounds.threads }
     {
-        self.world.log().len() as u64
+        self.log.len() as u64
     }
 }

@@ -3,8 +3,10 @@
 
 mod analysis;
 mod closed;
+mod first_cycle;
 mod log_replay;
 mod logged_run;
+mod node_room;
 mod recorded;
 mod world;
 

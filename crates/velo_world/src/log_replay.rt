@@ -1,21 +1,28 @@
 //! A recorded log, whose events come about again one after another.
-ghost use Rattle.std.specs.Prelude.{◌≡◌, ◌<◌, ◌+◌, [], ◌∷◌, ◌++◌, List, None, Some, false, length, take, slice_get, IfOk, OnOk, IfErr};
+ghost use Rattle.std.specs.Prelude.{◌≡◌, ◌<◌, ◌+◌, [], List, None, Some, false, length, take, slice_get, IfOk, OnOk, IfErr};
 ghost use Rattle.velo_events.specs.declared.event.Event.{Event as EventOf};
 ghost use Rattle.velo_heap.specs.Contents.{bounds_of, ForItsTraces, IsHeapOf};
+ghost use Rattle.velo_tables.specs.LastAccesses.{HasRoomFor};
 ghost use Rattle.velo_traces.specs.Flaws.{flaw_of};
-ghost use Rattle.velo_world.specs.World.{CompletesShares, HoldsLiveShares};
+ghost use Rattle.velo_world.specs.World.{AlarmOf, CompletesShares, HoldsLiveShares};
 ghost use Rattle.velo_world.specs.Faults.{world_of, IsFaultAtEvent, IsFaultOfLog};
-ghost use Rattle.velo_world.specs.LogReplay.{IsLogReplayOf};
-ghost use Rattle.velo_world.specs.Analysis.{ComesNext, HasRoomForNext};
+ghost use Rattle.velo_world.specs.FirstCycle.{AreNoted, ClosesFirst, events_watched};
+ghost use Rattle.velo_world.specs.NodeRoom.{HasSlot, IsLimitedMonitorOf};
+ghost use Rattle.velo_world.specs.LogReplay.{ComesTo, ComesToCycle, IsLogReplayOf, IsQuiet, IsReplayed};
 
-use crate::analysis::Analysis;
+use crate::analysis::{Alarm, Analysis};
+use crate::closed::Closed;
+use crate::first_cycle::{Closing, alarm_of, noted};
 use crate::logged_run::LoggedRun;
+use crate::node_room::make_node_room;
 use crate::world::World;
 use std::alloc::Global;
 use thiserror::Error;
+use velo_blame::Clocks;
 use velo_events::{Config, Event, Kind, Memory, Refusal, Resolved, ThreadId};
 use velo_heap::Heap;
 use velo_ledger::{Book, Shares};
+use velo_monitor::{Monitor, Seen};
 use velo_traces::{Flaw, Trace};
 
 /// Why a recorded log can't come about again. Positions count the events from 0.
@@ -32,10 +39,12 @@ pub enum LogReplayFault {
     Memory,
 }
 
-/// The parts of a world, but for its log.
+/// The parts of a world, but for its log, its alarm and the clocks, which an alarm alone asks for.
 #[derive(Drop)]
 pub struct LogReplay {
-    analysis: Analysis,
+    heap: Heap,
+    /// The monitor of the events before the one that closes the first cycle.
+    monitor: Monitor,
     book: Book,
     /// The shares that are not handed out yet. None is while events come about: each would have to follow its row.
     kept: Shares,
@@ -60,18 +69,59 @@ impl World {
         ensures complete { IfOk result (λ replayed. CompletesShares replayed.0 replayed.1) }
         ensures fault { IfErr result (λ fault. IsFaultOfLog config log.events fault) }
     {
-        let Ok(mut replay) = LogReplay::new(alloc, &config) else {
-            return Err(LogReplayFault::Memory);
-        };
-        match replay.replay_events(&config, log.as_slice()) {
-            Ok(()) => {
+        let (mut replay, closing) = replayed(alloc, &config, log.as_slice())?;
+        match noted(alloc, &config, log.as_slice(), closing) {
+            Ok((clocks, alarm)) => {
                 replay.hand_out(&config);
-                Ok(replay.into_world(alloc, config, log))
+                Ok(replay.into_world(alloc, config, log, (clocks, alarm)))
             }
-            Err(fault) => {
+            Err(Memory) => {
                 drop((replay, log));
-                Err(fault)
+                Err(LogReplayFault::Memory)
             }
+        }
+    }
+}
+
+impl Closed {
+    /// The world of a recorded log, whose events came about again one after another, after its end. The log becomes the
+    /// world's. The configuration's `stop` has to be off. Clocks are made only where a cycle is closed.
+    ///
+    /// # Errors
+    /// Those of [`World::from_log`].
+    pub fn of_log(alloc: Global, config: Config, log: Trace) -> Result<Closed, LogReplayFault>
+        requires goes_on { config.stop ≡ false }
+        ensures closed { IfOk result (λ closed. closed ≡ world_of config log.events) }
+        ensures fault { IfErr result (λ fault. IsFaultOfLog config log.events fault) }
+    {
+        let (replay, closing) = replayed(alloc, &config, log.as_slice())?;
+        match alarm_of(alloc, &config, log.as_slice(), closing) {
+            Ok(alarm) => Ok(replay.into_closed(config, log, alarm)),
+            Err(Memory) => {
+                drop((replay, log));
+                Err(LogReplayFault::Memory)
+            }
+        }
+    }
+}
+
+/// Lets all events of a log come about, and returns with their parts the one that closes the first cycle, if one does.
+fn replayed(
+    alloc: Global,
+    config: &Config,
+    events: &[Event],
+) -> Result<(LogReplay, Option<Closing>), LogReplayFault>
+    ensures ok { IfOk result (λ replayed. IsReplayed config.now events.now replayed.0 replayed.1) }
+    ensures fault { IfErr result (λ fault. IsFaultOfLog config.now events.now fault) }
+{
+    let Ok(mut replay) = LogReplay::new(alloc, config) else {
+        return Err(LogReplayFault::Memory);
+    };
+    match replay.replay_events(config, events) {
+        Ok(closing) => Ok((replay, closing)),
+        Err(fault) => {
+            drop(replay);
+            Err(fault)
         }
     }
 }
@@ -79,44 +129,69 @@ impl World {
 impl LogReplay {
     /// No event has come about yet.
     fn new(alloc: Global, config: &Config) -> Result<LogReplay, Memory>
-        ensures { IfOk result (λ replay. IsLogReplayOf config.now replay [] 0) }
+        ensures { IfOk result (λ replay. IsQuiet config.now replay []) }
     {
         let (book, kept) = Book::open(alloc, config.run, config.bounds.threads)?;
         let shares = Shares::none(alloc, config.bounds.threads)?;
-        let analysis = Analysis::new(alloc, config)?;
+        let heap = Heap::new(alloc, config)?;
+        let monitor = Monitor::new(alloc, config)?;
         Ok(LogReplay {
-            analysis,
+            heap,
+            monitor,
             book,
             kept,
             shares,
         })
     }
 
-    /// Lets all events of a log come about.
-    fn replay_events(&mut self, config: &Config, events: &[Event]) -> Result<(), LogReplayFault>
-        requires goes_on { config.now.stop ≡ false }
-        requires start { IsLogReplayOf config.now self.old [] 0 }
-        ensures ok { OnOk result (IsLogReplayOf config.now self.new events.now 0) }
+    /// Lets all events of a log come about. The one that closes the first cycle, if one does.
+    fn replay_events(
+        &mut self,
+        config: &Config,
+        events: &[Event],
+    ) -> Result<Option<Closing>, LogReplayFault>
+        requires start { IsQuiet config.now self.old [] }
+        ensures ok { IfOk result (IsReplayed config.now events.now self.new) }
+        ensures fault { IfErr result (λ fault. IsFaultOfLog config.now events.now fault) }
+    {
+        match self.replay_to_cycle(config, events)? {
+            None => Ok(None),
+            Some(closing) => {
+                self.replay_rest(config, events, closing)?;
+                Ok(Some(closing))
+            }
+        }
+    }
+
+    /// Lets the events come about up to the one that closes the first cycle, or all.
+    fn replay_to_cycle(
+        &mut self,
+        config: &Config,
+        events: &[Event],
+    ) -> Result<Option<Closing>, LogReplayFault>
+        requires start { IsQuiet config.now self.old [] }
+        ensures ok { IfOk result (ComesTo config.now events.now (length events.now) self.new) }
         ensures fault { IfErr result (λ fault. IsFaultOfLog config.now events.now fault) }
     {
         for position in 0..events.len() {
-            self.replay_next(config, events, position)?;
+            if let Some(closing) = self.replay_next(config, events, position)? {
+                return Ok(Some(closing));
+            }
         }
-        Ok(())
+        Ok(None)
     }
 
-    /// Lets the event at the position come about, where those before it did.
+    /// Lets the event at the position come about, where those before it did and have no cycle.
     #[inline(always)]
     fn replay_next(
         &mut self,
         config: &Config,
         events: &[Event],
         position: usize,
-    ) -> Result<(), LogReplayFault>
-        requires goes_on { config.now.stop ≡ false }
+    ) -> Result<Option<Closing>, LogReplayFault>
         requires within { position < length events.now }
-        requires stands { IsLogReplayOf config.now self.old (take position events.now) 0 }
-        ensures ok { OnOk result (IsLogReplayOf config.now self.new (take (position + 1) events.now) 0) }
+        requires stands { IsQuiet config.now self.old (take position events.now) }
+        ensures ok { IfOk result (ComesTo config.now events.now (position + 1) self.new) }
         ensures fault { IfErr result (λ fault. IsFaultOfLog config.now events.now fault) }
     {
         let event = Resolved::of(&events[position]);
@@ -128,7 +203,7 @@ impl LogReplay {
         }
     }
 
-    /// Lets the event at the position, resolved, come about, where those before it did.
+    /// Lets the event at the position, resolved, come about, where those before it did and have no cycle.
     #[inline(always)]
     fn replay_resolved(
         &mut self,
@@ -136,18 +211,14 @@ impl LogReplay {
         events: &[Event],
         position: usize,
         event: &Resolved<'_>,
-    ) -> Result<(), LogReplayFault>
-        requires goes_on { config.now.stop ≡ false }
+    ) -> Result<Option<Closing>, LogReplayFault>
         requires here { slice_get events.now position ≡ Some event.now }
-        requires stands { IsLogReplayOf config.now self.old (take position events.now) 0 }
-        ensures ok { OnOk result (IsLogReplayOf config.now self.new (take (position + 1) events.now) 0) }
+        requires stands { IsQuiet config.now self.old (take position events.now) }
+        ensures ok { IfOk result (ComesTo config.now events.now (position + 1) self.new) }
         ensures fault { IfErr result (λ fault. IsFaultOfLog config.now events.now fault) }
     {
         match self.make_room(config, events, position, event) {
-            Ok(()) => {
-                self.take_in(config, events, position, event);
-                Ok(())
-            }
+            Ok(()) => Ok(self.take_in(config, events, position, event)),
             Err(fault) => Err(fault),
         }
     }
@@ -162,53 +233,117 @@ impl LogReplay {
         event: &Resolved<'_>,
     ) -> Result<(), LogReplayFault>
         requires here { slice_get events.now position ≡ Some event.now }
-        requires stands { IsLogReplayOf config.now self.old (take position events.now) 0 }
-        ensures stands { OnOk result (IsLogReplayOf config.now self.new (take position events.now) 0) }
+        requires stands { IsQuiet config.now self.old (take position events.now) }
+        ensures stands { OnOk result (IsQuiet config.now self.new (take position events.now)) }
         ensures flawless { OnOk result (flaw_of config.now.bounds (take position events.now) event.now ≡ None) }
         ensures short { OnOk result (position < config.now.events) }
-        ensures next { OnOk result (ComesNext self.new.analysis (take position events.now) event.now) }
-        ensures room { OnOk result (HasRoomForNext self.new.analysis (take position events.now) event.now) }
+        ensures slot { OnOk result (HasSlot self.new.monitor (take position events.now) event.now) }
+        ensures room { OnOk result (HasRoomFor self.new.monitor.kept event.now) }
         ensures fault { IfErr result (λ fault. IsFaultAtEvent config.now (take position events.now) event.now fault) }
     {
         let recorded = event.event();
-        judge(&self.analysis.heap, config, position, recorded)?;
-        if self
-            .analysis
-            .make_node_room(&events[..position], recorded, config)
-            .is_err()
-        {
+        judge(&self.heap, config, position, recorded)?;
+        if make_node_room(&mut self.monitor, &events[..position], recorded, config).is_err() {
             return Err(LogReplayFault::Refused {
                 position,
                 refusal: Refusal::GraphFull,
             });
         }
-        match self.analysis.reserve_for(event) {
+        if self.monitor.has_room_for(event) {
+            return Ok(());
+        }
+        match self.monitor.reserve(recorded) {
             Ok(()) => Ok(()),
             Err(Memory) => Err(LogReplayFault::Memory),
         }
     }
 
-    /// Takes in the event at the position, for which there is room.
+    /// Takes in the event at the position, for which there is room. The event itself, if it closes the first cycle.
     #[inline(always)]
-    fn take_in(&mut self, config: &Config, events: &[Event], position: usize, event: &Resolved<'_>)
-        requires goes_on { config.now.stop ≡ false }
+    fn take_in(
+        &mut self,
+        config: &Config,
+        events: &[Event],
+        position: usize,
+        event: &Resolved<'_>,
+    ) -> Option<Closing>
+        requires here { slice_get events.now position ≡ Some event.now }
+        requires stands { IsQuiet config.now self.old (take position events.now) }
+        requires flawless { flaw_of config.now.bounds (take position events.now) event.now ≡ None }
+        requires short { position < config.now.events }
+        requires slot { HasSlot self.old.monitor (take position events.now) event.now }
+        requires room { HasRoomFor self.old.monitor.kept event.now }
+        ensures { ComesTo config.now events.now (position + 1) self.new result }
+    {
+        let seen = self.monitor.observe_resolved(position, event);
+        self.enter(config, events, position, event.event());
+        match seen {
+            Seen::Quiet => None,
+            Seen::Closes { transaction } => Some(Closing {
+                position,
+                transaction,
+            }),
+        }
+    }
+
+    /// Lets heap and book follow the event at the position, which may come next.
+    #[inline(always)]
+    fn enter(&mut self, config: &Config, events: &[Event], position: usize, event: &Event)
         requires here { slice_get events.now position ≡ Some event.now }
         requires stands { IsLogReplayOf config.now self.old (take position events.now) 0 }
         requires flawless { flaw_of config.now.bounds (take position events.now) event.now ≡ None }
         requires short { position < config.now.events }
-        requires next { ComesNext self.old.analysis (take position events.now) event.now }
-        requires room { HasRoomForNext self.old.analysis (take position events.now) event.now }
-        ensures { IsLogReplayOf config.now self.new (take position events.now ++ event.now ∷ []) 0 }
+        ensures stands { IsLogReplayOf config.now self.new (take (position + 1) events.now) 0 }
+        ensures monitor { self.new.monitor ≡ self.old.monitor }
     {
-        self.analysis.take_in(events, position, event);
-        self.book.count(position, event.event());
+        self.heap.apply(event);
+        self.book.count(position, event);
+    }
+
+    /// Lets the events behind the one that closes the first cycle come about. No monitor sees them.
+    fn replay_rest(
+        &mut self,
+        config: &Config,
+        events: &[Event],
+        closing: Closing,
+    ) -> Result<(), LogReplayFault>
+        requires stands { ComesToCycle config.now events.now self.old closing }
+        ensures stands { OnOk result (IsLogReplayOf config.now self.new events.now 0) }
+        ensures monitor { self.new.monitor ≡ self.old.monitor }
+        ensures fault { IfErr result (λ fault. IsFaultOfLog config.now events.now fault) }
+    {
+        for position in closing.position + 1..events.len() {
+            self.follow(config, events, position)?;
+        }
+        Ok(())
+    }
+
+    /// Lets the event at the position come about, where those before it did and have a cycle.
+    #[inline(always)]
+    fn follow(
+        &mut self,
+        config: &Config,
+        events: &[Event],
+        position: usize,
+    ) -> Result<(), LogReplayFault>
+        requires within { position < length events.now }
+        requires stands { IsLogReplayOf config.now self.old (take position events.now) 0 }
+        ensures stands { OnOk result (IsLogReplayOf config.now self.new (take (position + 1) events.now) 0) }
+        ensures monitor { self.new.monitor ≡ self.old.monitor }
+        ensures fault { IfErr result (λ fault. IsFaultOfLog config.now events.now fault) }
+    {
+        let event = &events[position];
+        judge(&self.heap, config, position, event)?;
+        self.enter(config, events, position, event);
+        Ok(())
     }
 
     /// Hands out the share of each thread that was born, and lets it say what its row does.
     fn hand_out(&mut self, config: &Config)
         requires { (trace : List EventOf) × IsLogReplayOf config.now self.old trace 0 }
-        ensures { (trace : List EventOf) → IsLogReplayOf config.now self.old trace 0
+        ensures stands { (trace : List EventOf) → IsLogReplayOf config.now self.old trace 0
             → IsLogReplayOf config.now self.new trace config.now.bounds.threads }
+        ensures monitor { self.new.monitor ≡ self.old.monitor }
     {
         for thread in 0..config.bounds.threads {
             self.hand_to(config, ThreadId(thread));
@@ -219,10 +354,11 @@ impl LogReplay {
     fn hand_to(&mut self, config: &Config, thread: ThreadId)
         requires known { thread.0 < config.now.bounds.threads }
         requires stands { (trace : List EventOf) × IsLogReplayOf config.now self.old trace thread.0 }
-        ensures { (trace : List EventOf) → IsLogReplayOf config.now self.old trace thread.0
+        ensures stands { (trace : List EventOf) → IsLogReplayOf config.now self.old trace thread.0
             → IsLogReplayOf config.now self.new trace (thread.0 + 1) }
+        ensures monitor { self.new.monitor ≡ self.old.monitor }
     {
-        if self.analysis.heap.status(thread).is_unborn() {
+        if self.heap.status(thread).is_unborn() {
             return;
         }
         let Some(mut share) = self.kept.take(thread) else {
@@ -234,19 +370,36 @@ impl LogReplay {
         };
     }
 
-    /// The world of the log that came about.
-    fn into_world(self, alloc: Global, config: Config, log: Trace) -> (World, Shares)
-        requires { IsLogReplayOf config self log.events config.bounds.threads }
+    /// The world of the log that came about, with its clocks and its alarm.
+    fn into_world(
+        self,
+        alloc: Global,
+        config: Config,
+        log: Trace,
+        noted: (Clocks, Option<Alarm>),
+    ) -> (World, Shares)
+        requires stands { IsLogReplayOf config self log.events config.bounds.threads }
+        requires noted { AreNoted config.bounds log.events noted }
+        requires watched { IsLimitedMonitorOf config self.monitor (events_watched log.events noted.1) }
         ensures world { result.0 ≡ world_of config log.events }
         ensures ready { HoldsLiveShares result.0 result.1 }
         ensures complete { CompletesShares result.0 result.1 }
     {
         let LogReplay {
-            analysis,
+            heap,
+            monitor,
             book,
             kept,
             shares,
         } = self;
+        let (clocks, alarm) = noted;
+        let analysis = Analysis {
+            heap,
+            monitor,
+            clocks,
+            alarm,
+            alloc,
+        };
         let logged = LoggedRun {
             config,
             halted: false,
@@ -262,6 +415,22 @@ impl LogReplay {
             },
             shares,
         )
+    }
+
+    /// The closed world of the log that came about, with its alarm.
+    fn into_closed(self, config: Config, log: Trace, alarm: Option<Alarm>) -> Closed
+        requires stands { IsLogReplayOf config self log.events 0 }
+        requires alarm { AlarmOf log.events alarm }
+        ensures { result ≡ world_of config log.events }
+    {
+        Closed {
+            config,
+            halted: false,
+            log,
+            heap: self.heap,
+            alarm,
+            book: self.book,
+        }
     }
 }
 

@@ -289,9 +289,30 @@ impl World {
         ensures sum { IfOk result (λ closed. events_in_all given ≡ length closed.log) }
     {
         if self.is_complete(&given) {
-            Ok(Closed { world: self })
+            Ok(self.into_closed())
         } else {
             Err((self, given))
+        }
+    }
+
+    /// The world, in which nobody acts any more.
+    fn into_closed(self) -> Closed
+        ensures { result ≡ self }
+    {
+        let World { logged, book, .. } = self;
+        let LoggedRun {
+            config,
+            halted,
+            log,
+            analysis,
+        } = logged;
+        Closed {
+            config,
+            halted,
+            log,
+            heap: analysis.heap,
+            alarm: analysis.alarm,
+            book,
         }
     }
 

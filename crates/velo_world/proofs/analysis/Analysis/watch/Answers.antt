@@ -24,7 +24,7 @@ observe_resolved-requires c =
       within = (let short = c.requires.next.short in omega (arith, here, short));
       follows = c.requires.next.follows;
       room = c.requires.room.monitor none;
-      slot = c.requires.room.slot.slot none;
+      slot = (c.requires.room.slot.slot none).slot;
     }
 
 pub returns-in-Quiet-clause-watched : goal.returns-in-Quiet-clause-watched

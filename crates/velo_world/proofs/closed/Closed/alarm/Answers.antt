@@ -1,18 +1,14 @@
-use Rattle.std.proofs.Common.{subst}
 use Rattle.std.specs.Prelude.{IfNone, IfSome}
-use Rattle.velo_events.specs.Graph.{HasCycle}
 use Rattle.velo_events.specs.Reordering.{IsSerializable}
-use Rattle.velo_world.specs.World.{WorldState, IsAlarm}
+use Rattle.velo_world.proofs.OnAlarms.{AlarmOf-serializable}
 use Rattle.velo_world.proofs.closed.Closed.alarm.Goals as goal
 
-pub returns-clause-none : goal.returns-clause-none
-returns-clause-none c = subst (λ (world : WorldState). IfNone c.alarm.result (¬ HasCycle world.log)) c.self.view_is c.alarm.ensures.none
-
-pub returns-clause-some : goal.returns-clause-some
-returns-clause-some c = subst (λ (world : WorldState). IfSome c.alarm.result (λ alarm. IsAlarm world.log alarm.now)) c.self.view_is c.alarm.ensures.some
+serializable : (c : goal.After-as_ref) → IfNone c.as_ref.result (IsSerializable c.args.self.now.log) × IfSome c.as_ref.result (λ _. ¬ IsSerializable c.args.self.now.log)
+serializable c =
+    AlarmOf-serializable c.args.self.now.log c.self.inside.alarm c.as_ref.result (rw (← c.self.view_is) c.self.invariant.alarm) c.as_ref.ensures.variant
 
 pub returns-clause-serial_none : goal.returns-clause-serial_none
-returns-clause-serial_none c = subst (λ (world : WorldState). IfNone c.alarm.result (IsSerializable world.log)) c.self.view_is c.alarm.ensures.serial_none
+returns-clause-serial_none c = (serializable c).0
 
 pub returns-clause-serial_some : goal.returns-clause-serial_some
-returns-clause-serial_some c = subst (λ (world : WorldState). IfSome c.alarm.result (λ alarm. ¬ IsSerializable world.log)) c.self.view_is c.alarm.ensures.serial_some
+returns-clause-serial_some c = (serializable c).1

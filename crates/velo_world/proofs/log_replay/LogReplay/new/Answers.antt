@@ -8,11 +8,13 @@ pub returns : goal.returns
 returns c =
     let config = c.args.config.now in
     record {
-      short = omega arith;
-      bounds = c.in_ok-analysis.ensures.bounds;
-      nodes = c.in_ok-analysis.ensures.nodes;
-      analysis = c.in_ok-analysis.ensures.follows;
-      book = rw c.in_ok-book.ensures.book (IsBookOf-opening config);
-      unborn = unborn-opening config;
-      shares = handed-none (opening config) _ _ c.in_ok-book.ensures.shares c.in_ok-shares.ensures;
+      entered = record {
+        short = omega arith;
+        bounds = c.in_ok-heap.ensures.bounds;
+        heap = c.in_ok-heap.ensures.start;
+        book = rw c.in_ok-book.ensures.book (IsBookOf-opening config);
+        unborn = unborn-opening config;
+        shares = handed-none (opening config) _ _ c.in_ok-book.ensures.shares c.in_ok-shares.ensures;
+      };
+      watched = record { stands = c.in_ok-monitor.ensures.start; nodes = c.in_ok-monitor.ensures.limit };
     }

@@ -1,32 +1,54 @@
-use Rattle.std.proofs.Common.{take, length-append, [], ◌∷◌, ◌++◌, false, refl, sym, ◌∙◌, subst, arith}
-use Rattle.velo_ledger.specs.Book.{CountsIn}
-use Rattle.velo_world.specs.Faults.{world_of}
+use Rattle.std.proofs.Common.{◌+◌, [], ◌∷◌, ◌++◌, take, sym, ap, ◌∙◌, subst, arith}
+use Rattle.velo_events.specs.Block.{owner}
+use Rattle.velo_events.specs.Graph.{HasCycle}
+use Rattle.velo_events.proofs.OnScans.{take-next}
+use Rattle.velo_traces.proofs.OnFlaws.{MayFollow-from_no_flaw}
+use Rattle.velo_monitor.specs.Watched.{IsMonitorOf}
+use Rattle.velo_world.specs.FirstCycle.{ClosesFirst}
+use Rattle.velo_world.specs.NodeRoom.{IsLimitedMonitorOf}
 use Rattle.velo_world.proofs.OnAlarms.{length-before}
-use Rattle.velo_world.proofs.OnHandingOut.{CanCount-next, IsBookOf-counted, handed-longer, unborn-longer}
-use Rattle.velo_world.proofs.OnLogReplays.{well_formed-by, follows-by}
+use Rattle.velo_world.proofs.OnFirstCycle.{ClosesFirst-push, ClosesFirst-whole}
 use Rattle.velo_world.proofs.log_replay.LogReplay.take_in.Goals as goal
 
-pub count-requires-clause-there : goal.count-requires-clause-there
-count-requires-clause-there c =
-    let stands = c.requires.stands in
+pub observe_resolved-seen-requires : goal.observe_resolved-seen-requires
+observe_resolved-seen-requires c =
+    let watched = c.requires.stands.watched.stands in
     let here = length-before c.args.events.now c.args.position c.args.event.now c.requires.here in
-    let follows = follows-by _ _ _ c.args.event.now stands.bounds c.requires.next.follows in
-    rw c.event.ensures (CanCount-next (world_of c.args.config.now (take c.args.position c.args.events.now)) c.args.event.now c.args.self.now.book stands.book follows c.args.position (sym here))
-
-pub returns : goal.returns
-returns c =
-    let stands = c.requires.stands in
-    let before = take c.args.position c.args.events.now in
-    let e = c.args.event.now in
-    let w = world_of c.args.config.now before in
-    let here = length-before c.args.events.now c.args.position e c.requires.here in
-    let follows = follows-by _ _ _ e stands.bounds c.requires.next.follows in
     record {
-      short = (let short = c.requires.short in omega (arith, here, short, length-append before (e ∷ [])));
-      bounds = c.take_in.ensures.bounds ∙ stands.bounds;
-      nodes = c.take_in.ensures.nodes ∙ stands.nodes;
-      analysis = c.take_in.ensures.follows;
-      book = IsBookOf-counted w e c.args.self.now.book stands.book follows c.args.position false _ (well_formed-by _ _ _ stands.bounds stands.analysis.heap.well_formed) (sym here) (subst (λ e. CountsIn c.args.self.now.book c.args.position e c.count.new.self) c.event.ensures c.count.ensures.counted);
-      unborn = unborn-longer w e false follows stands.unborn;
-      shares = handed-longer w (world_of c.args.config.now (before ++ e ∷ [])) _ _ refl stands.shares;
+      bounds = c.args.config.now.bounds;
+      trace = take c.args.position c.args.events.now;
+      stands = watched;
+      at_end = sym here;
+      within = (let short = c.requires.short in let few = c.args.config.now.few_events in omega (arith, short, few));
+      follows = MayFollow-from_no_flaw _ _ c.args.event.now watched.well_formed c.requires.flawless;
+      room = c.requires.room;
+      slot = c.requires.slot.slot;
+    }
+
+pub returns-in-Quiet : goal.returns-in-Quiet
+returns-in-Quiet c =
+    let watched = c.requires.stands.watched in
+    let here = length-before c.args.events.now c.args.position c.args.event.now c.requires.here in
+    let follows = MayFollow-from_no_flaw _ _ c.args.event.now watched.stands.well_formed c.requires.flawless in
+    let seen = c.in-Quiet.ensures.seen _ _ watched.stands (sym here) follows in
+    record {
+      entered = c.enter.ensures.stands;
+      watched = rw c.enter.ensures.monitor (record {
+        stands = subst (IsMonitorOf c.args.config.now.bounds c.observe_resolved-seen.new.self) (sym (take-next c.args.events.now c.args.position c.args.event.now c.requires.here)) seen.1;
+        nodes = c.observe_resolved-seen.ensures.limit ∙ watched.nodes;
+      });
+    }
+
+pub returns-in-Closes : goal.returns-in-Closes
+returns-in-Closes c =
+    let watched = c.requires.stands.watched in
+    let past = take c.args.position c.args.events.now in
+    let here = length-before c.args.events.now c.args.position c.args.event.now c.requires.here in
+    let follows = MayFollow-from_no_flaw _ _ c.args.event.now watched.stands.well_formed c.requires.flawless in
+    let seen = c.in-Closes.ensures.seen _ _ watched.stands (sym here) follows in
+    let first = ClosesFirst-push past c.args.event.now (record { position = c.args.position; transaction = c.in-Closes.transaction }) watched.stands.acyclic seen.0 here (seen.1 ∙ ap (owner (past ++ c.args.event.now ∷ [])) here) in
+    record {
+      first = ClosesFirst-whole c.args.events.now (c.args.position + 1) _ (subst (λ log. ClosesFirst log (record { position = c.args.position; transaction = c.in-Closes.transaction })) (sym (take-next c.args.events.now c.args.position c.args.event.now c.requires.here)) first);
+      entered = c.enter.ensures.stands;
+      watched = rw c.enter.ensures.monitor (record { stands = seen.2; nodes = c.observe_resolved-seen.ensures.limit ∙ watched.nodes });
     }
