@@ -5,5 +5,6 @@ mod OnExplaining
 mod OnIgnoring
 mod OnListing
 mod OnNaming
+mod OnPredicting
 mod OnSiting
 mod OnWatching

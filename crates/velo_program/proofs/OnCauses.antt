@@ -35,6 +35,7 @@ use Rattle.velo_request.specs.declared.request.Ignorable.{Ignorable}
 use Rattle.velo_request.specs.declared.request.Ignorable.TheVariants.{Lock, Variable}
 use Rattle.velo_delivery.specs.declared.failure.Operand.{Operand}
 use Rattle.velo_delivery.specs.declared.failure.Operand.TheVariants.{File, Log}
+use Rattle.velo_request.specs.declared.request.PredictOptions.{PredictOptions}
 use Rattle.velo_request.specs.declared.request.RunOptions.{RunOptions}
 use Rattle.velo_request.specs.declared.request.Request.{Request}
 use Rattle.velo_request.specs.declared.request.Limits.{Limits}
@@ -59,9 +60,12 @@ use Rattle.velo_delivery.specs.Disk.{Disk, Store, behind}
 use Rattle.velo_fate.specs.Barred.{IsBarred, IsBarredRun}
 use Rattle.velo_log_commands.specs.Explaining.{IsExplanation}
 use Rattle.velo_workload_commands.specs.Exploring.{IsExploreAnswer}
+use Rattle.velo_log_commands.specs.declared.asking.AskedWords.{AskedWords}
+use Rattle.velo_log_commands.specs.Commands.{AuditsLog, DoesAsked, PredictsLog, audit_words, predict_words}
 use Rattle.velo_log_commands.specs.Ignoring.{AsksInVain, MeanNothing}
 use Rattle.velo_fate.specs.Format.{SaysNone}
 use Rattle.velo_log_commands.specs.Listing.{HaveFaultOfList, LacksLabels, list_file}
+use Rattle.velo_log_commands.specs.Predicting.{IsPredictAnswer}
 use Rattle.velo_log_commands.specs.Naming.{HaveFaultOfNames, LacksNames, names_file}
 use Rattle.velo_log_commands.specs.Siting.{HaveFaultOfSites, LacksSites, sites_file}
 use Rattle.velo_workload_commands.specs.Playing.{ByThreads, ByTurns, IsPlayAnswer, IsRunOf, IsSaidOfRun, IsUnread, Play}
@@ -145,6 +149,12 @@ module _ (needs : Needs) where
   of_audit names asked options read answer done (inl is) = ⊎_elim (λ tells. said answer _ tells.said done) (λ full. said answer _ full.said tt) is.verdict
   of_audit names asked options read answer done (inr (inl f)) = said answer (silent (fate.Check f.0)) f.2 (of_fault _ _ read f.0 f.1)
   of_audit names asked options read answer done (inr (inr lacks)) = of_lack answer lacks
+
+  of_prediction : (names : NameLists) (asked : Asked) (options : PredictOptions) (read : Option (List ℕ)) (answer : Answer) → EndsByRefusal needs ending.Done → IsPredictAnswer names asked options read answer
+      → HasCause answer
+  of_prediction names asked options read answer done (inl is) = ⊎_elim (λ tells. said answer _ tells.said done) (λ full. said answer _ full.said tt) is.verdict
+  of_prediction names asked options read answer done (inr (inl f)) = said answer (silent (fate.Check f.0)) f.2 (of_fault _ _ read f.0 f.1)
+  of_prediction names asked options read answer done (inr (inr lacks)) = of_lack answer lacks
 
   of_carry : (read : Option (List ℕ)) (answer : Answer) → EndsByRefusal needs ending.Done → IsCarryAnswer read answer → HasCause answer
   of_carry read answer done (inl c) = said answer _ c.3 done
@@ -303,9 +313,24 @@ of_words needs names what words (fate.Ignored it) is = tt
 of_words needs names what words fate.Memory is = is
 of_words needs names what words f is = absurd is
 
-unmeant : (needs : Needs) (names : NameLists) (options : AuditOptions) (f : Fate) → AsksInVain names options f → ComesByRefusal needs f
-unmeant needs names options f (inl locks) = of_words needs names Lock options.ignored_locks.now f locks
-unmeant needs names options f (inr variables) = of_words needs names Variable options.ignored_variables.now f variables.1
+unmeant : (needs : Needs) (names : NameLists) (words : AskedWords) (f : Fate) → AsksInVain names words f → ComesByRefusal needs f
+unmeant needs names words f (inl locks) = of_words needs names Lock words.locks.now f locks
+unmeant needs names words f (inr variables) = of_words needs names Variable words.variables.now f variables.1
+
+-- of a log of which something was left out
+of_asked : (does : Asked → Store → Writing → Fate → Type 0) (names : NameLists) (words : AskedWords) (store : Store) (stdout : Writing) (f : Fate) → ((asked : Asked) → does asked store stdout f → ComesByRefusal Growths f)
+    → DoesAsked does names words store stdout f → ComesByRefusal Growths f
+of_asked does names words store stdout f so (inl h) = unlisted names Growths store.disk words.known f h.0
+of_asked does names words store stdout f so (inr (known, list, inl h)) = unmeant Growths names words f h.0
+of_asked does names words store stdout f so (inr (known, list, inr (asked, asks, h))) = so asked h
+
+of_audited : (names : NameLists) (options : AuditOptions) (store : Store) (stdout : Writing) (f : Fate) (asked : Asked) → AuditsLog names asked options store stdout f → ComesByRefusal Growths f
+of_audited names options store stdout f asked (inl h) = unread Growths store.disk Log options.input.now None f h.0
+of_audited names options store stdout f asked (inr h) = of_delivered Growths store None stdout h.1 f (of_audit Growths names asked options h.0.bytes h.1 tt h.4) h.5
+
+of_predicted : (names : NameLists) (options : PredictOptions) (store : Store) (stdout : Writing) (f : Fate) (asked : Asked) → PredictsLog names asked options store stdout f → ComesByRefusal Growths f
+of_predicted names options store stdout f asked (inl h) = unread Growths store.disk Log options.input.now options.target f h.0
+of_predicted names options store stdout f asked (inr h) = of_delivered Growths store options.target stdout h.1 f (of_prediction Growths names asked options h.0.bytes h.1 tt h.4) h.5
 
 -- of a workload whose schedules were tried
 of_exploration : (options : ExploreOptions) (read : Option (List ℕ)) (answer : Answer) (names : List ℕ) → IsExploreAnswer options read answer names → HasCause Growths answer
@@ -385,7 +410,6 @@ of_done store (request.Explore options) stdout f (inr h) =
 of_done store (request.Watch options) stdout f h = of_watch_by (terms_of_watch options) (of_fault_within options.limits) store stdout f h
 of_done store (request.WatchEndless options) stdout f h = of_watch_by (terms_of_endless options) (of_fault_of_whole options.limits) store stdout f h
 of_done store (request.Audit options) stdout f (inl h) = unnamed Growths store.disk options.names f h.0
-of_done store (request.Audit options) stdout f (inr (names, read, inl h)) = unlisted names Growths store.disk options.known f h.0
-of_done store (request.Audit options) stdout f (inr (names, read, inr (known, list, inl h))) = unmeant Growths names options f h.0
-of_done store (request.Audit options) stdout f (inr (names, read, inr (known, list, inr (asked, asks, inl h)))) = unread Growths store.disk Log options.input.now None f h.0
-of_done store (request.Audit options) stdout f (inr (names, read, inr (known, list, inr (asked, asks, inr h)))) = of_delivered Growths store None stdout h.1 f (of_audit Growths names asked options h.0.bytes h.1 tt h.4) h.5
+of_done store (request.Audit options) stdout f (inr (names, read, h)) = of_asked (λ asked. AuditsLog names asked options) names (audit_words options) store stdout f (of_audited names options store stdout f) h
+of_done store (request.Predict options) stdout f (inl h) = unnamed Growths store.disk options.names f h.0
+of_done store (request.Predict options) stdout f (inr (names, read, h)) = of_asked (λ asked. PredictsLog names asked options) names (predict_words options) store stdout f (of_predicted names options store stdout f) h
