@@ -6,4 +6,5 @@ mod OnListing
 mod OnNaming
 mod OnPredicting
 mod OnSiting
+pub mod OnThinning
 mod OnWatching

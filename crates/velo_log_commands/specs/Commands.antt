@@ -16,6 +16,7 @@ use Rattle.velo_request.specs.declared.request.CarryOptions.{CarryOptions}
 use Rattle.velo_request.specs.declared.request.CheckOptions.{CheckOptions}
 use Rattle.velo_request.specs.declared.request.ExplainOptions.{ExplainOptions}
 use Rattle.velo_request.specs.declared.request.PredictOptions.{PredictOptions}
+use Rattle.velo_request.specs.declared.request.ThinOptions.{ThinOptions}
 use Rattle.velo_delivery.specs.declared.failure.Operand.TheVariants.{Log}
 use Rattle.velo_request.specs.declared.request.WatchOptions.{WatchOptions}
 use Rattle.velo_log_commands.specs.declared.asking.AskedWords.{AskedWords}
@@ -23,7 +24,7 @@ use Rattle.velo_log_commands.specs.Auditing.{IsAuditAnswer}
 use Rattle.velo_log_commands.specs.Carrying.{IsCarryAnswer, IsPut}
 use Rattle.velo_log_commands.specs.Check.{IsCheckAnswer}
 use Rattle.velo_fate.specs.Delivery.{Answer, IsDelivered}
-use Rattle.velo_fate.specs.Barred.{WritesNowhere, DoesNotRead}
+use Rattle.velo_fate.specs.Barred.{WritesNowhere, DoesNotRead, DoesNotReadApart}
 use Rattle.velo_delivery.specs.Disk.{IsWritten, Store}
 use Rattle.velo_log_commands.specs.Explaining.{IsExplanation}
 use Rattle.velo_log_commands.specs.Ignoring.{AsksInVain, IsAsked}
@@ -33,6 +34,7 @@ use Rattle.velo_log_commands.specs.Predicting.{IsPredictAnswer}
 use Rattle.velo_fate.specs.Failures.{FailuresAsTold}
 use Rattle.velo_delivery.specs.Reading.{Reading}
 use Rattle.velo_log_commands.specs.Siting.{AreSitesOf, LacksSites}
+use Rattle.velo_log_commands.specs.Thinning.{ThinsInput, map_of}
 use Rattle.velo_log_commands.specs.Watching.{Watches}
 use Rattle.velo_delivery.specs.Writing.{Writing, WritesNothing}
 
@@ -128,6 +130,18 @@ DoesCarry options store stdout f =
     × store.disk.gives options.input.now read × FailuresAsTold read f
     × IsCarryAnswer read.bytes answer
     × IsWritten store options.target.now file × IsPut file answer f × WritesNothing stdout)
+
+-- ---- velodrome thin LOG --log OUT [--map MAP]
+
+-- LOG is read whole, and then without what adds nothing to its verdict. What is left is saved at
+-- OUT, then the map at MAP, if that is given, and then the counts go to standard output; or nothing
+-- is written, for a reason, and then OUT and MAP are not opened (`Thinning`).
+abbrev pub DoesThin : ThinOptions → Store → Writing → Fate → Type 0
+DoesThin options store stdout f =
+    DoesNotReadApart store Log options.input.now (Some options.target) (map_of options) stdout f
+    ⊎ ((read : Reading)
+    × store.disk.gives options.input.now read × FailuresAsTold read f
+    × ThinsInput options read.bytes store stdout f)
 
 -- ---- velodrome watch LOG [--names FILE] [--stop] [--events N] [--nodes N] [--certificate]
 

@@ -10,4 +10,5 @@ pub mod Naming
 pub mod Predicting
 pub mod Siting
 pub mod Steps
+pub mod Thinning
 pub mod Watching

@@ -11,6 +11,7 @@ mod listing;
 mod naming;
 mod predicting;
 mod siting;
+mod thinning;
 mod watching;
 
 pub use auditing::audit_file;
@@ -18,4 +19,5 @@ pub use carrying::{CarryFault, carry_file, carry_run};
 pub use check::{check_file, check_run, config_of, do_log};
 pub use explaining::explain_file;
 pub use predicting::predict_file;
+pub use thinning::thin_file;
 pub use watching::watch_file;
