@@ -1,4 +1,5 @@
-"""Compares the help of each command with docs/REFERENCE.md: options, ranges and defaults; statuses and their lines; faults and refusals.
+"""Compares the help of each command with docs/REFERENCE.md: options, ranges and defaults; statuses and their lines; faults and
+refusals. README.md's table has the commands that the program's help has.
 
     python3 tools/compare_help.py crates/velodrome/out/velodrome
 
@@ -10,7 +11,6 @@ import subprocess
 import sys
 
 ROOT = os.path.dirname(os.path.dirname(os.path.abspath(__file__)))
-COMMANDS = ("check", "explain", "audit", "watch", "replay", "run", "explore", "carry")
 
 
 def numbers_in(text):
@@ -36,7 +36,8 @@ def rows_of(page, title):
 
 def options_in_page(page, command):
     rows = [row for row in rows_of(page, "## Options") if f"`{command}`" in row[1] or row[1] == "all"]
-    return {re.search(r"--[\w-]+", row[0]).group(): (numbers_in(row[2]), numbers_in(row[3])) for row in rows}
+    parts = {re.search(r"--[\w-]+", row[0]).group(): row[2].partition("(") for row in rows}
+    return {name: (numbers_in(span), numbers_in(default)) for name, (span, _, default) in parts.items()}
 
 
 def options_in_help(text):
@@ -65,14 +66,15 @@ def numbered_in_help(text, title):
 
 
 def numbered_in_page(page, title):
-    return {row[0]: row[1] for row in rows_of(page, title)}
+    rows = [(row[0].split(", "), row[1].split("; ")) for row in rows_of(page, title)]
+    return {number: text for numbers, texts in rows for number, text in zip(numbers, texts, strict=True)}
 
 
 def differences(page, command, text):
     compared = [("options", options_in_page(page, command), options_in_help(text))]
     if "\nStatuses" in text:
         compared.append(("statuses", statuses_in_page(page, command), statuses_in_help(text)))
-    for title in ("Log faults", "Names faults", "Ignored faults", "Workload faults", "Refusals"):
+    for title in ("Log faults", "Names faults", "List faults", "Sites faults", "Ignored faults", "Workload faults", "Refusals"):
         told = numbered_in_help(text, title)
         if told:
             compared.append((title, numbered_in_page(page, f"## {title}"), told))
@@ -82,15 +84,33 @@ def differences(page, command, text):
                 yield f"{command}: {what}: {key}: REFERENCE.md has {written.get(key)}, help {told.get(key)}"
 
 
+def help_of(program, *command):
+    return subprocess.run([program, *command, "--help"], check=True, capture_output=True, text=True).stdout
+
+
+def commands_in_help(text):
+    names = re.findall(r"^  (\w+)  ", section_of(text, "Commands:", r"^$(?=\n\S)"), re.MULTILINE)
+    return [name for name in names if name != "help"]
+
+
+def commands_in_readme(text):
+    return {re.match(r"`velodrome (\w+)", row[0])[1] for row in rows_of(text, "## Commands")}
+
+
+def text_of(*path):
+    with open(os.path.join(ROOT, *path), encoding="utf-8") as file:
+        return file.read()
+
+
 def main():
     if len(sys.argv) != 2:
         sys.exit(__doc__)
-    with open(os.path.join(ROOT, "docs", "REFERENCE.md"), encoding="utf-8") as file:
-        page = file.read()
-    found = []
-    for command in COMMANDS:
-        shown = subprocess.run([sys.argv[1], command, "--help"], check=True, capture_output=True, text=True)
-        found.extend(differences(page, command, shown.stdout))
+    page, found = text_of("docs", "REFERENCE.md"), []
+    commands = commands_in_help(help_of(sys.argv[1]))
+    for command in sorted(commands_in_readme(text_of("README.md")) ^ set(commands)):
+        found.append(f"{command}: in one of README.md and help, not in both")
+    for command in commands:
+        found.extend(differences(page, command, help_of(sys.argv[1], command)))
     for difference in found:
         print(difference)
     return 1 if found else 0

@@ -93,6 +93,12 @@ pub on_none : {T X : Type 0} (r : Option T) (Asks : X → Type 0) → ((x : X) �
 on_none None Asks nothing = nothing
 on_none (Some value) Asks nothing = tt
 
+-- and where it is of two kinds
+pub on_none_of_two : {T X Y : Type 0} (r : Option T) (One : X → Type 0) (Other : Y → Type 0) → ((x : X) → ¬ One x) → ((y : Y) → ¬ Other y)
+    → IfNone r (((x : X) → ¬ One x) × ((y : Y) → ¬ Other y))
+on_none_of_two None One Other one other = (one, other)
+on_none_of_two (Some value) One Other one other = tt
+
 -- a word that the getter does not give is none of the values
 pub no_word : (f : Found) (id : Text) (r : Option (Bor Text)) (word : Text) → option_map (λ s. s.now) r ≡ first_value f id
     → r ≡ None → ¬ (first_of id (rows_of f) ≡ Some word)

@@ -1,11 +1,17 @@
 -- The request that right words ask for.
-use Rattle.std.proofs.Common.{◌≡◌, ◌≤◌, ◌<◌, ◌^◌, ℕ, Bool, get_or, ⊎_elim, true, false, not, refl, sym, ap, arith, subst, inl, inr, List, [], ◌∷◌, map, Option, Some, None, codes, Bor}
+use Rattle.std.proofs.Common.{◌≡◌, ◌∙◌, ◌||◌, ◌≤◌, ◌<◌, ◌^◌, ℕ, Bool, get_or, ⊎_elim, true, false, not, true≢false, refl, sym, ap, arith, nat_lt, subst, inl, inr, List, [], ◌∷◌, map, Option, Some, None, codes, Bor}
 use Rattle.std.specs.Prelude.{option_map, unwrap_or}
+use Rattle.std.proofs.lemmas.Bool.{ltb-true}
 use Rattle.std.proofs.lemmas.Bool.Decides.{eqb_tells}
+use Rattle.std.proofs.lemmas.Slice.Eq.{bytes_eq-Decides}
 use Rattle.std.specs.Option.{option_map_or}
 use Rattle.std.specs.Str.{bytes_eq}
 use Rattle.std.specs.Str.Parse.{digits_value, without_leading_plus}
+use Rattle.clap.specs.Faults.{level_fault}
+use Rattle.clap.specs.Simple.{Shape, argument_words, built, label_of, rows_at}
+use Rattle.clap.specs.Walk.{answers_to, nothing_held}
 use Rattle.clap.specs.Words.{Row, Text, all_of, first_of, one_of}
+use Rattle.velo_events.specs.declared.limits.TheConstants.{MAX_EVENTS, MAX_NODES}
 use Rattle.velo_request.specs.declared.request.Limits.{Limits}
 use Rattle.velo_request.specs.declared.request.AuditOptions.{AuditOptions}
 use Rattle.velo_request.specs.declared.request.CarryOptions.{CarryOptions}
@@ -14,17 +20,19 @@ use Rattle.velo_request.specs.declared.request.RunOptions.{RunOptions}
 use Rattle.velo_request.specs.declared.request.ReplayOptions.{ReplayOptions}
 use Rattle.velo_request.specs.declared.request.ExplainOptions.{ExplainOptions}
 use Rattle.velo_request.specs.declared.request.ExploreOptions.{ExploreOptions}
+use Rattle.velo_request.specs.declared.request.PredictOptions.{PredictOptions}
 use Rattle.velo_request.specs.declared.request.RandomRuns.{RandomRuns}
 use Rattle.velo_request.specs.declared.request.ScheduleSource.{ScheduleSource}
 use Rattle.velo_request.specs.declared.request.ScheduleSource.TheVariants as source
-use Rattle.velo_request.specs.declared.request.TheConstants.{DEFAULT_SEED}
-use Rattle.velo_request.specs.declared.request.WatchOptions.{WatchOptions}
+use Rattle.velo_request.specs.declared.request.TheConstants.{DEFAULT_SEED, MAX_RUNS, MAX_STATES, MAX_TRIES}
+use Rattle.velo_request.specs.declared.request.ThinOptions.{ThinOptions}
 use Rattle.velo_request.specs.declared.request.Request.{Request}
-use Rattle.velo_request.specs.declared.request.Request.TheVariants.{Audit, Carry, Check, Explain, Explore, Replay, Run, Watch}
-use Rattle.velo_arguments.specs.Asked.{AreLimits, AreRandomRuns, AreTurns, AsksFor, AsksForNothing, IsAudit, IsCarrying, IsCheck, IsExplanation, IsExploring, IsFlag, IsReplay, IsRun, IsSchedule, IsSeed, IsWatch, WritesNumber}
-use Rattle.velo_arguments.specs.CommandLine.{asked_by, faults_of}
+use Rattle.velo_request.specs.declared.request.Request.TheVariants.{Audit, Carry, Check, Explain, Explore, Predict, Replay, Run, Thin, Watch, WatchEndless}
+use Rattle.velo_arguments.specs.Asked.{AreLeftOut, AreLimits, AreRandomRuns, AreTurns, AsksFor, AsksForNothing, IsAudit, IsCarrying, IsCheck, IsExplanation, IsExploring, IsFlag, IsPredicting, IsReplay, IsRun, IsSchedule, IsSeed, IsThinning, WritesNumber}
+use Rattle.velo_arguments.specs.CommandLine.{asked_by, audit, carry, check, command_line, explain, explore, faults_of, predict, replay, run, thin, watch}
 use Rattle.velo_arguments.proofs.OnLimits.{HasLimit, HasWide, HasWord, MayHave}
-use Rattle.velo_arguments.proofs.OnRight.{HasLimits, HasSearch, IsRight, faultless_is_right}
+use Rattle.velo_arguments.proofs.OnWalk.{Each, found_has}
+use Rattle.velo_arguments.proofs.OnRight.{AreFaultless, HasDelays, HasLimits, HasSearch, audit_right, carry_right, check_right, explain_right, explore_right, faultless_enters, predict_right, replay_right, rows_of_leaf, run_right, thin_right, watch_right}
 
 -- ---- the parts of a request
 
@@ -60,20 +68,32 @@ not_not false = refl
 is_flag_turned : (text : Option Text) → IsFlag text (not (not (is_true text)))
 is_flag_turned text = subst (IsFlag text) (not_not (is_true text)) (is_flag text)
 
+-- a number in its range
+a_number : (id : Text) (bits most : ℕ) (rows : List Row) → nat_lt most (2 ^ bits) ≡ true → HasLimit id most rows
+    → (n : ℕ) × (1 ≤ n) × (n ≤ most) × WritesNumber bits (one_of id rows) n
+a_number id bits most rows fits has =
+    let n = digits_value 10 (without_leading_plus has.0) in
+    let few : n ≤ most = has.2.2 in
+    let room : most < 2 ^ bits = ltb-true _ _ fits in
+    let holds : n < 2 ^ bits = omega (arith, few, room) in
+    (n, has.2.1, few, subst (λ text. WritesNumber bits text n) (sym has.1) (has.2.0, holds, refl))
+
 a_limits : (rows : List Row) → HasLimits rows → (limits : Limits) × AreLimits rows limits
 a_limits rows has =
-    let events = digits_value 10 (without_leading_plus has.0.0) in
-    let nodes = digits_value 10 (without_leading_plus has.1.0) in
-    let few_events : events ≤ 16777216 = has.0.2.2 in
-    let few_nodes : nodes ≤ 4096 = has.1.2.2 in
-    let events_fit : events < 2 ^ 32 = omega arith in
-    let nodes_fit : nodes < 2 ^ 16 = omega arith in (
-      record { events = events; nodes = nodes; some_event = has.0.2.1; few_events = few_events; some_node = has.1.2.1; few_nodes = few_nodes },
-      (
-        subst (λ text. WritesNumber 32 text events) (sym has.0.1) (has.0.2.0, events_fit, refl),
-        subst (λ text. WritesNumber 16 text nodes) (sym has.1.1) (has.1.2.0, nodes_fit, refl),
-      ),
+    let events = a_number (codes "events") 32 MAX_EVENTS rows refl has.0 in
+    let nodes = a_number (codes "nodes") 16 MAX_NODES rows refl has.1 in (
+      record { events = events.0; nodes = nodes.0; some_event = events.1; few_events = events.2; some_node = nodes.1; few_nodes = nodes.2 },
+      (events.3, nodes.3),
     )
+
+-- what is left out
+abbrev the_words : Text → List Row → Bor (List (Bor Text))
+the_words option rows = a_list (unwrap_or (all_of option rows) [])
+
+left_out : (rows : List Row)
+    → AreLeftOut rows (a_path_if (first_of (codes "not-atomic") rows)) (the_words (codes "ignore-lock") rows).now (the_words (codes "ignore-variable") rows).now
+left_out rows =
+    (path_of (first_of (codes "not-atomic") rows), words_of (unwrap_or (all_of (codes "ignore-lock") rows) []), words_of (unwrap_or (all_of (codes "ignore-variable") rows) []))
 
 -- ---- the request
 
@@ -86,8 +106,15 @@ a_check rows word has =
         limits = limits.0;
         certificate = is_true (one_of (codes "certificate") rows);
         names = a_path_if (first_of (codes "names") rows);
+        why = is_true (one_of (codes "why") rows);
       },
-      (word.1, limits.1, is_flag (one_of (codes "certificate") rows), path_of (first_of (codes "names") rows)),
+      (
+        word.1,
+        limits.1,
+        is_flag (one_of (codes "certificate") rows),
+        path_of (first_of (codes "names") rows),
+        is_flag (one_of (codes "why") rows),
+      ),
     )
 
 a_run : (rows : List Row) → HasWord (codes "FILE") rows → HasLimits rows → (options : RunOptions) × IsRun rows options
@@ -101,6 +128,7 @@ a_run rows word has =
         names_target = a_path_if (first_of (codes "names-out") rows);
         limits = limits.0;
         certificate = is_true (one_of (codes "certificate") rows);
+        why = is_true (one_of (codes "why") rows);
       },
       (
         word.1,
@@ -109,6 +137,7 @@ a_run rows word has =
         path_of (first_of (codes "names-out") rows),
         limits.1,
         is_flag (one_of (codes "certificate") rows),
+        is_flag (one_of (codes "why") rows),
       ),
     )
 
@@ -145,7 +174,9 @@ an_explanation rows word = (
 
 a_carrying : (rows : List Row) → HasWord (codes "LOG") rows → HasWord (codes "log") rows → (options : CarryOptions) × IsCarrying rows options
 unfolding a_path
-a_carrying rows word out = (record { input = a_path word.0; target = a_path out.0 }, (word.1, out.1))
+a_carrying rows word out =
+    let why = one_of (codes "why") rows in
+    (record { input = a_path word.0; target = a_path out.0; why = is_true why }, (word.1, out.1, is_flag why))
 
 a_seed : (rows : List Row) → MayHave (codes "seed") rows (HasWide (codes "seed") rows) → (seed : ℕ) × IsSeed rows seed
 a_seed rows (inl none) = (DEFAULT_SEED, inl (none, refl))
@@ -157,25 +188,18 @@ random_runs : (rows : List Row) → MayHave (codes "random") rows (HasLimit (cod
     → (random : Option RandomRuns) × AreRandomRuns rows random
 random_runs rows (inl none) seed = (None, none)
 random_runs rows (inr has) seed =
-    let runs = digits_value 10 (without_leading_plus has.0) in
-    let few_runs : runs ≤ 1000000 = has.2.2 in
-    let runs_fit : runs < 2 ^ 32 = omega arith in (
-      Some (record { runs = runs; seed = seed.0; some_run = has.2.1; few_runs = few_runs }),
-      (subst (λ text. WritesNumber 32 text runs) (sym has.1) (has.2.0, runs_fit, refl), seed.1),
-    )
+    let runs = a_number (codes "random") 32 MAX_RUNS rows refl has in
+    (Some (record { runs = runs.0; seed = seed.0; some_run = runs.1; few_runs = runs.2 }), (runs.3, seed.1))
 
 an_exploring : (rows : List Row) → HasWord (codes "FILE") rows → HasSearch rows → (options : ExploreOptions) × IsExploring rows options
 unfolding a_path
 an_exploring rows word has =
-    let has_states = has.0 in
+    let states = a_number (codes "states") 32 MAX_STATES rows refl has.0 in
     let limits = a_limits rows has.1 in
-    let random = random_runs rows has.2 (a_seed rows has.3) in
-    let states = digits_value 10 (without_leading_plus has_states.0) in
-    let few_states : states ≤ 16777216 = has_states.2.2 in
-    let states_fit : states < 2 ^ 32 = omega arith in (
+    let random = random_runs rows has.2 (a_seed rows has.3) in (
       record {
         input = a_path word.0;
-        states = states;
+        states = states.0;
         first = is_true (one_of (codes "first") rows);
         target = a_path_if (first_of (codes "log") rows);
         names_target = a_path_if (first_of (codes "names-out") rows);
@@ -183,12 +207,12 @@ an_exploring rows word has =
         certificate = is_true (one_of (codes "certificate") rows);
         progress = is_true (one_of (codes "progress") rows);
         random = random.0;
-        some_state = has_states.2.1;
-        few_states = few_states;
+        some_state = states.1;
+        few_states = states.2;
       },
       (
         word.1,
-        subst (λ text. WritesNumber 32 text states) (sym has_states.1) (has_states.2.0, states_fit, refl),
+        states.3,
         is_flag (one_of (codes "first") rows),
         is_flag (one_of (codes "progress") rows),
         random.1,
@@ -199,23 +223,26 @@ an_exploring rows word has =
       ),
     )
 
-a_watch : (rows : List Row) → HasWord (codes "LOG") rows → HasLimits rows → (options : WatchOptions) × IsWatch rows options
+-- what the word `watch` asks for, endless or not
+asks_watch : (rows : List Row) (endless : Bool) → IsFlag (one_of (codes "endless") rows) endless → HasWord (codes "LOG") rows → HasLimits rows
+    → (request : Request) × AsksFor (Some (codes "watch", rows)) request
 unfolding a_path
-a_watch rows word has =
-    let limits = a_limits rows has in (
-      record {
-        input = a_path word.0;
-        stop = is_true (one_of (codes "stop") rows);
-        limits = limits.0;
-        certificate = is_true (one_of (codes "certificate") rows);
-        names = a_path_if (first_of (codes "names") rows);
-      },
+asks_watch rows true endless word has =
+    let limits = a_limits rows has in
+    let stop = is_true (one_of (codes "stop") rows) in
+    let names = a_path_if (first_of (codes "names") rows) in (
+      WatchEndless (record { input = a_path word.0; stop = stop; limits = limits.0; names = names }),
+      (refl, (endless, (word.1, is_flag (one_of (codes "stop") rows), limits.1, path_of (first_of (codes "names") rows)))),
+    )
+asks_watch rows false endless word has =
+    let limits = a_limits rows has in
+    let stop = is_true (one_of (codes "stop") rows) in
+    let certificate = is_true (one_of (codes "certificate") rows) in
+    let names = a_path_if (first_of (codes "names") rows) in (
+      Watch (record { input = a_path word.0; stop = stop; limits = limits.0; certificate = certificate; names = names }),
       (
-        word.1,
-        is_flag (one_of (codes "stop") rows),
-        limits.1,
-        is_flag (one_of (codes "certificate") rows),
-        path_of (first_of (codes "names") rows),
+        refl,
+        (endless, is_flag (one_of (codes "certificate") rows), (word.1, is_flag (one_of (codes "stop") rows), limits.1, path_of (first_of (codes "names") rows))),
       ),
     )
 
@@ -227,52 +254,118 @@ an_audit rows word has =
         input = a_path word.0;
         names = a_path_if (first_of (codes "names") rows);
         known = a_path_if (first_of (codes "not-atomic") rows);
-        ignored_locks = a_list (unwrap_or (all_of (codes "ignore-lock") rows) []);
-        ignored_variables = a_list (unwrap_or (all_of (codes "ignore-variable") rows) []);
+        ignored_locks = the_words (codes "ignore-lock") rows;
+        ignored_variables = the_words (codes "ignore-variable") rows;
         witness = not (is_true (one_of (codes "no-witness") rows));
         limits = limits.0;
+      },
+      (word.1, path_of (first_of (codes "names") rows), left_out rows, is_flag_turned (one_of (codes "no-witness") rows), limits.1),
+    )
+
+a_thinning : (rows : List Row) → HasWord (codes "LOG") rows → HasWord (codes "log") rows → (options : ThinOptions) × IsThinning rows options
+unfolding a_path
+a_thinning rows word out =
+    (record { input = a_path word.0; target = a_path out.0; map = a_path_if (first_of (codes "map") rows) }, (word.1, out.1, path_of (first_of (codes "map") rows)))
+
+a_predicting : (rows : List Row) → HasWord (codes "LOG") rows → HasDelays rows → (options : PredictOptions) × IsPredicting rows options
+unfolding a_path
+a_predicting rows word has =
+    let tries = a_number (codes "tries") 32 MAX_TRIES rows refl has.0 in
+    let seed = a_seed rows has.1 in
+    let limits = a_limits rows has.2 in (
+      record {
+        input = a_path word.0;
+        names = a_path_if (first_of (codes "names") rows);
+        known = a_path_if (first_of (codes "not-atomic") rows);
+        ignored_locks = the_words (codes "ignore-lock") rows;
+        ignored_variables = the_words (codes "ignore-variable") rows;
+        values = is_true (one_of (codes "values") rows);
+        tries = tries.0;
+        seed = seed.0;
+        target = a_path_if (first_of (codes "log") rows);
+        limits = limits.0;
+        some_try = tries.1;
+        few_tries = tries.2;
       },
       (
         word.1,
         path_of (first_of (codes "names") rows),
-        path_of (first_of (codes "not-atomic") rows),
-        words_of (unwrap_or (all_of (codes "ignore-lock") rows) []),
-        words_of (unwrap_or (all_of (codes "ignore-variable") rows) []),
-        is_flag_turned (one_of (codes "no-witness") rows),
+        left_out rows,
+        is_flag (one_of (codes "values") rows),
+        tries.3,
+        seed.1,
+        path_of (first_of (codes "log") rows),
         limits.1,
       ),
     )
 
-right_asks : (found : Text × List Row) → IsRight found → (request : Request) × AsksFor (Some found) request
-right_asks found (inl is) =
-    let options = a_check found.1 is.1 is.2 in
-    (Check options.0, (is.0, options.1))
-right_asks found (inr (inl is)) =
-    let options = a_replay found.1 is.1 is.2 in
-    (Replay options.0, (is.0, options.1))
-right_asks found (inr (inr (inl is))) =
-    let options = a_run found.1 is.1 is.2 in
-    (Run options.0, (is.0, options.1))
-right_asks found (inr (inr (inr (inl is)))) =
-    let options = an_explanation found.1 is.1 in
-    (Explain options.0, (is.0, options.1))
-right_asks found (inr (inr (inr (inr (inl is))))) =
-    let options = a_carrying found.1 is.1 is.2 in
-    (Carry options.0, (is.0, options.1))
-right_asks found (inr (inr (inr (inr (inr (inl is)))))) =
-    let options = an_exploring found.1 is.1 is.2 in
-    (Explore options.0, (is.0, options.1))
-right_asks found (inr (inr (inr (inr (inr (inr (inl is))))))) =
-    let options = a_watch found.1 is.1 is.2 in
-    (Watch options.0, (is.0, options.1))
-right_asks found (inr (inr (inr (inr (inr (inr (inr is))))))) =
-    let options = an_audit found.1 is.1 is.2 in
-    (Audit options.0, (is.0, options.1))
+-- ---- the words
+
+-- the subcommand asks for a request where its level has no fault and it is not entered as `help`
+abbrev AsksAt : Text → List Text → Shape → Type 0
+AsksAt name words s = answers_to name (label_of s) ≡ true → level_fault s [] nothing_held words false [] ≡ []
+    → (request : Request) × AsksFor (Some (rows_at s words)) request
+
+not_help : (name : Text) → bytes_eq name (codes "help") ≡ false → answers_to name (codes "help", []) ≡ true → ⊥
+not_help name apart hit = true≢false (sym ((bytes_eq-Decides name (codes "help")).1 (sym ((bytes_eq-Decides (codes "help") name).0 (alone (bytes_eq (codes "help") name) hit)))) ∙ apart)
+  where
+    alone : (b : Bool) → (b || false) ≡ true → b ≡ true
+    alone true e = refl
+    alone false e = e
+
+-- the request of each subcommand, by its options
+abbrev AsksBy : Shape → List Text → Type 0
+AsksBy s words = AreFaultless s words → (request : Request) × AsksFor (Some (s.name, rows_of_leaf s words)) request
+
+asks : {T : Type 0} (s : Shape) (words : List Text) (request : T → Request) (Is : List Row → T → Type 0)
+    → ((options : T) → Is (rows_of_leaf s words) options → AsksFor (Some (s.name, rows_of_leaf s words)) (request options))
+    → (AreFaultless s words → (options : T) × Is (rows_of_leaf s words) options) → AsksBy s words
+asks s words request Is named right e =
+    let found = right e in
+    (request found.0, named found.0 found.1)
+
+check_asks : (words : List Text) → AsksBy check words
+check_asks words = asks check words Check IsCheck (λ o is. (refl, is)) (λ e. a_check (rows_of_leaf check words) (check_right words e).0 (check_right words e).1)
+
+replay_asks : (words : List Text) → AsksBy replay words
+replay_asks words = asks replay words Replay IsReplay (λ o is. (refl, is)) (λ e. a_replay (rows_of_leaf replay words) (replay_right words e).0 (replay_right words e).1)
+
+run_asks : (words : List Text) → AsksBy run words
+run_asks words = asks run words Run IsRun (λ o is. (refl, is)) (λ e. a_run (rows_of_leaf run words) (run_right words e).0 (run_right words e).1)
+
+explain_asks : (words : List Text) → AsksBy explain words
+explain_asks words = asks explain words Explain IsExplanation (λ o is. (refl, is)) (λ e. an_explanation (rows_of_leaf explain words) (explain_right words e))
+
+carry_asks : (words : List Text) → AsksBy carry words
+carry_asks words = asks carry words Carry IsCarrying (λ o is. (refl, is)) (λ e. a_carrying (rows_of_leaf carry words) (carry_right words e).0 (carry_right words e).1)
+
+explore_asks : (words : List Text) → AsksBy explore words
+explore_asks words = asks explore words Explore IsExploring (λ o is. (refl, is)) (λ e. an_exploring (rows_of_leaf explore words) (explore_right words e).0 (explore_right words e).1)
+
+watch_asks : (words : List Text) → AsksBy watch words
+watch_asks words e =
+    let endless = one_of (codes "endless") (rows_of_leaf watch words) in
+    asks_watch (rows_of_leaf watch words) (is_true endless) (is_flag endless) (watch_right words e).0 (watch_right words e).1
+
+audit_asks : (words : List Text) → AsksBy audit words
+audit_asks words = asks audit words Audit IsAudit (λ o is. (refl, is)) (λ e. an_audit (rows_of_leaf audit words) (audit_right words e).0 (audit_right words e).1)
+
+thin_asks : (words : List Text) → AsksBy thin words
+thin_asks words = asks thin words Thin IsThinning (λ o is. (refl, is)) (λ e. a_thinning (rows_of_leaf thin words) (thin_right words e).0 (thin_right words e).1)
+
+predict_asks : (words : List Text) → AsksBy predict words
+predict_asks words = asks predict words Predict IsPredicting (λ o is. (refl, is)) (λ e. a_predicting (rows_of_leaf predict words) (predict_right words e).0 (predict_right words e).1)
+
+each_asks : (name : Text) (words : List Text) → bytes_eq name (codes "help") ≡ false → Each (AsksAt name words) (built command_line).subs
+each_asks name words apart = (λ hit. check_asks words, (λ hit. replay_asks words, (λ hit. run_asks words, (λ hit. explain_asks words, (λ hit. carry_asks words, (λ hit. explore_asks words, (λ hit. watch_asks words, (λ hit. audit_asks words, (λ hit. thin_asks words, (λ hit. predict_asks words, (λ hit e. absurd (not_help name apart hit), tt)))))))))))
 
 -- words without a fault ask for a request
 pub faultless_asks : (words : List Text) → faults_of words ≡ [] → ¬ AsksForNothing (asked_by words)
 unfolding faults_of asked_by
 faultless_asks words e nothing =
-    let right = faultless_is_right words e in
-    let asks = right_asks right.0 right.2 in
-    nothing asks.0 (subst (λ found. AsksFor found asks.0) (sym right.1) asks.1)
+    let at = faultless_enters (built command_line) (argument_words command_line words) refl refl e in
+    let name = at.0.0 in
+    let rest = at.0.1 in
+    let is = found_has (AsksAt name rest) (λ x. answers_to name (label_of x)) (built command_line).subs at.1 (each_asks name rest at.3) at.2 in
+    let asked = is.0 is.1 at.4 in
+    nothing asked.0 (subst (λ found. AsksFor found asked.0) (sym at.5) asked.1)

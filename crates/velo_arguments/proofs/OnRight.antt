@@ -1,22 +1,21 @@
--- Right words ask for a request: without a fault they name a subcommand, its word is there, and its limits are numbers in
--- their ranges.
-use Rattle.std.proofs.Common.{◌≡◌, ◌∙◌, ◌⊎◌, ◌||◌, Bool, true, false, refl, sym, ap, inl, inr, List, [], ◌∷◌, ◌++◌, Option, Some, None, true≢false, is_some, codes, ◌&&◌, not, subst}
+-- Right words: without a fault they name a subcommand, its word is there, and its limits are numbers in their ranges.
+use Rattle.std.proofs.Common.{◌≡◌, ◌∙◌, ◌⊎◌, Bool, true, false, refl, sym, ap, inl, inr, List, [], ◌∷◌, ◌++◌, Option, Some, None, true≢false, is_some, codes, map, ◌&&◌, not, subst}
 use Rattle.std.specs.Prelude.{find, option_map}
 use Rattle.std.specs.Option.{option_map_or}
 use Rattle.std.specs.Str.{bytes_eq}
 use Rattle.std.proofs.lemmas.Slice.Eq.{bytes_eq-Decides}
 use Rattle.clap.specs.Walk.{Row, Rule, Text, action_of, answers_to, finished, has_row, is_append, nothing_held, reading_by, rows_after, settled, walk, walk_from}
-use Rattle.clap.specs.Simple.{App, Shape, argument_words, built, built_leaf, entered, filled, help_rule, inherited, label_of, names_of, rows_at, subcommand_of, with_index}
+use Rattle.clap.specs.Simple.{App, Shape, built_leaf, entered, filled, help_rule, inherited, label_of, names_of, rows_at, with_index}
 use Rattle.clap.specs.Takes.{is_given}
 use Rattle.clap.specs.Facts.{parser_of_value}
 use Rattle.clap.specs.Kinds.{values_kinds}
 use Rattle.clap.specs.Values.{reading_of}
-use Rattle.clap.specs.Faults.{built_fault, defaults_fault, entered_fault, fault_of, level_fault, settle_fault, values_fault, walk_fault}
+use Rattle.clap.specs.Faults.{built_fault, defaults_fault, entered_fault, level_fault, settle_fault, values_fault, walk_fault}
 use Rattle.clap.specs.declared.parser.matches.ValueSource.{ValueSource}
 use Rattle.velo_events.specs.declared.limits.TheConstants.{MAX_EVENTS, MAX_NODES}
-use Rattle.velo_request.specs.declared.request.TheConstants.{MAX_RUNS, MAX_STATES}
-use Rattle.velo_arguments.specs.CommandLine.{audit, carry, check, command_line, events, explain, explore, flag, needed, nodes, random, repeated, replay, run, seed, states, valued, watch, word}
-use Rattle.velo_arguments.proofs.OnWalk.{Each, found_has, level_keeps, neither}
+use Rattle.velo_request.specs.declared.request.TheConstants.{MAX_RUNS, MAX_STATES, MAX_TRIES}
+use Rattle.velo_arguments.specs.CommandLine.{audit, carry, check, command_line, events, explain, explore, flag, graph_options, label_options, needed, nodes, predict, random, repeated, replay, run, run_options, saved_options, seed, states, thin, tries, valued, watch, word}
+use Rattle.velo_arguments.proofs.OnWalk.{Each, level_keeps, neither}
 use Rattle.velo_arguments.proofs.OnStop.{StopsNotAtHelp, walk_stops}
 use Rattle.velo_arguments.proofs.OnRows.{IsFilled, MakesRows, default_keeps, defaults_have, is_plain, more_row, new_row, required_given, row_given, row_there, subcommand_there, used_keeps}
 use Rattle.velo_arguments.proofs.OnLimits.{HasLimit, HasWide, HasWord, IsAccepted, MayHave, limit_read, may_have, wide_read, word_read}
@@ -24,7 +23,7 @@ use Rattle.velo_arguments.proofs.OnLimits.{HasLimit, HasWide, HasWord, IsAccepte
 -- ---- the subcommand
 
 -- the words without a fault enter this subcommand, whose level has no fault
-abbrev Enters : App → Option (Text × List Text) → Type 0
+abbrev pub Enters : App → Option (Text × List Text) → Type 0
 Enters a stop = (p : Text × List Text) × (s : Shape) × (find (λ x. answers_to p.0 (label_of x)) a.subs ≡ Some s) × (bytes_eq p.0 (codes "help") ≡ false)
     × (level_fault s [] nothing_held p.1 false [] ≡ []) × (entered a stop ≡ Some (rows_at s p.1))
 
@@ -38,7 +37,7 @@ enters a (Some p) stops has e = go (find (λ x. answers_to p.0 (label_of x)) a.s
     go (Some s) found has e = (p, s, found, stops, e, ap (option_map (λ s. rows_at s p.1)) found)
 
 -- a command with `help` that asks for a subcommand enters one
-faultless_enters : (a : App) (words : List Text) → a.top.disable_help_subcommand ≡ false → a.top.subcommand_required ≡ true → built_fault a nothing_held words ≡ []
+pub faultless_enters : (a : App) (words : List Text) → a.top.disable_help_subcommand ≡ false → a.top.subcommand_required ≡ true → built_fault a nothing_held words ≡ []
     → Enters a (walk a.top.rules (names_of a) nothing_held words).stopped
 faultless_enters a words enabled required e =
     let end = walk a.top.rules (names_of a) nothing_held words in
@@ -114,7 +113,7 @@ level_has limits s words once plain e =
 
 -- the limits
 abbrev limits : List Rule
-limits = filled (events (codes "1048576")) ∷ filled (nodes (codes "1024")) ∷ filled states ∷ filled random ∷ filled seed ∷ []
+limits = filled (events (codes "1048576")) ∷ filled (nodes (codes "1024")) ∷ filled states ∷ filled random ∷ filled seed ∷ filled tries ∷ []
 
 -- those of a graph are read
 abbrev pub HasLimits : List Row → Type 0
@@ -133,6 +132,10 @@ states_there : (rows : List Row) → Each (Passes limits) rows → has_row (code
 states_there rows passes there =
     limit_read (Passes limits) (filled states) MAX_STATES rows (λ r holds. (holds.0, holds.1.1.1.0)) refl (row_there (Passes limits) (codes "states") rows passes there)
 
+tries_there : (rows : List Row) → Each (Passes limits) rows → has_row (codes "tries") rows ≡ true → HasLimit (codes "tries") MAX_TRIES rows
+tries_there rows passes there =
+    limit_read (Passes limits) (filled tries) MAX_TRIES rows (λ r holds. (holds.0, holds.1.1.1.1.1.1.0)) refl (row_there (Passes limits) (codes "tries") rows passes there)
+
 -- so many runs may be asked for, and a seed given
 runs_there : (rows : List Row) → Each (Passes limits) rows → MayHave (codes "random") rows (HasLimit (codes "random") MAX_RUNS rows)
 runs_there rows passes = may_have (Passes limits) (codes "random") rows _ passes (limit_read (Passes limits) (filled random) MAX_RUNS rows (λ r holds. (holds.0, holds.1.1.1.1.0)) refl)
@@ -141,93 +144,106 @@ seed_there : (rows : List Row) → Each (Passes limits) rows → MayHave (codes 
 seed_there rows passes = may_have (Passes limits) (codes "seed") rows _ passes (wide_read (Passes limits) (filled seed) rows (λ r holds. (holds.0, holds.1.1.1.1.1.0)) refl)
 
 -- a name that is no limit's
-abbrev is_other : Text → Bool
-is_other name = not (bytes_eq name (codes "events")) && (not (bytes_eq name (codes "nodes")) && (not (bytes_eq name (codes "states")) && (not (bytes_eq name (codes "random")) && not (bytes_eq name (codes "seed")))))
+abbrev is_other : Text → List Rule → Bool
+is_other name [] = true
+is_other name (l ∷ ls) = not (bytes_eq name l.id) && is_other name ls
 
-others : (a : Rule) → is_other a.id ≡ true → Each (Suits a) limits
-others a e =
-    let is = bytes_eq a.id in
-    go (is (codes "events")) refl (is (codes "nodes")) refl (is (codes "states")) refl (is (codes "random")) refl (is (codes "seed")) refl e
+others : (a : Rule) (ls : List Rule) → is_other a.id ls ≡ true → Each (Suits a) ls
+others a [] e = tt
+others a (l ∷ ls) e = go (bytes_eq a.id l.id) refl e (others a ls)
   where
-    go : (b : Bool) → bytes_eq a.id (codes "events") ≡ b → (d : Bool) → bytes_eq a.id (codes "nodes") ≡ d → (f : Bool) → bytes_eq a.id (codes "states") ≡ f
-        → (g : Bool) → bytes_eq a.id (codes "random") ≡ g → (h : Bool) → bytes_eq a.id (codes "seed") ≡ h
-        → (not b && (not d && (not f && (not g && not h)))) ≡ true → Each (Suits a) limits
-    go true b-is d d-is f f-is g g-is h h-is e = absurd (true≢false (sym e))
-    go false b-is true d-is f f-is g g-is h h-is e = absurd (true≢false (sym e))
-    go false b-is false d-is true f-is g g-is h h-is e = absurd (true≢false (sym e))
-    go false b-is false d-is false f-is true g-is h h-is e = absurd (true≢false (sym e))
-    go false b-is false d-is false f-is false g-is true h-is e = absurd (true≢false (sym e))
-    go false b-is false d-is false f-is false g-is false h-is e = (inl b-is, (inl d-is, (inl f-is, (inl g-is, (inl h-is, tt)))))
+    go : (b : Bool) → bytes_eq a.id l.id ≡ b → (not b && is_other a.id ls) ≡ true → (is_other a.id ls ≡ true → Each (Suits a) ls) → Each (Suits a) (l ∷ ls)
+    go true is e rest = absurd (true≢false (sym e))
+    go false is e rest = (inl is, rest e)
 
 -- each argument is plain
-makes_word : (name : Text) → is_other name ≡ true → MakesRows (Passes limits) (with_index 1 (filled (word name)))
-makes_word name other = makes limits (with_index 1 (filled (word name))) refl (others (with_index 1 (filled (word name))) other)
+makes_word : (name : Text) → is_other name limits ≡ true → MakesRows (Passes limits) (with_index 1 (filled (word name)))
+makes_word name other = makes limits (with_index 1 (filled (word name))) refl (others (with_index 1 (filled (word name))) limits other)
 
-makes_valued : (name : Text) → is_other name ≡ true → MakesRows (Passes limits) (filled (valued name))
-makes_valued name other = makes limits (filled (valued name)) refl (others (filled (valued name)) other)
+makes_valued : (name : Text) → is_other name limits ≡ true → MakesRows (Passes limits) (filled (valued name))
+makes_valued name other = makes limits (filled (valued name)) refl (others (filled (valued name)) limits other)
 
-makes_needed : (name : Text) → is_other name ≡ true → MakesRows (Passes limits) (filled (needed name))
-makes_needed name other = makes limits (filled (needed name)) refl (others (filled (needed name)) other)
+makes_needed : (name : Text) → is_other name limits ≡ true → MakesRows (Passes limits) (filled (needed name))
+makes_needed name other = makes limits (filled (needed name)) refl (others (filled (needed name)) limits other)
 
-makes_repeated : (name : Text) → is_other name ≡ true → MakesRows (Passes limits) (filled (repeated name))
-makes_repeated name other = makes limits (filled (repeated name)) refl (others (filled (repeated name)) other)
+makes_repeated : (name : Text) → is_other name limits ≡ true → MakesRows (Passes limits) (filled (repeated name))
+makes_repeated name other = makes limits (filled (repeated name)) refl (others (filled (repeated name)) limits other)
 
-makes_flag : (name : Text) → is_other name ≡ true → MakesRows (Passes limits) (filled (flag name))
-makes_flag name other = makes limits (filled (flag name)) refl (others (filled (flag name)) other)
+makes_flag : (name : Text) → is_other name limits ≡ true → MakesRows (Passes limits) (filled (flag name))
+makes_flag name other = makes limits (filled (flag name)) refl (others (filled (flag name)) limits other)
 
 makes_events : (default : Text) → MakesRows (Passes limits) (filled (events default))
-makes_events default = makes limits (filled (events default)) refl (inr (refl, refl, refl), (inl refl, (inl refl, (inl refl, (inl refl, tt)))))
+makes_events default = makes limits (filled (events default)) refl (inr (refl, refl, refl), (inl refl, (inl refl, (inl refl, (inl refl, (inl refl, tt))))))
 
 makes_nodes : (default : Text) → MakesRows (Passes limits) (filled (nodes default))
-makes_nodes default = makes limits (filled (nodes default)) refl (inl refl, (inr (refl, refl, refl), (inl refl, (inl refl, (inl refl, tt)))))
+makes_nodes default = makes limits (filled (nodes default)) refl (inl refl, (inr (refl, refl, refl), (inl refl, (inl refl, (inl refl, (inl refl, tt))))))
 
 makes_states : MakesRows (Passes limits) (filled states)
-makes_states = makes limits (filled states) refl (inl refl, (inl refl, (inr (refl, refl, refl), (inl refl, (inl refl, tt)))))
+makes_states = makes limits (filled states) refl (inl refl, (inl refl, (inr (refl, refl, refl), (inl refl, (inl refl, (inl refl, tt))))))
 
 makes_random : MakesRows (Passes limits) (filled random)
-makes_random = makes limits (filled random) refl (inl refl, (inl refl, (inl refl, (inr (refl, refl, refl), (inl refl, tt)))))
+makes_random = makes limits (filled random) refl (inl refl, (inl refl, (inl refl, (inr (refl, refl, refl), (inl refl, (inl refl, tt))))))
 
 makes_seed : MakesRows (Passes limits) (filled seed)
-makes_seed = makes limits (filled seed) refl (inl refl, (inl refl, (inl refl, (inl refl, (inr (refl, refl, refl), tt)))))
+makes_seed = makes limits (filled seed) refl (inl refl, (inl refl, (inl refl, (inl refl, (inr (refl, refl, refl), (inl refl, tt))))))
+
+makes_tries : MakesRows (Passes limits) (filled tries)
+makes_tries = makes limits (filled tries) refl (inl refl, (inl refl, (inl refl, (inl refl, (inl refl, (inr (refl, refl, refl), tt))))))
 
 makes_help : MakesRows (Passes limits) (filled help_rule)
-makes_help = makes limits (filled help_rule) refl (others (filled help_rule) refl)
+makes_help = makes limits (filled help_rule) refl (others (filled help_rule) limits refl)
+
+-- the arguments that end a subcommand, and `help` behind them
+graph_made : Each (MakesRows (Passes limits)) (map filled graph_options ++ filled help_rule ∷ [])
+graph_made = (makes_events (codes "1048576"), (makes_nodes (codes "1024"), (makes_flag (codes "certificate") refl, (makes_help, tt))))
+
+saved_made : Each (MakesRows (Passes limits)) (map filled saved_options ++ filled help_rule ∷ [])
+saved_made = (makes_valued (codes "log") refl, (makes_valued (codes "names-out") refl, graph_made))
+
+run_made : Each (MakesRows (Passes limits)) (map filled run_options ++ filled help_rule ∷ [])
+run_made = (makes_flag (codes "stop") refl, (makes_flag (codes "why") refl, saved_made))
+
+labels_made : Each (MakesRows (Passes limits)) (map filled label_options ++ filled help_rule ∷ [])
+labels_made = (makes_valued (codes "names") refl, (makes_valued (codes "not-atomic") refl, (makes_repeated (codes "ignore-lock") refl, (makes_repeated (codes "ignore-variable") refl, (makes_events (codes "16777216"), (makes_nodes (codes "4096"), (makes_help, tt)))))))
 
 -- the subcommand as it is built
-abbrev leaf : Shape → Shape
+abbrev pub leaf : Shape → Shape
 leaf s = built_leaf (inherited command_line.top s)
 
-abbrev rows_of_leaf : Shape → List Text → List Row
+abbrev pub rows_of_leaf : Shape → List Text → List Row
 rows_of_leaf s words = rows_after (leaf s).rules [] words
 
-check_right : (words : List Text) → level_fault (leaf check) [] nothing_held words false [] ≡ []
+-- words behind a subcommand that have no fault
+abbrev pub AreFaultless : Shape → List Text → Type 0
+AreFaultless s words = level_fault (leaf s) [] nothing_held words false [] ≡ []
+
+pub check_right : (words : List Text) → AreFaultless check words
     → HasWord (codes "LOG") (rows_of_leaf check words) × HasLimits (rows_of_leaf check words)
 check_right words e =
-    let level = level_has limits (leaf check) words refl (makes_word (codes "LOG") refl, (makes_valued (codes "names") refl, (makes_events (codes "1048576"), (makes_nodes (codes "1024"), (makes_flag (codes "certificate") refl, (makes_help, tt)))))) e in
-    (word_there (codes "LOG") (rows_of_leaf check words) level.passes (level.given.0 refl), limits_there (rows_of_leaf check words) level.passes (level.defaults.1.1.0 tt) (level.defaults.1.1.1.0 tt))
+    let level = level_has limits (leaf check) words refl (makes_word (codes "LOG") refl, (makes_valued (codes "names") refl, (makes_flag (codes "why") refl, graph_made))) e in
+    (word_there (codes "LOG") (rows_of_leaf check words) level.passes (level.given.0 refl), limits_there (rows_of_leaf check words) level.passes (level.defaults.1.1.1.0 tt) (level.defaults.1.1.1.1.0 tt))
 
-run_right : (words : List Text) → level_fault (leaf run) [] nothing_held words false [] ≡ []
+pub run_right : (words : List Text) → AreFaultless run words
     → HasWord (codes "FILE") (rows_of_leaf run words) × HasLimits (rows_of_leaf run words)
 run_right words e =
-    let level = level_has limits (leaf run) words refl (makes_word (codes "FILE") refl, (makes_flag (codes "stop") refl, (makes_valued (codes "log") refl, (makes_valued (codes "names-out") refl, (makes_events (codes "1048576"), (makes_nodes (codes "1024"), (makes_flag (codes "certificate") refl, (makes_help, tt)))))))) e in
-    (word_there (codes "FILE") (rows_of_leaf run words) level.passes (level.given.0 refl), limits_there (rows_of_leaf run words) level.passes (level.defaults.1.1.1.1.0 tt) (level.defaults.1.1.1.1.1.0 tt))
+    let level = level_has limits (leaf run) words refl (makes_word (codes "FILE") refl, run_made) e in
+    (word_there (codes "FILE") (rows_of_leaf run words) level.passes (level.given.0 refl), limits_there (rows_of_leaf run words) level.passes (level.defaults.1.1.1.1.1.0 tt) (level.defaults.1.1.1.1.1.1.0 tt))
 
-replay_right : (words : List Text) → level_fault (leaf replay) [] nothing_held words false [] ≡ []
+pub replay_right : (words : List Text) → AreFaultless replay words
     → HasWord (codes "FILE") (rows_of_leaf replay words) × HasLimits (rows_of_leaf replay words)
 replay_right words e =
-    let level = level_has limits (leaf replay) words refl (makes_word (codes "FILE") refl, (makes_valued (codes "schedule") refl, (makes_valued (codes "turns") refl, (makes_flag (codes "stop") refl, (makes_valued (codes "log") refl, (makes_valued (codes "names-out") refl, (makes_events (codes "1048576"), (makes_nodes (codes "1024"), (makes_flag (codes "certificate") refl, (makes_help, tt)))))))))) e in
-    (word_there (codes "FILE") (rows_of_leaf replay words) level.passes (level.given.0 refl), limits_there (rows_of_leaf replay words) level.passes (level.defaults.1.1.1.1.1.1.0 tt) (level.defaults.1.1.1.1.1.1.1.0 tt))
+    let level = level_has limits (leaf replay) words refl (makes_word (codes "FILE") refl, (makes_valued (codes "schedule") refl, (makes_valued (codes "turns") refl, run_made))) e in
+    (word_there (codes "FILE") (rows_of_leaf replay words) level.passes (level.given.0 refl), limits_there (rows_of_leaf replay words) level.passes (level.defaults.1.1.1.1.1.1.1.0 tt) (level.defaults.1.1.1.1.1.1.1.1.0 tt))
 
-explain_right : (words : List Text) → level_fault (leaf explain) [] nothing_held words false [] ≡ []
-    → HasWord (codes "LOG") (rows_of_leaf explain words)
+pub explain_right : (words : List Text) → AreFaultless explain words → HasWord (codes "LOG") (rows_of_leaf explain words)
 explain_right words e =
     let level = level_has limits (leaf explain) words refl (makes_word (codes "LOG") refl, (makes_valued (codes "dot") refl, (makes_valued (codes "names") refl, (makes_valued (codes "sites") refl, (makes_help, tt))))) e in
     word_there (codes "LOG") (rows_of_leaf explain words) level.passes (level.given.0 refl)
 
-carry_right : (words : List Text) → level_fault (leaf carry) [] nothing_held words false [] ≡ []
+pub carry_right : (words : List Text) → AreFaultless carry words
     → HasWord (codes "LOG") (rows_of_leaf carry words) × HasWord (codes "log") (rows_of_leaf carry words)
 carry_right words e =
-    let level = level_has limits (leaf carry) words refl (makes_word (codes "LOG") refl, (makes_needed (codes "log") refl, (makes_help, tt))) e in
+    let level = level_has limits (leaf carry) words refl (makes_word (codes "LOG") refl, (makes_needed (codes "log") refl, (makes_flag (codes "why") refl, (makes_help, tt)))) e in
     (word_there (codes "LOG") (rows_of_leaf carry words) level.passes (level.given.0 refl), word_there (codes "log") (rows_of_leaf carry words) level.passes (level.given.1.0 refl))
 
 -- what an exploration has besides its word
@@ -236,58 +252,38 @@ HasSearch rows =
     HasLimit (codes "states") MAX_STATES rows × HasLimits rows
     × MayHave (codes "random") rows (HasLimit (codes "random") MAX_RUNS rows) × MayHave (codes "seed") rows (HasWide (codes "seed") rows)
 
-explore_right : (words : List Text) → level_fault (leaf explore) [] nothing_held words false [] ≡ []
+pub explore_right : (words : List Text) → AreFaultless explore words
     → HasWord (codes "FILE") (rows_of_leaf explore words) × HasSearch (rows_of_leaf explore words)
 explore_right words e =
     let rows = rows_of_leaf explore words in
-    let level = level_has limits (leaf explore) words refl (makes_word (codes "FILE") refl, (makes_states, (makes_flag (codes "first") refl, (makes_flag (codes "progress") refl, (makes_random, (makes_seed, (makes_valued (codes "log") refl, (makes_valued (codes "names-out") refl, (makes_events (codes "1048576"), (makes_nodes (codes "1024"), (makes_flag (codes "certificate") refl, (makes_help, tt)))))))))))) e in
+    let level = level_has limits (leaf explore) words refl (makes_word (codes "FILE") refl, (makes_states, (makes_flag (codes "first") refl, (makes_flag (codes "progress") refl, (makes_random, (makes_seed, saved_made)))))) e in
     (word_there (codes "FILE") rows level.passes (level.given.0 refl), (states_there rows level.passes (level.defaults.1.0 tt), limits_there rows level.passes (level.defaults.1.1.1.1.1.1.1.1.0 tt) (level.defaults.1.1.1.1.1.1.1.1.1.0 tt), runs_there rows level.passes, seed_there rows level.passes))
 
-watch_right : (words : List Text) → level_fault (leaf watch) [] nothing_held words false [] ≡ []
+pub watch_right : (words : List Text) → AreFaultless watch words
     → HasWord (codes "LOG") (rows_of_leaf watch words) × HasLimits (rows_of_leaf watch words)
 watch_right words e =
-    let level = level_has limits (leaf watch) words refl (makes_word (codes "LOG") refl, (makes_valued (codes "names") refl, (makes_flag (codes "stop") refl, (makes_events (codes "1048576"), (makes_nodes (codes "1024"), (makes_flag (codes "certificate") refl, (makes_help, tt))))))) e in
-    (word_there (codes "LOG") (rows_of_leaf watch words) level.passes (level.given.0 refl), limits_there (rows_of_leaf watch words) level.passes (level.defaults.1.1.1.0 tt) (level.defaults.1.1.1.1.0 tt))
+    let level = level_has limits (leaf watch) words refl (makes_word (codes "LOG") refl, (makes_valued (codes "names") refl, (makes_flag (codes "stop") refl, (makes_flag (codes "endless") refl, graph_made)))) e in
+    (word_there (codes "LOG") (rows_of_leaf watch words) level.passes (level.given.0 refl), limits_there (rows_of_leaf watch words) level.passes (level.defaults.1.1.1.1.0 tt) (level.defaults.1.1.1.1.1.0 tt))
 
-audit_right : (words : List Text) → level_fault (leaf audit) [] nothing_held words false [] ≡ []
+pub audit_right : (words : List Text) → AreFaultless audit words
     → HasWord (codes "LOG") (rows_of_leaf audit words) × HasLimits (rows_of_leaf audit words)
 audit_right words e =
-    let level = level_has limits (leaf audit) words refl (makes_word (codes "LOG") refl, (makes_valued (codes "names") refl, (makes_valued (codes "not-atomic") refl, (makes_repeated (codes "ignore-lock") refl, (makes_repeated (codes "ignore-variable") refl, (makes_flag (codes "no-witness") refl, (makes_events (codes "16777216"), (makes_nodes (codes "4096"), (makes_help, tt))))))))) e in
+    let level = level_has limits (leaf audit) words refl (makes_word (codes "LOG") refl, (makes_flag (codes "no-witness") refl, labels_made)) e in
     (word_there (codes "LOG") (rows_of_leaf audit words) level.passes (level.given.0 refl), limits_there (rows_of_leaf audit words) level.passes (level.defaults.1.1.1.1.1.1.0 tt) (level.defaults.1.1.1.1.1.1.1.0 tt))
 
--- ---- the words
+pub thin_right : (words : List Text) → AreFaultless thin words
+    → HasWord (codes "LOG") (rows_of_leaf thin words) × HasWord (codes "log") (rows_of_leaf thin words)
+thin_right words e =
+    let level = level_has limits (leaf thin) words refl (makes_word (codes "LOG") refl, (makes_needed (codes "log") refl, (makes_valued (codes "map") refl, (makes_help, tt)))) e in
+    (word_there (codes "LOG") (rows_of_leaf thin words) level.passes (level.given.0 refl), word_there (codes "log") (rows_of_leaf thin words) level.passes (level.given.1.0 refl))
 
--- the subcommand is one of the program's, its word is there, and its limits are numbers in their ranges
-abbrev pub IsRight : Text × List Row → Type 0
-IsRight found = ((found.0 ≡ codes "check") × HasWord (codes "LOG") found.1 × HasLimits found.1)
-    ⊎ (((found.0 ≡ codes "replay") × HasWord (codes "FILE") found.1 × HasLimits found.1)
-    ⊎ (((found.0 ≡ codes "run") × HasWord (codes "FILE") found.1 × HasLimits found.1)
-    ⊎ (((found.0 ≡ codes "explain") × HasWord (codes "LOG") found.1)
-    ⊎ (((found.0 ≡ codes "carry") × HasWord (codes "LOG") found.1 × HasWord (codes "log") found.1)
-    ⊎ (((found.0 ≡ codes "explore") × HasWord (codes "FILE") found.1 × HasSearch found.1)
-    ⊎ (((found.0 ≡ codes "watch") × HasWord (codes "LOG") found.1 × HasLimits found.1)
-    ⊎ (((found.0 ≡ codes "audit") × HasWord (codes "LOG") found.1 × HasLimits found.1))))))))
+-- what a search for predictions has besides its word
+abbrev pub HasDelays : List Row → Type 0
+HasDelays rows = HasLimit (codes "tries") MAX_TRIES rows × MayHave (codes "seed") rows (HasWide (codes "seed") rows) × HasLimits rows
 
--- the subcommand is right where its level has no fault and it is not entered as `help`
-abbrev IsRightAt : Text → List Text → Shape → Type 0
-IsRightAt name words s = answers_to name (label_of s) ≡ true → level_fault s [] nothing_held words false [] ≡ [] → IsRight (rows_at s words)
-
-not_help : (name : Text) → bytes_eq name (codes "help") ≡ false → answers_to name (codes "help", []) ≡ true → ⊥
-not_help name apart hit = true≢false (sym ((bytes_eq-Decides name (codes "help")).1 (sym ((bytes_eq-Decides (codes "help") name).0 (alone (bytes_eq (codes "help") name) hit)))) ∙ apart)
-  where
-    alone : (b : Bool) → (b || false) ≡ true → b ≡ true
-    alone true e = refl
-    alone false e = e
-
-each_right : (name : Text) (words : List Text) → bytes_eq name (codes "help") ≡ false → Each (IsRightAt name words) (built command_line).subs
-each_right name words apart = (λ hit e. inl (refl, (check_right words e).0, (check_right words e).1), (λ hit e. inr (inl (refl, (replay_right words e).0, (replay_right words e).1)), (λ hit e. inr (inr (inl (refl, (run_right words e).0, (run_right words e).1))), (λ hit e. inr (inr (inr (inl (refl, explain_right words e)))), (λ hit e. inr (inr (inr (inr (inl (refl, (carry_right words e).0, (carry_right words e).1))))), (λ hit e. inr (inr (inr (inr (inr (inl (refl, (explore_right words e).0, (explore_right words e).1)))))), (λ hit e. inr (inr (inr (inr (inr (inr (inl (refl, (watch_right words e).0, (watch_right words e).1))))))), (λ hit e. inr (inr (inr (inr (inr (inr (inr ((refl, (audit_right words e).0, (audit_right words e).1)))))))), (λ hit e. absurd (not_help name apart hit), tt)))))))))
-
--- words without a fault ask for a request
-pub faultless_is_right : (words : List Text) → fault_of command_line words ≡ []
-    → (found : Text × List Row) × (subcommand_of command_line words ≡ Some found) × IsRight found
-faultless_is_right words e =
-    let at = faultless_enters (built command_line) (argument_words command_line words) refl refl e in
-    let p = at.0 in
-    let s = at.1 in
-    let is = found_has (IsRightAt p.0 p.1) (λ x. answers_to p.0 (label_of x)) (built command_line).subs s (each_right p.0 p.1 at.3) at.2 in
-    (rows_at s p.1, at.5, is.0 is.1 at.4)
+pub predict_right : (words : List Text) → AreFaultless predict words
+    → HasWord (codes "LOG") (rows_of_leaf predict words) × HasDelays (rows_of_leaf predict words)
+predict_right words e =
+    let rows = rows_of_leaf predict words in
+    let level = level_has limits (leaf predict) words refl (makes_word (codes "LOG") refl, (makes_valued (codes "log") refl, (makes_flag (codes "values") refl, (makes_tries, (makes_seed, labels_made))))) e in
+    (word_there (codes "LOG") rows level.passes (level.given.0 refl), (tries_there rows level.passes (level.defaults.1.1.1.0 tt), seed_there rows level.passes, limits_there rows level.passes (level.defaults.1.1.1.1.1.1.1.1.1.0 tt) (level.defaults.1.1.1.1.1.1.1.1.1.1.0 tt)))

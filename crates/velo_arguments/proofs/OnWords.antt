@@ -1,5 +1,5 @@
 -- What some command lines ask for, and why others ask for nothing: by computing.
-use Rattle.std.proofs.Common.{◌≡◌, ◌^◌, ◌∷◌, [], ℕ, Bool, arith, refl, subst, sym, ap, codes, true, false, List, get_or, map, nat_lt, rules, Bor}
+use Rattle.std.proofs.Common.{◌≡◌, ◌^◌, ◌∷◌, [], ℕ, Bool, arith, inl, refl, subst, sym, ap, codes, true, false, List, get_or, map, nat_lt, rules, Bor}
 use Rattle.std.specs.Prelude.{Some, None, option_map}
 use Rattle.std.specs.Str.Parse.{digits_value, without_leading_plus}
 use Rattle.std.proofs.lemmas.Bool.{ltb-true}
@@ -13,18 +13,26 @@ use Rattle.clap.specs.declared.error.kind.ErrorKind.TheVariants.{ArgumentConflic
 use Rattle.velo_request.specs.declared.request.AuditOptions.{AuditOptions}
 use Rattle.velo_request.specs.declared.request.CarryOptions.{CarryOptions}
 use Rattle.velo_request.specs.declared.request.CheckOptions.{CheckOptions}
+use Rattle.velo_request.specs.declared.request.EndlessOptions.{EndlessOptions}
 use Rattle.velo_request.specs.declared.request.ExplainOptions.{ExplainOptions}
+use Rattle.velo_request.specs.declared.request.PredictOptions.{PredictOptions}
 use Rattle.velo_request.specs.declared.request.ReplayOptions.{ReplayOptions}
 use Rattle.velo_request.specs.declared.request.RunOptions.{RunOptions}
 use Rattle.velo_request.specs.declared.request.ExploreOptions.{ExploreOptions}
 use Rattle.velo_request.specs.declared.request.ScheduleSource.TheVariants as source
+use Rattle.velo_request.specs.declared.request.TheConstants.{DEFAULT_SEED, DEFAULT_TRIES}
+use Rattle.velo_request.specs.declared.request.ThinOptions.{ThinOptions}
 use Rattle.velo_request.specs.declared.request.WatchOptions.{WatchOptions}
-use Rattle.velo_request.specs.declared.request.Request.TheVariants.{Audit, Carry, Check, Explain, Explore, Replay, Run, Watch}
+use Rattle.velo_request.specs.declared.request.Request.TheVariants.{Audit, Carry, Check, Explain, Explore, Predict, Replay, Run, Thin, Watch, WatchEndless}
 use Rattle.velo_arguments.specs.Asked.{AreTurns, AsksFor, IsFlag, IsSchedule, WritesNumber}
 use Rattle.velo_arguments.specs.CommandLine.{asked_by, faults_of}
 use Rattle.velo_arguments.specs.Together.{given_by}
 
 -- ---- right words
+
+-- a flag that is not given
+is_unset : (flag : Bool) → flag ≡ false → IsFlag (Some (codes "false")) flag
+is_unset flag is = (λ e. cc, λ e. is, λ e. is)
 
 -- a log alone, with the limits that are there by default
 abbrev check_words : List Text
@@ -35,14 +43,14 @@ unfolding faults_of walk_fault walked defaults_fault
 check_is_right = refl
 
 check_asks : (options : CheckOptions) → options.input.now ≡ codes "a" → options.limits.events ≡ 1048576 → options.limits.nodes ≡ 1024 → options.certificate ≡ false
-    → options.names ≡ None → AsksFor (asked_by check_words) (Check options)
+    → options.names ≡ None → options.why ≡ false → AsksFor (asked_by check_words) (Check options)
 unfolding asked_by walked
-check_asks options log events nodes certificate names =
-    (refl, (ap Some (sym log), search rules, search rules, ap (option_map (λ path. path.now)) (sym names)))
+check_asks options log events nodes certificate names why =
+    (refl, (ap Some (sym log), search rules, search rules, ap (option_map (λ path. path.now)) (sym names), search rules))
 
 -- a workload with all options
 abbrev run_words : List Text
-run_words = codes "velodrome" ∷ codes "run" ∷ codes "--events=5" ∷ codes "w" ∷ codes "--nodes" ∷ codes "+2" ∷ codes "--log" ∷ codes "o" ∷ codes "--stop" ∷ codes "--names-out=n" ∷ codes "--certificate" ∷ []
+run_words = codes "velodrome" ∷ codes "run" ∷ codes "--events=5" ∷ codes "w" ∷ codes "--nodes" ∷ codes "+2" ∷ codes "--log" ∷ codes "o" ∷ codes "--stop" ∷ codes "--names-out=n" ∷ codes "--why" ∷ codes "--certificate" ∷ []
 
 run_is_right : faults_of run_words ≡ []
 unfolding faults_of walk_fault walked defaults_fault
@@ -50,10 +58,10 @@ run_is_right = refl
 
 run_asks : (options : RunOptions) → options.input.now ≡ codes "w" → options.stop ≡ true → option_map (λ path. path.now) options.target ≡ Some (codes "o")
     → option_map (λ path. path.now) options.names_target ≡ Some (codes "n") → options.limits.events ≡ 5 → options.limits.nodes ≡ 2 → options.certificate ≡ true
-    → AsksFor (asked_by run_words) (Run options)
+    → options.why ≡ true → AsksFor (asked_by run_words) (Run options)
 unfolding asked_by walked
-run_asks options file stop log names events nodes certificate =
-    (refl, (ap Some (sym file), search rules, sym log, sym names, search rules, search rules))
+run_asks options file stop log names events nodes certificate why =
+    (refl, (ap Some (sym file), search rules, sym log, sym names, search rules, search rules, search rules))
 
 -- a schedule is one word, whatever it says
 abbrev replay_words : List Text
@@ -65,17 +73,17 @@ replay_is_right = refl
 
 replay_asks : (options : ReplayOptions) (text : Bor Text) → options.schedule ≡ source.Text text → text.now ≡ codes "@s" → options.run.input.now ≡ codes "-" → options.run.stop ≡ false
     → options.run.target ≡ None → options.run.names_target ≡ None → options.run.limits.events ≡ 1048576 → options.run.limits.nodes ≡ 1024 → options.run.certificate ≡ false
-    → AsksFor (asked_by replay_words) (Replay options)
+    → options.run.why ≡ false → AsksFor (asked_by replay_words) (Replay options)
 unfolding asked_by walked
-replay_asks options text schedule says file stop log names events nodes certificate = (
+replay_asks options text schedule says file stop log names events nodes certificate why = (
   refl,
   (
     subst (IsSchedule None (Some (codes "@s"))) (sym schedule) (sym says),
-    (ap Some (sym file), search rules, ap (option_map (λ path. path.now)) (sym log), ap (option_map (λ path. path.now)) (sym names), search rules, search rules),
+    (ap Some (sym file), search rules, ap (option_map (λ path. path.now)) (sym log), ap (option_map (λ path. path.now)) (sym names), search rules, search rules, search rules),
   ),
 )
 
-replay_gives : given_by (asked_by replay_words) ≡ record { states = false; seed = false; schedule = true }
+replay_gives : given_by (asked_by replay_words) ≡ record { states = false; seed = false; schedule = true; certificate = false }
 unfolding asked_by walked
 replay_gives = refl
 
@@ -89,13 +97,13 @@ bare_is_right = refl
 
 bare_asks : (options : ReplayOptions) (text : Bor Text) → options.schedule ≡ source.Text text → text.now ≡ [] → options.run.input.now ≡ codes "w" → options.run.stop ≡ false
     → options.run.target ≡ None → options.run.names_target ≡ None → options.run.limits.events ≡ 1048576 → options.run.limits.nodes ≡ 1024 → options.run.certificate ≡ false
-    → AsksFor (asked_by bare_words) (Replay options)
+    → options.run.why ≡ false → AsksFor (asked_by bare_words) (Replay options)
 unfolding asked_by walked
-bare_asks options text schedule says file stop log names events nodes certificate = (
+bare_asks options text schedule says file stop log names events nodes certificate why = (
   refl,
   (
     subst (IsSchedule None None) (sym schedule) (sym says),
-    (ap Some (sym file), search rules, ap (option_map (λ path. path.now)) (sym log), ap (option_map (λ path. path.now)) (sym names), search rules, search rules),
+    (ap Some (sym file), search rules, ap (option_map (λ path. path.now)) (sym log), ap (option_map (λ path. path.now)) (sym names), search rules, search rules, search rules),
   ),
 )
 
@@ -112,13 +120,13 @@ zero_is_no_at e = omega (arith, e)
 
 replay_turns_asks : (options : ReplayOptions) (turns : Bor Text) → options.schedule ≡ source.Turns turns → turns.now ≡ codes "0*2 1" → options.run.input.now ≡ codes "w" → options.run.stop ≡ false
     → options.run.target ≡ None → options.run.names_target ≡ None → options.run.limits.events ≡ 1048576 → options.run.limits.nodes ≡ 1024 → options.run.certificate ≡ false
-    → AsksFor (asked_by replay_turns_words) (Replay options)
+    → options.run.why ≡ false → AsksFor (asked_by replay_turns_words) (Replay options)
 unfolding asked_by walked
-replay_turns_asks options turns schedule says file stop log names events nodes certificate = (
+replay_turns_asks options turns schedule says file stop log names events nodes certificate why = (
   refl,
   (
     subst (AreTurns (codes "0*2 1")) (sym schedule) (sym says, λ path e. zero_is_no_at (ap (λ xs. get_or xs 0 0) e)),
-    (ap Some (sym file), search rules, ap (option_map (λ path. path.now)) (sym log), ap (option_map (λ path. path.now)) (sym names), search rules, search rules),
+    (ap Some (sym file), search rules, ap (option_map (λ path. path.now)) (sym log), ap (option_map (λ path. path.now)) (sym names), search rules, search rules, search rules),
   ),
 )
 
@@ -132,13 +140,13 @@ replay_file_is_right = refl
 
 replay_file_asks : (options : ReplayOptions) (path : Bor Text) → options.schedule ≡ source.File path → path.now ≡ codes "s" → options.run.input.now ≡ codes "w" → options.run.stop ≡ false
     → options.run.target ≡ None → options.run.names_target ≡ None → options.run.limits.events ≡ 1048576 → options.run.limits.nodes ≡ 1024 → options.run.certificate ≡ false
-    → AsksFor (asked_by replay_file_words) (Replay options)
+    → options.run.why ≡ false → AsksFor (asked_by replay_file_words) (Replay options)
 unfolding asked_by walked
-replay_file_asks options path schedule says file stop log names events nodes certificate = (
+replay_file_asks options path schedule says file stop log names events nodes certificate why = (
   refl,
   (
     subst (AreTurns (codes "@s")) (sym schedule) (ap (λ rest. 64 ∷ rest) (sym says)),
-    (ap Some (sym file), search rules, ap (option_map (λ path. path.now)) (sym log), ap (option_map (λ path. path.now)) (sym names), search rules, search rules),
+    (ap Some (sym file), search rules, ap (option_map (λ path. path.now)) (sym log), ap (option_map (λ path. path.now)) (sym names), search rules, search rules, search rules),
   ),
 )
 
@@ -163,18 +171,14 @@ carry_is_right : faults_of carry_words ≡ []
 unfolding faults_of walk_fault walked defaults_fault
 carry_is_right = refl
 
-carry_asks : (options : CarryOptions) → options.input.now ≡ codes "a" → options.target.now ≡ codes "b" → AsksFor (asked_by carry_words) (Carry options)
+carry_asks : (options : CarryOptions) → options.input.now ≡ codes "a" → options.target.now ≡ codes "b" → options.why ≡ false → AsksFor (asked_by carry_words) (Carry options)
 unfolding asked_by walked
-carry_asks options log out = (refl, (ap Some (sym log), ap Some (sym out)))
+carry_asks options log out why = (refl, (ap Some (sym log), ap Some (sym out), is_unset options.why why))
 
 -- a number by its digits
 writes : (text : Text) (bits n : ℕ) → accepts false (Unsigned 0 18446744073709551615) text ≡ true → nat_lt (digits_value 10 (without_leading_plus text)) (2 ^ bits) ≡ true
     → n ≡ digits_value 10 (without_leading_plus text) → WritesNumber bits (Some text) n
 writes text bits n numeral fits is = ((accepts-Accepts false (Unsigned 0 18446744073709551615) text numeral).0, ltb-true _ _ fits, is)
-
--- a flag that is not given
-is_unset : (flag : Bool) → flag ≡ false → IsFlag (Some (codes "false")) flag
-is_unset flag is = (λ e. cc, λ e. is, λ e. is)
 
 -- a workload, with the states and limits that are there by default
 abbrev explore_words : List Text
@@ -202,7 +206,7 @@ explore_asks options file states first progress random log names events nodes ce
   ),
 )
 
-explore_gives : given_by (asked_by explore_words) ≡ record { states = false; seed = false; schedule = false }
+explore_gives : given_by (asked_by explore_words) ≡ record { states = false; seed = false; schedule = false; certificate = false }
 unfolding asked_by walked
 explore_gives = refl
 
@@ -214,7 +218,7 @@ chance_is_right : faults_of chance_words ≡ []
 unfolding faults_of walk_fault walked defaults_fault
 chance_is_right = refl
 
-chance_gives : given_by (asked_by chance_words) ≡ record { states = false; seed = true; schedule = false }
+chance_gives : given_by (asked_by chance_words) ≡ record { states = false; seed = true; schedule = false; certificate = false }
 unfolding asked_by walked
 chance_gives = refl
 
@@ -230,7 +234,65 @@ watch_asks : (options : WatchOptions) → options.input.now ≡ codes "-" → op
     → options.certificate ≡ false → options.names ≡ None → AsksFor (asked_by watch_words) (Watch options)
 unfolding asked_by walked
 watch_asks options log stop events nodes certificate names =
-    (refl, (ap Some (sym log), search rules, search rules, search rules, ap (option_map (λ path. path.now)) (sym names)))
+    (refl, (search rules, search rules, (ap Some (sym log), search rules, search rules, ap (option_map (λ path. path.now)) (sym names))))
+
+-- a log of any length, and a certificate beside it
+abbrev endless_words : List Text
+endless_words = codes "velodrome" ∷ codes "watch" ∷ codes "--endless" ∷ codes "-" ∷ codes "--certificate" ∷ []
+
+endless_is_right : faults_of endless_words ≡ []
+unfolding faults_of walk_fault walked defaults_fault
+endless_is_right = refl
+
+endless_asks : (options : EndlessOptions) → options.input.now ≡ codes "-" → options.stop ≡ false → options.limits.events ≡ 1048576 → options.limits.nodes ≡ 1024
+    → options.names ≡ None → AsksFor (asked_by endless_words) (WatchEndless options)
+unfolding asked_by walked
+endless_asks options log stop events nodes names =
+    (refl, (search rules, (ap Some (sym log), search rules, search rules, ap (option_map (λ path. path.now)) (sym names))))
+
+endless_gives : given_by (asked_by endless_words) ≡ record { states = false; seed = false; schedule = false; certificate = true }
+unfolding asked_by walked
+endless_gives = refl
+
+-- a log that is thinned
+abbrev thin_words : List Text
+thin_words = codes "velodrome" ∷ codes "thin" ∷ codes "a" ∷ codes "--log=b" ∷ codes "--map" ∷ codes "p" ∷ []
+
+thin_is_right : faults_of thin_words ≡ []
+unfolding faults_of walk_fault walked defaults_fault
+thin_is_right = refl
+
+thin_asks : (options : ThinOptions) → options.input.now ≡ codes "a" → options.target.now ≡ codes "b" → option_map (λ path. path.now) options.map ≡ Some (codes "p")
+    → AsksFor (asked_by thin_words) (Thin options)
+unfolding asked_by walked
+thin_asks options log out map = (refl, (ap Some (sym log), ap Some (sym out), sym map))
+
+-- a log whose predictions are searched for, with the tries, the seed and the limits that are there by default
+abbrev predict_words : List Text
+predict_words = codes "velodrome" ∷ codes "predict" ∷ codes "a" ∷ codes "--values" ∷ codes "--log" ∷ codes "o" ∷ []
+
+predict_is_right : faults_of predict_words ≡ []
+unfolding faults_of walk_fault walked defaults_fault
+predict_is_right = refl
+
+predict_asks : (options : PredictOptions) → options.input.now ≡ codes "a" → options.names ≡ None → options.known ≡ None
+    → map (λ w. w.now) options.ignored_locks.now ≡ [] → map (λ w. w.now) options.ignored_variables.now ≡ [] → options.values ≡ true
+    → options.tries ≡ DEFAULT_TRIES → options.seed ≡ DEFAULT_SEED → option_map (λ path. path.now) options.target ≡ Some (codes "o")
+    → options.limits.events ≡ 16777216 → options.limits.nodes ≡ 4096 → AsksFor (asked_by predict_words) (Predict options)
+unfolding asked_by walked
+predict_asks options log names known locks variables values tries seed out events nodes = (
+  refl,
+  (
+    ap Some (sym log),
+    ap (option_map (λ path. path.now)) (sym names),
+    (ap (option_map (λ path. path.now)) (sym known), sym locks, sym variables),
+    search rules,
+    writes (codes "200") 32 options.tries refl refl tries,
+    inl (refl, seed),
+    sym out,
+    (writes (codes "16777216") 32 options.limits.events refl refl events, writes (codes "4096") 16 options.limits.nodes refl refl nodes),
+  ),
+)
 
 -- a log that is audited, without two locks; the limits are the greatest ones by default
 abbrev audit_words : List Text
@@ -246,7 +308,7 @@ audit_asks : (options : AuditOptions) → options.input.now ≡ codes "a" → op
 unfolding asked_by walked
 audit_asks options log names known locks variables witness events nodes = (
   refl,
-  (ap Some (sym log), ap (option_map (λ path. path.now)) (sym names), sym known, sym locks, sym variables, search rules, search rules),
+  (ap Some (sym log), ap (option_map (λ path. path.now)) (sym names), (sym known, sym locks, sym variables), search rules, search rules),
 )
 
 -- ---- wrong words, and words that ask for help
@@ -282,6 +344,14 @@ too_many_states = refl
 too_many_runs : faults_of (codes "velodrome" ∷ codes "explore" ∷ codes "w" ∷ codes "--random" ∷ codes "1000001" ∷ []) ≡ ValueValidation ∷ []
 unfolding faults_of walk_fault walked defaults_fault
 too_many_runs = refl
+
+too_many_tries : faults_of (codes "velodrome" ∷ codes "predict" ∷ codes "a" ∷ codes "--tries=1000001" ∷ []) ≡ ValueValidation ∷ []
+unfolding faults_of walk_fault walked defaults_fault
+too_many_tries = refl
+
+no_file_for_what_is_left : faults_of (codes "velodrome" ∷ codes "thin" ∷ codes "a" ∷ []) ≡ MissingRequiredArgument ∷ []
+unfolding faults_of walk_fault walked defaults_fault
+no_file_for_what_is_left = refl
 
 too_great_a_seed : faults_of (codes "velodrome" ∷ codes "explore" ∷ codes "w" ∷ codes "--random=1" ∷ codes "--seed=18446744073709551616" ∷ []) ≡ ValueValidation ∷ []
 unfolding faults_of walk_fault walked defaults_fault

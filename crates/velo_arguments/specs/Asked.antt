@@ -8,7 +8,9 @@ use Rattle.velo_request.specs.declared.request.Limits.{Limits}
 use Rattle.velo_request.specs.declared.request.AuditOptions.{AuditOptions}
 use Rattle.velo_request.specs.declared.request.CarryOptions.{CarryOptions}
 use Rattle.velo_request.specs.declared.request.CheckOptions.{CheckOptions}
+use Rattle.velo_request.specs.declared.request.EndlessOptions.{EndlessOptions}
 use Rattle.velo_request.specs.declared.request.ExploreOptions.{ExploreOptions}
+use Rattle.velo_request.specs.declared.request.PredictOptions.{PredictOptions}
 use Rattle.velo_request.specs.declared.request.RandomRuns.{RandomRuns}
 use Rattle.velo_request.specs.declared.request.RunOptions.{RunOptions}
 use Rattle.velo_request.specs.declared.request.ReplayOptions.{ReplayOptions}
@@ -16,9 +18,10 @@ use Rattle.velo_request.specs.declared.request.ScheduleSource.{ScheduleSource}
 use Rattle.velo_request.specs.declared.request.ScheduleSource.TheVariants as schedule
 use Rattle.velo_request.specs.declared.request.TheConstants.{DEFAULT_SEED}
 use Rattle.velo_request.specs.declared.request.ExplainOptions.{ExplainOptions}
+use Rattle.velo_request.specs.declared.request.ThinOptions.{ThinOptions}
 use Rattle.velo_request.specs.declared.request.WatchOptions.{WatchOptions}
 use Rattle.velo_request.specs.declared.request.Request.{Request}
-use Rattle.velo_request.specs.declared.request.Request.TheVariants.{Audit, Carry, Check, Explain, Explore, Replay, Run, Watch}
+use Rattle.velo_request.specs.declared.request.Request.TheVariants.{Audit, Carry, Check, Explain, Explore, Predict, Replay, Run, Thin, Watch, WatchEndless}
 
 -- the text writes this number, which an unsigned type of `bits` bits holds; a plus may come before
 -- it
@@ -53,6 +56,7 @@ IsCheck rows options =
     (first_of (codes "LOG") rows ≡ Some options.input.now) × AreLimits rows options.limits
     × IsFlag (one_of (codes "certificate") rows) options.certificate
     × IsPath (codes "names") rows options.names
+    × IsFlag (one_of (codes "why") rows) options.why
 
 abbrev pub IsRun : List Row → RunOptions → Type 0
 IsRun rows options =
@@ -61,6 +65,7 @@ IsRun rows options =
     × IsPath (codes "log") rows options.target
     × IsPath (codes "names-out") rows options.names_target
     × AreLimits rows options.limits × IsFlag (one_of (codes "certificate") rows) options.certificate
+    × IsFlag (one_of (codes "why") rows) options.why
 
 -- what follows an @ is the path of turns, and any other word is turns
 abbrev pub AreTurns : Text → ScheduleSource → Type 0
@@ -91,6 +96,7 @@ abbrev pub IsCarrying : List Row → CarryOptions → Type 0
 IsCarrying rows options =
     (first_of (codes "LOG") rows ≡ Some options.input.now)
     × (first_of (codes "log") rows ≡ Some options.target.now)
+    × IsFlag (one_of (codes "why") rows) options.why
 
 -- the seed that is given, or the one by default
 abbrev pub IsSeed : List Row → ℕ → Type 0
@@ -115,21 +121,54 @@ IsExploring rows options =
     × IsPath (codes "names-out") rows options.names_target
     × AreLimits rows options.limits × IsFlag (one_of (codes "certificate") rows) options.certificate
 
+-- what a watch of either kind is asked for
+abbrev pub IsWatchOf : List Row → Bor Text → Bool → Limits → Option (Bor Text) → Type 0
+IsWatchOf rows input stop limits names =
+    (first_of (codes "LOG") rows ≡ Some input.now)
+    × IsFlag (one_of (codes "stop") rows) stop
+    × AreLimits rows limits × IsPath (codes "names") rows names
+
 abbrev pub IsWatch : List Row → WatchOptions → Type 0
 IsWatch rows options =
-    (first_of (codes "LOG") rows ≡ Some options.input.now)
-    × IsFlag (one_of (codes "stop") rows) options.stop
-    × AreLimits rows options.limits × IsFlag (one_of (codes "certificate") rows) options.certificate
-    × IsPath (codes "names") rows options.names
+    IsFlag (one_of (codes "endless") rows) false
+    × IsFlag (one_of (codes "certificate") rows) options.certificate
+    × IsWatchOf rows options.input options.stop options.limits options.names
+
+abbrev pub IsEndless : List Row → EndlessOptions → Type 0
+IsEndless rows options =
+    IsFlag (one_of (codes "endless") rows) true
+    × IsWatchOf rows options.input options.stop options.limits options.names
+
+-- these are known, and these are left out
+abbrev pub AreLeftOut : List Row → Option (Bor Text) → List (Bor Text) → List (Bor Text) → Type 0
+AreLeftOut rows known locks variables =
+    IsPath (codes "not-atomic") rows known
+    × AreWords (codes "ignore-lock") rows locks
+    × AreWords (codes "ignore-variable") rows variables
 
 abbrev pub IsAudit : List Row → AuditOptions → Type 0
 IsAudit rows options =
     (first_of (codes "LOG") rows ≡ Some options.input.now)
     × IsPath (codes "names") rows options.names
-    × IsPath (codes "not-atomic") rows options.known
-    × AreWords (codes "ignore-lock") rows options.ignored_locks.now
-    × AreWords (codes "ignore-variable") rows options.ignored_variables.now
+    × AreLeftOut rows options.known options.ignored_locks.now options.ignored_variables.now
     × IsFlag (one_of (codes "no-witness") rows) (not options.witness)
+    × AreLimits rows options.limits
+
+abbrev pub IsThinning : List Row → ThinOptions → Type 0
+IsThinning rows options =
+    (first_of (codes "LOG") rows ≡ Some options.input.now)
+    × (first_of (codes "log") rows ≡ Some options.target.now)
+    × IsPath (codes "map") rows options.map
+
+abbrev pub IsPredicting : List Row → PredictOptions → Type 0
+IsPredicting rows options =
+    (first_of (codes "LOG") rows ≡ Some options.input.now)
+    × IsPath (codes "names") rows options.names
+    × AreLeftOut rows options.known options.ignored_locks.now options.ignored_variables.now
+    × IsFlag (one_of (codes "values") rows) options.values
+    × WritesNumber 32 (one_of (codes "tries") rows) options.tries
+    × IsSeed rows options.seed
+    × IsPath (codes "log") rows options.target
     × AreLimits rows options.limits
 
 -- a subcommand by its name, with the values of its arguments
@@ -146,7 +185,10 @@ AsksFor (Some found) (Explain options) = (found.0 ≡ codes "explain") × IsExpl
 AsksFor (Some found) (Carry options) = (found.0 ≡ codes "carry") × IsCarrying found.1 options
 AsksFor (Some found) (Explore options) = (found.0 ≡ codes "explore") × IsExploring found.1 options
 AsksFor (Some found) (Watch options) = (found.0 ≡ codes "watch") × IsWatch found.1 options
+AsksFor (Some found) (WatchEndless options) = (found.0 ≡ codes "watch") × IsEndless found.1 options
 AsksFor (Some found) (Audit options) = (found.0 ≡ codes "audit") × IsAudit found.1 options
+AsksFor (Some found) (Thin options) = (found.0 ≡ codes "thin") × IsThinning found.1 options
+AsksFor (Some found) (Predict options) = (found.0 ≡ codes "predict") × IsPredicting found.1 options
 
 -- no request is asked for
 abbrev pub AsksForNothing : Asked → Type 0

@@ -1,5 +1,5 @@
 -- What the command line of the program is.
-use Rattle.std.specs.Prelude.{◌≡◌, List, [], ◌∷◌, Option, Some, true, false, pos, codes, fold}
+use Rattle.std.specs.Prelude.{◌≡◌, ℕ, List, [], ◌∷◌, Option, Some, true, false, pos, codes, fold}
 use Rattle.clap.specs.Words.{App, Kinds, Row, Rule, Shape, Text, app_of, fault_of, new_rule, rule_of, shape_of, subcommand_of, with_rule}
 use Rattle.clap.specs.Simple.{new_shape}
 use Rattle.clap.specs.declared.builder.action.ArgAction.TheVariants.{Append, Set, SetTrue}
@@ -8,7 +8,7 @@ use Rattle.clap.specs.declared.builder.command.Command.{Command}
 use Rattle.clap.specs.declared.builder.command.Command.TheViews.{out-Command}
 use Rattle.clap.specs.declared.builder.value_parser.ValueParser.TheVariants.{Signed, Unsigned}
 use Rattle.velo_events.specs.declared.limits.TheConstants.{MAX_EVENTS, MAX_NODES}
-use Rattle.velo_request.specs.declared.request.TheConstants.{MAX_RUNS, MAX_STATES}
+use Rattle.velo_request.specs.declared.request.TheConstants.{MAX_RUNS, MAX_STATES, MAX_TRIES}
 
 -- ---- the arguments
 
@@ -32,32 +32,31 @@ repeated name = record (valued name) { action = Some Append }
 abbrev pub flag : Text → Rule
 flag name = record (new_rule name) { long = Some name; action = Some SetTrue }
 
+-- an option with a number from 1 to `most`
+abbrev pub numbered : Text → ℕ → Rule
+numbered name most = record (valued name) { parser = Some (Signed (pos 1) (pos most)) }
+
 -- the most events of a log, with this default
 abbrev pub events : Text → Rule
-events default = record (valued (codes "events")) {
-  parser = Some (Signed (pos 1) (pos MAX_EVENTS));
-  defaults = default ∷ [];
-}
+events default = record (numbered (codes "events") MAX_EVENTS) { defaults = default ∷ [] }
 
 -- the most nodes of a graph, with this default
 abbrev pub nodes : Text → Rule
-nodes default = record (valued (codes "nodes")) {
-  parser = Some (Signed (pos 1) (pos MAX_NODES));
-  defaults = default ∷ [];
-}
+nodes default = record (numbered (codes "nodes") MAX_NODES) { defaults = default ∷ [] }
 
 -- the most states of a search
 abbrev pub states : Rule
-states = record (valued (codes "states")) {
-  parser = Some (Signed (pos 1) (pos MAX_STATES));
-  defaults = codes "2097152" ∷ [];
-}
+states = record (numbered (codes "states") MAX_STATES) { defaults = codes "2097152" ∷ [] }
+
+-- how many delays are tried for each label in a round
+abbrev pub tries : Rule
+tries = record (numbered (codes "tries") MAX_TRIES) { defaults = codes "200" ∷ [] }
 
 -- how many random runs, if they are asked for
 abbrev pub random : Rule
-random = record (valued (codes "random")) { parser = Some (Signed (pos 1) (pos MAX_RUNS)) }
+random = numbered (codes "random") MAX_RUNS
 
--- the seed of random runs, which 64 bits hold
+-- a seed, which 64 bits hold
 abbrev pub seed : Rule
 seed = record (valued (codes "seed")) { parser = Some (Unsigned 0 18446744073709551615) }
 
@@ -72,12 +71,20 @@ saved_options = valued (codes "log") ∷ valued (codes "names-out") ∷ graph_op
 
 -- the options of each command that runs a workload
 abbrev pub run_options : List Rule
-run_options = flag (codes "stop") ∷ saved_options
+run_options = flag (codes "stop") ∷ flag (codes "why") ∷ saved_options
 
 -- the options of each command that searches
 abbrev pub search_options : List Rule
 search_options =
     states ∷ flag (codes "first") ∷ flag (codes "progress") ∷ random ∷ seed ∷ saved_options
+
+-- the options of each command that goes by labels: what is known or left out, and the greatest limits
+-- by default
+abbrev pub label_options : List Rule
+label_options =
+    valued (codes "names") ∷ valued (codes "not-atomic")
+    ∷ repeated (codes "ignore-lock") ∷ repeated (codes "ignore-variable")
+    ∷ events (codes "16777216") ∷ nodes (codes "4096") ∷ []
 
 -- ---- the subcommands
 
@@ -85,7 +92,8 @@ abbrev pub subcommand : Text → List Rule → Shape
 subcommand name rules = record (new_shape name) { rules = rules }
 
 abbrev pub check : Shape
-check = subcommand (codes "check") (word (codes "LOG") ∷ valued (codes "names") ∷ graph_options)
+check = subcommand (codes "check")
+    (word (codes "LOG") ∷ valued (codes "names") ∷ flag (codes "why") ∷ graph_options)
 
 abbrev pub replay : Shape
 replay = subcommand (codes "replay")
@@ -100,22 +108,29 @@ explain = subcommand (codes "explain")
     ∷ valued (codes "sites") ∷ [])
 
 abbrev pub carry : Shape
-carry = subcommand (codes "carry") (word (codes "LOG") ∷ needed (codes "log") ∷ [])
+carry = subcommand (codes "carry")
+    (word (codes "LOG") ∷ needed (codes "log") ∷ flag (codes "why") ∷ [])
 
 abbrev pub explore : Shape
 explore = subcommand (codes "explore") (word (codes "FILE") ∷ search_options)
 
 abbrev pub watch : Shape
 watch = subcommand (codes "watch")
-    (word (codes "LOG") ∷ valued (codes "names") ∷ flag (codes "stop") ∷ graph_options)
+    (word (codes "LOG") ∷ valued (codes "names") ∷ flag (codes "stop") ∷ flag (codes "endless")
+    ∷ graph_options)
 
--- the greatest limits by default
 abbrev pub audit : Shape
-audit = subcommand (codes "audit")
-    (word (codes "LOG") ∷ valued (codes "names") ∷ valued (codes "not-atomic")
-    ∷ repeated (codes "ignore-lock") ∷ repeated (codes "ignore-variable")
-    ∷ flag (codes "no-witness")
-    ∷ events (codes "16777216") ∷ nodes (codes "4096") ∷ [])
+audit =
+    subcommand (codes "audit") (word (codes "LOG") ∷ flag (codes "no-witness") ∷ label_options)
+
+abbrev pub thin : Shape
+thin = subcommand (codes "thin")
+    (word (codes "LOG") ∷ needed (codes "log") ∷ valued (codes "map") ∷ [])
+
+abbrev pub predict : Shape
+predict = subcommand (codes "predict")
+    (word (codes "LOG") ∷ valued (codes "log") ∷ flag (codes "values") ∷ tries ∷ seed
+    ∷ label_options)
 
 -- the program before it has its subcommands
 abbrev pub bare : App
@@ -132,7 +147,8 @@ command_line = record {
     has_version = true;
     subcommand_required = true;
   };
-  subs = check ∷ replay ∷ run ∷ explain ∷ carry ∷ explore ∷ watch ∷ audit ∷ [];
+  subs =
+      check ∷ replay ∷ run ∷ explain ∷ carry ∷ explore ∷ watch ∷ audit ∷ thin ∷ predict ∷ [];
 }
 
 -- ---- what it makes of words

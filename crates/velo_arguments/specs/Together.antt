@@ -4,16 +4,18 @@ use Rattle.std.specs.Borrow.{Bor}
 use Rattle.std.specs.Option.{option_or}
 use Rattle.std.specs.Str.{bytes_eq}
 use Rattle.clap.specs.Takes.{is_given}
+use Rattle.clap.specs.Words.{Row}
+use Rattle.velo_request.specs.declared.request.EndlessOptions.{EndlessOptions}
 use Rattle.velo_request.specs.declared.request.ExploreOptions.{ExploreOptions}
 use Rattle.velo_request.specs.declared.request.RandomRuns.{RandomRuns}
 use Rattle.velo_request.specs.declared.request.ReplayOptions.{ReplayOptions}
 use Rattle.velo_request.specs.declared.request.Request.{Request}
-use Rattle.velo_request.specs.declared.request.Request.TheVariants.{Audit, Carry, Check, Explain, Explore, Replay, Run, Watch}
+use Rattle.velo_request.specs.declared.request.Request.TheVariants.{Audit, Carry, Check, Explain, Explore, Predict, Replay, Run, Thin, Watch, WatchEndless}
 use Rattle.velo_request.specs.declared.request.ScheduleSource.{ScheduleSource}
 use Rattle.velo_request.specs.declared.request.ScheduleSource.TheVariants as schedule
 use Rattle.velo_arguments.specs.Asked.{Asked, AsksFor}
 use Rattle.velo_arguments.specs.declared.together.Clash.{Clash}
-use Rattle.velo_arguments.specs.declared.together.Clash.TheVariants.{InputTwice, NamesWithoutLog, OnePath, SearchByChance, SeedAlone, TwoSchedules}
+use Rattle.velo_arguments.specs.declared.together.Clash.TheVariants.{EndlessCertificate, InputTwice, MapIsLog, NamesWithoutLog, OnePath, SearchByChance, SeedAlone, TwoSchedules}
 use Rattle.velo_arguments.specs.declared.together.Given.{Given}
 
 -- ---- paths
@@ -41,16 +43,25 @@ clash_of_targets None (Some names) = Some NamesWithoutLog
 clash_of_targets (Some log) (Some names) =
     if bytes_eq log.now names.now then Some OnePath else None
 
+-- the map of a thinned log is saved at the path of the log
+abbrev pub clash_of_map : List ℕ → Option (Bor (List ℕ)) → Option Clash
+clash_of_map log None = None
+clash_of_map log (Some map) = if bytes_eq log map.now then Some MapIsLog else None
+
 -- ---- what the words give
 
--- which of the options that a request does not show are given
-abbrev pub given_by : Asked → Given
-given_by None = record { states = false; seed = false; schedule = false }
-given_by (Some found) = record {
-  states = is_given (codes "states") found.1;
-  seed = is_given (codes "seed") found.1;
-  schedule = is_given (codes "schedule") found.1;
+-- which of the options that a request does not show are given by the values of a subcommand
+abbrev pub given_in : List Row → Given
+given_in rows = record {
+  states = is_given (codes "states") rows;
+  seed = is_given (codes "seed") rows;
+  schedule = is_given (codes "schedule") rows;
+  certificate = is_given (codes "certificate") rows;
 }
+
+abbrev pub given_by : Asked → Given
+given_by None = record { states = false; seed = false; schedule = false; certificate = false }
+given_by (Some found) = given_in found.1
 
 -- ---- a replay
 
@@ -79,6 +90,15 @@ abbrev pub clash_of_search : ExploreOptions → Given → Option Clash
 clash_of_search options given =
     clash_of_chance options.random (given.states || (options.first || options.progress)) given.seed
 
+-- ---- an endless watch
+
+-- it has a certificate, for which the whole log is needed; or standard input is read twice
+abbrev pub clash_of_endless : EndlessOptions → Bool → Option Clash
+clash_of_endless options has_certificate =
+    if has_certificate
+    then Some EndlessCertificate
+    else clash_of_inputs (options.input.now ∷ path_if options.names)
+
 -- ---- any request
 
 -- why the options of a request do not go together, if they do not, where the words give these
@@ -93,7 +113,11 @@ clash_of (Explore options) given =
     option_or (clash_of_search options given)
     (clash_of_targets options.target options.names_target)
 clash_of (Watch options) given = clash_of_inputs (options.input.now ∷ path_if options.names)
+clash_of (WatchEndless options) given = clash_of_endless options given.certificate
 clash_of (Audit options) given =
+    clash_of_inputs (options.input.now ∷ path_if options.names ++ path_if options.known)
+clash_of (Thin options) given = clash_of_map options.target.now options.map
+clash_of (Predict options) given =
     clash_of_inputs (options.input.now ∷ path_if options.names ++ path_if options.known)
 
 -- the request that is asked for, whose options go together
@@ -115,3 +139,5 @@ line_of_clash SearchByChance =
     codes "error: --random goes with neither --states nor --first nor --progress\n"
 line_of_clash TwoSchedules = codes "error: --schedule does not go with --turns\n"
 line_of_clash SeedAlone = codes "error: --seed goes only with --random\n"
+line_of_clash MapIsLog = codes "error: OUT and MAP are one file\n"
+line_of_clash EndlessCertificate = codes "error: --endless does not go with --certificate\n"

@@ -35,6 +35,9 @@ The names: each line is 'thread N NAME', 'variable N NAME', 'lock N NAME' or 'la
 or a comment that begins with '#'. With --names they are read before the log, and the report has the
 names of threads and labels after their numbers. Only one of LOG and FILE can be -.
 
+With --why words come before the line on standard error: the path, the line and its text, and what is
+wrong with it.
+
 Statuses, each with the lines on standard error:
   0  no alarm, or help
   2  usage; 'error: standard input can be read once'; the text is no log: 'log fault K',
@@ -101,6 +104,9 @@ The names: --names-out writes the names of the workload to NAMES, after the log,
 FILE, OUT and NAMES must be different files; otherwise the command stops before it writes to them.
 Standard input is not compared with OUT and NAMES.
 
+With --why words come before the line on standard error: the path, the line and its text, and what is
+wrong with it.
+
 Statuses, each with the lines on standard error:
   0  the run ended without an alarm, or help
   2  usage; 'error: standard input can be read once'; 'error: --names-out goes only with --log';
@@ -138,6 +144,9 @@ The names: --names-out writes the names of the workload to NAMES, after the log,
 
 FILE, OUT and NAMES must be different files; otherwise the command stops before it writes to them.
 Standard input is not compared with OUT and NAMES.
+
+With --why words come before the line on standard error: the path, the line and its text, and what is
+wrong with it.
 
 Statuses, each with the lines on standard error:
   0  the run ended without an alarm, or help
@@ -200,6 +209,9 @@ is no log, OUT stays empty.
 
 LOG and OUT must be different files; otherwise the command stops before it writes. Standard input is
 not compared with OUT: if it comes from that file, the log is lost.
+
+With --why words come before the line on standard error: the path, the line and its text, and what is
+wrong with it.
 
 Statuses, each with the lines on standard error:
   0  done, or help
@@ -278,11 +290,17 @@ their numbers. The line of the alarm has numbers alone. Only one of LOG and FILE
 LOG is a pipe, a FIFO or a regular file. A regular file is read to its end. To follow one that grows:
 tail -c +1 -f LOG | velodrome watch -
 
+With --endless the log may be of any length, and no more events are kept than --events. Where no thread
+has a block open, a few events that leave the same values, locks and threads replace what came before.
+The alarm, the report and the lines on standard error are those of the whole log. 'refused 17 at P' comes
+only if a block stays open for too many events, or if the values and locks alone are too many.
+
 Statuses, each with the lines on standard error:
   0  no alarm, or help
-  2  usage; 'error: standard input can be read once'; the text is no log: 'log fault K',
-     'log fault K line N'; an event cannot happen: 'refused K at P', 'wrong value at P'; the text of
-     --names is no file of names: 'names fault K line N'
+  2  usage; 'error: standard input can be read once'; 'error: --endless does not go with
+     --certificate'; the text is no log: 'log fault K', 'log fault K line N'; an event cannot happen:
+     'refused K at P', 'wrong value at P'; the text of --names is no file of names:
+     'names fault K line N'
   3  an alarm: no serial reordering of the log exists
   4  a limit was met: 'refused 17 at P', 'refused 18 at P'
   5  memory or a device failed: 'out of memory', 'read failed', 'write failed', 'cannot open'
@@ -334,3 +352,80 @@ Statuses, each with the lines on standard error:
   5  memory or a device failed: 'out of memory', 'read failed', 'write failed', 'cannot open'
 
 Log, names, faults and refusals: see 'velodrome check --help'.";
+
+/// After the help of `thin`.
+pub const OF_THIN: &str = "\
+Example, a variable that one thread uses:
+  printf 'vlog 2 1 1 0\\n0 begin 7\\n0 wr 0 1\\n0 rd 0 1\\n0 end\\n' | velodrome thin - --log small.log
+It prints 'events 4 to 2' and 'variables 1 to 0', and writes what is left to small.log: the begin and
+the end.
+
+First go all accesses to a variable where the rest of the log keeps the conflicting ones in order, by
+locks, forks, joins and each thread's own order: such a variable has no race. Then an access goes that
+repeats the one just before it of its thread, if no begin, no end and no conflicting access is between
+them. All other events stay, in their order.
+
+What is left is judged as LOG is: the verdict is the same, the same event closes the first cycle, the
+same blocks are to blame, and 'velodrome audit' finds the same labels. Threads, variables, locks and
+labels keep their numbers, so a file of names still fits. Positions and lines are those of OUT. MAP gets
+a line for each event of OUT: its position in LOG, from 0. Do not give OUT to 'velodrome predict', which
+needs all reads.
+
+LOG, OUT and MAP must be different files; otherwise the command stops before it writes. Standard input
+is not compared with OUT and MAP. If LOG has a fault, or an event that cannot happen, OUT and MAP are
+not opened. LOG may have up to 16777216 events.
+
+Statuses, each with the lines on standard error:
+  0  done, whatever the verdict, or help
+  2  usage; 'error: LOG and OUT are one file', the same of LOG and MAP, and of OUT and MAP; the text
+     is no log: 'log fault K', 'log fault K line N'; an event cannot happen: 'refused K at P',
+     'wrong value at P'
+  5  memory or a device failed: 'out of memory', 'read failed', 'write failed', 'cannot open'
+
+Log, faults and refusals: see 'velodrome check --help'.";
+
+/// After the help of `predict`.
+pub const OF_PREDICT: &str = "\
+Example, two threads that take one lock twice in a block, one thread after the other:
+  printf 'vlog 2 2 1 1\\n0 fork 1\\n0 begin 7\\n0 acq 0\\n0 rd 0 0\\n0 rel 0\\n0 acq 0\\n0 wr 0 5\\n0 rel 0\\n0 end\\n' > log
+  printf '1 begin 7\\n1 acq 0\\n1 rd 0 5\\n1 rel 0\\n1 acq 0\\n1 wr 0 6\\n1 rel 0\\n1 end\\n' >> log
+  velodrome predict log --log witness.log
+'velodrome check' has no alarm for this log. This command reports that label 7 is not atomic in another
+run, with status 3. 'velodrome explain witness.log' shows how.
+
+It reads and judges the whole log first, and finds the labels that are not atomic in this run, as
+'velodrome audit' does. Then it looks for more that are not atomic in other runs of the same program: it
+delays one thread within a block, or two, and lets the others go on. A witness is such an order that the
+program is known to have: each thread does what it did in the log while it reads what it read there;
+after a read of another value it is only known to release the locks that it holds. The labels that a
+witness blames are left out in the next round. The last round finds nothing.
+
+It prints what 'velodrome audit' prints, up to the last witness. Then come for each prediction
+'not atomic? L' for each block to blame, 'witness N events', a line for each read that had another value
+in the log, and the cycle. Lines are those of the witness. The last line is 'nothing found in N tries',
+or 'nothing else found in N tries': it never says that there is nothing.
+
+Predictions are right for a program whose threads do what follows from what they read, whose critical
+sections end, and of which the log has every read. So do not thin the log. Without --values two reads
+have the same value where they read from the same write, and values in the witness are lines of the log.
+Give --values if the values in the log are those of the program.
+
+--names, --not-atomic, --ignore-lock and --ignore-variable are those of 'velodrome audit'. Only one of
+LOG and the FILEs can be -. The same seed tries the same delays.
+
+LOG and OUT must be different files; otherwise the command stops before it writes. Standard input is
+not compared with OUT. If nothing is predicted, OUT is not opened.
+
+Statuses, each with the lines on standard error:
+  0  nothing was found, or help
+  2  usage; 'error: standard input can be read once'; 'error: LOG and OUT are one file'; the text is
+     no log: 'log fault K', 'log fault K line N'; an event cannot happen: 'refused K at P',
+     'wrong value at P'; the text of --names is no file of names: 'names fault K line N'; the text of
+     --not-atomic is no list: 'list fault K line N'; a word of --ignore-lock or --ignore-variable means
+     nothing: 'ignored fault K'
+  3  a label was found whose blocks are not atomic, in this run or in another
+  4  a limit was met: 'refused 17 at P', 'refused 18 at P'
+  5  memory or a device failed: 'out of memory', 'read failed', 'write failed', 'cannot open'
+
+Lists, ignored words: see 'velodrome audit --help'. Log, names, faults and refusals: see
+'velodrome check --help'.";

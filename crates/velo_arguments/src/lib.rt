@@ -4,6 +4,7 @@
 mod arguments;
 mod growth;
 pub mod help;
+mod options;
 mod requests;
 mod together;
 

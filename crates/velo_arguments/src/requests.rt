@@ -6,21 +6,37 @@ ghost use Rattle.velo_request.specs.declared.request.AuditOptions.{AuditOptions}
 ghost use Rattle.velo_request.specs.declared.request.CarryOptions.{CarryOptions};
 ghost use Rattle.velo_request.specs.declared.request.CheckOptions.{CheckOptions};
 ghost use Rattle.velo_request.specs.declared.request.ExplainOptions.{ExplainOptions};
+ghost use Rattle.velo_request.specs.declared.request.EndlessOptions.{EndlessOptions};
 ghost use Rattle.velo_request.specs.declared.request.ExploreOptions.{ExploreOptions};
+ghost use Rattle.velo_request.specs.declared.request.PredictOptions.{PredictOptions};
 ghost use Rattle.velo_request.specs.declared.request.RandomRuns.{RandomRuns};
 ghost use Rattle.velo_request.specs.declared.request.ReplayOptions.{ReplayOptions};
 ghost use Rattle.velo_request.specs.declared.request.RunOptions.{RunOptions};
-ghost use Rattle.velo_request.specs.declared.request.TheConstants.{MAX_STATES};
+ghost use Rattle.velo_request.specs.declared.request.ThinOptions.{ThinOptions};
 ghost use Rattle.velo_request.specs.declared.request.WatchOptions.{WatchOptions};
-ghost use Rattle.velo_arguments.specs.Asked.{AreLimits, AreRandomRuns, AreTurns, AsksFor, AsksForNothing, IsAudit, IsCarrying, IsCheck, IsExplanation, IsExploring, IsReplay, IsRun, IsSchedule, IsSeed, IsWatch, WritesNumber};
+ghost use Rattle.velo_arguments.specs.Asked.{AreLeftOut, AreLimits, AreRandomRuns, AreTurns, AsksFor, AsksForNothing, IsAudit, IsCarrying, IsCheck, IsEndless, IsExplanation, IsExploring, IsPredicting, IsReplay, IsRun, IsSchedule, IsSeed, IsThinning, IsWatch, WritesNumber};
 
 use clap::ArgMatches;
 use velo_events::{MAX_EVENTS, MAX_NODES};
 use velo_request::{
-    AuditOptions, CarryOptions, CheckOptions, DEFAULT_SEED, ExplainOptions, ExploreOptions, Limits,
-    MAX_RUNS, MAX_STATES, RandomRuns, ReplayOptions, Request, RunOptions, ScheduleSource,
-    WatchOptions,
+    AuditOptions, CarryOptions, CheckOptions, DEFAULT_SEED, EndlessOptions, ExplainOptions,
+    ExploreOptions, Limits, MAX_RUNS, MAX_STATES, MAX_TRIES, PredictOptions, RandomRuns,
+    ReplayOptions, Request, RunOptions, ScheduleSource, ThinOptions, WatchOptions,
 };
+
+/// Reads a number from 1 to `most`; none where it is missing or out of this range.
+fn number_of(found: &ArgMatches, option: &str, most: u32) -> Option<u32>
+    ensures some { IfSome result (λ n. (1 ≤ n) × (n ≤ most)
+        × WritesNumber 32 (one_of option.now (rows_of (found_of found.now))) n) }
+    ensures none { IfNone result ((n : ℕ) → 1 ≤ n → n ≤ most
+        → ¬ WritesNumber 32 (one_of option.now (rows_of (found_of found.now))) n) }
+{
+    let number = found.get_one::<u32>(option)?;
+    if number < 1 || number > most {
+        return None;
+    }
+    Some(number)
+}
 
 /// Reads the limits from the matches of a subcommand; none where one is out of its range.
 fn limits_of<'a>(found: &ArgMatches<'a>) -> Option<Limits>
@@ -28,9 +44,9 @@ fn limits_of<'a>(found: &ArgMatches<'a>) -> Option<Limits>
     ensures none { IfNone result ((limits : Limits)
         → ¬ AreLimits (rows_of (found_of found.now)) limits) }
 {
-    let events = found.get_one::<u32>("events")?;
+    let events = number_of(found, "events", MAX_EVENTS)?;
     let nodes = found.get_one::<u16>("nodes")?;
-    if events < 1 || events > MAX_EVENTS || nodes < 1 || nodes > MAX_NODES {
+    if nodes < 1 || nodes > MAX_NODES {
         return None;
     }
     Some(Limits { events, nodes })
@@ -46,6 +62,7 @@ fn check_options<'a>(found: &ArgMatches<'a>) -> Option<CheckOptions<'a>>
         limits: limits_of(found)?,
         certificate: found.get_flag("certificate"),
         names: found.get_str("names"),
+        why: found.get_flag("why"),
     })
 }
 
@@ -93,6 +110,7 @@ fn run_options<'a>(found: &ArgMatches<'a>) -> Option<RunOptions<'a>>
         names_target: found.get_str("names-out"),
         limits: limits_of(found)?,
         certificate: found.get_flag("certificate"),
+        why: found.get_flag("why"),
     })
 }
 
@@ -117,24 +135,11 @@ fn carry_options<'a>(found: &ArgMatches<'a>) -> Option<CarryOptions<'a>>
     Some(CarryOptions {
         input: found.get_str("LOG")?,
         target: found.get_str("log")?,
+        why: found.get_flag("why"),
     })
 }
 
-/// Reads the most states of a search; none where it is out of its range.
-fn states_of(found: &ArgMatches) -> Option<u32>
-    ensures some { IfSome result (λ states. (1 ≤ states) × (states ≤ MAX_STATES)
-        × WritesNumber 32 (one_of (codes "states") (rows_of (found_of found.now))) states) }
-    ensures none { IfNone result ((states : ℕ) → 1 ≤ states → states ≤ MAX_STATES
-        → ¬ WritesNumber 32 (one_of (codes "states") (rows_of (found_of found.now))) states) }
-{
-    let states = found.get_one::<u32>("states")?;
-    if states < 1 || states > MAX_STATES {
-        return None;
-    }
-    Some(states)
-}
-
-/// Reads the seed of random runs; none where it is no number that 64 bits hold.
+/// Reads the seed; none where it is no number that 64 bits hold.
 fn seed_of(found: &ArgMatches) -> Option<u64>
     ensures some { IfSome result (IsSeed (rows_of (found_of found.now))) }
     ensures none { IfNone result ((seed : ℕ) → ¬ IsSeed (rows_of (found_of found.now)) seed) }
@@ -152,12 +157,10 @@ fn random_of(found: &ArgMatches) -> Option<RandomRuns>
     ensures none { IfNone result ((random : RandomRuns)
         → ¬ AreRandomRuns (rows_of (found_of found.now)) (Some random)) }
 {
-    let runs = found.get_one::<u32>("random")?;
-    let seed = seed_of(found)?;
-    if runs < 1 || runs > MAX_RUNS {
-        return None;
-    }
-    Some(RandomRuns { runs, seed })
+    Some(RandomRuns {
+        runs: number_of(found, "random", MAX_RUNS)?,
+        seed: seed_of(found)?,
+    })
 }
 
 /// Reads the random runs, if they are asked for; none where one of their numbers is out of its
@@ -180,7 +183,7 @@ fn explore_options<'a>(found: &ArgMatches<'a>) -> Option<ExploreOptions<'a>>
 {
     Some(ExploreOptions {
         input: found.get_str("FILE")?,
-        states: states_of(found)?,
+        states: number_of(found, "states", MAX_STATES)?,
         first: found.get_flag("first"),
         progress: found.get_flag("progress"),
         random: random_if(found)?,
@@ -191,18 +194,54 @@ fn explore_options<'a>(found: &ArgMatches<'a>) -> Option<ExploreOptions<'a>>
     })
 }
 
-fn watch_options<'a>(found: &ArgMatches<'a>) -> Option<WatchOptions<'a>>
-    ensures some { IfSome result (IsWatch (rows_of (found_of found.now))) }
-    ensures none { IfNone result ((options : WatchOptions)
-        → ¬ IsWatch (rows_of (found_of found.now)) options) }
+/// What a watch is asked for, endless or not; none where its word is missing or a limit is out of
+/// its range.
+fn watch_request<'a>(found: &ArgMatches<'a>) -> Option<Request<'a>>
+    ensures some { IfSome result (AsksFor (Some (codes "watch", rows_of (found_of found.now)))) }
+    ensures none { IfNone result
+        (((options : WatchOptions) → ¬ IsWatch (rows_of (found_of found.now)) options)
+        × ((options : EndlessOptions) → ¬ IsEndless (rows_of (found_of found.now)) options)) }
 {
-    Some(WatchOptions {
-        input: found.get_str("LOG")?,
-        stop: found.get_flag("stop"),
-        limits: limits_of(found)?,
-        certificate: found.get_flag("certificate"),
-        names: found.get_str("names"),
-    })
+    let input = found.get_str("LOG")?;
+    let limits = limits_of(found)?;
+    let stop = found.get_flag("stop");
+    let names = found.get_str("names");
+    if found.get_flag("endless") {
+        return Some(Request::WatchEndless(EndlessOptions {
+            input,
+            stop,
+            limits,
+            names,
+        }));
+    }
+    let certificate = found.get_flag("certificate");
+    Some(Request::Watch(WatchOptions {
+        input,
+        stop,
+        limits,
+        certificate,
+        names,
+    }))
+}
+
+/// The labels that are known already, and the locks and variables that are left out.
+#[derive(Clone, Copy)]
+struct LeftOut<'a> {
+    known: Option<&'a str>,
+    locks: &'a [&'a str],
+    variables: &'a [&'a str],
+}
+
+/// What is known and left out where a command goes by labels.
+fn left_out<'a>(found: &'a ArgMatches) -> LeftOut<'a>
+    ensures { AreLeftOut (rows_of (found_of found.now))
+        result.known result.locks.now result.variables.now }
+{
+    LeftOut {
+        known: found.get_str("not-atomic"),
+        locks: found.get_strs("ignore-lock").unwrap_or(&[]),
+        variables: found.get_strs("ignore-variable").unwrap_or(&[]),
+    }
 }
 
 fn audit_options<'a>(found: &'a ArgMatches) -> Option<AuditOptions<'a>>
@@ -210,13 +249,47 @@ fn audit_options<'a>(found: &'a ArgMatches) -> Option<AuditOptions<'a>>
     ensures none { IfNone result ((options : AuditOptions)
         → ¬ IsAudit (rows_of (found_of found.now)) options) }
 {
+    let left = left_out(found);
     Some(AuditOptions {
         input: found.get_str("LOG")?,
         names: found.get_str("names"),
-        known: found.get_str("not-atomic"),
-        ignored_locks: found.get_strs("ignore-lock").unwrap_or(&[]),
-        ignored_variables: found.get_strs("ignore-variable").unwrap_or(&[]),
+        known: left.known,
+        ignored_locks: left.locks,
+        ignored_variables: left.variables,
         witness: !found.get_flag("no-witness"),
+        limits: limits_of(found)?,
+    })
+}
+
+fn thin_options<'a>(found: &ArgMatches<'a>) -> Option<ThinOptions<'a>>
+    ensures some { IfSome result (IsThinning (rows_of (found_of found.now))) }
+    ensures none { IfNone result ((options : ThinOptions)
+        → ¬ IsThinning (rows_of (found_of found.now)) options) }
+{
+    let target = found.get_str("log")?;
+    Some(ThinOptions {
+        input: found.get_str("LOG")?,
+        target,
+        map: found.get_str("map"),
+    })
+}
+
+fn predict_options<'a>(found: &'a ArgMatches) -> Option<PredictOptions<'a>>
+    ensures some { IfSome result (IsPredicting (rows_of (found_of found.now))) }
+    ensures none { IfNone result ((options : PredictOptions)
+        → ¬ IsPredicting (rows_of (found_of found.now)) options) }
+{
+    let left = left_out(found);
+    Some(PredictOptions {
+        input: found.get_str("LOG")?,
+        names: found.get_str("names"),
+        known: left.known,
+        ignored_locks: left.locks,
+        ignored_variables: left.variables,
+        values: found.get_flag("values"),
+        tries: number_of(found, "tries", MAX_TRIES)?,
+        seed: seed_of(found)?,
+        target: found.get_str("log"),
         limits: limits_of(found)?,
     })
 }
@@ -235,8 +308,10 @@ pub fn request_of<'a>(matches: &'a ArgMatches) -> Option<Request<'a>>
         "explain" => Some(Request::Explain(explain_options(found)?)),
         "carry" => Some(Request::Carry(carry_options(found)?)),
         "explore" => Some(Request::Explore(explore_options(found)?)),
-        "watch" => Some(Request::Watch(watch_options(found)?)),
+        "watch" => watch_request(found),
         "audit" => Some(Request::Audit(audit_options(found)?)),
+        "thin" => Some(Request::Thin(thin_options(found)?)),
+        "predict" => Some(Request::Predict(predict_options(found)?)),
         _ => None,
     }
 }

@@ -5,18 +5,24 @@ ghost use Rattle.std.specs.Str.{bytes_eq};
 ghost use Rattle.clap.specs.Takes.{is_given};
 ghost use Rattle.clap.specs.Words.{found_of, rows_of, subcommand_rows_of};
 ghost use Rattle.velo_arguments.specs.Asked.{AsksForNothing};
-ghost use Rattle.velo_arguments.specs.Together.{IsApart, IsTogether, clash_of, clash_of_chance, clash_of_inputs, clash_of_replay, clash_of_schedule, clash_of_search, clash_of_targets, given_by, line_of_clash, path_if, schedule_path_if};
+ghost use Rattle.velo_arguments.specs.Together.{IsApart, IsTogether, clash_of, clash_of_chance, clash_of_endless, clash_of_inputs, clash_of_map, clash_of_replay, clash_of_schedule, clash_of_search, clash_of_targets, given_by, given_in, line_of_clash, path_if, schedule_path_if};
 
 use crate::requests::request_of;
 use clap::ArgMatches;
 use clap::parser::ValueSource;
-use velo_request::{ExploreOptions, RandomRuns, ReplayOptions, Request, ScheduleSource};
+use velo_request::{
+    EndlessOptions, ExploreOptions, RandomRuns, ReplayOptions, Request, ScheduleSource,
+};
 
 /// Why the options of a request do not go together.
 #[derive(Clone, Copy, Debug, PartialEq, Eq)]
 pub enum Clash {
+    /// An endless watch is to have a certificate.
+    EndlessCertificate,
     /// Both inputs are standard input.
     InputTwice,
+    /// A thinned log and its map are to be saved at one path.
+    MapIsLog,
     /// The names of a run are to be saved, and its log is not.
     NamesWithoutLog,
     /// The log and the names of a run are to be saved at one path.
@@ -38,6 +44,8 @@ pub struct Given {
     pub seed: bool,
     /// `--schedule`.
     pub schedule: bool,
+    /// `--certificate`.
+    pub certificate: bool,
 }
 
 /// Whether the words give this option: a value by default does not count.
@@ -51,20 +59,29 @@ fn is_given(found: &ArgMatches, option: &str) -> bool
     }
 }
 
+/// Which of the options a subcommand is given that a request does not show.
+fn given_in(found: &ArgMatches) -> Given
+    ensures { result ≡ given_in (rows_of (found_of found.now)) }
+{
+    Given {
+        states: is_given(found, "states"),
+        seed: is_given(found, "seed"),
+        schedule: is_given(found, "schedule"),
+        certificate: is_given(found, "certificate"),
+    }
+}
+
 /// Which of the options the words give that a request does not show.
 fn given_by(matches: &ArgMatches) -> Given
     ensures { result ≡ given_by (subcommand_rows_of matches.now) }
 {
     match matches.subcommand() {
-        Some((_, found)) => Given {
-            states: is_given(found, "states"),
-            seed: is_given(found, "seed"),
-            schedule: is_given(found, "schedule"),
-        },
+        Some((_, found)) => given_in(found),
         None => Given {
             states: false,
             seed: false,
             schedule: false,
+            certificate: false,
         },
     }
 }
@@ -84,7 +101,10 @@ fn clash_of(request: &Request, given: Given) -> Option<Clash>
             options.names_target,
         )),
         Request::Watch(options) => clash_of_inputs(options.input, options.names),
+        Request::WatchEndless(options) => clash_of_endless(options, given.certificate),
         Request::Audit(options) => clash_of_three(options.input, options.names, options.known),
+        Request::Thin(options) => clash_of_map(options.target, options.map),
+        Request::Predict(options) => clash_of_three(options.input, options.names, options.known),
     }
 }
 
@@ -163,6 +183,26 @@ fn clash_of_targets(log: Option<&str>, names: Option<&str>) -> Option<Clash>
     }
 }
 
+/// The map of a thinned log is saved at another path than the log.
+fn clash_of_map(log: &str, map: Option<&str>) -> Option<Clash>
+    ensures { result ≡ clash_of_map log.now map.entry }
+{
+    match map {
+        Some(map) if log == map => Some(Clash::MapIsLog),
+        _ => None,
+    }
+}
+
+/// An endless watch has no certificate, and no clash of its paths.
+fn clash_of_endless(options: &EndlessOptions, has_certificate: bool) -> Option<Clash>
+    ensures { result ≡ clash_of_endless options.now has_certificate }
+{
+    if has_certificate {
+        return Some(Clash::EndlessCertificate);
+    }
+    clash_of_inputs(options.input, options.names)
+}
+
 /// A search tries every schedule or random ones, and either has its own options.
 fn clash_of_search(options: &ExploreOptions, given: Given) -> Option<Clash>
     ensures { result ≡ clash_of_search options.now given }
@@ -206,7 +246,9 @@ pub fn line_of_clash(clash: Clash) -> &'static [u8]
     ensures { result.now ≡ line_of_clash clash }
 {
     match clash {
+        Clash::EndlessCertificate => b"error: --endless does not go with --certificate\n",
         Clash::InputTwice => b"error: standard input can be read once\n",
+        Clash::MapIsLog => b"error: OUT and MAP are one file\n",
         Clash::NamesWithoutLog => b"error: --names-out goes only with --log\n",
         Clash::OnePath => b"error: OUT and NAMES are one file\n",
         Clash::SearchByChance => {

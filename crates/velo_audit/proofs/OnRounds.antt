@@ -14,10 +14,10 @@ use Rattle.velo_events.specs.declared.event.Kind.{Kind}
 use Rattle.velo_events.specs.declared.event.Kind.TheVariants.{Read, Write, Acquire, Release, AcquireShared, ReleaseShared, Begin, End, Fork, Join, Exit}
 use Rattle.velo_events.specs.Event.{is_begin}
 use Rattle.velo_events.specs.Block.{is_begin_at, owner}
-use Rattle.velo_events.specs.Graph.{HasCycle, IsClosing, Edge}
+use Rattle.velo_events.specs.Graph.{HasCycle, IsClosing}
 use Rattle.velo_events.specs.Reordering.{IsSelfSerializable, IsSerializable}
 use Rattle.velo_events.proofs.OnBlocks.{owner-le, owner-append, owner-in_block}
-use Rattle.velo_events.proofs.OnGraphs.{newest, IsCycle-none_by_rank}
+use Rattle.velo_events.proofs.OnGraphs.{newest}
 use Rattle.velo_events.proofs.OnOwners.{is_in_block-parts, is_open_at-begins, passes_at-within}
 use Rattle.velo_events.proofs.OnReaching.{HasCycle-push_alone}
 use Rattle.velo_events.proofs.OnScans.{event_at, passes_at-event, take-next}
@@ -28,24 +28,17 @@ use Rattle.velo_traces.specs.Blocks.{label_of}
 use Rattle.velo_blame.specs.Blamed.{AreBlamedAt, thread_at}
 use Rattle.velo_thin.specs.Left.{Left, is_among, label_begun, is_dissolved, rest_of, place_of, is_listed, with_labels}
 use Rattle.velo_audit.specs.Rounds.{label_at, each_once, labels_in, atomic_labels, Told, labels_told, told_of, is_some_blamed, IsRound, left_after, Rounds, labels_found, AreFound}
+use Rattle.velo_certify.proofs.OnClosing.{no_cycle_before}
 use Rattle.velo_thin.proofs.OnRanks.{events_staying}
 use Rattle.velo_thin.proofs.OnLeft.{stays, rest_of-is, sub-passes, stands_for, is_left_out-begin, is_dissolved-is}
 use Rattle.velo_thin.proofs.OnKept.{blame-rest}
 
 -- ---- the closing transaction is a block
 
-no_cycle-nil : ¬ HasCycle []
-no_cycle-nil c = IsCycle-none_by_rank (Edge []) (λ a. a) (λ a b e. let w = e.in_trace in absurd (omega (arith, w))) c.cycle c.is_cycle
-
--- the events before the closing one have no cycle
-pub closing-before : (trace : List Event) (p : ℕ) → IsClosing trace p → ¬ HasCycle (take p trace)
-closing-before trace zero w c = no_cycle-nil c
-closing-before trace (suc q) w c = w.least q (omega arith) (subst (λ k. HasCycle (take k trace)) (let one : suc q ≡ q + 1 = omega arith in one) c)
-
 -- The event that closes the first cycle is not the first of its transaction: this is a block, which began before
 pub closing-block : (trace : List Event) (p : ℕ) → IsClosing trace p → owner trace p < p
 closing-block trace p w = ⊎_elim (λ l. l)
-    (λ g. absurd (closing-before trace p w (HasCycle-push_alone (take p trace) e.0 (alone g) (subst HasCycle split w.closes))))
+    (λ g. absurd (no_cycle_before trace p w (HasCycle-push_alone (take p trace) e.0 (alone g) (subst HasCycle split w.closes))))
     (cases_lt (owner trace p) p)
   where
     e : (e : Event) × (slice_get trace p ≡ Some e)

@@ -1,53 +1,14 @@
 -- The rounds of a log are determined by what is left out at their start.
-use Rattle.std.proofs.Common.{◌≡◌, ℕ, zero, suc, ◌+◌, ◌<◌, ◌≤◌, List, [], ◌∷◌, length, map, take, refl, sym, ap, ◌∙◌, subst, arith}
-use Rattle.std.specs.Prelude.{slice_index_or, AllPairs, Contains}
+use Rattle.std.proofs.Common.{◌≡◌, ℕ, ◌+◌, ◌<◌, ◌≤◌, List, [], ◌∷◌, map, take, refl, sym, ap, ◌∙◌, subst}
 use Rattle.std.proofs.lemmas.List.Kept.{AllPairs-from_increasing}
 use Rattle.velo_events.specs.declared.event.Event.{Event}
 use Rattle.velo_events.specs.Block.{owner}
 use Rattle.velo_events.specs.Reordering.{AreBlamed}
 use Rattle.velo_events.proofs.OnGraphs.{IsClosing-unique, HasCycle-from_closing}
+use Rattle.velo_certify.proofs.OnReordered.{same_rising}
 use Rattle.velo_blame.specs.Blamed.{AreBlamedAt, thread_at}
 use Rattle.velo_thin.specs.Left.{Left, rest_of, place_of, with_labels}
 use Rattle.velo_audit.specs.Rounds.{Told, IsRound, Rounds, labels_told, told_of, is_some_blamed}
-
--- rising lists with the same members are the same
-same_rising : (xs ys : List ℕ) → AllPairs (λ x y. x < y) xs → AllPairs (λ x y. x < y) ys → ((y : ℕ) → Contains xs y → Contains ys y) → ((y : ℕ) → Contains ys y → Contains xs y) → xs ≡ ys
-same_rising [] [] up down there back = refl
-same_rising [] (y ∷ ys) up down there back = absurd (let w = (back y (0, omega arith, refl)).1 in omega (arith, w))
-same_rising (x ∷ xs) [] up down there back = absurd (let w = (there x (0, omega arith, refl)).1 in omega (arith, w))
-same_rising (x ∷ xs) (y ∷ ys) up down there back =
-    ap (λ z. z ∷ xs) first ∙ ap (λ zs. y ∷ zs)
-    (same_rising xs ys (λ i j d l h. up (suc i) (suc j) d (omega (arith, l)) (omega (arith, h))) (λ i j d l h. down (suc i) (suc j) d (omega (arith, l)) (omega (arith, h)))
-    (λ z w. later y ys z (let above = above_first x xs up z w in omega (arith, above, first)) (there z (behind x xs z w)))
-    (λ z w. later x xs z (let above = above_first y ys down z w in omega (arith, above, first)) (back z (behind y ys z w))))
-  where
-    behind : (a : ℕ) (zs : List ℕ) (z : ℕ) → Contains zs z → Contains (a ∷ zs) z
-    behind a zs z w = (suc w.0, let l = w.1 in omega (arith, l), w.2)
-
-    above_first : (a : ℕ) (zs : List ℕ) → AllPairs (λ x y. x < y) (a ∷ zs) → (z : ℕ) → Contains zs z → a < z
-    above_first a zs rises z w =
-        let less = rises 0 (suc w.0) z (omega arith) (let l = w.1 in omega (arith, l)) in
-        let is = w.2 in omega (arith, less, is)
-
-    from_first : (a : ℕ) (zs : List ℕ) → AllPairs (λ x y. x < y) (a ∷ zs) → (z : ℕ) → Contains (a ∷ zs) z → a ≤ z
-    from_first a zs rises z w = at w.0 w.1 w.2
-      where
-        at : (k : ℕ) → k < length (a ∷ zs) → slice_index_or (a ∷ zs) k z ≡ z → a ≤ z
-        at zero l e = omega (arith, e)
-        at (suc k) l e = let less = rises 0 (suc k) z (omega arith) l in omega (arith, less, e)
-
-    first : x ≡ y
-    first =
-        let one = from_first y ys down x (there x (0, omega arith, refl)) in
-        let two = from_first x xs up y (back y (0, omega arith, refl)) in
-        omega (arith, one, two)
-
-    later : (a : ℕ) (zs : List ℕ) (z : ℕ) → a < z → Contains (a ∷ zs) z → Contains zs z
-    later a zs z less w = at w.0 w.1 w.2
-      where
-        at : (k : ℕ) → k < length (a ∷ zs) → slice_index_or (a ∷ zs) k z ≡ z → Contains zs z
-        at zero l e = absurd (omega (arith, less, e))
-        at (suc k) l e = (k, omega (arith, l), e)
 
 -- the blocks to blame are determined
 AreBlamed-unique : (trace : List Event) (t : ℕ) (xs ys : List ℕ) → AreBlamed trace t xs → AreBlamed trace t ys → xs ≡ ys

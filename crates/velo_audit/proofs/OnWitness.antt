@@ -1,15 +1,9 @@
 -- The witness of a round.
-use Rattle.std.proofs.Common.{◌≡◌, ℕ, ◌+◌, ◌<◌, Bool, List, [], ◌∷◌, ◌++◌, length, length-take, take, drop, map, Option, Some, None, refl, sym, ap, ◌∙◌, subst, arith, inl, inr, ⊎_elim}
-use Rattle.std.specs.Prelude.{◌⊎◌, slice_get, slice_index, slice_index_or, Contains}
-use Rattle.std.proofs.lemmas.List.{length-map, get_or-map, take-append-drop}
+use Rattle.std.proofs.Common.{◌≡◌, ℕ, ◌+◌, ◌<◌, Bool, List, [], ◌∷◌, ◌++◌, length, take, Option, Some, None, sym, ap, ◌∙◌, subst, arith}
+use Rattle.std.specs.Prelude.{◌⊎◌, slice_index, slice_index_or}
+use Rattle.std.proofs.lemmas.List.{length-map, get_or-map}
 use Rattle.velo_events.specs.declared.event.Event.{Event}
-use Rattle.velo_events.specs.Block.{owner}
-use Rattle.velo_events.specs.Graph.{Edge, HasCycle, IsClosing, IsCycle, Leads, Reaches}
-use Rattle.velo_events.proofs.OnBlocks.{owner-append}
-use Rattle.velo_events.proofs.OnGraphs.{HasCycle-push, Edge-append, Path-map, newest}
-use Rattle.velo_events.proofs.OnReaching.{IsCycle-by}
-use Rattle.velo_events.proofs.OnScans.{event_at, take-next}
-use Rattle.velo_certify.specs.Cycle.{HasNoCycleAt}
+use Rattle.velo_events.specs.Graph.{HasCycle}
 use Rattle.velo_certify.specs.declared.edges.EdgeEvents.{EdgeEvents}
 use Rattle.velo_traces.specs.declared.block.Block.{Block}
 use Rattle.velo_explain.specs.declared.spans.Span.{Span}
@@ -24,42 +18,7 @@ use Rattle.velo_thin.proofs.OnLeft.{rest_of-is, stands_for}
 use Rattle.velo_audit.specs.Tells.{Tells}
 use Rattle.velo_audit.specs.Witness.{span_as_read, edge_as_read, blame_as_read, ReadsAs, IsWitness, HasWitness, IsWitnessWithin, IsEvidenceOf, WitnessTells}
 use Rattle.velo_audit.specs.declared.told.Told.{Told}
-use Rattle.velo_audit.proofs.OnRounds.{closing-before}
-
--- ---- at the first closing event a cycle passes the transaction
-
-pub closing-on_cycle : (log : List Event) (p : ℕ) → IsClosing log p → HasNoCycleAt log p → ⊥
-closing-on_cycle log p closing none = around (HasCycle-push before e.0 (subst HasCycle next closing.closes))
-  where
-    before : List Event
-    before = take p log
-
-    e : (event : Event) × (slice_get log p ≡ Some event)
-    e = event_at log p closing.in_trace
-
-    next : take (p + 1) log ≡ before ++ e.0 ∷ []
-    next = take-next log p e.0 e.1
-
-    New : ℕ → ℕ → Type 0
-    New = Edge (before ++ e.0 ∷ [])
-
-    n : ℕ
-    n = newest before e.0
-
-    is_n : owner log p ≡ n
-    is_n =
-        ap (λ (xs : List Event). owner xs p) (sym (take-append-drop (p + 1) log))
-        ∙ (owner-append (take (p + 1) log) (drop (p + 1) log) p (let l = closing.in_trace in omega (arith, l, length-take (p + 1) log))
-        ∙ (ap (λ (xs : List Event). owner xs p) next ∙ ap (owner (before ++ e.0 ∷ [])) (let l = closing.in_trace in let here : p ≡ length before = omega (arith, l, length-take p log) in here)))
-
-    makes : (x : ℕ) → Leads (Edge before) n x → New x n → ⊥
-    makes x there edge =
-        let made = IsCycle-by New n x (there.0, Path-map (Edge before) New (Edge-append before (e.0 ∷ [])) n there.0 x there.1) ([], edge) in
-        none.none made.0 (subst (λ (xs : List Event). IsCycle (Edge xs) made.0) (sym next) made.1) (subst (Contains made.0) (sym is_n) made.2)
-
-    around : HasCycle before ⊎ ((x : ℕ) × Reaches (Edge before) n x × New x n) → ⊥
-    around (inl c) = closing-before log p closing c
-    around (inr w) = ⊎_elim (λ at. w.2.differ (sym at)) (λ there. makes w.0 there w.2) w.1
+use Rattle.velo_certify.proofs.OnClosing.{no_cycle_before}
 
 -- ---- what is told of the alarm of the rest is the round's witness
 
@@ -150,7 +109,7 @@ pub IsEvidenceOf-read : (what : List Event) (places : List ℕ) (alarm : Alarm) 
 IsEvidenceOf-read what places alarm is blamed same inside evidence e reasons reads = record {
   inside = inside;
   is_evidence = subst (λ bs. IsEvidence what alarm.position bs inside) same e;
-  reasons = subst (λ bs. HaveReasons what alarm.position bs inside) same (reasons (closing-before what alarm.position is.closing));
+  reasons = subst (λ bs. HaveReasons what alarm.position bs inside) same (reasons (no_cycle_before what alarm.position is.closing));
   reads = reads;
 }
 

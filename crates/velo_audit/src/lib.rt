@@ -1,5 +1,5 @@
 //! Which labels' blocks are not atomic in a log: by rounds of checking the rest of it, in each of which the labels are left
-//! out that the one before told.
+//! out that the one before reported.
 #![tactic(auto)]
 
 mod count;

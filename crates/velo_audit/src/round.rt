@@ -43,7 +43,7 @@ impl From<Memory> for AuditFault {
     }
 }
 
-/// Checks the rest of a log that can come about, within its limits. The configuration has to go on after an alarm.
+/// Checks the rest of a log that can happen, within its limits. The configuration has to go on after an alarm.
 ///
 /// # Errors
 /// `GraphFull` where the graph of the rest needs more nodes than there may be, `Memory` where a growth was refused.
@@ -66,7 +66,7 @@ pub fn round(
     }
 }
 
-/// Checks a trace, and tells of its alarm by the places for which its positions stand.
+/// Checks a trace, and reports its alarm by the places of its positions in the log.
 fn check(
     alloc: Global,
     config: &Config,
@@ -106,7 +106,7 @@ fn replayed(alloc: Global, config: &Config, log: Trace) -> Result<Closed, LogRep
 }
 
 /// The same, but for nodes that only make compactions rarer. As many as the threads squared are enough for any run. With four
-/// times as many, most come free in each. Every round makes a graph anew, so fewer nodes are soon made.
+/// times as many, most come free in each. Every round makes a new graph, so fewer nodes are soon made.
 fn with_few_nodes(config: &Config) -> Config
     ensures bounds { result.bounds ≡ config.now.bounds }
     ensures events { result.events ≡ config.now.events }
@@ -125,7 +125,7 @@ fn with_few_nodes(config: &Config) -> Config
     }
 }
 
-/// What is told of a world's alarm, if it has one. The world is given up.
+/// What is reported of a world's alarm, if it has one. The world is dropped.
 fn tell(
     alloc: Global,
     asked: bool,
@@ -142,7 +142,7 @@ fn tell(
     told
 }
 
-/// What is told of a world's alarm, if it has one.
+/// What is reported of a world's alarm, if it has one.
 fn told_in(
     alloc: Global,
     asked: bool,

@@ -18,8 +18,8 @@ use velo_events::{Config, Memory};
 use velo_thin::LeftOut;
 use velo_traces::{Block, Trace};
 
-/// Checks the rest of a log, leaves out the labels of the blocks that the first alarm tells, and so on until there is
-/// no alarm. Each round has its witness if this is asked for. The log can come about, within its limits. The configuration has
+/// Checks the rest of a log, leaves out the labels of the blocks that the first alarm blames, and so on until there is
+/// no alarm. Each round has its witness if this is asked for. The log can happen, within its limits. The configuration has
 /// to go on after an alarm.
 ///
 /// # Errors
@@ -52,7 +52,7 @@ pub fn audit(
     Ok(rounds)
 }
 
-/// Keeps what a round tells behind what those before told.
+/// Keeps what a round reports after what those before reported.
 fn keep(rounds: &mut Vec<Told>, told: Told) -> Result<(), AuditFault>
     ensures ok { OnOk result (rounds.new.items ≡ rounds.old.items ++ told ∷ []) }
     ensures fault { IfErr result (λ fault. fault ≡ out_of_memory) }
@@ -67,7 +67,7 @@ fn keep(rounds: &mut Vec<Told>, told: Told) -> Result<(), AuditFault>
     }
 }
 
-/// Checks the rest, and leaves out the labels of what is told.
+/// Checks the rest, and leaves out the labels that it reports.
 fn next_round(
     alloc: Global,
     config: &Config,

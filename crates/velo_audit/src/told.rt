@@ -1,4 +1,4 @@
-//! What a round tells of the alarm of the rest, by the log as read.
+//! What a round reports of the alarm of the rest, by the log as read.
 ghost use Rattle.std.specs.Prelude.{◌≡◌, ◌<◌, length, map, slice_index, All, IfOk};
 ghost use Rattle.velo_traces.specs.Blocks.{block_at};
 ghost use Rattle.velo_blame.specs.Blamed.{begins_of};
@@ -15,14 +15,14 @@ use velo_explain::Evidence;
 use velo_traces::{Block, Trace};
 use velo_world::Alarm;
 
-/// What a round tells. Its positions are those of the log as read.
+/// What a round reports. Its positions are those of the log as read.
 #[derive(Drop, Debug)]
 pub struct Told {
     /// Of the event that closes the first cycle of the rest.
     pub closing: usize,
     /// Of the first event of its transaction in the rest.
     pub transaction: usize,
-    /// The blocks that are told, outermost first.
+    /// The blocks that are reported, outermost first.
     pub blocks: Vec<Block>,
     /// Whether they are to blame. If not, there is one, with which the transaction begins.
     pub to_blame: bool,
@@ -30,7 +30,7 @@ pub struct Told {
     pub witness: Option<Evidence>,
 }
 
-/// What is told of the alarm of the rest, with a witness if this is asked for.
+/// What is reported of the alarm of the rest, with a witness if this is asked for.
 pub(crate) fn told_of(
     alloc: Global,
     asked: bool,

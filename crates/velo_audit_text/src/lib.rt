@@ -6,5 +6,5 @@ mod whole;
 mod witness;
 mod words;
 
-pub use whole::{add_witness_if_any, audit_text};
-pub use words::Asked;
+pub use whole::{add_rounds, add_witness_if_any, audit_text};
+pub use words::{Asked, add_asked};

@@ -82,8 +82,11 @@ fn add_told(
     add_witness_if_any(page, names, alloc, events, told.closing, &told.witness)
 }
 
-/// Adds the text of all rounds.
-fn add_rounds(
+/// Adds the text of all rounds: the labels and the witness of each.
+///
+/// # Errors
+/// `Memory` if an allocation failed.
+pub fn add_rounds(
     page: &mut Page,
     names: &Names,
     alloc: Global,

@@ -88,7 +88,10 @@ fn add_left_out_variables(page: &mut Page, names: &Names, variables: &[VarId]) -
 }
 
 /// Adds what was to be left out.
-pub(crate) fn add_asked(page: &mut Page, names: &Names, asked: &Asked) -> Result<(), Memory>
+///
+/// # Errors
+/// `Memory` if an allocation failed.
+pub fn add_asked(page: &mut Page, names: &Names, asked: &Asked) -> Result<(), Memory>
     ensures { OnOk result (page.new ≡ page.old ++ asked_text names.now asked.now) }
 {
     add_left_out_labels(page, names, asked.labels)?;

@@ -1,4 +1,4 @@
-//! Text that is made ready in a buffer, so that it goes out in one write.
+//! Text that is made ready in a buffer, so that it is written at once.
 ghost use Rattle.std.specs.Prelude.{◌≡◌, ◌≤◌, ◌+◌, ◌++◌, length, take, decimal};
 
 use itoa::Buffer;

@@ -21,3 +21,4 @@ pub mod OnPrefixes
 pub mod OnReordered
 pub mod OnEdges
 pub mod OnWitness
+pub mod OnClosing

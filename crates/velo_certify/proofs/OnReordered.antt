@@ -102,7 +102,7 @@ happened-some test E (x ∷ xs) h = ⊎_elim
 
 -- ---- rising lists with the same members
 
-same_rising : (xs ys : List ℕ) → AllPairs (λ x y. x < y) xs → AllPairs (λ x y. x < y) ys → ((y : ℕ) → Contains xs y → Contains ys y) → ((y : ℕ) → Contains ys y → Contains xs y) → xs ≡ ys
+pub same_rising : (xs ys : List ℕ) → AllPairs (λ x y. x < y) xs → AllPairs (λ x y. x < y) ys → ((y : ℕ) → Contains xs y → Contains ys y) → ((y : ℕ) → Contains ys y → Contains xs y) → xs ≡ ys
 same_rising [] [] up down there back = refl
 same_rising [] (y ∷ ys) up down there back = absurd (let w = (back y (0, omega arith, refl)).1 in omega (arith, w))
 same_rising (x ∷ xs) [] up down there back = absurd (let w = (there x (0, omega arith, refl)).1 in omega (arith, w))

@@ -1,4 +1,4 @@
-//! Schedules that are drawn by chance.
+//! Schedules that are drawn randomly.
 ghost use Rattle.std.specs.Prelude.{◌≡◌, ◌<◌, IfOk, OnOk};
 ghost use Rattle.rand_core.specs.Stream.{next_u64};
 ghost use Rattle.velo_chance.specs.Drawing.{behind_words, drawn, stream, thread_of, turns_for};

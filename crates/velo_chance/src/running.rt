@@ -1,4 +1,4 @@
-//! Runs by schedules that are given, or by chance.
+//! Runs by schedules that are given, or drawn randomly.
 ghost use Rattle.std.specs.Prelude.{◌≡◌, ◌+◌, ◌-◌, ◌<◌, ◌^◌, ◌∷◌, ◌++◌, [], ℕ, List, map, IfOk};
 ghost use Rattle.std.specs.List.Sorted.{IsNonDecreasingBy};
 ghost use Rattle.velo_events.specs.declared.config.Config.{Config as ConfigOf};
@@ -83,10 +83,10 @@ pub fn try_all(
     Ok(tally)
 }
 
-/// Makes so many runs, each by a schedule that is drawn by chance and then in rounds, and tells
+/// Makes so many runs, each by a schedule that is drawn randomly and then in rounds, and tells
 /// what they come to. The configuration has to have the workload's bounds.
 ///
-/// Each turn of a schedule is any thread's, all alike. A thread that can't act in its turn passes,
+/// Each turn of a schedule is any thread's, all alike. A thread that cannot act in its turn passes,
 /// so among those that can act each is as likely as any other. A schedule has as many turns as the
 /// bodies have events, times the threads, and at most [`MAX_TURNS`](velo_turns::MAX_TURNS). The
 /// schedules are those that xoshiro256++ draws from the seed.

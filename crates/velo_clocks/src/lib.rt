@@ -1,4 +1,4 @@
-//! How far the last events of a run know each thread, from which blame is told.
+//! How far the last events of a run know each thread, from which blame is computed.
 //!
 //! What an event knows of each thread is what the literature calls a vector clock (Fidge, 1988; Mattern, 1989), with positions
 //! plus one in place of counts. An epoch is that of Flanagan and Freund, "FastTrack: Efficient and Precise Dynamic Race

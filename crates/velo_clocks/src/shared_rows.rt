@@ -135,12 +135,12 @@ impl SharedRows {
         let spare = self.next;
         self.rows.copy(spare, clock);
         self.in_use[spare] = true;
-        // mostly the row behind is free too, so that the next event need not look for one
+        // mostly the row after it is free too, so that the next event need not look for one
         self.next = spare + 1;
         spare
     }
 
-    /// Looks for a row that is not in use, behind those that were found before.
+    /// Looks for a row that is not in use, after those that were found before.
     pub fn seek(&mut self)
         ensures rows { self.new.rows ≡ self.old.rows }
         ensures in_use { self.new.in_use.items ≡ self.old.in_use.items }

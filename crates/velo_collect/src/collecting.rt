@@ -26,7 +26,7 @@ impl Model for Freed {
 }
 
 impl Freed {
-    /// Room for that many stamps, and none told.
+    /// Room for that many stamps, and none reported.
     ///
     /// # Errors
     /// `Memory` where a growth was refused.
@@ -38,7 +38,7 @@ impl Freed {
         Ok(Freed { stamps })
     }
 
-    /// The stamps told.
+    /// The stamps that were reported.
     pub fn stamps(&self) -> &[u32]
         ensures { result.now ≡ self.now.stamps }
     {
@@ -46,7 +46,7 @@ impl Freed {
     }
 }
 
-/// Frees exactly the finished nodes without an unfinished ancestor. Their stamps are told, for which there has to be
+/// Frees exactly the finished nodes without an unfinished ancestor. Their stamps are reported, for which there has to be
 /// room: as many as the graph has slots.
 pub fn collect<A: Ancestors>(graph: &mut Graph<A>, freed: &mut Freed)
     requires room { limit_of graph.old.slots ≤ freed.old.room }

@@ -17,7 +17,7 @@ use Rattle.velo_events.specs.WellFormed.{NamesKnown, IsInTurn, MayFollow, IsWell
 use Rattle.velo_events.proofs.OnTraces.{slice_get-append, slice_get-push}
 use Rattle.velo_heap.specs.Contents.{Contents, IsHeapOf}
 use Rattle.velo_explore.specs.Plain.{plain_kind, plain, plain_log}
-use Rattle.velo_explore.proofs.OnPlain.{same_access, was_born-plain, holder_in-plain, shares_in-plain, MayFollow-plain}
+use Rattle.velo_explore.proofs.OnPlain.{same_access, same_begin, same_end, same_exit, same_acquire, same_release, same_acquire_shared, same_release_shared, was_born-plain, holder_in-plain, shares_in-plain, MayFollow-plain}
 use Rattle.velo_delays.specs.Anew.{renewed_kind, renewed, IsAnew, IsAnewSoFar}
 
 -- the value plays no part in the test
@@ -26,41 +26,6 @@ record IsBlind (test : Event → Bool) : Type 0 where
 
 blind_kind : (t : ℕ) (test : Kind → Bool) → ((k : Kind) → test (plain_kind k) ≡ test k) → IsBlind (λ e. is_by t e && test e.kind)
 blind_kind t test blind = record { same = λ e. ap (λ b. is_by t e && b) (blind e.kind) }
-
-same_begin : (k : Kind) → is_begin (plain_kind k) ≡ is_begin k
-same_begin (Read x v) = refl
-same_begin (Write x v) = refl
-same_begin _ = refl
-
-same_end : (k : Kind) → is_end (plain_kind k) ≡ is_end k
-same_end (Read x v) = refl
-same_end (Write x v) = refl
-same_end _ = refl
-
-same_exit : (k : Kind) → is_exit (plain_kind k) ≡ is_exit k
-same_exit (Read x v) = refl
-same_exit (Write x v) = refl
-same_exit _ = refl
-
-same_acquire : (k : Kind) → is_acquire (plain_kind k) ≡ is_acquire k
-same_acquire (Read x v) = refl
-same_acquire (Write x v) = refl
-same_acquire _ = refl
-
-same_release : (k : Kind) → is_release (plain_kind k) ≡ is_release k
-same_release (Read x v) = refl
-same_release (Write x v) = refl
-same_release _ = refl
-
-same_acquire_shared : (k : Kind) → is_acquire_shared (plain_kind k) ≡ is_acquire_shared k
-same_acquire_shared (Read x v) = refl
-same_acquire_shared (Write x v) = refl
-same_acquire_shared _ = refl
-
-same_release_shared : (k : Kind) → is_release_shared (plain_kind k) ≡ is_release_shared k
-same_release_shared (Read x v) = refl
-same_release_shared (Write x v) = refl
-same_release_shared _ = refl
 
 blind_fork : (u : ℕ) → IsBlind (is_fork_of u)
 blind_fork u = record { same = λ e. ap (λ a. are_same (forked_of a) (Some u)) (same_access e.kind) }

@@ -19,6 +19,8 @@ pub enum Operand {
     Out,
     /// `NAMES`, where the names of a workload are saved.
     NamesOut,
+    /// `MAP`, where the positions of what is left of a log are saved.
+    Map,
 }
 
 /// What failed, of memory and devices. What the files say is not at fault.

@@ -4,7 +4,7 @@ ghost use Rattle.velo_events.specs.Event.{access_of};
 use crate::event::{Access, Event, Kind, ThreadId};
 use std::marker::Model;
 
-/// An event with what it bears on beside its own thread: its kind is told apart once, where this is made. In contracts it is
+/// An event with what it bears on beside its own thread: its kind is matched once, where this is made. In contracts it is
 /// the event.
 #[derive(Debug, Drop)]
 pub struct Resolved<'a> {

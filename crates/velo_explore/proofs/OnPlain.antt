@@ -47,37 +47,37 @@ same_write (Read x v) = refl
 same_write (Write x v) = refl
 same_write _ = refl
 
-same_acquire : (k : Kind) → is_acquire (plain_kind k) ≡ is_acquire k
+pub same_acquire : (k : Kind) → is_acquire (plain_kind k) ≡ is_acquire k
 same_acquire (Read x v) = refl
 same_acquire (Write x v) = refl
 same_acquire _ = refl
 
-same_release : (k : Kind) → is_release (plain_kind k) ≡ is_release k
+pub same_release : (k : Kind) → is_release (plain_kind k) ≡ is_release k
 same_release (Read x v) = refl
 same_release (Write x v) = refl
 same_release _ = refl
 
-same_acquire_shared : (k : Kind) → is_acquire_shared (plain_kind k) ≡ is_acquire_shared k
+pub same_acquire_shared : (k : Kind) → is_acquire_shared (plain_kind k) ≡ is_acquire_shared k
 same_acquire_shared (Read x v) = refl
 same_acquire_shared (Write x v) = refl
 same_acquire_shared _ = refl
 
-same_release_shared : (k : Kind) → is_release_shared (plain_kind k) ≡ is_release_shared k
+pub same_release_shared : (k : Kind) → is_release_shared (plain_kind k) ≡ is_release_shared k
 same_release_shared (Read x v) = refl
 same_release_shared (Write x v) = refl
 same_release_shared _ = refl
 
-same_begin : (k : Kind) → is_begin (plain_kind k) ≡ is_begin k
+pub same_begin : (k : Kind) → is_begin (plain_kind k) ≡ is_begin k
 same_begin (Read x v) = refl
 same_begin (Write x v) = refl
 same_begin _ = refl
 
-same_end : (k : Kind) → is_end (plain_kind k) ≡ is_end k
+pub same_end : (k : Kind) → is_end (plain_kind k) ≡ is_end k
 same_end (Read x v) = refl
 same_end (Write x v) = refl
 same_end _ = refl
 
-same_exit : (k : Kind) → is_exit (plain_kind k) ≡ is_exit k
+pub same_exit : (k : Kind) → is_exit (plain_kind k) ≡ is_exit k
 same_exit (Read x v) = refl
 same_exit (Write x v) = refl
 same_exit _ = refl

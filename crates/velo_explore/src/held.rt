@@ -56,7 +56,7 @@ impl Held {
         }
     }
 
-    /// Whether two threads can't have their locks so at one time.
+    /// Whether two threads cannot hold their locks so at one time.
     pub fn excludes(&self, other: &Held) -> bool
         ensures { result ≡ true → SomeExcluded self.now.locks.items other.now.locks.items }
     {

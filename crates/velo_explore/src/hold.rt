@@ -24,7 +24,7 @@ impl Hold {
         }
     }
 
-    /// Whether two threads can't have one lock so at one time.
+    /// Whether two threads cannot hold one lock so at one time.
     pub fn excludes(self, other: Hold) -> bool
         ensures { result ≡ excludes self other }
     {

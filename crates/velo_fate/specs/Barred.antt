@@ -4,9 +4,10 @@ use Rattle.std.specs.Borrow.{Bor}
 use Rattle.velo_delivery.specs.Disk.{AreOneTarget, Disk, FailsToOpen, IsTarget, Store}
 use Rattle.velo_delivery.specs.Reading.{Reading}
 use Rattle.velo_fate.specs.declared.fate.Fate.{Fate}
-use Rattle.velo_fate.specs.declared.fate.Fate.TheVariants.{CannotOpen, NamesAtInput, NamesAtTarget, OneFile}
+use Rattle.velo_fate.specs.declared.fate.Fate.TheVariants.{CannotOpen, OneFile}
 use Rattle.velo_delivery.specs.declared.failure.Operand.{Operand}
-use Rattle.velo_delivery.specs.declared.failure.Operand.TheVariants.{File}
+use Rattle.velo_delivery.specs.declared.failure.Operand.TheVariants.{File, NamesOut, Out}
+use Rattle.velo_fate.specs.declared.files.Beside.{Beside}
 use Rattle.velo_delivery.specs.Writing.{Writing, WritesNothing}
 
 -- Why the input of this operand is not read: it does not open; or it opens, and is the target, of
@@ -14,23 +15,31 @@ use Rattle.velo_delivery.specs.Writing.{Writing, WritesNothing}
 abbrev pub IsBarred : Disk → Operand → List ℕ → Option (Bor (List ℕ)) → Fate → Type 0
 IsBarred disk operand input target f =
     ((f ≡ CannotOpen) × FailsToOpen disk input)
-    ⊎ ((f ≡ OneFile operand) × IsTarget disk input target
+    ⊎ ((f ≡ OneFile operand Out) × IsTarget disk input target
     × ((read : Reading) × disk.gives input read))
 
--- Why names are not to be saved at their path: the file there is the target; or it is the input,
+-- Why nothing is to be written beside the target: the file there is the target; or it is the input,
 -- which opens.
-abbrev pub IsBarredByNames : Disk → List ℕ → Option (Bor (List ℕ)) → Option (Bor (List ℕ))
-    → Fate → Type 0
-IsBarredByNames disk input target names f =
-    ((f ≡ NamesAtTarget) × AreOneTarget disk target names)
-    ⊎ ((f ≡ NamesAtInput) × IsTarget disk input names
+abbrev pub IsBarredBeside : Disk → Operand → List ℕ → Option (Bor (List ℕ)) → Beside → Fate → Type 0
+IsBarredBeside disk operand input target beside f =
+    ((f ≡ OneFile Out beside.operand) × AreOneTarget disk target beside.path)
+    ⊎ ((f ≡ OneFile operand beside.operand) × IsTarget disk input beside.path
     × ((read : Reading) × disk.gives input read))
+
+-- why the input is not read where a file is to be written beside the target
+abbrev pub IsBarredApart : Disk → Operand → List ℕ → Option (Bor (List ℕ)) → Beside → Fate → Type 0
+IsBarredApart disk operand input target beside f =
+    IsBarred disk operand input target f ⊎ IsBarredBeside disk operand input target beside f
+
+-- names that are saved at this path
+abbrev pub names_beside : Option (Bor (List ℕ)) → Beside
+names_beside path = record { operand = NamesOut; path = path }
 
 -- why a workload is not read whose run is to be saved at the target, and its names at theirs
 abbrev pub IsBarredRun : Disk → List ℕ → Option (Bor (List ℕ)) → Option (Bor (List ℕ))
     → Fate → Type 0
 IsBarredRun disk input target names f =
-    IsBarred disk File input target f ⊎ IsBarredByNames disk input target names f
+    IsBarredApart disk File input target (names_beside names) f
 
 -- ---- nothing is done
 
@@ -43,3 +52,9 @@ WritesNowhere store stdout = store.is_kept × WritesNothing stdout
 abbrev pub DoesNotRead : Store → Operand → List ℕ → Option (Bor (List ℕ)) → Writing → Fate → Type 0
 DoesNotRead store operand input target stdout f =
     IsBarred store.disk operand input target f × WritesNowhere store stdout
+
+-- the same where a file is to be written beside the target: or this is the target, or the input
+abbrev pub DoesNotReadApart : Store → Operand → List ℕ → Option (Bor (List ℕ)) → Beside → Writing
+    → Fate → Type 0
+DoesNotReadApart store operand input target beside stdout f =
+    IsBarredApart store.disk operand input target beside f × WritesNowhere store stdout

@@ -26,7 +26,7 @@ use Rattle.velo_turns.specs.declared.schedule.ScheduleFault.TheVariants as sched
 use Rattle.velo_fate.specs.declared.fault.CheckFault.{CheckFault}
 use Rattle.velo_fate.specs.declared.fault.CheckFault.TheVariants.{Log, Refused, WrongValue, Write, Memory}
 use Rattle.velo_fate.specs.declared.fate.Fate.{Fate}
-use Rattle.velo_fate.specs.declared.fate.Fate.TheVariants.{Finished, Schedule, Work, Names, Sites, OtherSites, Check, CannotOpen, NamesAtInput, NamesAtTarget, OneFile, ReadFailed, WriteFailed, Lost, Open}
+use Rattle.velo_fate.specs.declared.fate.Fate.TheVariants.{Finished, Schedule, Work, Names, Sites, OtherSites, Check, CannotOpen, OneFile, ReadFailed, WriteFailed, Lost, Open}
 use Rattle.velo_fate.specs.declared.fate.Fate.TheVariants as fate
 use Rattle.velo_request.specs.declared.request.Ignorable.{Ignorable}
 use Rattle.velo_request.specs.declared.request.Ignorable.TheVariants as ignorable
@@ -120,9 +120,7 @@ status_of OtherSites = 2
 status_of (Check fault) = status_of_check fault
 status_of CannotOpen = 5
 status_of (fate.Ignored what) = 2
-status_of (OneFile operand) = 2
-status_of NamesAtInput = 2
-status_of NamesAtTarget = 2
+status_of (OneFile first second) = 2
 status_of ReadFailed = 5
 status_of WriteFailed = 5
 status_of fate.Memory = 5
@@ -210,9 +208,11 @@ word_of operand.List = codes "LIST"
 word_of operand.Turns = codes "TURNS"
 word_of operand.Out = codes "OUT"
 word_of operand.NamesOut = codes "NAMES"
+word_of operand.Map = codes "MAP"
 
-abbrev pub line_of_one_file : Operand → List ℕ
-line_of_one_file named = codes "error: " ++ word_of named ++ codes " and OUT are one file\n"
+abbrev pub line_of_one_file : Operand → Operand → List ℕ
+line_of_one_file first second =
+    codes "error: " ++ word_of first ++ codes " and " ++ word_of second ++ codes " are one file\n"
 
 abbrev pub line_of : Fate → List ℕ
 line_of (Finished how alarm) = line_of_ending how
@@ -225,9 +225,7 @@ line_of OtherSites = codes "sites fault 5 line 0\n"
 line_of (fate.Ignored what) = line_of_ignored what
 line_of (Check fault) = line_of_check fault
 line_of CannotOpen = codes "cannot open\n"
-line_of (OneFile operand) = line_of_one_file operand
-line_of NamesAtInput = codes "error: FILE and NAMES are one file\n"
-line_of NamesAtTarget = codes "error: OUT and NAMES are one file\n"
+line_of (OneFile first second) = line_of_one_file first second
 line_of ReadFailed = codes "read failed\n"
 line_of Lost = codes "seat lost\n"
 line_of Open = codes "open\n"

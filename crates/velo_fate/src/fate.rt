@@ -46,12 +46,8 @@ pub enum Fate {
     Check(CheckFault),
     /// A file could not be opened.
     CannotOpen,
-    /// The file that was to be written is the one that the operand names. It is untouched.
-    OneFile(Operand),
-    /// The file that the names were to be written to is the workload. It is untouched.
-    NamesAtInput,
-    /// The file that the names were to be written to is the one of the log. It is untouched.
-    NamesAtTarget,
+    /// The two operands name one file, and the second was to be written. It is untouched.
+    OneFile(Operand, Operand),
     /// A file could not be read.
     ReadFailed,
     /// A file, a report or help could not be written.
@@ -180,8 +176,7 @@ fn status_of(fate: Fate) -> u8
         Fate::List(fault) => status_of_list(fault),
         Fate::Sites(fault) => status_of_sites(fault),
         Fate::Check(fault) => status_of_check(fault),
-        Fate::Ignored(_) | Fate::OtherSites => BAD_INPUT,
-        Fate::OneFile(_) | Fate::NamesAtInput | Fate::NamesAtTarget => BAD_INPUT,
+        Fate::Ignored(_) | Fate::OtherSites | Fate::OneFile(..) => BAD_INPUT,
         Fate::Open => INCOMPLETE,
         Fate::CannotOpen | Fate::ReadFailed | Fate::WriteFailed | Fate::Memory | Fate::Lost => {
             FAILED
@@ -393,19 +388,22 @@ fn put_operand(buffer: &mut [u8], at: usize, operand: Operand) -> usize
         Operand::Turns => put_bytes(buffer, at, b"TURNS"),
         Operand::Out => put_bytes(buffer, at, b"OUT"),
         Operand::Names | Operand::NamesOut => put_bytes(buffer, at, b"NAMES"),
+        Operand::Map => put_bytes(buffer, at, b"MAP"),
     }
 }
 
-/// Puts the line of an input that is the file to be written at the front of a buffer, and returns
-/// where it ends.
-fn put_one_file(buffer: &mut [u8], operand: Operand) -> usize
+/// Puts the line of two operands that name one file at the front of a buffer, and returns where it
+/// ends.
+fn put_one_file(buffer: &mut [u8], first: Operand, second: Operand) -> usize
     requires { 64 ≤ length buffer.old }
-    ensures text { take result buffer.new ≡ line_of_one_file operand }
+    ensures text { take result buffer.new ≡ line_of_one_file first second }
     ensures end { result ≤ length buffer.new }
 {
     let at = put_bytes(buffer, 0, b"error: ");
-    let at = put_operand(buffer, at, operand);
-    put_bytes(buffer, at, b" and OUT are one file\n")
+    let at = put_operand(buffer, at, first);
+    let at = put_bytes(buffer, at, b" and ");
+    let at = put_operand(buffer, at, second);
+    put_bytes(buffer, at, b" are one file\n")
 }
 
 /// Puts the line about how a run ended at the front of a buffer, and returns where it ends: at 0 if
@@ -426,9 +424,7 @@ fn put_line(buffer: &mut [u8], fate: Fate) -> usize
         Fate::Ignored(what) => put_ignored(buffer, what),
         Fate::Check(fault) => put_check_fault(buffer, fault),
         Fate::CannotOpen => put_bytes(buffer, 0, b"cannot open\n"),
-        Fate::OneFile(operand) => put_one_file(buffer, operand),
-        Fate::NamesAtInput => put_bytes(buffer, 0, b"error: FILE and NAMES are one file\n"),
-        Fate::NamesAtTarget => put_bytes(buffer, 0, b"error: OUT and NAMES are one file\n"),
+        Fate::OneFile(first, second) => put_one_file(buffer, first, second),
         Fate::ReadFailed => put_bytes(buffer, 0, b"read failed\n"),
         Fate::Lost => put_bytes(buffer, 0, b"seat lost\n"),
         Fate::WriteFailed => put_bytes(buffer, 0, b"write failed\n"),

@@ -1,10 +1,19 @@
 //! The files of a command that are to be read and written: none is both.
 ghost use Rattle.std.specs.Prelude.{IfErr, IfOk, IsTrue};
 ghost use Rattle.velo_delivery.specs.Disk.{AreOneTarget, IsOpened};
-ghost use Rattle.velo_fate.specs.Barred.{IsBarred, IsBarredRun};
+ghost use Rattle.velo_fate.specs.Barred.{IsBarred, IsBarredApart};
 
 use crate::fate::Fate;
 use velo_delivery::{Files, Operand, is_standard_input, open_at};
+
+/// A file that is to be written beside a command's target.
+#[derive(Clone, Copy, Debug)]
+pub struct Beside<'p> {
+    /// Which it is.
+    pub operand: Operand,
+    /// Its path, if it is asked for.
+    pub path: Option<&'p str>,
+}
 
 /// Whether the input is the file that is to be written. Standard input is none.
 fn is_one_file<F: Files>(files: &F, input: &str, target: &str) -> bool
@@ -32,44 +41,53 @@ pub fn open_input<F: Files>(
         return Err(Fate::CannotOpen);
     };
     match target {
-        Some(target) if is_one_file(files, input, target) => Err(Fate::OneFile(operand)),
+        Some(target) if is_one_file(files, input, target) => Err(Fate::OneFile(
+            operand,
+            Operand::Out,
+        )),
         _ => Ok(file),
     }
 }
 
 /// Whether the two files that are to be written are one, if there are two.
-pub fn are_one_target<F: Files>(files: &F, target: Option<&str>, names: Option<&str>) -> bool
-    ensures { IsTrue result → AreOneTarget (F.disk files.now) target.entry names.entry }
+fn are_one_target<F: Files>(files: &F, target: Option<&str>, beside: Option<&str>) -> bool
+    ensures { IsTrue result → AreOneTarget (F.disk files.now) target.entry beside.entry }
 {
-    match (target, names) {
-        (Some(target), Some(names)) => files.are_one(target, names),
+    match (target, beside) {
+        (Some(target), Some(beside)) => files.are_one(target, beside),
         _ => false,
     }
 }
 
-/// Opens the file of a workload. It may be neither the target of its log nor that of its names, if
-/// there are such.
+/// Opens a command's input. Its file may be neither the target nor the file beside this, which are
+/// two files, if they are asked for.
 ///
 /// # Errors
-/// `CannotOpen` where it does not open; else `OneFile` where it is the target, and else
-/// `NamesAtInput`.
-pub fn open_to_run<F: Files>(
+/// `OneFile` where the files that are to be written are one; `CannotOpen` where the input does not
+/// open; `OneFile` where it is the target, and else where it is the file beside this.
+pub fn open_apart<F: Files>(
     files: &F,
+    operand: Operand,
     input: &str,
     target: Option<&str>,
-    names: Option<&str>,
+    beside: Beside,
 ) -> Result<F::Input, Fate>
     ensures given { IfOk result (IsOpened (F.disk files.now) input.now
         F.Input.remaining F.Input.failures) }
-    ensures barred { IfErr result (IsBarredRun (F.disk files.now) input.now target.entry
-        names.entry) }
+    ensures barred { IfErr result (IsBarredApart (F.disk files.now) operand input.now target.entry
+        beside.entry) }
 {
-    let file = match open_input(files, Operand::File, input, target) {
+    if are_one_target(files, target, beside.path) {
+        return Err(Fate::OneFile(Operand::Out, beside.operand));
+    }
+    let file = match open_input(files, operand, input, target) {
         Ok(file) => file,
         Err(fate) => return Err(fate),
     };
-    match names {
-        Some(names) if is_one_file(files, input, names) => Err(Fate::NamesAtInput),
+    match beside.path {
+        Some(path) if is_one_file(files, input, path) => {
+            Err(Fate::OneFile(operand, beside.operand))
+        }
         _ => Ok(file),
     }
 }

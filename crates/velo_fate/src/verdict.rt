@@ -19,7 +19,7 @@ use velo_world::Closed;
 pub enum Verdict {
     /// Its atomic blocks can be serialized.
     Clean,
-    /// They can't be.
+    /// They cannot be.
     Alarm,
 }
 

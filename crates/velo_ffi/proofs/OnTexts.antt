@@ -11,7 +11,7 @@ use Rattle.velo_explain.specs.declared.evidence.Evidence.{Evidence}
 use Rattle.velo_explain.specs.Evidence.{HaveReasons, IsEvidence}
 use Rattle.velo_explain.specs.Text.{named_explanation_text}
 use Rattle.velo_names.specs.Names.{NameLists}
-use Rattle.velo_report.proofs.OnClosing.{no_cycle_before}
+use Rattle.velo_certify.proofs.OnClosing.{no_cycle_before}
 use Rattle.velo_ffi.specs.Texts.{ExplainsAlarm}
 
 -- an alarm is explained by its evidence

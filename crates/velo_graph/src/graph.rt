@@ -129,7 +129,7 @@ impl<A: Ancestors> Graph<A> {
         self.arena.free(slot);
     }
 
-    /// Frees exactly the finished nodes without an unfinished ancestor, and tells their stamps in place of what the
+    /// Frees exactly the finished nodes without an unfinished ancestor, and reports their stamps in place of what the
     /// list had. There has to be room for as many as there are slots.
     pub fn free_unneeded(&mut self, freed: &mut Vec<u32>)
         requires room { limit_of self.old.slots ≤ vec_capacity freed.old }

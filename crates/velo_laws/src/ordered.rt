@@ -7,7 +7,7 @@ ghost use Rattle.velo_events.specs.WellFormed.{IsWellFormed};
 ghost use Rattle.velo_thin.specs.Left.{Left, rest_of};
 ghost use Rattle.velo_laws.specs.Ordered.{only, dissolving, leaving_out, IsOrdered, IsOrderedWithin, IsOrderedAtLast, IsChained, BlamesSame, ClosesAtSame, ClosesAtSameWithout, HasSameTransactions};
 
-/// What is left of a log that can come about can come about.
+/// What is left of a log that can happen can happen.
 pub fn well_formed()
     ensures { (locks variables : ℕ → Bool) (bounds : Bounds) (log : List Event)
         → IsWellFormed bounds log → IsWellFormed bounds (rest_of (only locks variables) log) }

@@ -24,7 +24,7 @@ pub fn same_blame_without_repeats()
         → BlamesSameRepeated goes log }
 {}
 
-/// Without accesses of variables that repeat equal ones a log that can come about can come about.
+/// Without accesses of variables that repeat equal ones a log that can happen can happen.
 pub fn well_formed_without_repeats()
     ensures { (goes : ℕ → Bool) (bounds : Bounds) (log : List Event) (repeats : AreRepeats goes log)
         → AreEqualAccesses goes log repeats → IsWellFormed bounds log

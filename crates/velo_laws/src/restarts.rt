@@ -36,7 +36,7 @@ pub fn prologue()
         → NoBlockOpen prologue × IsQuiet prologue × (¬ HasCycle prologue) }
 {}
 
-/// Each log that can come about has a prologue that stands for it.
+/// Each log that can happen has a prologue that stands for it.
 pub fn has_prologue()
     ensures { (bounds : Bounds) (before : List Event) → IsWellFormed bounds before
         → (prologue : List Event) × IsPrologueOf bounds before prologue }

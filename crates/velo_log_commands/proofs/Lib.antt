@@ -4,5 +4,7 @@ mod OnExplaining
 mod OnIgnoring
 mod OnListing
 mod OnNaming
+mod OnPredicting
 mod OnSiting
+pub mod OnThinning
 mod OnWatching

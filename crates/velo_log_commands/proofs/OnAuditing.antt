@@ -23,12 +23,12 @@ use Rattle.velo_fate.specs.declared.fault.CheckFault.TheVariants as check_fault
 use Rattle.velo_fate.specs.declared.fate.Fate.{Fate}
 use Rattle.velo_fate.specs.declared.fate.Fate.TheVariants as fate
 use Rattle.velo_request.specs.declared.request.AuditOptions.{AuditOptions}
-use Rattle.velo_log_commands.specs.Auditing.{AreRoundsOf, Audits, AuditsEvents, HasFullGraph, IsAuditAnswer, audited, is_found, left_at_first, left_at_last, with_locks, with_variables}
+use Rattle.velo_log_commands.specs.Auditing.{AreRoundsOf, Audits, AuditsEvents, HasFullGraph, IsAuditAnswer, LacksRounds, audited, is_found, left_at_first, left_at_last, with_locks, with_variables}
 use Rattle.velo_fate.specs.Delivery.{Answer, IsDelivered, IsPrinted, LacksMemory, printing, silent}
 use Rattle.velo_delivery.specs.Disk.{Store}
 use Rattle.velo_fate.specs.Failures.{failures_told}
 use Rattle.velo_log_commands.specs.Steps.{PrintsOrLacks}
-use Rattle.velo_delivery.specs.Writing.{Writing}
+use Rattle.velo_delivery.specs.Writing.{Writing, WritesNothing}
 use Rattle.velo_fate.proofs.OnDelivery.{put_of, same_fate}
 
 -- ---- locks and variables one after another
@@ -81,15 +81,15 @@ told_put names log asked rounds left words atomic alarm is count behind found st
 
 -- ---- the rounds
 
--- what an audit of these events from this start answers is so of the log that they are
-pub are_rounds_of : (witness : Bool) (log events : List Event) (first start behind : Left) (rounds : List Told) → events ≡ log → start ≡ first
-    → Rounds events start (map told_as rounds) → AreTheOnlyRounds events start (map told_as rounds) → All (TellsTruly events) rounds → AreWitnessed witness events start rounds
-    → AreFound events start (labels_found events (map told_as rounds)) → behind ≡ with_labels start (labels_found events (map told_as rounds)) → length rounds + atomic_labels behind events ≤ atomic_labels start events
-    → IsSerializable (rest_of behind events) → AreRoundsOf witness log first rounds
-are_rounds_of witness log events first start behind rounds same begins each only truly witnessed found left few serializable =
-    subst (λ (l : List Event). AreRoundsOf witness l first rounds) same (subst (λ (x : Left). AreRoundsOf witness events x rounds) begins made)
+-- what an audit of the log from this start answers
+pub are_rounds_of : (witness : Bool) (log : List Event) (first start behind : Left) (rounds : List Told) → start ≡ first
+    → Rounds log start (map told_as rounds) → AreTheOnlyRounds log start (map told_as rounds) → All (TellsTruly log) rounds → AreWitnessed witness log start rounds
+    → AreFound log start (labels_found log (map told_as rounds)) → behind ≡ with_labels start (labels_found log (map told_as rounds)) → length rounds + atomic_labels behind log ≤ atomic_labels start log
+    → IsSerializable (rest_of behind log) → AreRoundsOf witness log first rounds
+are_rounds_of witness log first start behind rounds begins each only truly witnessed found left few serializable =
+    subst (λ (x : Left). AreRoundsOf witness log x rounds) begins made
   where
-    made : AreRoundsOf witness events start rounds
+    made : AreRoundsOf witness log start rounds
     made =
         record {
           each = each;
@@ -97,36 +97,50 @@ are_rounds_of witness log events first start behind rounds same begins each only
           truly = truly;
           witnessed = witnessed;
           found = found;
-          few = subst (λ (x : Left). length rounds + atomic_labels x events ≤ atomic_labels start events) left few;
-          serializable = subst (λ (x : Left). IsSerializable (rest_of x events)) left serializable;
+          few = subst (λ (x : Left). length rounds + atomic_labels x log ≤ atomic_labels start log) left few;
+          serializable = subst (λ (x : Left). IsSerializable (rest_of x log)) left serializable;
         }
+
+pub left_from : (log : List Event) (first start behind : Left) (rounds : List Told) → start ≡ first → behind ≡ with_labels start (labels_found log (map told_as rounds)) → behind ≡ left_at_last log first rounds
+left_from log first start behind rounds begins left = left ∙ ap (λ (x : Left). with_labels x (labels_found log (map told_as rounds))) begins
 
 -- they are printed, or memory was wanting
 pub rounds_printed : (names : NameLists) (asked : Asked) (options : AuditOptions) (bounds : Bounds) (log events : List Event) (rounds told : List Told) → events ≡ log → told ≡ rounds
-    → AreRoundsOf options.witness log (left_at_first asked) rounds → (stdout : Writing) (f : Fate) → PrintsOrLacks (audited names events asked told) stdout f
+    → AreRoundsOf options.witness events (left_at_first asked) rounds → (stdout : Writing) (f : Fate) → PrintsOrLacks (audited names events asked told) stdout f
     → Audits names asked options bounds log stdout f
 rounds_printed names asked options bounds log events rounds told same as_told are stdout f (inl put) = (
   audited names events asked told,
-  inl (inl (record { rounds = rounds; are_rounds = are; said = ap (λ (l : List Event). audited names l asked told) same ∙ ap (audited names log asked) as_told })),
+  inl (inl (record { rounds = rounds; are_rounds = subst (λ (l : List Event). AreRoundsOf options.witness l (left_at_first asked) rounds) same are; said = ap (λ (l : List Event). audited names l asked told) same ∙ ap (audited names log asked) as_told })),
   put,
 )
 rounds_printed names asked options bounds log events rounds told same as_told are stdout f (inr lacks) =
     (silent fate.Memory, inr (lacks.0, refl), subst (λ (g : Fate). IsPrinted stdout (silent fate.Memory) g) (sym lacks.1) (refl, lacks.2))
 
 -- the graph is full in a round
-pub full_said : (asked : Asked) (nodes : ℕ) (bounds : Bounds) (log events : List Event) (config : Config) (start : Left) (position : ℕ) → events ≡ log → start ≡ left_at_first asked → config.bounds ≡ bounds
-    → config.nodes ≡ nodes → IsFullAfter config events start position → HasFullGraph asked nodes bounds log (silent (fate.Check (check_fault.Refused position GraphFull)))
-full_said asked nodes bounds log events config start position same begins its_bounds its_nodes full =
+pub full_said : (asked : Asked) (config : Config) (log : List Event) (start : Left) (position : ℕ) → start ≡ left_at_first asked → IsFullAfter config log start position
+    → HasFullGraph asked config.nodes config.bounds log (silent (fate.Check (check_fault.Refused position GraphFull)))
+full_said asked config log start position begins full =
     record {
       config = config;
-      its_bounds = its_bounds;
-      its_nodes = its_nodes;
+      its_bounds = refl;
+      its_nodes = refl;
       position = position;
-      is_full =
-          subst (λ (l : List Event). IsFullAfter config l (left_at_first asked) position) same
-          (subst (λ (x : Left). IsFullAfter config events x position) begins full);
+      is_full = subst (λ (x : Left). IsFullAfter config log x position) begins full;
       said = refl;
     }
+
+-- no rounds of these events are none of the log that they are
+pub lacks_same : (asked : Asked) (nodes limit : ℕ) (bounds own : Bounds) (log events : List Event) (f : Fate) → events ≡ log → own ≡ bounds → nodes ≡ limit → LacksRounds asked nodes own events f
+    → LacksRounds asked limit bounds log f
+lacks_same asked nodes limit bounds own log events f same its_bounds its_nodes lacks =
+    subst (λ (l : List Event). LacksRounds asked limit bounds l f) same
+    (subst (λ (b : Bounds). LacksRounds asked limit b events f) its_bounds (subst (λ (n : ℕ). LacksRounds asked n own events f) its_nodes lacks))
+
+-- and then nothing is printed
+pub rounds_lacking : (names : NameLists) (asked : Asked) (options : AuditOptions) (bounds : Bounds) (log : List Event) (stdout : Writing) (f : Fate) → WritesNothing stdout
+    → LacksRounds asked options.limits.nodes bounds log f → Audits names asked options bounds log stdout f
+rounds_lacking names asked options bounds log stdout f nothing (inl full) = (silent f, inl (inr full), subst (λ (g : Fate). IsPrinted stdout (silent g) g) (sym (ap (λ (a : Answer). a.fate) full.said)) (refl, nothing))
+rounds_lacking names asked options bounds log stdout f nothing (inr lacks) = (silent f, inr lacks, subst (λ (g : Fate). IsPrinted stdout (silent g) g) (sym (ap (λ (a : Answer). a.fate) lacks.1)) (refl, nothing))
 
 -- ---- the answer
 

@@ -10,7 +10,6 @@ use Rattle.velo_logtext.specs.declared.fault.LogFault.TheVariants as log_fault
 use Rattle.velo_events.specs.declared.config.Config.{Config}
 use Rattle.velo_world.specs.World.{WorldState}
 use Rattle.velo_fate.specs.declared.verdict.Verdict.{Verdict}
-use Rattle.velo_fate.specs.declared.verdict.Verdict.TheVariants as verdict
 use Rattle.velo_fate.specs.declared.fault.CheckFault.{CheckFault}
 use Rattle.velo_fate.specs.declared.fault.CheckFault.TheVariants.{Log, Refused, WrongValue, Write, Memory}
 use Rattle.velo_fate.specs.declared.fate.Fate.TheVariants.{Check, Finished}

@@ -26,7 +26,7 @@ use Rattle.velo_delivery.specs.Writing.{Writing, WritesNothing}
 use Rattle.velo_log_commands.specs.Steps.{DeliversOrLacks, Explains, ExplainsIfOf, ExplainsInput, PrintsOrLacks}
 use Rattle.velo_fate.specs.Saving.{IsSaved}
 use Rattle.velo_fate.proofs.OnDelivery.{delivered_reads, printed_put, same_fate}
-use Rattle.velo_fate.proofs.OnVerdicts.{no_cycle_before}
+use Rattle.velo_certify.proofs.OnClosing.{no_cycle_before}
 
 module _ (store : Store) (target : Option (Bor (List ℕ))) (stdout : Writing) where
   -- where the picture is not saved nothing goes out

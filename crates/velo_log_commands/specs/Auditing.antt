@@ -115,6 +115,11 @@ IsAuditAnswer names asked options read answer =
 
 -- ---- on the way. Contracts within the crate cite these words
 
+-- why there are no rounds: the graph is full in one of them, or an allocation failed
+abbrev pub LacksRounds : Asked → ℕ → Bounds → List Event → Fate → Type 0
+LacksRounds asked nodes bounds log f =
+    HasFullGraph asked nodes bounds log (silent f) ⊎ LacksMemory (silent f)
+
 -- these locks, these variables are left out as well
 abbrev pub with_locks : Left → List ℕ → Left
 with_locks left locks = record left { locks = λ m. left.locks m || is_listed locks m }

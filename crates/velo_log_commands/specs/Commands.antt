@@ -15,21 +15,26 @@ use Rattle.velo_request.specs.declared.request.AuditOptions.{AuditOptions}
 use Rattle.velo_request.specs.declared.request.CarryOptions.{CarryOptions}
 use Rattle.velo_request.specs.declared.request.CheckOptions.{CheckOptions}
 use Rattle.velo_request.specs.declared.request.ExplainOptions.{ExplainOptions}
+use Rattle.velo_request.specs.declared.request.PredictOptions.{PredictOptions}
+use Rattle.velo_request.specs.declared.request.ThinOptions.{ThinOptions}
 use Rattle.velo_delivery.specs.declared.failure.Operand.TheVariants.{Log}
 use Rattle.velo_request.specs.declared.request.WatchOptions.{WatchOptions}
+use Rattle.velo_log_commands.specs.declared.asking.AskedWords.{AskedWords}
 use Rattle.velo_log_commands.specs.Auditing.{IsAuditAnswer}
 use Rattle.velo_log_commands.specs.Carrying.{IsCarryAnswer, IsPut}
 use Rattle.velo_log_commands.specs.Check.{IsCheckAnswer}
 use Rattle.velo_fate.specs.Delivery.{Answer, IsDelivered}
-use Rattle.velo_fate.specs.Barred.{WritesNowhere, DoesNotRead}
+use Rattle.velo_fate.specs.Barred.{WritesNowhere, DoesNotRead, DoesNotReadApart}
 use Rattle.velo_delivery.specs.Disk.{IsWritten, Store}
 use Rattle.velo_log_commands.specs.Explaining.{IsExplanation}
 use Rattle.velo_log_commands.specs.Ignoring.{AsksInVain, IsAsked}
 use Rattle.velo_log_commands.specs.Listing.{AreLabelsOf, LacksLabels}
 use Rattle.velo_log_commands.specs.Naming.{AreNamesOf, AreShown, LacksNames}
+use Rattle.velo_log_commands.specs.Predicting.{IsPredictAnswer}
 use Rattle.velo_fate.specs.Failures.{FailuresAsTold}
 use Rattle.velo_delivery.specs.Reading.{Reading}
 use Rattle.velo_log_commands.specs.Siting.{AreSitesOf, LacksSites}
+use Rattle.velo_log_commands.specs.Thinning.{ThinsInput, map_of}
 use Rattle.velo_log_commands.specs.Watching.{Watches}
 use Rattle.velo_delivery.specs.Writing.{Writing, WritesNothing}
 
@@ -47,6 +52,23 @@ abbrev pub DoesByNames : (NameLists → Store → Writing → Fate → Type 0) �
 DoesByNames does path store stdout f =
     DoesNotName store path stdout f
     ⊎ ((names : NameLists) × AreNamesOf store.disk path names × does names store stdout f)
+
+-- What is to be ignored is judged by these names (`Ignoring`) before LOG is opened. It is left out,
+-- and so are the labels that are known; and then what is to be done is done without them.
+abbrev pub DoesKnown : (Asked → Store → Writing → Fate → Type 0) → NameLists → AskedWords → List ℕ
+    → Store → Writing → Fate → Type 0
+DoesKnown does names words known store stdout f =
+    (AsksInVain names words f × WritesNowhere store stdout)
+    ⊎ ((asked : Asked) × IsAsked names known words asked × does asked store stdout f)
+
+-- The list of the labels that are known is read before this by these names (`Listing`), where one is
+-- given, and else none is.
+abbrev pub DoesAsked : (Asked → Store → Writing → Fate → Type 0) → NameLists → AskedWords → Store
+    → Writing → Fate → Type 0
+DoesAsked does names words store stdout f =
+    (LacksLabels names store.disk words.known f × WritesNowhere store stdout)
+    ⊎ ((known : List ℕ) × AreLabelsOf names store.disk words.known known
+    × DoesKnown does names words known store stdout f)
 
 -- ---- velodrome check LOG [--names FILE] [--events N] [--nodes N] [--certificate]
 
@@ -109,6 +131,18 @@ DoesCarry options store stdout f =
     × IsCarryAnswer read.bytes answer
     × IsWritten store options.target.now file × IsPut file answer f × WritesNothing stdout)
 
+-- ---- velodrome thin LOG --log OUT [--map MAP]
+
+-- LOG is read whole, and then without what adds nothing to its verdict. What is left is saved at
+-- OUT, then the map at MAP, if that is given, and then the counts go to standard output; or nothing
+-- is written, for a reason, and then OUT and MAP are not opened (`Thinning`).
+abbrev pub DoesThin : ThinOptions → Store → Writing → Fate → Type 0
+DoesThin options store stdout f =
+    DoesNotReadApart store Log options.input.now (Some options.target) (map_of options) stdout f
+    ⊎ ((read : Reading)
+    × store.disk.gives options.input.now read × FailuresAsTold read f
+    × ThinsInput options read.bytes store stdout f)
+
 -- ---- velodrome watch LOG [--names FILE] [--stop] [--events N] [--nodes N] [--certificate]
 
 -- LOG is read line by line, to its end, or with --stop up to the event that raises the alarm. The
@@ -145,22 +179,51 @@ AuditsLog names asked options store stdout f =
     × IsAuditAnswer names asked options read.bytes answer
     × IsDelivered store None stdout answer f)
 
--- What is to be ignored is judged by these names (`Ignoring`) before LOG is opened. It is left out,
--- and so are the labels that are known.
-abbrev pub AuditsKnown : NameLists → List ℕ → AuditOptions → Store → Writing → Fate → Type 0
-AuditsKnown names known options store stdout f =
-    (AsksInVain names options f × WritesNowhere store stdout)
-    ⊎ ((asked : Asked) × IsAsked names known options asked
-    × AuditsLog names asked options store stdout f)
+-- what it is asked to leave out
+abbrev pub audit_words : AuditOptions → AskedWords
+audit_words options =
+    record {
+      known = options.known;
+      locks = options.ignored_locks;
+      variables = options.ignored_variables;
+    }
 
--- The list of the labels that are known is read by these names (`Listing`), where one is given, and
--- else none is.
 abbrev pub AuditsNamed : NameLists → AuditOptions → Store → Writing → Fate → Type 0
 AuditsNamed names options store stdout f =
-    (LacksLabels names store.disk options.known f × WritesNowhere store stdout)
-    ⊎ ((known : List ℕ) × AreLabelsOf names store.disk options.known known
-    × AuditsKnown names known options store stdout f)
+    DoesAsked (λ asked. AuditsLog names asked options) names (audit_words options) store stdout f
 
 abbrev pub DoesAudit : AuditOptions → Store → Writing → Fate → Type 0
 DoesAudit options store stdout f =
     DoesByNames (λ names. AuditsNamed names options) options.names store stdout f
+
+-- ---- velodrome predict LOG [--names FILE] [--not-atomic FILE] [--ignore-lock N].. [--ignore-variable N]..
+-- ---- [--values] [--tries N] [--seed S] [--log OUT] [--events N] [--nodes N]
+
+-- LOG is read whole and judged as by a check. Where this is left out it is audited, and then searched
+-- for what other runs can show. The trace of the first prediction is saved at OUT, if there is one,
+-- and then the text goes to standard output, by these names; or nothing, for a reason
+-- (`Predicting`). Where nothing is predicted OUT is untouched.
+abbrev pub PredictsLog : NameLists → Asked → PredictOptions → Store → Writing → Fate → Type 0
+PredictsLog names asked options store stdout f =
+    DoesNotRead store Log options.input.now options.target stdout f
+    ⊎ ((read : Reading) × (answer : Answer)
+    × store.disk.gives options.input.now read × FailuresAsTold read f
+    × IsPredictAnswer names asked options read.bytes answer
+    × IsDelivered store options.target stdout answer f)
+
+-- what it is asked to leave out
+abbrev pub predict_words : PredictOptions → AskedWords
+predict_words options =
+    record {
+      known = options.known;
+      locks = options.ignored_locks;
+      variables = options.ignored_variables;
+    }
+
+abbrev pub PredictsNamed : NameLists → PredictOptions → Store → Writing → Fate → Type 0
+PredictsNamed names options store stdout f =
+    DoesAsked (λ asked. PredictsLog names asked options) names (predict_words options) store stdout f
+
+abbrev pub DoesPredict : PredictOptions → Store → Writing → Fate → Type 0
+DoesPredict options store stdout f =
+    DoesByNames (λ names. PredictsNamed names options) options.names store stdout f

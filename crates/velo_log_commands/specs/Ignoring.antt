@@ -11,9 +11,9 @@ use Rattle.velo_names.specs.Names.{NameLists, meant_by}
 use Rattle.velo_audit_text.specs.declared.words.Asked.{Asked}
 use Rattle.velo_fate.specs.declared.fate.Fate.{Fate}
 use Rattle.velo_fate.specs.declared.fate.Fate.TheVariants as fate
-use Rattle.velo_request.specs.declared.request.AuditOptions.{AuditOptions}
 use Rattle.velo_request.specs.declared.request.Ignorable.{Ignorable}
 use Rattle.velo_request.specs.declared.request.Ignorable.TheVariants.{Lock, Variable}
+use Rattle.velo_log_commands.specs.declared.asking.AskedWords.{AskedWords}
 
 -- ---- what a word means
 
@@ -48,23 +48,23 @@ MeanNothing names what words (fate.Ignored it) = (it ≡ what) × (ids_by names 
 MeanNothing names what words fate.Memory = GrowthRefused
 MeanNothing names what words f = ⊥
 
--- ---- what an audit was asked for
+-- ---- what a command was asked to leave out
 
 -- the labels that are known, and the locks and the variables that its words mean, in their order
-pub record IsAsked (names : NameLists) (known : List ℕ) (options : AuditOptions) (asked : Asked)
+pub record IsAsked (names : NameLists) (known : List ℕ) (words : AskedWords) (asked : Asked)
     : Type 0 where
   pub labels : map (λ (l : Label). l.0) asked.labels.now ≡ known
-  pub locks : ids_by names Lock options.ignored_locks.now
+  pub locks : ids_by names Lock words.locks.now
       ≡ Some (map (λ (m : LockId). m.0) asked.locks.now)
-  pub variables : ids_by names Variable options.ignored_variables.now
+  pub variables : ids_by names Variable words.variables.now
       ≡ Some (map (λ (x : VarId). x.0) asked.variables.now)
 
 -- the locks are judged first
-abbrev pub AsksInVain : NameLists → AuditOptions → Fate → Type 0
-AsksInVain names options f =
-    MeanNothing names Lock options.ignored_locks.now f
-    ⊎ (IsTrue (is_some (ids_by names Lock options.ignored_locks.now))
-    × MeanNothing names Variable options.ignored_variables.now f)
+abbrev pub AsksInVain : NameLists → AskedWords → Fate → Type 0
+AsksInVain names words f =
+    MeanNothing names Lock words.locks.now f
+    ⊎ (IsTrue (is_some (ids_by names Lock words.locks.now))
+    × MeanNothing names Variable words.variables.now f)
 
 -- ---- on the way. Contracts within the crate cite these words
 

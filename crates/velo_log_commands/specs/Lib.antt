@@ -7,6 +7,8 @@ pub mod Faults
 pub mod Ignoring
 pub mod Listing
 pub mod Naming
+pub mod Predicting
 pub mod Siting
 pub mod Steps
+pub mod Thinning
 pub mod Watching

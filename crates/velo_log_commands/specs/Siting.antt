@@ -9,7 +9,7 @@ use Rattle.velo_sites.specs.Sites.{Gives, ReadsAs, Table}
 use Rattle.velo_fate.specs.declared.fate.Fate.{Fate}
 use Rattle.velo_fate.specs.declared.fate.Fate.TheVariants as fate
 use Rattle.velo_delivery.specs.Disk.{Disk}
-use Rattle.velo_fate.specs.Format.{Format, LacksGiven, Reads, bytes_up_to}
+use Rattle.velo_fate.specs.Format.{Format, LacksGiven, Reads}
 
 -- ---- by the bytes of the file
 

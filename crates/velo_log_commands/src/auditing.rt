@@ -1,24 +1,24 @@
 //! `velodrome audit`.
-ghost use Rattle.std.specs.Prelude.{◌≡◌, ◌≤◌, All, false, length, map, IfOk, OnOk};
+ghost use Rattle.std.specs.Prelude.{◌≡◌, ◌≤◌, All, false, length, map, IfErr, IfOk, OnOk};
 ghost use Rattle.velo_events.specs.declared.event.Label.{Label as LabelOf};
 ghost use Rattle.velo_events.specs.declared.event.LockId.{LockId as LockOf};
 ghost use Rattle.velo_events.specs.declared.event.VarId.{VarId as VariableOf};
 ghost use Rattle.velo_events.specs.declared.limits.TheConstants.{MAX_EVENTS};
+ghost use Rattle.velo_events.specs.WellFormed.{IsWellFormed};
 ghost use Rattle.velo_thin.specs.Left.{with_labels};
 ghost use Rattle.velo_thin.specs.Tables.{left_of};
 ghost use Rattle.velo_thin.specs.Thinned.{CanComeAbout};
 ghost use Rattle.velo_audit.specs.Audit.{TellsTruly};
-ghost use Rattle.velo_log_commands.specs.Auditing.{Audits, AuditsInput, audited, is_found, left_at_first, left_at_last, with_locks, with_variables};
+ghost use Rattle.velo_log_commands.specs.Auditing.{AreRoundsOf, Audits, AuditsInput, LacksRounds, audited, is_found, left_at_first, left_at_last, with_locks, with_variables};
 ghost use Rattle.velo_delivery.specs.Disk.{store};
-ghost use Rattle.velo_log_commands.specs.Commands.{AuditsKnown, AuditsLog, AuditsNamed, DoesAudit};
+ghost use Rattle.velo_log_commands.specs.Commands.{AuditsLog, AuditsNamed, DoesAudit};
 ghost use Rattle.velo_delivery.specs.Reading.{reading};
 ghost use Rattle.velo_log_commands.specs.Steps.{PrintsOrLacks};
 ghost use Rattle.velo_delivery.specs.Writing.{writing};
 
+use crate::asking::{AskedWords, ByAsked, do_by_asked};
 use crate::check::do_input;
 use crate::explaining::print;
-use crate::ignoring::{ignored_locks, ignored_variables};
-use crate::listing::labels_of;
 use crate::naming::{ByNames, do_by_names};
 use std::alloc::Global;
 use velo_audit::{AuditFault, Told, audit, count_atomic};
@@ -67,7 +67,7 @@ fn leave_out_variables(left: &mut LeftOut, variables: &[VarId]) -> Result<(), Me
 }
 
 /// What was asked for, left out.
-fn left_out(alloc: Global, asked: &Asked) -> Result<LeftOut, Memory>
+pub fn left_out(alloc: Global, asked: &Asked) -> Result<LeftOut, Memory>
     ensures { IfOk result (λ left. left_of left ≡ left_at_first asked.now) }
 {
     let mut left = LeftOut::new(alloc);
@@ -78,7 +78,7 @@ fn left_out(alloc: Global, asked: &Asked) -> Result<LeftOut, Memory>
 }
 
 /// The configuration of the rounds: that of the log, within the limits.
-fn config_of_rounds(closed: &Closed, limits: Limits) -> Config
+pub fn config_of_rounds(closed: &Closed, limits: Limits) -> Config
     ensures bounds { result.bounds ≡ closed.now.config.bounds }
     ensures events { result.events ≡ limits.events }
     ensures nodes { result.nodes ≡ limits.nodes }
@@ -128,6 +128,39 @@ fn tell_rounds<O: Sink>(
     }
 }
 
+/// The rounds of a log of which so much is left out at first.
+///
+/// # Errors
+/// `Check` with the refusal where the graph of a round is full, `Memory` if an allocation failed.
+pub fn rounds_of(
+    alloc: Global,
+    config: &Config,
+    log: &Trace,
+    asked: &Asked,
+    witness: bool,
+    left: &mut LeftOut,
+) -> Result<Vec<Told>, Fate>
+    requires goes_on { config.now.stop ≡ false }
+    requires short { length log.now.events ≤ config.now.events }
+    requires well_formed { IsWellFormed config.now.bounds log.now.events }
+    requires left { left_of left.old ≡ left_at_first asked.now }
+    ensures rounds { IfOk result (λ rounds.
+        AreRoundsOf witness log.now.events (left_at_first asked.now) rounds.items) }
+    ensures left { IfOk result (λ rounds. left_of left.new
+        ≡ left_at_last log.now.events (left_at_first asked.now) rounds.items) }
+    ensures fault { IfErr result (λ fate.
+        LacksRounds asked.now config.now.nodes config.now.bounds log.now.events fate) }
+{
+    match audit(alloc, config, log, left, witness) {
+        Ok(rounds) => Ok(rounds),
+        Err(AuditFault::Memory) => Err(Fate::Memory),
+        Err(AuditFault::GraphFull { position }) => Err(Fate::Check(CheckFault::Refused {
+            position,
+            refusal: Refusal::GraphFull,
+        })),
+    }
+}
+
 /// Audits the log of a closed world, of which so much is left out at first.
 fn audit_rest<O: Sink>(
     alloc: Global,
@@ -145,17 +178,13 @@ fn audit_rest<O: Sink>(
 {
     let config = config_of_rounds(closed, options.limits);
     let log = closed.log();
-    match audit(alloc, &config, log, left, options.witness) {
+    match rounds_of(alloc, &config, log, asked, options.witness, left) {
         Ok(rounds) => {
             let fate = tell_rounds(alloc, log, names, asked, &rounds, left, out);
             drop(rounds);
             fate
         }
-        Err(AuditFault::Memory) => Fate::Memory,
-        Err(AuditFault::GraphFull { position }) => Fate::Check(CheckFault::Refused {
-            position,
-            refusal: Refusal::GraphFull,
-        }),
+        Err(fate) => fate,
     }
 }
 
@@ -223,33 +252,19 @@ fn audit_input<F: Files, O: Sink>(
     }
 }
 
-/// Audits the log that was asked for, without the labels that are known, and without what is to be
-/// ignored by the names.
-fn audit_known<F: Files, O: Sink>(
-    alloc: Global,
-    options: &AuditOptions,
-    names: &Names,
-    known: &[Label],
-    files: &F,
-    out: &mut O,
-) -> Fate
-    ensures { AuditsKnown names.now (map (λ (l : LabelOf). l.0) known.now) options.now
-        (store F.disk files.now files.now) (writing O.contents O.failures out.old out.new) result }
-{
-    let locks = match ignored_locks(alloc, names, options.ignored_locks) {
-        Ok(locks) => locks,
-        Err(fate) => return fate,
-    };
-    let variables = match ignored_variables(alloc, names, options.ignored_variables) {
-        Ok(variables) => variables,
-        Err(fate) => return fate,
-    };
-    let asked = Asked {
-        labels: known,
-        locks: &locks,
-        variables: &variables,
-    };
-    audit_input(alloc, options, names, &asked, files, out)
+impl ByAsked for AuditOptions<'_> {
+    ghost does = { λ options names asked. AuditsLog names asked options };
+
+    fn do_asked<F: Files, O: Sink>(
+        &self,
+        alloc: Global,
+        names: &Names,
+        asked: &Asked,
+        files: &mut F,
+        out: &mut O,
+    ) -> Fate {
+        audit_input(alloc, self, names, asked, files, out)
+    }
 }
 
 impl ByNames for AuditOptions<'_> {
@@ -262,14 +277,12 @@ impl ByNames for AuditOptions<'_> {
         files: &mut F,
         out: &mut O,
     ) -> Fate {
-        match labels_of(alloc, names, self.known, files) {
-            Ok(known) => {
-                let fate = audit_known(alloc, self, names, &known, files, out);
-                drop(known);
-                fate
-            }
-            Err(fate) => fate,
-        }
+        let words = AskedWords {
+            known: self.known,
+            locks: self.ignored_locks,
+            variables: self.ignored_variables,
+        };
+        do_by_asked(alloc, self, names, &words, files, out)
     }
 }
 

@@ -41,7 +41,7 @@ pub fn fault_of(fault: LogReplayFault) -> CheckFault
     }
 }
 
-/// The world of a log, all of whose events came about again in it, after its end. The log becomes
+/// The world of a log, in which all of its events happened again, after its end. The log becomes
 /// the world's. The configuration has to go on after an alarm.
 ///
 /// # Errors
@@ -100,7 +100,7 @@ fn show<O: Sink>(
 }
 
 /// Writes what a closed world shows. The certificate, if it is asked for, is made before the first
-/// byte goes out.
+/// byte is written.
 fn write_answer<O: Sink>(
     alloc: Global,
     closed: &Closed,
@@ -136,7 +136,7 @@ pub fn finish<O: Sink>(
     answer
 }
 
-/// The world of the log that a source gives, all of whose events came about again in it, after its
+/// The world of the log that a source gives, in which all of its events happened again, after its
 /// end.
 ///
 /// # Errors

@@ -38,7 +38,7 @@ use velo_world::Closed;
 ///
 /// # Errors
 /// `CannotOpen` where no file opens there; `WriteFailed` where it failed, after a beginning.
-fn save_text<F: Files>(text: &[u8], path: &str, files: &mut F) -> Result<(), Fate>
+pub fn save_text<F: Files>(text: &[u8], path: &str, files: &mut F) -> Result<(), Fate>
     ensures { IsSaved (store F.disk files.old files.new) (Some path.entry) text.now result }
 {
     let saves = [Save {

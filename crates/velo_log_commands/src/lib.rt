@@ -1,6 +1,7 @@
 //! What each command on a recorded log does, whatever its files and its output are.
 #![tactic(auto)]
 
+mod asking;
 mod auditing;
 mod carrying;
 mod check;
@@ -8,11 +9,15 @@ mod explaining;
 mod ignoring;
 mod listing;
 mod naming;
+mod predicting;
 mod siting;
+mod thinning;
 mod watching;
 
 pub use auditing::audit_file;
 pub use carrying::{CarryFault, carry_file, carry_run};
 pub use check::{check_file, check_run, config_of, do_log};
 pub use explaining::explain_file;
+pub use predicting::predict_file;
+pub use thinning::thin_file;
 pub use watching::watch_file;

@@ -58,7 +58,7 @@ fn judge_front(bytes: &[u8], ended: bool, line: usize) -> Result<Front, LogFault
     }
 }
 
-/// What bytes are that stand behind as many lines of events as there may be.
+/// What bytes are that follow as many lines of events as there may be.
 fn judge_full(bytes: &[u8], ended: bool) -> Result<Front, LogFault>
     ensures { result ≡ judged_full bytes.now ended }
 {
@@ -166,7 +166,7 @@ impl LogReader {
         self.bounds
     }
 
-    /// Counts the events from here on anew, and with them the lines: the next one is line 2, as behind a header.
+    /// Begins to count the events again, and with them the lines: the next one is line 2, as after a header.
     pub fn count_anew(&mut self)
         ensures { self.new ≡ record self.old { given = 0 } }
     {

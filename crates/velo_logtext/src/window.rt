@@ -12,7 +12,7 @@ use velo_events::{Memory, growth};
 /// The most bytes of a line before its newline.
 pub const LONGEST_LINE: usize = 64;
 
-/// Room for what a read gives at a time, behind less than a line that was left.
+/// Room for what a read gives at a time, after less than a line that was left.
 const ROOM: usize = 65_536 + LONGEST_LINE;
 
 /// Bytes that were read and not taken yet.
@@ -58,7 +58,7 @@ impl Window {
         &self.buffer[self.start..self.end]
     }
 
-    /// Whether the source has told its end.
+    /// Whether the source has ended.
     pub fn is_ended(&self) -> bool
         ensures { result ≡ self.now.ended }
     {
@@ -95,7 +95,7 @@ impl Window {
     }
 }
 
-/// Moves the last bytes of those that are there to the front, and reads once behind them.
+/// Moves the last bytes of those that are there to the front, and reads once after them.
 fn read_behind<S: Source>(
     source: &mut S,
     buffer: &mut [u8],

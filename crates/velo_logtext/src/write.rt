@@ -30,7 +30,7 @@ fn put_word(buffer: &mut [u8], at: usize, word: &[u8], number: u64) -> usize
     put_number(buffer, at, number)
 }
 
-/// Puts the words of an operation, of at most [`KIND_ROOM`] bytes, at a place of a buffer, and returns the place behind them.
+/// Puts the words of an operation, of at most [`KIND_ROOM`] bytes, at a place of a buffer, and returns the place after them.
 pub fn put_kind(buffer: &mut [u8], at: usize, kind: Kind) -> usize
     requires { at + KIND_ROOM ≤ length buffer.old }
     ensures text { take result buffer.new ≡ take at buffer.old ++ kind_text kind }

@@ -1,5 +1,5 @@
--- What a search for predictions found, as text.
-use Rattle.std.specs.Prelude.{ℕ, ◌<◌, ◌≤◌, List, [], ◌∷◌, ◌++◌, length, codes, decimal, All}
+-- What a log shows and foretells, as text.
+use Rattle.std.specs.Prelude.{ℕ, ◌<◌, ◌≤◌, Bool, true, false, List, [], ◌∷◌, ◌++◌, length, codes, decimal, All}
 use Rattle.std.specs.List.{flat_map}
 use Rattle.velo_events.specs.declared.limits.TheConstants.{MAX_EVENTS}
 use Rattle.velo_events.specs.declared.event.Event.{Event}
@@ -12,7 +12,10 @@ use Rattle.velo_explain.specs.Pieces.{event_text, joined, name_about, name_text}
 use Rattle.velo_explain.specs.Text.{line_of}
 use Rattle.velo_audit.specs.Witness.{IsWitnessWithin}
 use Rattle.velo_audit_text.specs.Names.{named}
-use Rattle.velo_audit_text.specs.Text.{optional_witness_text}
+use Rattle.velo_audit.specs.declared.told.Told.{Told}
+use Rattle.velo_audit_text.specs.declared.words.Asked.{Asked}
+use Rattle.velo_audit_text.specs.Text.{optional_witness_text, told_text}
+use Rattle.velo_audit_text.specs.Words.{asked_text}
 use Rattle.velo_delays.specs.declared.judged.Differing.{Differing}
 use Rattle.velo_delays.specs.declared.judged.Found.{Found}
 
@@ -39,16 +42,28 @@ found_text names found =
     ++ (flat_map (difference_text names found.trace.events) found.differing.items
     ++ optional_witness_text names found.trace.events found.told.closing found.told.witness))
 
+-- a round told something of the log itself, or a prediction was found
+abbrev pub is_something_told : List Told → List Found → Bool
+is_something_told [] [] = false
+is_something_told [] (found ∷ founds) = true
+is_something_told (told ∷ rounds) founds = true
+
 -- "nothing found in 600 tries"; "nothing else found in 600 tries" after something
-abbrev pub nothing_text : List Found → List ℕ
-nothing_text [] = codes "nothing found in "
-nothing_text (found ∷ more) = codes "nothing else found in "
+abbrev pub nothing_text : Bool → List ℕ
+nothing_text false = codes "nothing found in "
+nothing_text true = codes "nothing else found in "
 
-unfoldable pub end_text : List Found → ℕ → List ℕ
-end_text founds tries = joined (nothing_text founds ∷ decimal tries ∷ codes " tries\n" ∷ [])
+unfoldable pub end_text : Bool → ℕ → List ℕ
+end_text something tries = joined (nothing_text something ∷ decimal tries ∷ codes " tries\n" ∷ [])
 
-abbrev pub predictions_text : NameLists → List Found → ℕ → List ℕ
-predictions_text names founds tries = flat_map (found_text names) founds ++ end_text founds tries
+-- what was to be left out and the rounds of the log itself, both as an audit prints them; what was found; and how many delays were
+-- tried
+abbrev pub predictions_text : NameLists → List Event → Asked → List Told → List Found → ℕ → List ℕ
+predictions_text names log asked rounds founds tries =
+    asked_text names asked
+    ++ (flat_map (told_text names log) rounds
+    ++ (flat_map (found_text names) founds
+    ++ end_text (is_something_told rounds founds) tries))
 
 -- ---- what can be told. Private contracts cite these words
 

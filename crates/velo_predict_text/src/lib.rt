@@ -1,9 +1,9 @@
-//! What a search for predictions found, as text: each label that may not be atomic, with the reads that differ from the log and
-//! the cycle of its trace; and a trace as a log.
+//! What a log shows and foretells, as text: each label that is not atomic; each that may not be, with the reads that differ from
+//! the log and the cycle of its trace; and a trace as a log.
 #![tactic(auto)]
 
 mod log;
 mod text;
 
 pub use log::trace_text;
-pub use text::predictions_text;
+pub use text::{is_something_told, predictions_text};

@@ -2,16 +2,18 @@
 ghost use Rattle.std.specs.Prelude.{◌≡◌, ◌≤◌, ◌<◌, ◌++◌, length, All, IfOk, OnOk};
 ghost use Rattle.std.specs.List.{flat_map};
 ghost use Rattle.velo_events.specs.declared.limits.TheConstants.{MAX_EVENTS};
-ghost use Rattle.velo_delays.specs.Found.{IsFoundIn};
-ghost use Rattle.velo_predict_text.specs.Text.{CanBeTold, maybe_text, size_text, difference_text, found_text, nothing_text, end_text, predictions_text};
+ghost use Rattle.velo_thin.specs.Thinned.{CanComeAbout};
+ghost use Rattle.velo_audit.specs.Audit.{TellsTruly};
+ghost use Rattle.velo_predict_text.specs.Text.{CanBeTold, maybe_text, size_text, difference_text, found_text, is_something_told, nothing_text, end_text, predictions_text};
 
 use std::alloc::Global;
-use velo_audit_text::add_witness_if_any;
+use velo_audit::Told;
+use velo_audit_text::{Asked, add_asked, add_rounds, add_witness_if_any};
 use velo_delays::{Differing, Found};
 use velo_events::{Event, Memory};
 use velo_explain::{Page, Piece, line_of};
 use velo_names::{NameKind, Names};
-use velo_traces::Block;
+use velo_traces::{Block, Trace};
 
 /// Adds the label of a block that may not be atomic.
 #[tactic(auto, unfolding(crate::specs::Text::maybe_text))]
@@ -110,23 +112,33 @@ fn add_found(page: &mut Page, names: &Names, alloc: Global, found: &Found) -> Re
     )
 }
 
-/// How the line of the tries begins.
-fn nothing_words(founds: &[Found]) -> &'static str
-    ensures { result.now ≡ nothing_text founds.now }
+/// Whether there is something to tell: a label of the log itself, or a prediction.
+pub fn is_something_told(rounds: &[Told], founds: &[Found]) -> bool
+    ensures { result ≡ is_something_told rounds.now founds.now }
 {
-    match founds.first() {
-        None => "nothing found in ",
-        Some(_) => "nothing else found in ",
+    match (rounds.first(), founds.first()) {
+        (None, None) => false,
+        _ => true,
+    }
+}
+
+/// How the line of the tries begins.
+fn nothing_words(something: bool) -> &'static str
+    ensures { result.now ≡ nothing_text something }
+{
+    match something {
+        false => "nothing found in ",
+        true => "nothing else found in ",
     }
 }
 
 /// Adds how many tries there were.
 #[tactic(auto, unfolding(crate::specs::Text::end_text))]
-fn add_end(page: &mut Page, founds: &[Found], tries: u64) -> Result<(), Memory>
-    ensures { OnOk result (page.new ≡ page.old ++ end_text founds.now tries) }
+fn add_end(page: &mut Page, something: bool, tries: u64) -> Result<(), Memory>
+    ensures { OnOk result (page.new ≡ page.old ++ end_text something tries) }
 {
     page.add(&[
-        Piece::Text(nothing_words(founds)),
+        Piece::Text(nothing_words(something)),
         Piece::Number(tries),
         Piece::Text(" tries\n"),
     ])
@@ -143,22 +155,31 @@ fn add_all(page: &mut Page, names: &Names, alloc: Global, founds: &[Found]) -> R
     Ok(())
 }
 
-/// What a search found, as text: for each prediction the labels to blame, how long its trace is, the reads that differ from the
-/// log, and the cycle; and how many delays were tried. A number that has a name stands before it.
+/// What a log shows and foretells, as text: what was to be left out; the labels and the witness of each round of the log's own
+/// audit; for each prediction the labels to blame, how long its trace is, the reads that differ from the log, and the cycle; and
+/// how many delays were tried. A number that has a name stands before it.
 ///
 /// # Errors
 /// `Memory` where a growth was refused.
 pub fn predictions_text(
     alloc: Global,
     names: &Names,
+    log: &Trace,
+    asked: &Asked,
+    rounds: &[Told],
     founds: &[Found],
     tries: u64,
 ) -> Result<Page, Memory>
-    requires { All CanBeTold founds.now }
-    ensures { IfOk result (λ page. page ≡ predictions_text names.now founds.now tries) }
+    requires few { length log.now.events ≤ MAX_EVENTS }
+    requires can_come_about { CanComeAbout log.now.events }
+    requires truly { All (TellsTruly log.now.events) rounds.now }
+    requires founds { All CanBeTold founds.now }
+    ensures { IfOk result (λ page. page ≡ predictions_text names.now log.now.events asked.now rounds.now founds.now tries) }
 {
     let mut page = Page::new(alloc);
+    add_asked(&mut page, names, asked)?;
+    add_rounds(&mut page, names, alloc, log.as_slice(), rounds)?;
     add_all(&mut page, names, alloc, founds)?;
-    add_end(&mut page, founds, tries)?;
+    add_end(&mut page, is_something_told(rounds, founds), tries)?;
     Ok(page)
 }

@@ -1,1 +1,3 @@
 mod OnCauses
+mod OnRefusals
+mod OnThinning

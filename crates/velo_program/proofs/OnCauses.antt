@@ -4,17 +4,6 @@ use Rattle.std.specs.Prelude.{ℕ, Bool, true, false, List, Option, Some, None, 
 use Rattle.std.specs.Borrow.{Bor}
 use Rattle.velo_events.specs.declared.config.Bounds.{Bounds}
 use Rattle.velo_events.specs.declared.event.Event.{Event}
-use Rattle.velo_events.specs.declared.event.Kind.{Kind}
-use Rattle.velo_events.specs.declared.refusal.Refusal.{Refusal}
-use Rattle.velo_events.specs.declared.refusal.Refusal.TheVariants as refusal
-use Rattle.velo_events.specs.Event.{thread_of}
-use Rattle.velo_events.specs.Meaning.{refusal_of, has_its_value}
-use Rattle.velo_events.specs.Refusals.{GrowthRefused}
-use Rattle.velo_logtext.specs.declared.fault.LogFault.{LogFault}
-use Rattle.velo_logtext.specs.declared.fault.LogFault.TheVariants as log_fault
-use Rattle.velo_traces.specs.declared.judge.Flaw.TheVariants as flaw
-use Rattle.velo_traces.specs.Flaws.{flaw_of, flaw_by}
-use Rattle.velo_world.specs.Faults.{IsRefusedAt}
 use Rattle.velo_list.specs.declared.fault.ListFault.{ListFault}
 use Rattle.velo_list.specs.declared.fault.ListFault.TheVariants as list_fault
 use Rattle.velo_names.specs.declared.fault.NamesFault.{NamesFault}
@@ -35,6 +24,7 @@ use Rattle.velo_request.specs.declared.request.Ignorable.{Ignorable}
 use Rattle.velo_request.specs.declared.request.Ignorable.TheVariants.{Lock, Variable}
 use Rattle.velo_delivery.specs.declared.failure.Operand.{Operand}
 use Rattle.velo_delivery.specs.declared.failure.Operand.TheVariants.{File, Log}
+use Rattle.velo_request.specs.declared.request.PredictOptions.{PredictOptions}
 use Rattle.velo_request.specs.declared.request.RunOptions.{RunOptions}
 use Rattle.velo_request.specs.declared.request.Request.{Request}
 use Rattle.velo_request.specs.declared.request.WatchOptions.{WatchOptions}
@@ -45,23 +35,26 @@ use Rattle.velo_turns.specs.declared.schedule.ScheduleFault.{ScheduleFault}
 use Rattle.velo_turns.specs.declared.schedule.ScheduleFault.TheVariants as schedule_fault
 use Rattle.velo_worker.specs.declared.ending.Ending.{Ending}
 use Rattle.velo_worker.specs.declared.ending.Ending.TheVariants as ending
-use Rattle.velo_worker.specs.Causes.{RefusedByGrowth}
 use Rattle.velo_workload.specs.Program.{Program}
 use Rattle.velo_workload.specs.declared.fault.WorkFault.TheVariants as work_fault
 use Rattle.velo_world.specs.World.{WorldState}
 use Rattle.velo_program.specs.Causes.{AnswersWithCause}
-use Rattle.velo_fate.specs.Causes.{CheckByGrowth, ComesByRefusal, EndsByRefusal, Growths, GrowthsAndStarts, ListByGrowth, LogByGrowth, NamesByGrowth, Needs, ScheduleByGrowth, SitesByGrowth}
+use Rattle.velo_fate.specs.Causes.{CheckByGrowth, ComesByRefusal, EndsByRefusal, Growths, GrowthsAndStarts, ListByGrowth, NamesByGrowth, Needs, ScheduleByGrowth, SitesByGrowth}
 use Rattle.velo_log_commands.specs.Auditing.{IsAuditAnswer}
 use Rattle.velo_log_commands.specs.Carrying.{IsCarryAnswer, IsPut}
 use Rattle.velo_log_commands.specs.Check.{IsCheckAnswer, IsFaultOfInput}
 use Rattle.velo_fate.specs.Delivery.{Answer, DeliversBy, FailsSaving, IsDelivered, IsDeliveredInTurn, IsPrinted, LacksMemory, silent}
 use Rattle.velo_delivery.specs.Disk.{Disk, Store, behind}
-use Rattle.velo_fate.specs.Barred.{IsBarred, IsBarredRun}
+use Rattle.velo_fate.specs.declared.files.Beside.{Beside}
+use Rattle.velo_fate.specs.Barred.{IsBarred, IsBarredApart, IsBarredRun, names_beside}
 use Rattle.velo_log_commands.specs.Explaining.{IsExplanation}
 use Rattle.velo_workload_commands.specs.Exploring.{IsExploreAnswer}
+use Rattle.velo_log_commands.specs.declared.asking.AskedWords.{AskedWords}
+use Rattle.velo_log_commands.specs.Commands.{AuditsLog, DoesAsked, PredictsLog, audit_words, predict_words}
 use Rattle.velo_log_commands.specs.Ignoring.{AsksInVain, MeanNothing}
 use Rattle.velo_fate.specs.Format.{SaysNone}
 use Rattle.velo_log_commands.specs.Listing.{HaveFaultOfList, LacksLabels, list_file}
+use Rattle.velo_log_commands.specs.Predicting.{IsPredictAnswer}
 use Rattle.velo_log_commands.specs.Naming.{HaveFaultOfNames, LacksNames, names_file}
 use Rattle.velo_log_commands.specs.Siting.{HaveFaultOfSites, LacksSites, sites_file}
 use Rattle.velo_workload_commands.specs.Playing.{ByThreads, ByTurns, IsPlayAnswer, IsRunOf, IsSaidOfRun, IsUnread, Play}
@@ -71,42 +64,10 @@ use Rattle.velo_turns.specs.Schedule.{IsFaultOfSchedule, IsFaultOfTurns}
 use Rattle.velo_workload_commands.specs.Scheduling.{HaveFaultOfSchedule, LacksSchedule, turns_file}
 use Rattle.velo_log_commands.specs.Watching.{EndsBehind, IsFaultOfHeader, IsWatchAnswer, Watches}
 use Rattle.velo_delivery.specs.Writing.{Writing}
+use Rattle.velo_log_commands.specs.Thinning.{map_of}
 use Rattle.velo_workload_commands.proofs.OnFindings.{caused}
-
--- ---- by what it means no event is refused for want of memory
-
-abbrev IfReason : Option Refusal → Type 0
-IfReason o = IfSome o RefusedByGrowth
-
-one_reason : (b : Bool) (r : Refusal) (rest : Option Refusal) → RefusedByGrowth r → IfReason rest → IfReason (if b then Some r else rest)
-one_reason true r rest here others = here
-one_reason false r rest here others = others
-
-all_reasons : (b0 b1 b2 b3 b4 b5 b6 b7 b8 b9 b10 b11 b12 b13 b14 : Bool) → IfReason (if b0 then Some refusal.NotLive else (if b1 then Some refusal.NoSuchVariable else (if b2 then Some refusal.NoSuchLock else (if b3 then Some refusal.NoSuchThread else (if b4 then Some refusal.Busy else (if b5 then Some refusal.AlreadyHeld else (if b6 then Some refusal.NotHolder else (if b7 then Some refusal.NoOpenBlock else (if b8 then Some refusal.TooDeep else (if b9 then Some refusal.AlreadyForked else (if b10 then Some refusal.NotForked else (if b11 then Some refusal.NotExited else (if b12 then Some refusal.AlreadyJoined else (if b13 then Some refusal.BlockOpen else (if b14 then Some refusal.LockHeld else None)))))))))))))))
-all_reasons b0 b1 b2 b3 b4 b5 b6 b7 b8 b9 b10 b11 b12 b13 b14 = one_reason b0 _ _ tt (one_reason b1 _ _ tt (one_reason b2 _ _ tt (one_reason b3 _ _ tt (one_reason b4 _ _ tt (one_reason b5 _ _ tt (one_reason b6 _ _ tt (one_reason b7 _ _ tt (one_reason b8 _ _ tt (one_reason b9 _ _ tt (one_reason b10 _ _ tt (one_reason b11 _ _ tt (one_reason b12 _ _ tt (one_reason b13 _ _ tt (one_reason b14 refusal.LockHeld None tt tt))))))))))))))
-
-refusal_of-reason : (bounds : Bounds) (log : List Event) (t : ℕ) (kind : Kind) → IfReason (refusal_of bounds log t kind)
-unfolding refusal_of
-refusal_of-reason bounds log t kind = all_reasons _ _ _ _ _ _ _ _ _ _ _ _ _ _ _
-
-of_flaw_by : (o : Option Refusal) (right : Bool) (r : Refusal) → IfReason o → flaw_by o right ≡ Some (flaw.Refused r) → RefusedByGrowth r
-of_flaw_by (Some reason) right r cause is = let same : reason ≡ r = cc in rw (← same) cause
-of_flaw_by None true r cause is = cc
-of_flaw_by None false r cause is = cc
-
-of_flaw : (bounds : Bounds) (log : List Event) (e : Event) (r : Refusal) → flaw_of bounds log e ≡ Some (flaw.Refused r) → RefusedByGrowth r
-of_flaw bounds log e r is = of_flaw_by (refusal_of bounds log (thread_of e) e.kind) (has_its_value log e.kind) r (refusal_of-reason bounds log (thread_of e) e.kind) is
-
-pub of_refused : (limit nodes : ℕ) (bounds : Bounds) (log : List Event) (p : ℕ) (r : Refusal) → IsRefusedAt limit nodes bounds log p r → RefusedByGrowth r
-of_refused limit nodes bounds log p r refused =
-    ⊎_elim
-    (λ wrong. of_flaw bounds _ wrong.first.event r wrong.first.reason)
-    (λ full. ⊎_elim (λ h. rw h.0 tt) (λ h. rw h.0 tt) full)
-    refused
-
-pub of_log : (f : LogFault) → (f ≡ log_fault.Memory → GrowthRefused) → LogByGrowth f
-of_log log_fault.Memory cause = cause refl
-of_log _ cause = tt
+use Rattle.velo_program.proofs.OnRefusals.{of_log, of_refused}
+use Rattle.velo_program.proofs.OnThinning.{of_thin}
 
 -- ---- by what each command has to say
 
@@ -142,6 +103,12 @@ module _ (needs : Needs) where
   of_audit names asked options read answer done (inl is) = ⊎_elim (λ tells. said answer _ tells.said done) (λ full. said answer _ full.said tt) is.verdict
   of_audit names asked options read answer done (inr (inl f)) = said answer (silent (fate.Check f.0)) f.2 (of_fault _ _ read f.0 f.1)
   of_audit names asked options read answer done (inr (inr lacks)) = of_lack answer lacks
+
+  of_prediction : (names : NameLists) (asked : Asked) (options : PredictOptions) (read : Option (List ℕ)) (answer : Answer) → EndsByRefusal needs ending.Done → IsPredictAnswer names asked options read answer
+      → HasCause answer
+  of_prediction names asked options read answer done (inl is) = ⊎_elim (λ tells. said answer _ tells.said done) (λ full. said answer _ full.said tt) is.verdict
+  of_prediction names asked options read answer done (inr (inl f)) = said answer (silent (fate.Check f.0)) f.2 (of_fault _ _ read f.0 f.1)
+  of_prediction names asked options read answer done (inr (inr lacks)) = of_lack answer lacks
 
   of_carry : (read : Option (List ℕ)) (answer : Answer) → EndsByRefusal needs ending.Done → IsCarryAnswer read answer → HasCause answer
   of_carry read answer done (inl c) = said answer _ c.3 done
@@ -230,11 +197,14 @@ unread : (needs : Needs) (disk : Disk) (operand : Operand) (input : List ℕ) (t
 unread needs disk operand input target f (inl closed) = subst (ComesByRefusal needs) (sym closed.0) tt
 unread needs disk operand input target f (inr one) = subst (ComesByRefusal needs) (sym one.0) tt
 
+unread_apart : (needs : Needs) (disk : Disk) (operand : Operand) (input : List ℕ) (target : Option (Bor (List ℕ))) (beside : Beside) (f : Fate) → IsBarredApart disk operand input target beside f → ComesByRefusal needs f
+unread_apart needs disk operand input target beside f (inl barred) = unread needs disk operand input target f barred
+unread_apart needs disk operand input target beside f (inr (inl one)) = subst (ComesByRefusal needs) (sym one.0) tt
+unread_apart needs disk operand input target beside f (inr (inr one)) = subst (ComesByRefusal needs) (sym one.0) tt
+
 -- nor is a workload that is not read
 unplayed : (needs : Needs) (disk : Disk) (input : List ℕ) (target names : Option (Bor (List ℕ))) (f : Fate) → IsBarredRun disk input target names f → ComesByRefusal needs f
-unplayed needs disk input target names f (inl barred) = unread needs disk File input target f barred
-unplayed needs disk input target names f (inr (inl one)) = subst (ComesByRefusal needs) (sym one.0) tt
-unplayed needs disk input target names f (inr (inr one)) = subst (ComesByRefusal needs) (sym one.0) tt
+unplayed needs disk input target names f barred = unread_apart needs disk File input target (names_beside names) f barred
 
 -- nor names
 of_names : (read : Option (List ℕ)) (f : NamesFault) → HaveFaultOfNames read f → NamesByGrowth f
@@ -300,9 +270,24 @@ of_words needs names what words (fate.Ignored it) is = tt
 of_words needs names what words fate.Memory is = is
 of_words needs names what words f is = absurd is
 
-unmeant : (needs : Needs) (names : NameLists) (options : AuditOptions) (f : Fate) → AsksInVain names options f → ComesByRefusal needs f
-unmeant needs names options f (inl locks) = of_words needs names Lock options.ignored_locks.now f locks
-unmeant needs names options f (inr variables) = of_words needs names Variable options.ignored_variables.now f variables.1
+unmeant : (needs : Needs) (names : NameLists) (words : AskedWords) (f : Fate) → AsksInVain names words f → ComesByRefusal needs f
+unmeant needs names words f (inl locks) = of_words needs names Lock words.locks.now f locks
+unmeant needs names words f (inr variables) = of_words needs names Variable words.variables.now f variables.1
+
+-- of a log of which something was left out
+of_asked : (does : Asked → Store → Writing → Fate → Type 0) (names : NameLists) (words : AskedWords) (store : Store) (stdout : Writing) (f : Fate) → ((asked : Asked) → does asked store stdout f → ComesByRefusal Growths f)
+    → DoesAsked does names words store stdout f → ComesByRefusal Growths f
+of_asked does names words store stdout f so (inl h) = unlisted names Growths store.disk words.known f h.0
+of_asked does names words store stdout f so (inr (known, list, inl h)) = unmeant Growths names words f h.0
+of_asked does names words store stdout f so (inr (known, list, inr (asked, asks, h))) = so asked h
+
+of_audited : (names : NameLists) (options : AuditOptions) (store : Store) (stdout : Writing) (f : Fate) (asked : Asked) → AuditsLog names asked options store stdout f → ComesByRefusal Growths f
+of_audited names options store stdout f asked (inl h) = unread Growths store.disk Log options.input.now None f h.0
+of_audited names options store stdout f asked (inr h) = of_delivered Growths store None stdout h.1 f (of_audit Growths names asked options h.0.bytes h.1 tt h.4) h.5
+
+of_predicted : (names : NameLists) (options : PredictOptions) (store : Store) (stdout : Writing) (f : Fate) (asked : Asked) → PredictsLog names asked options store stdout f → ComesByRefusal Growths f
+of_predicted names options store stdout f asked (inl h) = unread Growths store.disk Log options.input.now options.target f h.0
+of_predicted names options store stdout f asked (inr h) = of_delivered Growths store options.target stdout h.1 f (of_prediction Growths names asked options h.0.bytes h.1 tt h.4) h.5
 
 -- of a workload whose schedules were tried
 of_exploration : (options : ExploreOptions) (read : Option (List ℕ)) (answer : Answer) (names : List ℕ) → IsExploreAnswer options read answer names → HasCause Growths answer
@@ -354,6 +339,8 @@ of_done store (request.Explain options) stdout f (inr (names, read, inr (sites, 
 of_done store (request.Carry options) stdout f (inl h) = unread Growths store.disk Log options.input.now (Some options.target) f h.0
 of_done store (request.Carry options) stdout f (inr (inl h)) = subst (ComesByRefusal Growths) (sym h.0) tt
 of_done store (request.Carry options) stdout f (inr (inr h)) = of_put Growths h.2 h.1 f (of_carry Growths h.0.bytes h.1 tt h.5) h.7
+of_done store (request.Thin options) stdout f (inl h) = unread_apart Growths store.disk Log options.input.now (Some options.target) (map_of options) f h.0
+of_done store (request.Thin options) stdout f (inr h) = of_thin Growths options h.0.bytes store stdout f tt h.3
 of_done store (request.Run options) stdout f h = played GrowthsAndStarts ByThreads options store stdout f (λ program ended w run. run.cause) h
 of_done store (request.Replay options) stdout f (inl lacks) = unscheduled Growths store.disk options.schedule f lacks.0
 of_done store (request.Replay options) stdout f (inr h) = played Growths (ByTurns h.0) options.run store stdout f (λ program ended w run. run.cause) h.2
@@ -364,7 +351,6 @@ of_done store (request.Watch options) stdout f (inl h) = unnamed Growths store.d
 of_done store (request.Watch options) stdout f (inr (names, read, (shown, are, inl h))) = unread Growths store.disk Log options.input.now None f h.0
 of_done store (request.Watch options) stdout f (inr (names, read, (shown, are, inr h))) = of_watch shown options h.0.bytes stdout f h.3
 of_done store (request.Audit options) stdout f (inl h) = unnamed Growths store.disk options.names f h.0
-of_done store (request.Audit options) stdout f (inr (names, read, inl h)) = unlisted names Growths store.disk options.known f h.0
-of_done store (request.Audit options) stdout f (inr (names, read, inr (known, list, inl h))) = unmeant Growths names options f h.0
-of_done store (request.Audit options) stdout f (inr (names, read, inr (known, list, inr (asked, asks, inl h)))) = unread Growths store.disk Log options.input.now None f h.0
-of_done store (request.Audit options) stdout f (inr (names, read, inr (known, list, inr (asked, asks, inr h)))) = of_delivered Growths store None stdout h.1 f (of_audit Growths names asked options h.0.bytes h.1 tt h.4) h.5
+of_done store (request.Audit options) stdout f (inr (names, read, h)) = of_asked (λ asked. AuditsLog names asked options) names (audit_words options) store stdout f (of_audited names options store stdout f) h
+of_done store (request.Predict options) stdout f (inl h) = unnamed Growths store.disk options.names f h.0
+of_done store (request.Predict options) stdout f (inr (names, read, h)) = of_asked (λ asked. PredictsLog names asked options) names (predict_words options) store stdout f (of_predicted names options store stdout f) h

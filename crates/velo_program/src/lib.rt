@@ -10,9 +10,9 @@ pub use velo_fate::{
 };
 pub use velo_log_commands::{CarryFault, carry_run, check_run, config_of, do_log};
 pub use velo_request::{
-    AuditOptions, CarryOptions, CheckOptions, DEFAULT_SEED, ExplainOptions, ExploreOptions,
-    Ignorable, Limits, MAX_RUNS, MAX_STATES, RandomRuns, ReplayOptions, Request, RunOptions,
-    ScheduleSource, WatchOptions, status,
+    AuditOptions, CarryOptions, CheckOptions, DEFAULT_SEED, DEFAULT_TRIES, ExplainOptions,
+    ExploreOptions, Ignorable, Limits, MAX_RUNS, MAX_STATES, MAX_TRIES, PredictOptions, RandomRuns,
+    ReplayOptions, Request, RunOptions, ScheduleSource, ThinOptions, WatchOptions, status,
 };
 pub use velo_schedules::{Progress, Quiet};
 pub use velo_turns::{MAX_SCHEDULE_BYTES, MAX_TURNS, ScheduleFault, schedule_of, turns_of};

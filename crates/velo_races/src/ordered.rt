@@ -11,7 +11,7 @@ use std::alloc::Global;
 use velo_events::{Config, Memory};
 use velo_traces::Trace;
 
-/// For each variable of a log that can come about, whether locks, forks, joins and the order of each thread keep all accesses to
+/// For each variable of a log that can happen, whether locks, forks, joins and the order of each thread keep all accesses to
 /// it in order. Then the log is judged the same without them, whichever labels are left out as well.
 ///
 /// # Errors

@@ -42,7 +42,7 @@ fn marked_out(alloc: Global, marks: &[bool], variables: u16) -> Result<LeftOut, 
     Ok(left)
 }
 
-/// What is left of a log that can come about without the accesses to the variables that locks, forks and joins keep in order,
+/// What is left of a log that can happen without the accesses to the variables that locks, forks and joins keep in order,
 /// with the places of its events in the log. It is judged the same, whichever labels are left out as well.
 ///
 /// # Errors

@@ -53,7 +53,7 @@ impl From<Memory> for NotRenewed {
 /// after all that came before. A thread that was joined is forgotten, and its number may be given
 /// anew.
 ///
-/// Positions count anew: the event that would be the k-th after the world's log is the k-th after
+/// Positions count from 0 again: the event that would be the k-th after the world's log is the k-th after
 /// the prologue. The world stays as it is, and is to be given up, since both are of one run. It
 /// must not be halted, and its configuration's `stop` has to be off.
 ///

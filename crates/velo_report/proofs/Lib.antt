@@ -3,4 +3,3 @@ pub mod OnLines
 pub mod OnReports
 pub mod OnRuns
 pub mod OnCertificates
-pub mod OnClosing

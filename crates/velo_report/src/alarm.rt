@@ -10,7 +10,7 @@ use velo_bytes::{Sink, WriteFault};
 use velo_traces::Block;
 use velo_world::Alarm;
 
-/// Adds words, each behind a space.
+/// Adds words, each after a space.
 fn add_words<S: Sink>(lines: &mut Lines, sink: &mut S, words: &[Word]) -> Result<(), WriteFault>
     ensures ok { OnOk result
         (Buffers (S.contents sink.old) (S.contents sink.new) lines.old lines.new

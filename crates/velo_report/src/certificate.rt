@@ -11,7 +11,7 @@ use velo_bytes::{Sink, WriteFault};
 use velo_events::{Event, Kind};
 use velo_world::Closed;
 
-/// How many blocks of the event's thread are open behind it, where so many are open before it.
+/// How many blocks of the event's thread are open after it, where so many are open before it.
 fn depth_after(events: &[Event], at: usize, depth: usize) -> usize
     requires within { at < length events.now }
     requires small { depth ≤ at }

@@ -158,7 +158,7 @@ impl Lines {
         self.add(sink, &text[start..])
     }
 
-    /// Adds a line: its first word, the others, each behind a space, and a newline.
+    /// Adds a line: its first word, the others, each after a space, and a newline.
     ///
     /// # Errors
     /// `WriteFault` where the sink failed. A beginning of what was gathered and of the line was written then.
@@ -184,7 +184,7 @@ impl Lines {
         self.add(sink, b"\n")
     }
 
-    /// Adds a line of numbers: its first word, the numbers, each behind a space, and a newline.
+    /// Adds a line of numbers: its first word, the numbers, each after a space, and a newline.
     ///
     /// # Errors
     /// `WriteFault` where the sink failed. A beginning of what was gathered and of the line was written then.

@@ -18,7 +18,7 @@ pub enum Names<'a> {
         threads: &'a [String],
         labels: &'a [String],
     },
-    /// Those of a file: each is the last of its line, behind the number.
+    /// Those of a file: each is the last of its line, after the number.
     Listed(&'a velo_names::Names<'a>),
 }
 
@@ -48,7 +48,7 @@ impl<'a> Names<'a> {
         }
     }
 
-    /// The name that stands behind a number at the end of its line, if there is one.
+    /// The name that follows a number at the end of its line, if there is one.
     pub(crate) fn behind(&self, kind: NameKind, number: u32) -> Option<&'a [u8]>
         ensures { option_copied result ≡ name_behind self.now kind number }
     {

@@ -28,6 +28,8 @@ pub struct CheckOptions<'a> {
     pub certificate: bool,
     /// The path of the names that the report prints, or `-`.
     pub names: Option<&'a str>,
+    /// Whether what is wrong is said in words too.
+    pub why: bool,
 }
 
 /// What a run of a workload was asked for; `velodrome run` is asked for nothing else.
@@ -45,6 +47,8 @@ pub struct RunOptions<'a> {
     pub limits: Limits,
     /// Whether the certificate of the verdict is written after the report.
     pub certificate: bool,
+    /// Whether what is wrong is said in words too.
+    pub why: bool,
 }
 
 /// Where a schedule is, and in which form.
@@ -87,6 +91,8 @@ pub struct CarryOptions<'a> {
     pub input: &'a str,
     /// The path where it is saved.
     pub target: &'a str,
+    /// Whether what is wrong is said in words too.
+    pub why: bool,
 }
 
 /// The most states that a search may look at.

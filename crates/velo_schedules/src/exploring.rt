@@ -23,11 +23,11 @@ use velo_workload::Workload;
 /// refusal. The configuration has to have the workload's bounds. Where its bodies have more events
 /// than the configuration lets a log have, nothing is tried.
 ///
-/// With `first` it ends as soon as it finds one of the three, and tells the others as open.
+/// With `first` it ends as soon as it finds one of the three, and reports the others as open.
 ///
 /// What is shown was replayed. What is said never to be is so by no schedule. What is open is so as
 /// not all schedules were tried, or as the replay by the schedule that leads there ends before: for
-/// want of room, or halted at its first cycle. `progress` is told of each level of the search.
+/// want of room, or halted at its first cycle. `progress` is called after each level of the search.
 ///
 /// # Errors
 /// `Memory` where a growth was refused.

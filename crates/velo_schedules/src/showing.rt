@@ -141,7 +141,7 @@ fn witness_of(
     }
 }
 
-/// What is told of a fault: that no schedule has it, or the schedule that was found, if its replay
+/// What is reported of a fault: that no schedule has it, or the schedule that was found, if its replay
 /// has it.
 pub(crate) fn tell(
     alloc: Global,

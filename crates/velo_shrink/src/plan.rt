@@ -22,7 +22,7 @@ enum Pass {
     Turns,
 }
 
-/// The first position behind the turn at a position, whose turn is another thread's, or where no
+/// The first position after the turn at a position, whose turn is another thread's, or where no
 /// turn is.
 fn end_of(schedule: &[ThreadId], at: usize) -> usize {
     for place in at..schedule.len() {
@@ -129,7 +129,7 @@ impl Plan {
         Some(Edit::Without(thread))
     }
 
-    /// The next stretch that has another one of its thread behind it is brought together with that.
+    /// The next stretch that has another one of its thread after it is brought together with that.
     fn edit_of_pair(&mut self, schedule: &[ThreadId]) -> Option<Edit> {
         for _stretch in 0..schedule.len() {
             if self.at >= schedule.len() {
@@ -173,7 +173,7 @@ impl Plan {
         }
     }
 
-    /// Goes on behind a change of the schedule that was taken up: what stands there now is changed
+    /// Goes on after a change of the schedule that was kept: what stands there now is changed
     /// next.
     pub fn take_up(&mut self, schedule: &[ThreadId]) {
         self.changed = true;
@@ -182,7 +182,7 @@ impl Plan {
         }
     }
 
-    /// Goes on behind a change of the schedule that came to nothing.
+    /// Goes on after a change of the schedule that was not kept.
     pub fn pass_by(&mut self, schedule: &[ThreadId]) {
         match self.pass {
             Pass::Together if self.way < 3 => self.way += 1,

@@ -30,7 +30,7 @@ fn threads_of(alloc: Global, log: &Trace, count: usize) -> Result<Vec<ThreadId>,
 }
 
 /// A turn for each event of a run up to where it shows the goal: up to the event that closes the first cycle, or of the
-/// whole log, and behind that the turn that was refused.
+/// whole log, and after that the turn that was refused.
 fn own_turns(alloc: Global, goal: Goal, closed: &Closed) -> Result<Vec<ThreadId>, Memory>
     ensures { IfOk result (λ turns. (n : ℕ) (ending : EndingOf) →
         ReachesWithin n goal ending closed.now → length turns.items ≤ n) }

@@ -43,7 +43,7 @@ fn close(rows: &mut [u64], thread: usize) -> bool
     marks % 2 == 1
 }
 
-/// Whether the event at the position stays. The marks are those before it, and become those behind it.
+/// Whether the event at the position stays. The marks are those before it, and become those after it.
 pub fn stays_at(rows: &mut [u64], left: &LeftOut, events: &[Event], position: usize) -> bool
     requires within { position < length events.now }
     requires shallow { IsShallow events.now }

@@ -58,10 +58,10 @@ fn take_in(
     Ok(())
 }
 
-/// The rest of the log, with the places of its events. The log can come about, so the blocks of a thread nest, and few are open
+/// The rest of the log, with the places of its events. The log can happen, so the blocks of a thread nest, and few are open
 /// at a time.
 ///
-/// The rest can come about again, and is serializable where the log is. A block that is to blame in it is so in the log.
+/// The rest can happen too, and is serializable where the log is. A block that is to blame in it is so in the log.
 ///
 /// # Errors
 /// `Memory` where a growth was refused.

@@ -7,7 +7,7 @@ use Rattle.velo_logtext.specs.Text.{log_text}
 use Rattle.velo_delivery.specs.declared.answer.Save.{Save}
 use Rattle.velo_delivery.specs.declared.failure.Failure.{Failure}
 use Rattle.velo_delivery.specs.declared.failure.Failure.TheVariants as failure_of
-use Rattle.velo_delivery.specs.declared.failure.Operand.TheVariants.{Out}
+use Rattle.velo_delivery.specs.declared.failure.Operand.TheVariants as operand
 use Rattle.velo_delivery.specs.Answers.{AreAllSaved, IsOneUnsaved}
 use Rattle.velo_delivery.specs.Disk.{Store}
 use Rattle.velo_delivery.specs.Writing.{Writing, Writes, BreaksOff, WritesNothing}
@@ -62,8 +62,8 @@ LacksMemory result = ⊥
 -- what is left of the log at its path, and then the map at its own
 abbrev pub saves_of : Bor ThinnedLog → Targets → Bor (List ℕ) → List (Save Outgoing)
 saves_of thinned targets map =
-    record { operand = Out; path = Some targets.log; text = Log thinned }
-    ∷ record { operand = Out; path = targets.map; text = Map map } ∷ []
+    record { operand = operand.Out; path = Some targets.log; text = Log thinned }
+    ∷ record { operand = operand.Map; path = targets.map; text = Map map } ∷ []
 
 -- A growth was refused, and nothing was done; or these texts went out
 abbrev pub GoesOut : Bor ThinnedLog → Targets → Store → Writing → Result ⊤ Failure → Type 0

@@ -155,7 +155,7 @@ pub fn deliver_thinned<F: Files, O: Sink>(
             text: Outgoing::Log(thinned),
         },
         Save {
-            operand: Operand::Out,
+            operand: Operand::Map,
             path: targets.map,
             text: Outgoing::Map(&map),
         },

@@ -1,4 +1,4 @@
-//! Whether a trace can come about, judged position by position with no memory of its own.
+//! Whether a trace can happen, judged position by position with no memory of its own.
 ghost use Rattle.std.specs.Prelude.{◌≡◌, ◌≤◌, ◌+◌, ℕ, length, take, Some, None, Option, option_map, if◌then◌else◌, IsTrue, IfErr, OnOk, ◌||◌, ◌&&◌, ◌==◌, not};
 ghost use Rattle.velo_events.specs.Event.{are_same, thread_of, value_of, is_acquire, is_acquire_shared, is_write_of, is_on_lock, is_on_share, is_begin_by, is_end_by, is_fork_of, is_join_of, is_exit_by};
 ghost use Rattle.velo_events.specs.Heap.{value_in, holder_in, shares_in, happened, times, was_born, status_in, depth_in};
@@ -9,7 +9,7 @@ ghost use Rattle.velo_traces.specs.Flaws.{flaw_of, IsFirstFlaw};
 use crate::Trace;
 use velo_events::{Bounds, Event, Kind, LockId, MAX_OPEN_BLOCKS, Refusal, Status, ThreadId, VarId};
 
-/// Why an event can't stand where it does in a trace.
+/// Why an event cannot happen where it stands in a trace.
 #[derive(Clone, Copy, Debug, PartialEq, Eq)]
 pub enum Flaw {
     /// Its operation is refused after the events before it, for one of the reasons with the numbers 2 to 16.
@@ -243,7 +243,7 @@ fn acquire_refusal(holds: bool, held: bool) -> Option<Refusal>
     }
 }
 
-/// Why a thread of the status can't be joined.
+/// Why a thread of the status cannot be joined.
 fn join_refusal(status: Status) -> Option<Refusal>
     ensures { result
         ≡ (if is_unborn status then Some Refusal.NotForked else
@@ -333,7 +333,7 @@ fn flaw_in(earlier: &[Event], bounds: Bounds, event: Event) -> Option<Flaw>
     }
 }
 
-/// Judges whether the trace can come about within the bounds.
+/// Judges whether the trace can happen within the bounds.
 ///
 /// It takes no memory. Its time grows with the square of the number of events, and at an exit with the number of locks
 /// too.

@@ -33,7 +33,7 @@ pub struct ScannedBack {
     pub block: Option<Block>,
 }
 
-/// Looks at the event at a position, by the ends that wait behind it: a begin that meets one is closed, another is open.
+/// Looks at the event at a position, by the ends that wait after it: a begin that meets one is closed, another is open.
 pub fn scan_back(events: &[Event], thread: ThreadId, at: usize, ends: usize) -> ScannedBack
     requires within { at < length events.now }
     requires few_ends { ends + at < length events.now }

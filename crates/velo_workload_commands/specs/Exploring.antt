@@ -167,6 +167,7 @@ run_of options =
       names_target = options.names_target;
       limits = options.limits;
       certificate = options.certificate;
+      why = false;
     }
 
 -- behind the report of a deadlock, who waits for what (`Waits` of `velo_waits`)

@@ -1,4 +1,4 @@
-//! The text of what is told of the schedules of a workload.
+//! The text of what is reported of the schedules of a workload.
 ghost use Rattle.std.specs.Prelude.{◌≡◌, ◌++◌, slice_get, IfOk, OnOk};
 ghost use Rattle.velo_workload_commands.specs.Exploring.{blame_text, blamed_text, finding_text, found_text, goal_text, label_text, name_text, told_text, tried_text};
 
@@ -12,7 +12,7 @@ use velo_schedules::{Finding, Findings, Goal};
 use velo_turns::append_turns;
 use velo_workload::Workload;
 
-/// Adds the name of a thread behind a space, if it has one.
+/// Adds the name of a thread after a space, if it has one.
 fn add_name(text: &mut Vec<u8>, workload: &Workload, thread: ThreadId) -> Result<(), Memory>
     ensures { OnOk result (text.new.items
         ≡ text.old.items ++ name_text (slice_get workload.now.thread_names thread.0)) }
@@ -43,7 +43,7 @@ fn add_goal(text: &mut Vec<u8>, workload: &Workload, goal: Goal) -> Result<(), M
     }
 }
 
-/// Adds what stands behind the word of a finding.
+/// Adds what follows the word of a finding.
 fn add_finding(text: &mut Vec<u8>, workload: &Workload, finding: &Finding) -> Result<(), Memory>
     ensures { OnOk result (text.new.items
         ≡ text.old.items ++ finding_text workload.now finding.now) }
@@ -134,7 +134,7 @@ fn add_blame(text: &mut Vec<u8>, workload: &Workload, blame: &ToBlame) -> Result
     Ok(())
 }
 
-/// The text of what is told of the schedules of a workload.
+/// The text of what is reported of the schedules of a workload.
 ///
 /// # Errors
 /// `Memory` where a growth was refused.

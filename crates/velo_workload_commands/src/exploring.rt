@@ -36,6 +36,7 @@ fn run_of<'a>(options: &ExploreOptions<'a>) -> RunOptions<'a>
         names_target: options.names_target,
         limits: options.limits,
         certificate: options.certificate,
+        why: false,
     }
 }
 
@@ -115,7 +116,7 @@ fn print_alone<O: Sink>(text: &[u8], end: Fate, out: &mut O) -> Fate
     }
 }
 
-/// Prints what is told of the schedules of a workload, of which this is the text, and reports the
+/// Prints what is reported of the schedules of a workload, of which this is the text, and reports the
 /// replay, if there is one.
 fn report_first<F: Files, O: Sink>(
     alloc: Global,
@@ -149,7 +150,7 @@ fn report_first<F: Files, O: Sink>(
     }
 }
 
-/// Prints what is told of the schedules of a workload, and reports the replay of the first finding,
+/// Prints what is reported of the schedules of a workload, and reports the replay of the first finding,
 /// if there is one.
 fn report_told<F: Files, O: Sink>(
     alloc: Global,

@@ -76,7 +76,7 @@ fn try_some(
 }
 
 /// What all schedules of the workload come to, or random runs, where they are asked for; and who is
-/// to blame. The configuration has to have the workload's bounds. `progress` is told of each level
+/// to blame. The configuration has to have the workload's bounds. `progress` is called after each level
 /// of the search.
 ///
 /// # Errors

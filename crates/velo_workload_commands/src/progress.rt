@@ -2,7 +2,7 @@
 
 use velo_schedules::{Progress, Quiet};
 
-/// Where an exploration tells how far its search is.
+/// Where an exploration reports how far its search is.
 pub trait ExploreProgress: Progress {
     /// A search begins, which is to be told of wherever this goes, if `always`, and else where
     /// somebody looks.

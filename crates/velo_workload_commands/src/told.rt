@@ -1,4 +1,4 @@
-//! What is told of the schedules of a workload.
+//! What is reported of the schedules of a workload.
 use velo_chance::Blamed;
 use velo_shrink::Shrunk;
 
@@ -30,7 +30,7 @@ pub struct ToBlame {
     pub labels: Vec<Blamed>,
 }
 
-/// What is told of the schedules of a workload.
+/// What is reported of the schedules of a workload.
 #[derive(Debug, Drop)]
 pub struct Told {
     /// How they were tried.

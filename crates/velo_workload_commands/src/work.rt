@@ -10,9 +10,9 @@ ghost use Rattle.velo_workload_commands.specs.Steps.{OpensNoProgram, TellsEnd};
 use crate::reporting::{RunReport, report_run};
 use std::alloc::Global;
 use velo_bytes::{Sink, Source};
-use velo_delivery::{Files, ReadFault, read_whole};
+use velo_delivery::{Files, Operand, ReadFault, read_whole};
 use velo_events::{Config, Memory, Refusal};
-use velo_fate::{Fate, are_one_target, is_alarm, open_to_run, verdict_of};
+use velo_fate::{Beside, Fate, is_alarm, open_apart, verdict_of};
 use velo_request::RunOptions;
 use velo_worker::Ending;
 use velo_workload::{MAX_WORKLOAD_BYTES, WorkFault, Workload, parse, text_of};
@@ -60,10 +60,11 @@ pub fn open_workload<F: Files>(
     ensures some { IfOk result (Reads workload_file (F.disk files.now) options.now.input.now) }
     ensures none { IfErr result (OpensNoProgram (F.disk files.now) options.now) }
 {
-    if are_one_target(files, options.target, options.names_target) {
-        return Err(Fate::NamesAtTarget);
-    }
-    match open_to_run(files, options.input, options.target, options.names_target) {
+    let names = Beside {
+        operand: Operand::NamesOut,
+        path: options.names_target,
+    };
+    match open_apart(files, Operand::File, options.input, options.target, names) {
         Ok(mut file) => read_workload(alloc, &mut file),
         Err(fate) => Err(fate),
     }

@@ -5,15 +5,18 @@ mod chance;
 mod command_lines;
 mod compaction;
 mod devices;
+mod endless;
 mod explored;
 mod growths;
 mod hostile;
 mod logs;
 mod named;
 mod precedence;
+mod predicted;
 mod reports;
 mod scheduled;
 mod slow;
+mod thinned;
 mod watching;
 mod workloads;
 

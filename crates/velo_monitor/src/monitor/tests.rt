@@ -100,7 +100,7 @@ fn find_slot(monitor: &mut Monitor, events: &[Event], event: &Event) -> (bool, b
     (needs_node, has_slot(monitor, needs_still))
 }
 
-/// The events of the rows as a trace, which can come about.
+/// The events of the rows as a trace, which can happen.
 fn trace_of(rt: &impl Abort, alloc: Global, rows: &[Row]) -> Trace
     ensures { IsWellFormed BOUNDS result.events }
 {

@@ -7,7 +7,7 @@ use std::test::Fail;
 use velo_bytes::Text;
 use velo_command::{end_without_words, help};
 use velo_events::{MAX_EVENTS, MAX_NODES, MAX_THREADS, Refusal};
-use velo_program::{DEFAULT_SEED, MAX_RUNS, MAX_STATES};
+use velo_program::{DEFAULT_SEED, DEFAULT_TRIES, MAX_RUNS, MAX_STATES, MAX_TRIES};
 
 /// Right words, with the status and standard error: of the two logs one raises an alarm at its last
 /// event.
@@ -49,7 +49,7 @@ const RIGHT_WORDS: [(&[&str], u8, &str); 9] = [
     (&["velodrome", "--help"], 0, ""),
 ];
 
-const WRONG_WORDS: [&[&str]; 39] = [
+const WRONG_WORDS: [&[&str]; 44] = [
     &["velodrome"],
     &["velodrome", "check"],
     &["velodrome", "race", "a.log"],
@@ -129,10 +129,15 @@ const WRONG_WORDS: [&[&str]; 39] = [
         "n",
     ],
     &["velodrome", "audit", "a.log", "--ignore-lock"],
+    &["velodrome", "thin", "a.log"],
+    &["velodrome", "thin", "a.log", "--log", "o", "--events", "4"],
+    &["velodrome", "predict", "a.log", "--tries", "0"],
+    &["velodrome", "predict", "a.log", "--tries", "1000001"],
+    &["velodrome", "predict", "a.log", "--no-witness"],
 ];
 
 /// Right words that do not go together, with the line that says so.
-const WORDS_APART: [(&[&str], &str); 18] = [
+const WORDS_APART: [(&[&str], &str); 22] = [
     (
         &["velodrome", "check", "-", "--names", "-"],
         "error: standard input can be read once\n",
@@ -237,6 +242,28 @@ const WORDS_APART: [(&[&str], &str); 18] = [
         ],
         "error: --seed goes only with --random\n",
     ),
+    (
+        &["velodrome", "watch", "a.log", "--certificate", "--endless"],
+        "error: --endless does not go with --certificate\n",
+    ),
+    (
+        &["velodrome", "watch", "-", "--endless", "--names=-"],
+        "error: standard input can be read once\n",
+    ),
+    (
+        &["velodrome", "thin", "a.log", "--log", "o", "--map", "o"],
+        "error: OUT and MAP are one file\n",
+    ),
+    (
+        &[
+            "velodrome",
+            "predict",
+            "a.log",
+            "--names=-",
+            "--not-atomic=-",
+        ],
+        "error: standard input can be read once\n",
+    ),
 ];
 
 /// Compares the status of a run and its standard error. It wrote to standard output with a status
@@ -295,7 +322,7 @@ fn words_that_do_not_go_together(rt: HostRuntime) {
 }
 
 /// Words that ask for help, and its end.
-const HELP: [(&[&str], &str); 13] = [
+const HELP: [(&[&str], &str); 15] = [
     (&["velodrome", "replay", "--help"], help::OF_REPLAY),
     (&["velodrome", "run", "--help"], help::OF_RUN),
     (&["velodrome", "explain", "--help"], help::OF_EXPLAIN),
@@ -303,6 +330,8 @@ const HELP: [(&[&str], &str); 13] = [
     (&["velodrome", "explore", "--help"], help::OF_EXPLORE),
     (&["velodrome", "watch", "--help"], help::OF_WATCH),
     (&["velodrome", "audit", "--help"], help::OF_AUDIT),
+    (&["velodrome", "thin", "--help"], help::OF_THIN),
+    (&["velodrome", "predict", "--help"], help::OF_PREDICT),
     (&["velodrome", "--help"], help::OF_PROGRAM),
     (&["velodrome", "help"], help::OF_PROGRAM),
     (&["velodrome", "check", "--help"], help::OF_CHECK),
@@ -331,7 +360,7 @@ fn help_goes_to_standard_output(rt: HostRuntime) {
 }
 
 /// The words of a command's help before a limit and after it.
-const LIMITS: [(&str, &str, u32, &str); 14] = [
+const LIMITS: [(&str, &str, u32, &str); 18] = [
     ("check", "have, 1 to ", MAX_EVENTS, " ["),
     ("check", "at once, 1 to ", MAX_NODES as u32, " ["),
     ("replay", "have, 1 to ", MAX_EVENTS, " ["),
@@ -346,6 +375,10 @@ const LIMITS: [(&str, &str, u32, &str); 14] = [
     ("watch", "have, 1 to ", MAX_EVENTS, " ["),
     ("audit", "have, 1 to ", MAX_EVENTS, " ["),
     ("audit", "at once, 1 to ", MAX_NODES as u32, " ["),
+    ("predict", "have, 1 to ", MAX_EVENTS, " ["),
+    ("predict", "a round, 1 to ", MAX_TRIES, " ["),
+    ("predict", "1000000 [default: ", DEFAULT_TRIES, "]"),
+    ("predict", "615 [default: ", DEFAULT_SEED as u32, "]"),
 ];
 
 /// Whether standard output has these words.

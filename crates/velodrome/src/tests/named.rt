@@ -136,6 +136,7 @@ fn request_of<'a>(
         names_target,
         limits: LIMITS,
         certificate: false,
+        why: false,
     };
     match how {
         How::Run => Request::Run(run),

@@ -11,5 +11,7 @@ returns c =
     let with_carry = adds_subcommand _ _ _ _ _ with_explain c.in_ok-carry.ensures c.in_ok-program-5.ensures in
     let with_explore = adds_subcommand _ _ _ _ _ with_carry c.in_ok-explore.ensures c.in_ok-program-6.ensures in
     let with_watch = adds_subcommand _ _ _ _ _ with_explore c.in_ok-watch.ensures c.in_ok-program-7.ensures in
-    IfOk-weaker c.with_subcommand-8.result _ _
-    (λ command adds. adds_subcommand _ _ _ _ _ with_watch c.in_ok-audit.ensures adds) c.with_subcommand-8.ensures
+    let with_audit = adds_subcommand _ _ _ _ _ with_watch c.in_ok-audit.ensures c.in_ok-program-8.ensures in
+    let with_thin = adds_subcommand _ _ _ _ _ with_audit c.in_ok-thin.ensures c.in_ok-program-9.ensures in
+    IfOk-weaker c.with_subcommand-10.result _ _
+    (λ command adds. adds_subcommand _ _ _ _ _ with_thin c.in_ok-predict.ensures adds) c.with_subcommand-10.ensures

@@ -1,7 +1,7 @@
-use Rattle.std.proofs.Common.{codes, refl}
+use Rattle.std.proofs.Common.{codes}
 use Rattle.clap.specs.Words.{found_of, rows_of}
 use Rattle.velo_arguments.specs.Asked.{IsAudit}
-use Rattle.velo_arguments.proofs.OnAsked.{flag_turned, no_word, on_none, option_read, word_read, words_read}
+use Rattle.velo_arguments.proofs.OnAsked.{flag_turned, no_word, on_none, option_read, word_read}
 use Rattle.velo_arguments.proofs.requests.audit_options.Goals as goal
 
 pub returns-clause-some : goal.returns-clause-some
@@ -9,9 +9,7 @@ returns-clause-some c =
     let f = found_of c.args.found.now in (
       word_read f (codes "LOG") c.get_str.result c.in_ok-get_str.field-0 c.get_str.ensures c.in_ok-get_str.was,
       option_read f (codes "names") c.get_str-2.result c.get_str-2.ensures,
-      option_read f (codes "not-atomic") c.get_str-3.result c.get_str-3.ensures,
-      words_read f (codes "ignore-lock") c.get_strs.result _ c.unwrap_or.result c.get_strs.ensures c.unwrap_or.ensures refl,
-      words_read f (codes "ignore-variable") c.get_strs-2.result _ c.unwrap_or-2.result c.get_strs-2.ensures c.unwrap_or-2.ensures refl,
+      c.left_out-left.ensures,
       flag_turned f (codes "no-witness") c.get_flag.result c.get_flag.ensures.none c.get_flag.ensures.value c.get_flag.ensures.other,
       c.in_ok-limits_of.ensures.some,
     )
@@ -21,4 +19,4 @@ returns-in_err-get_str-clause-none c = on_none _ (IsAudit (rows_of (found_of c.a
     no_word (found_of c.args.found.now) (codes "LOG") c.get_str.result options.input.now c.get_str.ensures c.in_err-get_str.was asks.0)
 
 pub returns-in_err-limits_of-clause-none : goal.returns-in_err-limits_of-clause-none
-returns-in_err-limits_of-clause-none c = on_none _ (IsAudit (rows_of (found_of c.args.found.now))) (λ options asks. c.in_err-limits_of.ensures.none options.limits asks.6)
+returns-in_err-limits_of-clause-none c = on_none _ (IsAudit (rows_of (found_of c.args.found.now))) (λ options asks. c.in_err-limits_of.ensures.none options.limits asks.4)

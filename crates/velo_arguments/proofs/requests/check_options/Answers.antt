@@ -11,6 +11,7 @@ returns-clause-some c =
       c.in_ok-limits_of.ensures.some,
       flag_read f (codes "certificate") c.get_flag.result c.get_flag.ensures.none c.get_flag.ensures.value c.get_flag.ensures.other,
       option_read f (codes "names") c.get_str-2.result c.get_str-2.ensures,
+      flag_read f (codes "why") c.get_flag-2.result c.get_flag-2.ensures.none c.get_flag-2.ensures.value c.get_flag-2.ensures.other,
     )
 
 pub returns-in_err-get_str-clause-none : goal.returns-in_err-get_str-clause-none

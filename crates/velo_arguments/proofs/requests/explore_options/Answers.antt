@@ -8,7 +8,7 @@ pub returns-clause-some : goal.returns-clause-some
 returns-clause-some c =
     let f = found_of c.args.found.now in (
       word_read f (codes "FILE") c.get_str.result c.in_ok-get_str.field-0 c.get_str.ensures c.in_ok-get_str.was,
-      c.in_ok-states_of.ensures.some.2,
+      c.in_ok-number_of.ensures.some.2,
       flag_read f (codes "first") c.get_flag.result c.get_flag.ensures.none c.get_flag.ensures.value c.get_flag.ensures.other,
       flag_read f (codes "progress") c.get_flag-2.result c.get_flag-2.ensures.none c.get_flag-2.ensures.value c.get_flag-2.ensures.other,
       c.in_ok-random_if.ensures.some,
@@ -22,9 +22,9 @@ pub returns-in_err-get_str-clause-none : goal.returns-in_err-get_str-clause-none
 returns-in_err-get_str-clause-none c = on_none _ (IsExploring (rows_of (found_of c.args.found.now))) (λ options asks.
     no_word (found_of c.args.found.now) (codes "FILE") c.get_str.result options.input.now c.get_str.ensures c.in_err-get_str.was asks.0)
 
-pub returns-in_err-states_of-clause-none : goal.returns-in_err-states_of-clause-none
-returns-in_err-states_of-clause-none c = on_none _ (IsExploring (rows_of (found_of c.args.found.now))) (λ options asks.
-    c.in_err-states_of.ensures.none options.states options.some_state options.few_states asks.1)
+pub returns-in_err-number_of-clause-none : goal.returns-in_err-number_of-clause-none
+returns-in_err-number_of-clause-none c = on_none _ (IsExploring (rows_of (found_of c.args.found.now))) (λ options asks.
+    c.in_err-number_of.ensures.none options.states options.some_state options.few_states asks.1)
 
 pub returns-in_err-limits_of-clause-none : goal.returns-in_err-limits_of-clause-none
 returns-in_err-limits_of-clause-none c = on_none _ (IsExploring (rows_of (found_of c.args.found.now))) (λ options asks. c.in_err-limits_of.ensures.none options.limits asks.7)

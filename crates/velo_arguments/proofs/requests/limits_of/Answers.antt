@@ -6,33 +6,26 @@ use Rattle.velo_arguments.proofs.OnAsked.{no_number, number_read, on_none, one_n
 use Rattle.velo_arguments.proofs.requests.limits_of.Goals as goal
 
 pub returns-clause-some : goal.returns-clause-some
-returns-clause-some c =
-    let f = found_of c.args.found.now in (
-      number_read _ (λ t x. ParsesUnsigned 32 10 t x × ExplainsUnsignedError 10 t x × HasUnsignedDigitsIfOk t x) 32 f (codes "events") c.get_one.result c.in_ok-events.events
-          (λ t x given. given.0) c.get_one.ensures.none c.get_one.ensures.value c.in_ok-events.was,
-      number_read _ (λ t x. ParsesUnsigned 16 10 t x × ExplainsUnsignedError 10 t x × HasUnsignedDigitsIfOk t x) 16 f (codes "nodes") c.get_one-2.result c.in_ok-nodes.nodes
-          (λ t x given. given.0) c.get_one-2.ensures.none c.get_one-2.ensures.value c.in_ok-nodes.was,
-    )
+returns-clause-some c = (
+  c.in_ok-events.ensures.some.2,
+  number_read _ (λ t x. ParsesUnsigned 16 10 t x × ExplainsUnsignedError 10 t x × HasUnsignedDigitsIfOk t x) 16 (found_of c.args.found.now) (codes "nodes") c.get_one.result c.in_ok-nodes.nodes
+      (λ t x given. given.0) c.get_one.ensures.none c.get_one.ensures.value c.in_ok-nodes.was,
+)
 
 pub returns-in_err-events-clause-none : goal.returns-in_err-events-clause-none
-returns-in_err-events-clause-none c = on_none _ (AreLimits (rows_of (found_of c.args.found.now))) (λ limits asks.
-    no_number _ (λ t x. ParsesUnsigned 32 10 t x × ExplainsUnsignedError 10 t x × HasUnsignedDigitsIfOk t x) 32 (found_of c.args.found.now) (codes "events") c.get_one.result limits.events
-    (λ t x given. given.0) c.get_one.ensures.value c.in_err-events.was asks.0)
+returns-in_err-events-clause-none c = on_none _ (AreLimits (rows_of (found_of c.args.found.now)))
+    (λ limits asks. c.in_err-events.ensures.none limits.events limits.some_event limits.few_events asks.0)
 
 pub returns-in_err-nodes-clause-none : goal.returns-in_err-nodes-clause-none
 returns-in_err-nodes-clause-none c = on_none _ (AreLimits (rows_of (found_of c.args.found.now))) (λ limits asks.
-    no_number _ (λ t x. ParsesUnsigned 16 10 t x × ExplainsUnsignedError 10 t x × HasUnsignedDigitsIfOk t x) 16 (found_of c.args.found.now) (codes "nodes") c.get_one-2.result limits.nodes
-    (λ t x given. given.0) c.get_one-2.ensures.value c.in_err-nodes.was asks.1)
+    no_number _ (λ t x. ParsesUnsigned 16 10 t x × ExplainsUnsignedError 10 t x × HasUnsignedDigitsIfOk t x) 16 (found_of c.args.found.now) (codes "nodes") c.get_one.result limits.nodes
+    (λ t x given. given.0) c.get_one.ensures.value c.in_err-nodes.was asks.1)
 
-pub returns-then-events-lt1-clause-none : goal.returns-then-events-lt1-clause-none
-returns-then-events-lt1-clause-none c = λ limits asks.
-    let f = found_of c.args.found.now in
-    let events : limits.events ≡ c.in_ok-events.events = one_number 32 _ _ _ asks.0
-    (number_read _ (λ t x. ParsesUnsigned 32 10 t x × ExplainsUnsignedError 10 t x × HasUnsignedDigitsIfOk t x) 32 f (codes "events") c.get_one.result c.in_ok-events.events
-    (λ t x given. given.0) c.get_one.ensures.none c.get_one.ensures.value c.in_ok-events.was) in
+pub returns-then-nodes-lt1-clause-none : goal.returns-then-nodes-lt1-clause-none
+returns-then-nodes-lt1-clause-none c = λ limits asks.
     let nodes : limits.nodes ≡ c.in_ok-nodes.nodes = one_number 16 _ _ _ asks.1
-    (number_read _ (λ t x. ParsesUnsigned 16 10 t x × ExplainsUnsignedError 10 t x × HasUnsignedDigitsIfOk t x) 16 f (codes "nodes") c.get_one-2.result c.in_ok-nodes.nodes
-    (λ t x given. given.0) c.get_one-2.ensures.none c.get_one-2.ensures.value c.in_ok-nodes.was) in
+    (number_read _ (λ t x. ParsesUnsigned 16 10 t x × ExplainsUnsignedError 10 t x × HasUnsignedDigitsIfOk t x) 16 (found_of c.args.found.now) (codes "nodes") c.get_one.result c.in_ok-nodes.nodes
+    (λ t x given. given.0) c.get_one.ensures.none c.get_one.ensures.value c.in_ok-nodes.was) in
     omega arith
 
 pub invariant_of-result : goal.invariant_of-result

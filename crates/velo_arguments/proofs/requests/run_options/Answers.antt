@@ -13,6 +13,7 @@ returns-clause-some c =
       option_read f (codes "names-out") c.get_str-3.result c.get_str-3.ensures,
       c.in_ok-limits_of.ensures.some,
       flag_read f (codes "certificate") c.get_flag-2.result c.get_flag-2.ensures.none c.get_flag-2.ensures.value c.get_flag-2.ensures.other,
+      flag_read f (codes "why") c.get_flag-3.result c.get_flag-3.ensures.none c.get_flag-3.ensures.value c.get_flag-3.ensures.other,
     )
 
 pub returns-in_err-get_str-clause-none : goal.returns-in_err-get_str-clause-none

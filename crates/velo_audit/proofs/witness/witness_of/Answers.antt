@@ -1,5 +1,6 @@
 use Rattle.velo_audit.proofs.OnAnswers.{if_ok}
-use Rattle.velo_audit.proofs.OnWitness.{closing-on_cycle, blames-within, IsEvidenceOf-read}
+use Rattle.velo_certify.proofs.OnClosing.{closing_cycle}
+use Rattle.velo_audit.proofs.OnWitness.{blames-within, IsEvidenceOf-read}
 use Rattle.velo_audit.proofs.witness.witness_of.Goals as goal
 
 pub evidence_as_read-requires-clause-blames : goal.evidence_as_read-requires-clause-blames
@@ -8,7 +9,7 @@ evidence_as_read-requires-clause-blames c =
 
 pub unreachable-requires : goal.unreachable-requires
 unreachable-requires c =
-    closing-on_cycle c.args.what.now.events c.args.alarm.now.position c.requires.alarm.closing
+    closing_cycle c.args.what.now.events c.args.alarm.now.position c.requires.alarm.closing
     (rw c.in-Err-NoCycle.field-0-is at c.in-Err-NoCycle.ensures.fault)
 
 pub returns-in-Ok : goal.returns-in-Ok

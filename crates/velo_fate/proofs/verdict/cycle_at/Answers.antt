@@ -1,4 +1,4 @@
-use Rattle.velo_fate.proofs.OnVerdicts.{closing_cycle}
+use Rattle.velo_certify.proofs.OnClosing.{closing_cycle}
 use Rattle.velo_fate.proofs.verdict.cycle_at.Goals as goal
 
 pub unreachable-requires : goal.unreachable-requires

@@ -1,4 +1,4 @@
-use Rattle.velo_report.proofs.OnClosing.{closing_cycle}
+use Rattle.velo_certify.proofs.OnClosing.{closing_cycle}
 use Rattle.velo_ffi.proofs.OnTexts.{explained}
 use Rattle.velo_ffi.proofs.texts.explain_alarm.Goals as goal
 

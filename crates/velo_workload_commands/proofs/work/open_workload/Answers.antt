@@ -1,10 +1,7 @@
-use Rattle.std.proofs.Common.{inl, inr, refl}
+use Rattle.std.proofs.Common.{inr}
 use Rattle.velo_delivery.specs.Reading.{reading}
 use Rattle.velo_workload_commands.proofs.OnPlaying.{not_opened, opened}
 use Rattle.velo_workload_commands.proofs.work.open_workload.Goals as goal
-
-pub returns-then-are_one_target-clause-none : goal.returns-then-are_one_target-clause-none
-returns-then-are_one_target-clause-none g c = inr (inr (inl (refl, c.are_one_target.ensures c.if-are_one_target.true)))
 
 pub returns-in-Ok-clause-some : goal.returns-in-Ok-clause-some
 returns-in-Ok-clause-some g c =

@@ -1,0 +1,18 @@
+use Rattle.std.proofs.Common.{refl, subst, sym}
+use Rattle.velo_thin.specs.Tables.{left_of}
+use Rattle.velo_log_commands.specs.Predicting.{IsSearched}
+use Rattle.velo_log_commands.proofs.OnPredicting.{foretold_of}
+use Rattle.velo_log_commands.proofs.predicting.search_log.Goals as goal
+
+pub returns-then-options : goal.returns-then-options
+returns-then-options c =
+    let log = c.args.log.now.events in
+    foretold_of c.args.options.now.values c.args.config.now.bounds log log (left_of c.args.left.now) c.search.result
+    (subst (λ b. IsSearched b log log) (sym c.if-options.true) refl) c.search.ensures
+
+pub returns : goal.returns
+returns c =
+    let log = c.args.log.now.events in
+    let anew = c.in_ok-anew.anew.events in
+    foretold_of c.args.options.now.values c.args.config.now.bounds log anew (left_of c.args.left.now) c.search-2.result
+    (subst (λ b. IsSearched b log anew) (sym c.if-options.false) c.in_ok-anew.ensures.anew) c.search-2.ensures

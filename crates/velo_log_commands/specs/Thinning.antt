@@ -1,0 +1,72 @@
+-- What thinning does, by the bytes of its input and by the definitions.
+use Rattle.std.specs.Prelude.{◌≡◌, ◌⊎◌, ⊤, ℕ, false, List, Option, Result, Ok, Err}
+use Rattle.std.specs.Borrow.{Bor}
+use Rattle.velo_delivery.specs.declared.failure.Failure.{Failure}
+use Rattle.velo_delivery.specs.declared.failure.Operand.TheVariants.{Map}
+use Rattle.velo_delivery.specs.Disk.{Store}
+use Rattle.velo_delivery.specs.Writing.{Writing}
+use Rattle.velo_thinning.specs.declared.delivering.Targets.{Targets}
+use Rattle.velo_thinning.specs.declared.outcome.ThinnedLog.{ThinnedLog}
+use Rattle.velo_thinning.specs.declared.reading.ThinFault.{ThinFault}
+use Rattle.velo_thinning.specs.declared.reading.ThinFault.TheVariants as thin_fault
+use Rattle.velo_thinning.specs.Reading.{IsFaultOf, IsThinningOf}
+use Rattle.velo_thinning.specs.Texts.{GoesOut}
+use Rattle.velo_worker.specs.declared.ending.Ending.TheVariants.{Done}
+use Rattle.velo_request.specs.declared.request.ThinOptions.{ThinOptions}
+use Rattle.velo_fate.specs.declared.fate.Fate.{Fate}
+use Rattle.velo_fate.specs.declared.fate.Fate.TheVariants.{Check, Finished}
+use Rattle.velo_fate.specs.declared.fault.CheckFault.{CheckFault}
+use Rattle.velo_fate.specs.declared.fault.CheckFault.TheVariants.{Log, Refused, WrongValue, Memory}
+use Rattle.velo_fate.specs.declared.files.Beside.{Beside}
+use Rattle.velo_fate.specs.Barred.{WritesNowhere}
+use Rattle.velo_fate.specs.Fate.{fate_of_failure}
+
+-- ---- where what is left goes
+
+abbrev pub targets_of : ThinOptions → Targets
+targets_of options = record { log = options.target; map = options.map }
+
+-- the map, beside the log
+abbrev pub map_of : ThinOptions → Beside
+map_of options = record { operand = Map; path = options.map }
+
+-- ---- what it comes to
+
+-- the same fault of a check
+abbrev pub check_fault_by : ThinFault → CheckFault
+check_fault_by (thin_fault.Log fault) = Log fault
+check_fault_by (thin_fault.Refused p refusal) = Refused p refusal
+check_fault_by (thin_fault.WrongValue p) = WrongValue p
+check_fault_by thin_fault.Memory = Memory
+
+-- it is done, whatever the verdict of the log is; or something failed on the way out
+abbrev pub fate_of_delivery : Result ⊤ Failure → Fate
+fate_of_delivery (Ok end) = Finished Done false
+fate_of_delivery (Err failure) = fate_of_failure failure
+
+-- ---- what is done
+
+-- what is left of a log went out, or a part of it, and this is the fate
+abbrev pub GoesOutTo : ThinOptions → ThinnedLog → Store → Writing → Fate → Type 0
+GoesOutTo options thinned store stdout f =
+    (held : Bor ThinnedLog) × (held.now ≡ thinned) × (result : Result ⊤ Failure)
+    × GoesOut held (targets_of options) store stdout result × (f ≡ fate_of_delivery result)
+
+-- The log of the input can come about, and what is left of it went out. With every block there, and
+-- whichever labels are left out, the log has a cycle exactly where what is left has one, the same
+-- event closes the first one, and the same blocks are to blame (`IsThinnedLog`).
+pub record ThinsLog (options : ThinOptions) (read : Option (List ℕ)) (store : Store) (stdout : Writing)
+    (f : Fate) : Type 0 where
+  pub thinned : ThinnedLog
+  pub thins : IsThinningOf read thinned
+  pub goes_out : GoesOutTo options thinned store stdout f
+
+-- nothing is written where the input has this fault
+abbrev pub IsUnthinned : Option (List ℕ) → Store → Writing → Fate → Type 0
+IsUnthinned read store stdout f =
+    (fault : ThinFault) × IsFaultOf read fault × (f ≡ Check (check_fault_by fault))
+    × WritesNowhere store stdout
+
+abbrev pub ThinsInput : ThinOptions → Option (List ℕ) → Store → Writing → Fate → Type 0
+ThinsInput options read store stdout f =
+    ThinsLog options read store stdout f ⊎ IsUnthinned read store stdout f

@@ -1,0 +1,112 @@
+//! What a log foretells of other runs of its program.
+use crate::tests::{Folder, LOST_UPDATE, compare, show};
+use std::alloc::Global;
+use std::process::Abort;
+use std::sync::Wait;
+use std::thread::Threads;
+
+/// Two threads that take one lock twice in a block, one thread after the other.
+const CLEAN: &str = "vlog 2 2 1 1\n0 fork 1\n\
+0 begin 7\n0 acq 0\n0 rd 0 0\n0 rel 0\n0 acq 0\n0 wr 0 5\n0 rel 0\n0 end\n\
+1 begin 7\n1 acq 0\n1 rd 0 5\n1 rel 0\n1 acq 0\n1 wr 0 6\n1 rel 0\n1 end\n";
+
+const WITNESS: &str = "vlog 2 2 1 1\n0 fork 1\n\
+0 begin 7\n0 acq 0\n0 rd 0 0\n0 rel 0\n1 begin 7\n1 acq 0\n1 rd 0 0\n1 rel 0\n0 acq 0\n";
+
+/// Without `--values` the value in the log is the line of the write.
+const FORETOLD: &str = "\
+not atomic? 7 flush\n  \
+witness 10 events\n  \
+line 9 `1 rd 0 0` read 8 in the log\n  \
+Line 11 `0 acq 0` closes a cycle of 2 transactions:\n  \
+T1: thread 0, block 7 flush, lines 3 to 11\n  \
+T2: thread 1, block 7 flush, lines 7 to 10\n  \
+T1 before T2:\n    \
+line 6 `0 rel 0`\n      \
+in block 7 flush\n    \
+line 8 `1 acq 0`\n      \
+in block 7 flush\n  \
+T2 before T1:\n    \
+line 10 `1 rel 0`\n      \
+in block 7 flush\n    \
+line 11 `0 acq 0`\n      \
+in block 7 flush\n  \
+block 7 flush, from line 3: line 8 `1 acq 0` must come after its begin and before line 11\n\
+nothing else found in 50 tries\n";
+
+/// What the program prints of a log, and what the file takes.
+struct Told {
+    words: &'static [&'static str],
+    log: &'static str,
+    file: Option<&'static str>,
+    out: &'static str,
+    err: &'static str,
+    status: u8,
+}
+
+static TOLD: [Told; 4] = [
+    Told {
+        words: &["velodrome", "predict", "a", "--log", "o", "--names", "n"],
+        log: CLEAN,
+        file: Some(WITNESS),
+        out: FORETOLD,
+        err: "",
+        status: 3,
+    },
+    // what is known is left out, and no file is opened
+    Told {
+        words: &[
+            "velodrome",
+            "predict",
+            "a",
+            "--log",
+            "o",
+            "--not-atomic",
+            "l",
+        ],
+        log: CLEAN,
+        file: None,
+        out: "left out label 7\nnothing found in 0 tries\n",
+        err: "",
+        status: 0,
+    },
+    // in one thread there is nothing to delay
+    Told {
+        words: &["velodrome", "predict", "a", "--values", "--log", "o"],
+        log: "vlog 1 1 0 0\n0 begin 7\n0 end\n",
+        file: None,
+        out: "nothing found in 0 tries\n",
+        err: "",
+        status: 0,
+    },
+    Told {
+        words: &["velodrome", "predict", "a", "--events", "4"],
+        log: LOST_UPDATE,
+        file: None,
+        out: "",
+        err: "refused 17 at 4\n",
+        status: 4,
+    },
+];
+
+/// Compares what the program shows of a log with what it is to show.
+fn try_told<R: Threads + Wait + Sync + Abort>(rt: &R, alloc: Global, told: &Told) {
+    let files = [("a", told.log), ("n", "label 7 flush\n"), ("l", "7\n")];
+    let mut folder = Folder::new(alloc, &files, 7);
+    let shown = show(rt, told.words, &mut folder);
+    compare(rt, &shown, told.out, told.err, told.status, told.log);
+    assert_eq!(rt;
+        folder.created(),
+        told.file.map(|text| text.as_bytes()),
+        "{}",
+        told.log
+    );
+    drop((shown, folder));
+}
+
+#[test]
+fn predictions(rt: HostRuntime) {
+    for told in &TOLD {
+        try_told(&rt, rt.alloc(), told);
+    }
+}
