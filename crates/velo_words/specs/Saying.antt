@@ -1,5 +1,5 @@
 -- What a command says of its end, before its last line.
-use Rattle.std.specs.Prelude.{◌≡◌, ◌⊎◌, ℕ, List, ◌++◌, Option, Some, None, IfSome}
+use Rattle.std.specs.Prelude.{◌≡◌, ◌⊎◌, ℕ, List, ◌++◌, Option, Some, None, IfSome, if◌then◌else◌}
 use Rattle.velo_delivery.specs.Disk.{Disk}
 use Rattle.velo_delivery.specs.Writing.{Writing}
 use Rattle.velo_fate.specs.Fate.{Closes, Ends, line_of, status_of}
@@ -9,7 +9,7 @@ use Rattle.velo_fate.specs.declared.fate.Fate.TheVariants as fate
 use Rattle.velo_fate.specs.declared.fault.CheckFault.TheVariants as check_fault
 use Rattle.velo_logtext.specs.declared.fault.LogFault.{LogFault}
 use Rattle.velo_request.specs.declared.request.Request.{Request}
-use Rattle.velo_request.specs.declared.request.Request.TheVariants.{Audit, Explain, Predict, Thin, Watch, WatchEndless}
+use Rattle.velo_request.specs.declared.request.Request.TheVariants.{Audit, Carry, Check, Explain, Predict, Thin, Watch, WatchEndless}
 use Rattle.velo_words.specs.Log.{log_words}
 
 -- the path of the log whose faults are said in words, if the request has one
@@ -20,6 +20,8 @@ log_of (WatchEndless options) = Some options.input.now
 log_of (Audit options) = Some options.input.now
 log_of (Thin options) = Some options.input.now
 log_of (Predict options) = Some options.input.now
+log_of (Check options) = if options.why then Some options.input.now else None
+log_of (Carry options) = if options.why then Some options.input.now else None
 log_of _ = None
 
 -- what is said of a fault of the log at a path: its words, by bytes that the file gave when it was

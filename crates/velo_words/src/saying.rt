@@ -1,5 +1,5 @@
 //! What a command says of its end, before its last line.
-ghost use Rattle.std.specs.Prelude.{◌≡◌, ◌++◌, IfSome, option_map};
+ghost use Rattle.std.specs.Prelude.{◌≡◌, ◌++◌, IfSome, None, Some, if◌then◌else◌, option_map};
 ghost use Rattle.velo_delivery.specs.Writing.{writing};
 ghost use Rattle.velo_fate.specs.Fate.{Closes, line_of, status_of};
 ghost use Rattle.velo_words.specs.Saying.{EndsInWords, IsSaid, SaysLog, log_of};
@@ -14,6 +14,13 @@ use velo_logtext::LogFault;
 use velo_request::Request;
 use velo_request::status::FAILED;
 
+/// The path where words are asked for.
+fn if_asked(why: bool, path: &str) -> Option<&str>
+    ensures { option_map (λ path. path.now) result ≡ (if why then Some path.now else None) }
+{
+    if why { Some(path) } else { None }
+}
+
 /// The path of the log whose faults are said in words, if the request has one.
 fn log_of<'a>(request: &Request<'a>) -> Option<&'a str>
     ensures { option_map (λ path. path.now) result ≡ log_of request.now }
@@ -25,8 +32,9 @@ fn log_of<'a>(request: &Request<'a>) -> Option<&'a str>
         Request::Audit(options) => Some(options.input),
         Request::Thin(options) => Some(options.input),
         Request::Predict(options) => Some(options.input),
-        Request::Check(_) | Request::Replay(_) | Request::Run(_) => None,
-        Request::Carry(_) | Request::Explore(_) => None,
+        Request::Check(options) => if_asked(options.why, options.input),
+        Request::Carry(options) => if_asked(options.why, options.input),
+        Request::Replay(_) | Request::Run(_) | Request::Explore(_) => None,
     }
 }
 
