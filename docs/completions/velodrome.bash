@@ -2,19 +2,21 @@
 _velodrome() {
     local word=${COMP_WORDS[COMP_CWORD]} before=${COMP_WORDS[COMP_CWORD-1]} words=
     if [ "$COMP_CWORD" -eq 1 ]; then
-        COMPREPLY=($(compgen -W "check replay run explain carry explore watch audit help --help --version" -- "$word"))
+        COMPREPLY=($(compgen -W "check replay run explain carry explore watch audit thin predict help --help --version" -- "$word"))
         return
     fi
-    case $before in --events|--ignore-lock|--ignore-variable|--nodes|--random|--schedule|--seed|--states|--turns) COMPREPLY=(); return ;; esac
+    case $before in --events|--ignore-lock|--ignore-variable|--nodes|--random|--schedule|--seed|--states|--tries|--turns) COMPREPLY=(); return ;; esac
     case ${COMP_WORDS[1]} in
-        check) words="--names --events --nodes --certificate --help" ;;
-        replay) words="--schedule --turns --stop --log --names-out --events --nodes --certificate --help" ;;
-        run) words="--stop --log --names-out --events --nodes --certificate --help" ;;
+        check) words="--names --why --events --nodes --certificate --help" ;;
+        replay) words="--schedule --turns --stop --why --log --names-out --events --nodes --certificate --help" ;;
+        run) words="--stop --why --log --names-out --events --nodes --certificate --help" ;;
         explain) words="--dot --names --sites --help" ;;
-        carry) words="--log --help" ;;
+        carry) words="--log --why --help" ;;
         explore) words="--states --first --progress --random --seed --log --names-out --events --nodes --certificate --help" ;;
-        watch) words="--names --stop --events --nodes --certificate --help" ;;
-        audit) words="--names --not-atomic --ignore-lock --ignore-variable --no-witness --events --nodes --help" ;;
+        watch) words="--names --stop --endless --events --nodes --certificate --help" ;;
+        audit) words="--no-witness --names --not-atomic --ignore-lock --ignore-variable --events --nodes --help" ;;
+        thin) words="--log --map --help" ;;
+        predict) words="--log --values --tries --seed --names --not-atomic --ignore-lock --ignore-variable --events --nodes --help" ;;
     esac
     case $word in
         -*) COMPREPLY=($(compgen -W "$words" -- "$word")) ;;

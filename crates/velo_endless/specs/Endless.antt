@@ -57,6 +57,7 @@ pub record IsUnderWay (read remaining old new : Option (List ℕ)) (log : List E
 pub record FailsToTell (read old new : Option (List ℕ)) (bounds : Bounds) (log : List Event) (e : Event) : Type 0 where
   pub front : IsFront read bounds (log ++ e ∷ [])
   pub came : IsWellFormed bounds (log ++ e ∷ [])
+  pub room : length (log ++ e ∷ []) ≤ MAX_WATCHED
   pub no_cycle : ¬ HasCycle log
   pub part : TellsPart old new (log ++ e ∷ [])
 

@@ -10,3 +10,6 @@ pub use piece::Piece;
 pub use reading::{LongReader, MAX_WATCHED};
 pub use watch::EndlessWatch;
 pub use whole::Whole;
+
+#[cfg(test)]
+mod tests;

@@ -54,7 +54,8 @@ impl EndlessWatch {
     ) -> Result<EndlessWatch, WatchFault>
         requires events { (1 ≤ events) × (events ≤ MAX_EVENTS) }
         requires nodes { (1 ≤ nodes) × (nodes ≤ MAX_NODES) }
-        ensures ok { IfOk result (λ watch. (contents : Option (List ℕ)) → IsUnderWay (I.remaining source.old) (I.remaining source.new) contents contents [] watch) }
+        ensures ok { IfOk result (λ watch. (contents : Option (List ℕ))
+            → IsUnderWay (I.remaining source.old) (I.remaining source.new) contents contents [] watch) }
         ensures goes_on { IfOk result CanGoOn }
         ensures events { IfOk result (λ watch. watch.piece.world.config.events ≡ events) }
         ensures nodes { IfOk result (λ watch. watch.piece.world.config.nodes ≡ nodes) }

@@ -1,5 +1,6 @@
 mod OnAuditing
 mod OnChecks
+mod OnEndless
 mod OnExplaining
 mod OnIgnoring
 mod OnListing

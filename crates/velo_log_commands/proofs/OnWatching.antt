@@ -1,7 +1,8 @@
 -- What a watch came to.
 use Rattle.std.proofs.Common.{◌≡◌, ℕ, ◌∷◌, ◌++◌, [], ◌∙◌, ◌≤◌, Bool, true, false, List, length, Option, Result, Ok, Err, refl, sym, ap, subst, inl, inr}
+use Rattle.std.proofs.lemmas.Bool.{false≢true}
 use Rattle.std.proofs.lemmas.List.{append-nil}
-use Rattle.std.specs.Prelude.{◌⊎◌}
+use Rattle.std.specs.Prelude.{◌⊎◌, ◌↔◌, IfOk, IsTrue, OnOk}
 use Rattle.velo_events.specs.declared.config.Bounds.{Bounds}
 use Rattle.velo_events.specs.declared.config.Config.{Config}
 use Rattle.velo_events.specs.declared.event.Event.{Event}
@@ -29,137 +30,144 @@ use Rattle.velo_fate.specs.declared.verdict.Verdict.{Verdict}
 use Rattle.velo_fate.specs.declared.fate.Fate.TheVariants.{Check, Finished}
 use Rattle.velo_request.specs.declared.request.WatchOptions.{WatchOptions}
 use Rattle.velo_fate.specs.Delivery.{printing, silent}
-use Rattle.velo_log_commands.specs.Check.{fate_of}
+use Rattle.velo_log_commands.specs.Check.{IsInput, fate_of}
 use Rattle.velo_fate.specs.Verdict.{is_alarm}
 use Rattle.velo_fate.specs.Failures.{failures_told}
 use Rattle.velo_report.specs.declared.names.Names.{Names}
-use Rattle.velo_log_commands.specs.Steps.{Shows}
-use Rattle.velo_log_commands.specs.Watching.{check_fault_by, EndsBehind, Follows, GoesOn, HasWatched, IsSoFar, Watches}
+use Rattle.velo_log_commands.specs.Steps.{ShowsLog}
+use Rattle.velo_log_commands.specs.Watching.{check_fault_by, EndsAfter, FailsAfter, Follows, GoesOn, HasCome, HasWatched, IsSoFar, KeepsTo, StepsOn, Terms, Watches, terms_of_watch}
 use Rattle.velo_delivery.specs.Writing.{Writing, WritesNothing}
 
--- ---- while it goes on
-
-front_of : (read remaining old new : Option (List ℕ)) (watch : Watch) → IsUnderWay read remaining old new watch → IsFront read watch.world.config.bounds watch.world.log
-front_of read remaining old new watch h =
-    subst (λ (b : Bounds). IsFront read b watch.world.log) (sym h.bounds) (front_given read watch.world.log watch.reader remaining h.given)
-
--- what is not told is not there
-no_cycle : (old new : Option (List ℕ)) (told : Bool) (log : List Event) → told ≡ false → HasTold told old new log → ¬ HasCycle log
-no_cycle old new told log untold h = (subst (λ (t : Bool). HasTold t old new log) untold h).0
+-- ---- a log that is kept whole
 
 -- what is told is there
-cycle_told : (old new : Option (List ℕ)) (told : Bool) (log : List Event) → told ≡ true → HasTold told old new log → HasCycle log
-cycle_told old new told log is h =
-    let alarm = subst (λ (t : Bool). HasTold t old new log) is h in
-    HasCycle-from_closing log alarm.0.position alarm.1.closing
+cycle_told : (old new : Option (List ℕ)) (told : Bool) (log : List Event) → HasTold told old new log → IsTrue told ↔ HasCycle log
+cycle_told old new false log h = (λ on. absurd (false≢true on), λ cycle. absurd (h.0 cycle))
+cycle_told old new true log h = (λ on. HasCycle-from_closing log h.0.position h.1.closing, λ cycle. refl)
+
+no_memory : (n : ℕ) (fault : LogFault) → IsMetBehind n fault → fault ≡ log_fault.Memory → GrowthRefused
+no_memory n fault met is = absurd (subst (IsMetBehind n) is met)
+
+module _ (options : WatchOptions) (read old : Option (List ℕ)) where
+  abbrev own : Terms
+  own = terms_of_watch options
+
+  front_of : (remaining new : Option (List ℕ)) (watch : Watch) → IsUnderWay read remaining old new watch → IsFront read watch.world.config.bounds watch.world.log
+  front_of remaining new watch h =
+      subst (λ (b : Bounds). IsFront read b watch.world.log) (sym h.bounds) (front_given read watch.world.log watch.reader remaining h.given)
+
+  come : (new : Option (List ℕ)) (w : WorldState) → KeepsTo options.limits w.config → CameAbout w → IsFront read w.config.bounds w.log → Tells old new w.log → HasCome own read old new w.config.bounds w.log
+  come new w within came front told =
+      record { so_far = record { front = front; well_formed = came.well_formed; room = subst (λ (n : ℕ). length w.log ≤ n) within.events came.room }; told = told }
+
+  pub steps_on : (before between remaining new : Option (List ℕ)) (watch watch' : Watch) (r : Result Bool WatchFault) → KeepsTo options.limits watch.world.config → IsUnderWay read before old between watch → Steps read old watch r watch' remaining new
+      → IfOk r (λ more. Advances watch.world more watch'.world) → OnOk r (watch'.world.config ≡ watch.world.config)
+      → StepsOn own read old new watch.world.config.bounds watch.world.log r watch'.world.config.bounds (λ log. (watch'.world.log ≡ log) × (IsTrue watch'.told ↔ HasCycle watch'.world.log))
+      (λ log. (watch'.world.log ≡ log) × IsUnderWay read remaining old new watch')
+  steps_on before between remaining new watch watch' (Ok true) within h (under_way, (e, is)) (came, next) same = (
+    e,
+    subst (λ (log : List Event). HasCome own read old new watch'.world.config.bounds log) is
+        (come new watch'.world (subst (λ (c : Config). KeepsTo options.limits c) (sym same) within) came (front_of remaining new watch' under_way) (tells watch'.told old new watch'.world.log under_way.told)),
+    (is, cycle_told old new watch'.told watch'.world.log under_way.told),
+    (is, under_way),
+  )
+  steps_on before between remaining new watch watch' (Ok false) within h (is, told, input) (came, stays) same =
+      let log : watch'.world.log ≡ watch.world.log = ap (λ (w : WorldState). w.log) is in
+      let front = subst (λ (w : WorldState). IsFront read w.config.bounds w.log) (sym is) (front_of before between watch h) in (
+        subst (λ (l : List Event). HasCome own read old new watch'.world.config.bounds l) log
+            (come new watch'.world (subst (λ (c : Config). KeepsTo options.limits c) (sym same) within) came front (tells watch'.told old new watch'.world.log told)),
+        (log, cycle_told old new watch'.told watch'.world.log told),
+        subst (λ (l : List Event). IsInput read watch'.world.config.bounds l) log input,
+      )
+  steps_on before between remaining new watch watch' (Err (watch_fault.Log fault)) within h (came, told, met, reads) advances same = (
+    come new watch.world within came (front_of before between watch h) told,
+    ((reads, no_memory (length watch.world.log) fault met), met),
+  )
+  steps_on before between remaining new watch watch' (Err (watch_fault.Replay (replay.Refused p r))) within h (came, told, (e, next, is)) advances same =
+      let log = watch.world.log ++ e ∷ [] in
+      let bounds = watch.world.config.bounds in
+      let by_limit = subst (λ (n : ℕ). IsRefusedAt n watch.world.config.nodes bounds log p r) within.events is in (
+        come new watch.world within came (front_of before between watch h) told,
+        (e, next, subst (λ (n : ℕ). IsRefusedAt options.limits.events n bounds log p r) within.nodes by_limit),
+      )
+  steps_on before between remaining new watch watch' (Err (watch_fault.Replay (replay.WrongValue p))) within h (came, told, (e, next, is)) advances same = (
+    come new watch.world within came (front_of before between watch h) told,
+    (e, next, subst (λ (n : ℕ). IsWrongValueAt n watch.world.config.bounds (watch.world.log ++ e ∷ []) p) within.events is),
+  )
+  steps_on before between remaining new watch watch' (Err (watch_fault.Replay replay.Memory)) within h (came, told, (e, next, is)) advances same =
+      (come new watch.world within came (front_of before between watch h) told, is)
+  steps_on before between remaining new watch watch' (Err watch_fault.Write) within h (e, fails) advances same =
+      let log = watch.world.log ++ e ∷ [] in
+      let alarm = fails.part in (
+        e,
+        record {
+          so_far = record { front = fails.front; well_formed = fails.came.well_formed; room = subst (λ (n : ℕ). length log ≤ n) within.events fails.came.room };
+          ends = record { before = watch.world.log; last = e; whole = refl; no_cycle = fails.no_cycle; cycle = HasCycle-from_closing log alarm.0.position alarm.1.closing };
+          part = alarm;
+        },
+      )
+
+pub at_start : (read remaining : Option (List ℕ)) (r : Result Watch WatchFault) → IfOk r (λ watch. (contents : Option (List ℕ)) → IsUnderWay read remaining contents contents watch) → IfOk r (λ watch. watch.world.log ≡ [])
+    → IfOk r (λ watch. (contents : Option (List ℕ)) → (watch.world.log ≡ []) × IsUnderWay read remaining contents contents watch)
+at_start read remaining (Ok watch) opened none = λ contents. (none, opened contents)
+at_start read remaining (Err f) opened none = tt
+
+-- ---- while it goes on
 
 pub not_both : (b : Bool) → b ≡ true → b ≡ false → ⊥
 not_both true on off = cc
 not_both false on off = cc
 
-module _ (stop : Bool) (read remaining old between : Option (List ℕ)) (config : Config) (watch : Watch) (h : IsUnderWay read remaining old between watch) (same : watch.world.config ≡ config) (quiet : stop ≡ true → watch.told ≡ false) where
-  goes_on : GoesOn stop watch.world.log
-  goes_on on = no_cycle old between watch.told watch.world.log (quiet on) h.told
-
-  -- the input is at its end
-  pub follows_to_end : {X : Type 0} (x : X) (remaining' new : Option (List ℕ)) (watch' : Watch) → Advances watch.world false watch'.world → Steps read old watch (Ok false) watch' remaining' new → Follows stop read old new config (Ok x) watch'.world
-  follows_to_end x remaining' new watch' advances steps = (
-    ap (λ (w : WorldState). w.config) advances.1 ∙ same,
-    advances.0,
-    tells watch'.told old new watch'.world.log steps.1,
-    subst (λ (w : WorldState). IsFront read w.config.bounds w.log) (sym advances.1) (front_of read remaining old between watch h),
-    inl (steps.2, λ on. subst (λ (w : WorldState). ¬ HasCycle w.log) (sym advances.1) (goes_on on)),
-  )
-
-  -- the next event raises the alarm, and this is the end
-  pub follows_to_alarm : {X : Type 0} (x : X) (remaining' new : Option (List ℕ)) (watch' : Watch) → stop ≡ true → watch'.told ≡ true → watch'.world.config ≡ watch.world.config → Advances watch.world true watch'.world → Steps read old watch (Ok true) watch' remaining' new → Follows stop read old new config (Ok x) watch'.world
-  follows_to_alarm x remaining' new watch' on told kept advances steps = (
-    kept ∙ same,
-    advances.0,
-    tells watch'.told old new watch'.world.log steps.0.told,
-    front_of read remaining' old new watch' steps.0,
-    inr (
-      on,
-      record {
-        before = watch.world.log;
-        last = advances.1.0;
-        whole = advances.1.1;
-        no_cycle = goes_on on;
-        cycle = cycle_told old new watch'.told watch'.world.log told steps.0.told;
-      },
-    ),
-  )
-
-  -- it goes no further
-  pub follows_to_fault : (X : Type 0) (fault : WatchFault) (remaining' new : Option (List ℕ)) (watch' : Watch) (w : WorldState) → Steps read old watch (Err fault) watch' remaining' new → Follows stop read old new config {X = X} (Err fault) w
-  follows_to_fault X fault remaining' new watch' w steps = (watch.world, same, goes_on, front_of read remaining old between watch h, steps)
+-- what is not told is not there
+pub no_more : (told : Bool) (log : List Event) → told ≡ false → IsTrue told ↔ HasCycle log → ¬ HasCycle log
+no_more told log off h cycle = not_both told (h.1 cycle) off
 
 -- ---- what was read
 
-module _ (options : WatchOptions) (read : Option (List ℕ)) (stdout : Writing) (config : Config) (few : config.events ≡ options.limits.events) where
-  abbrev limit : ℕ
-  limit = options.limits.events
+module _ (terms : Terms) (read : Option (List ℕ)) (stdout : Writing) where
+  pub watched : {X : Type 0} (x : X) (bounds : Bounds) (HasSeen : List Event → Type 0) → Follows terms read stdout.old stdout.new (Ok x) bounds HasSeen → stdout.failures_after ≡ stdout.failures_before → HasWatched terms read stdout bounds HasSeen
+  watched x bounds HasSeen (log, come, to, seen) kept =
+      record { log = log; so_far = come.so_far; read_to = to; alarm = come.told.alarm; exact = come.told.exact; told = (come.told.appends, kept); seen = seen }
 
-  so_far : (w : WorldState) → w.config ≡ config → CameAbout w → IsFront read w.config.bounds w.log → IsSoFar limit read w.config.bounds w.log
-  so_far w same came front =
-      record { front = front; well_formed = came.well_formed; room = subst (λ (n : ℕ). length w.log ≤ n) (ap (λ (c : Config). c.events) same ∙ few) came.room }
-
-  pub watched : {X : Type 0} (x : X) (w : WorldState) → Follows options.stop read stdout.old stdout.new config (Ok x) w → stdout.failures_after ≡ stdout.failures_before → HasWatched options read stdout w
-  watched x w (same, came, told, front, to) kept =
-      record { so_far = so_far w same came front; read_to = to; alarm = told.alarm; exact = told.exact; told = (told.appends, kept) }
-
-  cut_short : (w : WorldState) → w.config ≡ config → CameAbout w → IsFront read w.config.bounds w.log → Tells stdout.old stdout.new w.log → stdout.failures_after ≡ stdout.failures_before → (fault : CheckFault)
-      → ((GoesOn options.stop w.log × EndsBehind limit options.limits.nodes read w.config.bounds w.log fault) ⊎ ((fault ≡ Memory) × GrowthRefused)) → (names : Names) → Watches names options read stdout (Check fault)
-  cut_short w same came front told kept fault reason names = inl (
-    printing (told_text told.alarm) (Check fault),
-    inr (inl (record { bounds = w.config.bounds; log = w.log; so_far = so_far w same came front; alarm = told.alarm; exact = told.exact; fault = fault; reason = reason; said = refl })),
-    (refl, (told.appends, kept)),
+  cut_short : (bounds : Bounds) (log : List Event) → HasCome terms read stdout.old stdout.new bounds log → stdout.failures_after ≡ stdout.failures_before → (fault : CheckFault)
+      → ((GoesOn terms.stop log × EndsAfter terms read bounds log fault) ⊎ ((fault ≡ Memory) × GrowthRefused)) → (names : Names) → Watches names terms read stdout (Check fault)
+  cut_short bounds log come kept fault reason names = inl (
+    printing (told_text come.told.alarm) (Check fault),
+    inr (inl (record { bounds = bounds; log = log; so_far = come.so_far; alarm = come.told.alarm; exact = come.told.exact; fault = fault; reason = reason; said = refl })),
+    (refl, (come.told.appends, kept)),
   )
 
-  no_memory : (n : ℕ) (fault : LogFault) → IsMetBehind n fault → fault ≡ log_fault.Memory → GrowthRefused
-  no_memory n fault met is = absurd (subst (IsMetBehind n) is met)
-
   -- why it went no further
-  pub ended_early : (X : Type 0) (fault : WatchFault) (w : WorldState) → config.nodes ≡ options.limits.nodes → Follows options.stop read stdout.old stdout.new config {X = X} (Err fault) w
-      → stdout.failures_after ≡ write_failures {X = X} (Err fault) stdout.failures_before → (names : Names) → Watches names options read stdout (fate_of (Err (check_fault_by fault)))
-  ended_early X (watch_fault.Log fault) w nodes (before, same, on, front, (came, told, met, reads)) kept names =
-      cut_short before same came front told kept (Log fault) (inl (on, ((reads, no_memory (length before.log) fault met), met))) names
-  ended_early X (watch_fault.Replay (replay.Refused p r)) w nodes (before, same, on, front, (came, told, (e, next, is))) kept names =
-      let log = before.log ++ e ∷ [] in
-      let by_limit = subst (λ (n : ℕ). IsRefusedAt n before.config.nodes before.config.bounds log p r) (ap (λ (c : Config). c.events) same ∙ few) is in
-      cut_short before same came front told kept (Refused p r) (inl (on, (e, next, subst (λ (n : ℕ). IsRefusedAt limit n before.config.bounds log p r) (ap (λ (c : Config). c.nodes) same ∙ nodes) by_limit))) names
-  ended_early X (watch_fault.Replay (replay.WrongValue p)) w nodes (before, same, on, front, (came, told, (e, next, is))) kept names =
-      let log = before.log ++ e ∷ [] in
-      cut_short before same came front told kept (WrongValue p) (inl (on, (e, next, subst (λ (n : ℕ). IsWrongValueAt n before.config.bounds log p) (ap (λ (c : Config). c.events) same ∙ few) is))) names
-  ended_early X (watch_fault.Replay replay.Memory) w nodes (before, same, on, front, (came, told, (e, next, is))) kept names =
-      cut_short before same came front told kept Memory (inr (refl, is)) names
-  ended_early X watch_fault.Write w nodes (before, same, on, front, (e, fails)) kept names =
-      let alarm = fails.part in
-      let log = before.log ++ e ∷ [] in
-      inr (
-        refl,
-        record {
-          bounds = before.config.bounds;
-          log = log;
-          so_far = so_far (record before { log = log }) same fails.came fails.front;
-          ends = record { before = before.log; last = e; whole = refl; no_cycle = fails.no_cycle; cycle = HasCycle-from_closing log alarm.0.position alarm.1.closing };
-          alarm = alarm.0;
-          exact = alarm.1;
-          part = (alarm.2, kept);
-        },
-      )
+  pub ended_early : (X : Type 0) (fault : WatchFault) (bounds : Bounds) (HasSeen : List Event → Type 0) → Follows terms read stdout.old stdout.new {X = X} (Err fault) bounds HasSeen
+      → stdout.failures_after ≡ write_failures {X = X} (Err fault) stdout.failures_before → (names : Names) → Watches names terms read stdout (fate_of (Err (check_fault_by fault)))
+  ended_early X (watch_fault.Log fault) bounds HasSeen (before, log, on, (come, ends)) kept names = cut_short before log come kept (Log fault) (inl (on, ends)) names
+  ended_early X (watch_fault.Replay (replay.Refused p r)) bounds HasSeen (before, log, on, (come, ends)) kept names = cut_short before log come kept (Refused p r) (inl (on, ends)) names
+  ended_early X (watch_fault.Replay (replay.WrongValue p)) bounds HasSeen (before, log, on, (come, ends)) kept names = cut_short before log come kept (WrongValue p) (inl (on, ends)) names
+  ended_early X (watch_fault.Replay replay.Memory) bounds HasSeen (before, log, on, (come, refused)) kept names = cut_short before log come kept Memory (inr (refl, refused)) names
+  ended_early X watch_fault.Write bounds HasSeen (before, log, on, (e, breaks)) kept names = inr (
+    refl,
+    record {
+      bounds = before;
+      log = log ++ e ∷ [];
+      so_far = breaks.so_far;
+      ends = breaks.ends;
+      alarm = breaks.part.0;
+      exact = breaks.part.1;
+      part = (breaks.part.2, kept);
+    },
+  )
 
 -- there is no log at all
-pub unopened : (names : Names) (options : WatchOptions) (read : Option (List ℕ)) (stdout : Writing) (fault : WatchFault) → IsFaultOfOpening read fault → WritesNothing stdout → Watches names options read stdout (fate_of (Err (check_fault_by fault)))
-unopened names options read stdout (watch_fault.Log fault) (met, reads) nothing =
+pub unopened : (names : Names) (terms : Terms) (read : Option (List ℕ)) (stdout : Writing) (fault : WatchFault) → IsFaultOfOpening read fault → WritesNothing stdout → Watches names terms read stdout (fate_of (Err (check_fault_by fault)))
+unopened names terms read stdout (watch_fault.Log fault) (met, reads) nothing =
     inl (silent (Check (Log fault)), inr (inr (Log fault, ((reads, λ is. subst IsMetInHeader is met), met), refl)), (refl, nothing))
-unopened names options read stdout (watch_fault.Replay replay.Memory) growth nothing =
+unopened names terms read stdout (watch_fault.Replay replay.Memory) growth nothing =
     inl (silent (Check Memory), inr (inr (Memory, growth, refl)), (refl, nothing))
-unopened names options read stdout (watch_fault.Replay (replay.Refused p r)) is nothing = absurd is
-unopened names options read stdout (watch_fault.Replay (replay.WrongValue p)) is nothing = absurd is
-unopened names options read stdout watch_fault.Write is nothing = absurd is
+unopened names terms read stdout (watch_fault.Replay (replay.Refused p r)) is nothing = absurd is
+unopened names terms read stdout (watch_fault.Replay (replay.WrongValue p)) is nothing = absurd is
+unopened names terms read stdout watch_fault.Write is nothing = absurd is
 
--- the source's failures behind a fault
+-- the source's failures after a fault
 pub reads_told : (X : Type 0) (fault : WatchFault) (n : ℕ) → read_failures {X = X} (Err fault) n ≡ failures_told (fate_of (Err (check_fault_by fault))) n
 reads_told X (watch_fault.Log log_fault.Read) n = refl
 reads_told X (watch_fault.Log log_fault.BadHeader) n = refl
@@ -172,71 +180,71 @@ reads_told X (watch_fault.Replay (replay.WrongValue p)) n = refl
 reads_told X (watch_fault.Replay replay.Memory) n = refl
 reads_told X watch_fault.Write n = refl
 
--- ---- the report behind it
+-- ---- the report after it
 
--- what is shown behind the line of the alarm is the answer
-pub shown : (names : Names) (options : WatchOptions) (read : Option (List ℕ)) (w : WorldState) (before after all : Writing) (result : Result Verdict CheckFault)
-    → HasWatched options read before w → Shows names options.certificate w after result
-    → all.old ≡ before.old → before.new ≡ after.old → all.new ≡ after.new → all.failures_before ≡ before.failures_before → before.failures_after ≡ after.failures_before → all.failures_after ≡ after.failures_after
-    → Watches names options read all (fate_of result)
-shown names options read w before after all (Ok verdict) has shows o m n fb fm fa =
-    let told = told_text has.alarm in
-    let text = shows.1.0 in
-    inl (
-      printing (told ++ text) (Finished Done (is_alarm verdict)),
-      inl (record {
-        bounds = w.config.bounds;
-        log = w.log;
-        so_far = has.so_far;
-        read_to = has.read_to;
-        alarm = has.alarm;
-        exact = has.exact;
-        text = text;
-        output = shows.1.1;
-        verdict = verdict;
-        is_verdict = shows.0;
-        said = refl;
-      }),
-      (
-        refl,
+-- what is shown after the line of the alarm is the answer
+module _ (names : Names) (terms : Terms) (read : Option (List ℕ)) (bounds : Bounds) (HasSeen : List Event → Type 0) (before after all : Writing) where
+  pub shown : (result : Result Verdict CheckFault) (has : HasWatched terms read before bounds HasSeen) → ShowsLog names terms.certificate bounds.threads has.log after result
+      → all.old ≡ before.old → before.new ≡ after.old → all.new ≡ after.new → all.failures_before ≡ before.failures_before → before.failures_after ≡ after.failures_before → all.failures_after ≡ after.failures_after
+      → Watches names terms read all (fate_of result)
+  shown (Ok verdict) has shows o m n fb fm fa =
+      let told = told_text has.alarm in
+      let text = shows.1.0 in
+      inl (
+        printing (told ++ text) (Finished Done (is_alarm verdict)),
+        inl (record {
+          bounds = bounds;
+          log = has.log;
+          so_far = has.so_far;
+          read_to = has.read_to;
+          alarm = has.alarm;
+          exact = has.exact;
+          text = text;
+          output = shows.1.1;
+          verdict = verdict;
+          is_verdict = shows.0;
+          said = refl;
+        }),
         (
-          rw (o, n) (appends_then before.old before.new after.new told text has.told.0 (rw m shows.1.2.0)),
-          fa ∙ (shows.1.2.1 ∙ (sym fm ∙ (has.told.1 ∙ sym fb))),
+          refl,
+          (
+            rw (o, n) (appends_then before.old before.new after.new told text has.told.0 (rw m shows.1.2.0)),
+            fa ∙ (shows.1.2.1 ∙ (sym fm ∙ (has.told.1 ∙ sym fb))),
+          ),
         ),
-      ),
-    )
-shown names options read w before after all (Err Write) has shows o m n fb fm fa =
-    let told = told_text has.alarm in
-    let text = shows.1.0 in
-    inl (
-      printing (told ++ text) (Finished Done (is_alarm shows.0.0)),
-      inl (record {
-        bounds = w.config.bounds;
-        log = w.log;
-        so_far = has.so_far;
-        read_to = has.read_to;
-        alarm = has.alarm;
-        exact = has.exact;
-        text = text;
-        output = shows.1.1;
-        verdict = shows.0.0;
-        is_verdict = shows.0.1;
-        said = refl;
-      }),
-      (
-        rw (o, n) (beginning_then before.old before.new after.new told text [] (told ++ text) has.told.0 (rw m shows.1.2.0) (sym (append-nil (told ++ text)))),
-        fa ∙ (shows.1.2.1 ∙ ap with_failure (sym fm ∙ (has.told.1 ∙ sym fb))),
-      ),
-    )
-shown names options read w before after all (Err Memory) has shows o m n fb fm fa = inl (
-  printing (told_text has.alarm) (Check Memory),
-  inr (inl (record { bounds = w.config.bounds; log = w.log; so_far = has.so_far; alarm = has.alarm; exact = has.exact; fault = Memory; reason = inr (refl, shows.0); said = refl })),
-  (
-    refl,
+      )
+  shown (Err Write) has shows o m n fb fm fa =
+      let told = told_text has.alarm in
+      let text = shows.1.0 in
+      inl (
+        printing (told ++ text) (Finished Done (is_alarm shows.0.0)),
+        inl (record {
+          bounds = bounds;
+          log = has.log;
+          so_far = has.so_far;
+          read_to = has.read_to;
+          alarm = has.alarm;
+          exact = has.exact;
+          text = text;
+          output = shows.1.1;
+          verdict = shows.0.0;
+          is_verdict = shows.0.1;
+          said = refl;
+        }),
+        (
+          rw (o, n) (beginning_then before.old before.new after.new told text [] (told ++ text) has.told.0 (rw m shows.1.2.0) (sym (append-nil (told ++ text)))),
+          fa ∙ (shows.1.2.1 ∙ ap with_failure (sym fm ∙ (has.told.1 ∙ sym fb))),
+        ),
+      )
+  shown (Err Memory) has shows o m n fb fm fa = inl (
+    printing (told_text has.alarm) (Check Memory),
+    inr (inl (record { bounds = bounds; log = has.log; so_far = has.so_far; alarm = has.alarm; exact = has.exact; fault = Memory; reason = inr (refl, shows.0); said = refl })),
     (
-      rw (o, n ∙ (shows.1.0 ∙ sym m)) has.told.0,
-      fa ∙ (shows.1.1 ∙ (sym fm ∙ (has.told.1 ∙ sym fb))),
+      refl,
+      (
+        rw (o, n ∙ (shows.1.0 ∙ sym m)) has.told.0,
+        fa ∙ (shows.1.1 ∙ (sym fm ∙ (has.told.1 ∙ sym fb))),
+      ),
     ),
-  ),
-)
-shown names options read w before after all (Err fault) has shows o m n fb fm fa = absurd shows
+  )
+  shown (Err fault) has shows o m n fb fm fa = absurd shows

@@ -52,13 +52,16 @@ pub record IsWrongValue (limit : ℕ) (read : Option (List ℕ)) (p : ℕ) : Typ
   pub input : IsInput read bounds trace
   pub reason : IsWrongValueAt limit bounds trace p
 
--- Why there is no log: by its first wrong line, or because the source failed (both in `ReadsAs`;
--- that it failed is in `FailuresAsTold`), or because an allocation failed. If the bytes are not
--- known, only the last is claimed.
-abbrev pub IsFaultOfLogText : Option (List ℕ) → LogFault → Type 0
-IsFaultOfLogText read fault =
-    IfSome read (λ bytes. ReadsAs MAX_EVENTS bytes (Err fault))
+-- Why there is no log of so many events at most: by its first wrong line, or because the source failed
+-- (both in `ReadsAs`; that it failed is in `FailuresAsTold`), or because an allocation failed. If the
+-- bytes are not known, only the last is claimed.
+abbrev pub IsFaultOfTextUpTo : ℕ → Option (List ℕ) → LogFault → Type 0
+IsFaultOfTextUpTo longest read fault =
+    IfSome read (λ bytes. ReadsAs longest bytes (Err fault))
     × (fault ≡ log_fault.Memory → GrowthRefused)
+
+abbrev pub IsFaultOfLogText : Option (List ℕ) → LogFault → Type 0
+IsFaultOfLogText read fault = IsFaultOfTextUpTo MAX_EVENTS read fault
 
 abbrev pub IsFaultOfInput : ℕ → ℕ → Option (List ℕ) → CheckFault → Type 0
 IsFaultOfInput limit nodes read (Log fault) = IsFaultOfLogText read fault

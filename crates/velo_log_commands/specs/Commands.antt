@@ -14,6 +14,7 @@ use Rattle.velo_fate.specs.declared.fate.Fate.TheVariants.{CannotOpen}
 use Rattle.velo_request.specs.declared.request.AuditOptions.{AuditOptions}
 use Rattle.velo_request.specs.declared.request.CarryOptions.{CarryOptions}
 use Rattle.velo_request.specs.declared.request.CheckOptions.{CheckOptions}
+use Rattle.velo_request.specs.declared.request.EndlessOptions.{EndlessOptions}
 use Rattle.velo_request.specs.declared.request.ExplainOptions.{ExplainOptions}
 use Rattle.velo_request.specs.declared.request.PredictOptions.{PredictOptions}
 use Rattle.velo_request.specs.declared.request.ThinOptions.{ThinOptions}
@@ -26,6 +27,7 @@ use Rattle.velo_log_commands.specs.Check.{IsCheckAnswer}
 use Rattle.velo_fate.specs.Delivery.{Answer, IsDelivered}
 use Rattle.velo_fate.specs.Barred.{WritesNowhere, DoesNotRead, DoesNotReadApart}
 use Rattle.velo_delivery.specs.Disk.{IsWritten, Store}
+use Rattle.velo_log_commands.specs.Endless.{terms_of_endless}
 use Rattle.velo_log_commands.specs.Explaining.{IsExplanation}
 use Rattle.velo_log_commands.specs.Ignoring.{AsksInVain, IsAsked}
 use Rattle.velo_log_commands.specs.Listing.{AreLabelsOf, LacksLabels}
@@ -35,7 +37,7 @@ use Rattle.velo_fate.specs.Failures.{FailuresAsTold}
 use Rattle.velo_delivery.specs.Reading.{Reading}
 use Rattle.velo_log_commands.specs.Siting.{AreSitesOf, LacksSites}
 use Rattle.velo_log_commands.specs.Thinning.{ThinsInput, map_of}
-use Rattle.velo_log_commands.specs.Watching.{Watches}
+use Rattle.velo_log_commands.specs.Watching.{Terms, Watches, terms_of_watch}
 use Rattle.velo_delivery.specs.Writing.{Writing, WritesNothing}
 
 -- ---- what they share
@@ -144,27 +146,35 @@ DoesThin options store stdout f =
     × ThinsInput options read.bytes store stdout f)
 
 -- ---- velodrome watch LOG [--names FILE] [--stop] [--events N] [--nodes N] [--certificate]
+-- ---- velodrome watch --endless LOG [--names FILE] [--stop] [--events N] [--nodes N]
 
 -- LOG is read line by line, to its end, or with --stop up to the event that raises the alarm. The
 -- line of the alarm goes to standard output, by numbers, then the report by these names of the
 -- events that were read, and the certificate after it; or after the line of the alarm nothing, for
 -- a reason, which is the first in the order of the text (`Watching`). No file is opened to be
 -- written.
-abbrev pub WatchesLog : Names → WatchOptions → Store → Writing → Fate → Type 0
-WatchesLog shown options store stdout f =
-    DoesNotRead store Log options.input.now None stdout f
+abbrev pub WatchesLog : Names → Terms → Store → Writing → Fate → Type 0
+WatchesLog shown terms store stdout f =
+    DoesNotRead store Log terms.input None stdout f
     ⊎ ((read : Reading)
-    × store.disk.gives options.input.now read × FailuresAsTold read f
-    × Watches shown options read.bytes stdout f × store.is_kept)
+    × store.disk.gives terms.input read × FailuresAsTold read f
+    × Watches shown terms read.bytes stdout f × store.is_kept)
 
 -- where a file of names is given its report is by these names, and else by numbers
-abbrev pub WatchesBy : NameLists → WatchOptions → Store → Writing → Fate → Type 0
-WatchesBy names options store stdout f =
-    (shown : Names) × AreShown options.names names shown × WatchesLog shown options store stdout f
+abbrev pub WatchesBy : NameLists → Terms → Store → Writing → Fate → Type 0
+WatchesBy names terms store stdout f =
+    (shown : Names) × AreShown terms.names names shown × WatchesLog shown terms store stdout f
+
+abbrev pub DoesWatchBy : Terms → Store → Writing → Fate → Type 0
+DoesWatchBy terms store stdout f =
+    DoesByNames (λ names. WatchesBy names terms) terms.names store stdout f
 
 abbrev pub DoesWatch : WatchOptions → Store → Writing → Fate → Type 0
-DoesWatch options store stdout f =
-    DoesByNames (λ names. WatchesBy names options) options.names store stdout f
+DoesWatch options store stdout f = DoesWatchBy (terms_of_watch options) store stdout f
+
+-- a log of any length, of which no more events are kept than --events says (`Endless`)
+abbrev pub DoesWatchEndless : EndlessOptions → Store → Writing → Fate → Type 0
+DoesWatchEndless options store stdout f = DoesWatchBy (terms_of_endless options) store stdout f
 
 -- ---- velodrome audit LOG [--names FILE] [--not-atomic FILE] [--ignore-lock N].. [--ignore-variable N]..
 -- ---- [--no-witness] [--events N] [--nodes N]

@@ -2,6 +2,7 @@ pub mod Auditing
 pub mod Carrying
 pub mod Check
 pub mod Commands
+pub mod Endless
 pub mod Explaining
 pub mod Faults
 pub mod Ignoring

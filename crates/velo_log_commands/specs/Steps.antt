@@ -14,7 +14,7 @@ use Rattle.velo_fate.specs.declared.verdict.Verdict.{Verdict}
 use Rattle.velo_fate.specs.declared.fate.Fate.{Fate}
 use Rattle.velo_fate.specs.declared.fate.Fate.TheVariants.{CannotOpen, Memory, OtherSites}
 use Rattle.velo_log_commands.specs.Carrying.{Carries}
-use Rattle.velo_fate.specs.Verdict.{IsOutputOf, IsVerdict}
+use Rattle.velo_fate.specs.Verdict.{IsOutput, IsVerdict}
 use Rattle.velo_fate.specs.Delivery.{Answer, IsDelivered, IsPrinted, LacksMemory}
 use Rattle.velo_delivery.specs.Disk.{IsWritten, Store}
 use Rattle.velo_log_commands.specs.Explaining.{ExplainsVerdict, IsExplanation}
@@ -25,16 +25,22 @@ use Rattle.velo_delivery.specs.Writing.{BreaksOff, Writes, WritesNothing, Writin
 
 -- ---- a check
 
--- what a world shows by these names, and its verdict; or a growth was refused
+-- what a log of so many threads shows by these names, and its verdict; or a growth was refused
+abbrev pub ShowsLog : Names → Bool → ℕ → List Event → Writing → Result Verdict CheckFault → Type 0
+ShowsLog names certificate threads log stdout (Ok verdict) =
+    IsVerdict log verdict
+    × ((text : List ℕ) × IsOutput names certificate threads log text × Writes stdout text)
+ShowsLog names certificate threads log stdout (Err check_fault.Write) =
+    ((verdict : Verdict) × IsVerdict log verdict)
+    × ((text : List ℕ) × IsOutput names certificate threads log text × BreaksOff stdout text)
+ShowsLog names certificate threads log stdout (Err check_fault.Memory) =
+    GrowthRefused × WritesNothing stdout
+ShowsLog names certificate threads log stdout (Err fault) = ⊥
+
+-- what a world shows
 abbrev pub Shows : Names → Bool → WorldState → Writing → Result Verdict CheckFault → Type 0
-Shows names certificate w stdout (Ok verdict) =
-    IsVerdict w.log verdict
-    × ((text : List ℕ) × IsOutputOf names certificate w text × Writes stdout text)
-Shows names certificate w stdout (Err check_fault.Write) =
-    ((verdict : Verdict) × IsVerdict w.log verdict)
-    × ((text : List ℕ) × IsOutputOf names certificate w text × BreaksOff stdout text)
-Shows names certificate w stdout (Err check_fault.Memory) = GrowthRefused × WritesNothing stdout
-Shows names certificate w stdout (Err fault) = ⊥
+Shows names certificate w stdout result =
+    ShowsLog names certificate w.config.bounds.threads w.log stdout result
 
 -- ---- an explanation
 

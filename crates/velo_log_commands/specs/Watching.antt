@@ -1,33 +1,56 @@
 -- What a watch has to say, by the bytes of its input as they come.
-use Rattle.std.specs.Prelude.{◌≡◌, ℕ, ◌≤◌, ◌⊎◌, ◌∷◌, ◌++◌, [], Bool, true, List, length, Option, Result, Ok, Err}
+use Rattle.std.specs.Borrow.{Bor}
+use Rattle.std.specs.Prelude.{◌≡◌, ℕ, ◌≤◌, ◌⊎◌, ◌∷◌, ◌++◌, [], Bool, true, false, List, length, Option, Result, Ok, Err}
 use Rattle.velo_events.specs.declared.config.Bounds.{Bounds}
 use Rattle.velo_events.specs.declared.config.Config.{Config}
 use Rattle.velo_events.specs.declared.event.Event.{Event}
+use Rattle.velo_events.specs.declared.limits.TheConstants.{MAX_EVENTS}
 use Rattle.velo_events.specs.Graph.{HasCycle}
 use Rattle.velo_events.specs.Refusals.{GrowthRefused}
 use Rattle.velo_events.specs.WellFormed.{IsWellFormed}
 use Rattle.velo_logtext.specs.Reader.{IsMetBehind, IsMetInHeader}
+use Rattle.velo_logtext.specs.declared.fault.LogFault.{LogFault}
 use Rattle.velo_report.specs.Alarm.{alarm_line}
 use Rattle.velo_report.specs.declared.names.Names.{Names}
-use Rattle.velo_watch.specs.UnderWay.{CameAbout, FailsAfter}
+use Rattle.velo_watch.specs.UnderWay.{CanGoOn, TellsPart}
 use Rattle.velo_watch.specs.Watch.{IsFront, Tells, told_text}
 use Rattle.velo_watch.specs.declared.fault.WatchFault.{WatchFault}
 use Rattle.velo_watch.specs.declared.fault.WatchFault.TheVariants as watch_fault
+use Rattle.velo_watch.specs.declared.state.Watch.{Watch}
 use Rattle.velo_worker.specs.declared.ending.Ending.TheVariants.{Done}
 use Rattle.velo_world.specs.Faults.{IsRefusedAt, IsWrongValueAt}
-use Rattle.velo_world.specs.World.{AlarmOf, IsAlarm, WorldState}
+use Rattle.velo_world.specs.World.{AlarmOf, IsAlarm}
 use Rattle.velo_world.specs.declared.analysis.Alarm.{Alarm}
+use Rattle.velo_world.specs.declared.log_replay.LogReplayFault.{LogReplayFault}
+use Rattle.velo_world.specs.declared.log_replay.LogReplayFault.TheVariants as replay
 use Rattle.velo_fate.specs.declared.fault.CheckFault.{CheckFault}
 use Rattle.velo_fate.specs.declared.fault.CheckFault.TheVariants.{Log, Refused, WrongValue, Write, Memory}
 use Rattle.velo_fate.specs.declared.verdict.Verdict.{Verdict}
 use Rattle.velo_fate.specs.declared.fate.Fate.{Fate}
 use Rattle.velo_fate.specs.declared.fate.Fate.TheVariants.{Check, Finished, WriteFailed}
+use Rattle.velo_request.specs.declared.request.Limits.{Limits}
 use Rattle.velo_request.specs.declared.request.WatchOptions.{WatchOptions}
-use Rattle.velo_log_commands.specs.Check.{IsFaultOfLogText, IsInput}
+use Rattle.velo_log_commands.specs.Check.{IsFaultOfLogText, IsFaultOfTextUpTo, IsInput}
 use Rattle.velo_fate.specs.Verdict.{IsOutput, IsVerdict, is_alarm}
 use Rattle.velo_fate.specs.Delivery.{Answer, IsPrinted, printing, silent}
 use Rattle.velo_log_commands.specs.Faults.{check_fault_of}
 use Rattle.velo_delivery.specs.Writing.{BreaksOff, Writes, Writing}
+
+-- ---- what is asked of a watch, and what bounds it
+
+-- The path of the log, and that of the names of its report; whether its alarm ends the watch, and
+-- whether its certificate is asked for. The text has so many events at most, and so many happen at
+-- most. After so many events a fault of the text is met here; and after these events the next one
+-- cannot happen, for this reason.
+pub record Terms : Type 1 where
+  pub input : List ℕ
+  pub names : Option (Bor (List ℕ))
+  pub stop : Bool
+  pub certificate : Bool
+  pub longest : ℕ
+  pub most : ℕ
+  pub IsMet : ℕ → LogFault → Type 0
+  pub IsFaultAt : Bounds → List Event → Event → LogReplayFault → Type 0
 
 -- ---- the events so far
 
@@ -60,16 +83,16 @@ IsReadTo stop read bounds log =
 -- Why no event comes after these: the next line of the input is its first wrong one, or it could
 -- not be read; or the event there is refused, or reads a wrong value. What follows that line has no
 -- part in it.
-abbrev pub EndsBehind : ℕ → ℕ → Option (List ℕ) → Bounds → List Event → CheckFault → Type 0
-EndsBehind limit nodes read bounds log (Log fault) =
-    IsFaultOfLogText read fault × IsMetBehind (length log) fault
-EndsBehind limit nodes read bounds log (Refused p refusal) =
+abbrev pub EndsAfter : Terms → Option (List ℕ) → Bounds → List Event → CheckFault → Type 0
+EndsAfter terms read bounds log (Log fault) =
+    IsFaultOfTextUpTo terms.longest read fault × terms.IsMet (length log) fault
+EndsAfter terms read bounds log (Refused p refusal) =
     (e : Event) × IsFront read bounds (log ++ e ∷ [])
-    × IsRefusedAt limit nodes bounds (log ++ e ∷ []) p refusal
-EndsBehind limit nodes read bounds log (WrongValue p) =
+    × terms.IsFaultAt bounds log e (replay.Refused p refusal)
+EndsAfter terms read bounds log (WrongValue p) =
     (e : Event) × IsFront read bounds (log ++ e ∷ [])
-    × IsWrongValueAt limit bounds (log ++ e ∷ []) p
-EndsBehind limit nodes read bounds log _ = ⊥
+    × terms.IsFaultAt bounds log e (replay.WrongValue p)
+EndsAfter terms read bounds log _ = ⊥
 
 -- why there are no events at all
 abbrev pub IsFaultOfHeader : Option (List ℕ) → CheckFault → Type 0
@@ -81,32 +104,30 @@ IsFaultOfHeader read _ = ⊥
 
 -- the line of the alarm, if there is one, by numbers; then the report by these names of the events
 -- that were read, with its certificate if that is asked for; the fate has the verdict
-pub record IsWatched (names : Names) (options : WatchOptions) (read : Option (List ℕ))
-    (answer : Answer) : Type 0 where
+pub record IsWatched (names : Names) (terms : Terms) (read : Option (List ℕ)) (answer : Answer)
+    : Type 0 where
   pub bounds : Bounds
   pub log : List Event
-  pub so_far : IsSoFar options.limits.events read bounds log
-  pub read_to : IsReadTo options.stop read bounds log
+  pub so_far : IsSoFar terms.most read bounds log
+  pub read_to : IsReadTo terms.stop read bounds log
   pub alarm : Option Alarm
   pub exact : AlarmOf log alarm
   pub text : List ℕ
-  pub output : IsOutput names options.certificate bounds.threads log text
+  pub output : IsOutput names terms.certificate bounds.threads log text
   pub verdict : Verdict
   pub is_verdict : IsVerdict log verdict
   pub said : answer ≡ printing (told_text alarm ++ text) (Finished Done (is_alarm verdict))
 
 -- the line of the alarm of the events so far, if they have one, and no report: the input goes no
 -- further, for a reason, or a growth was refused
-pub record IsCutShort (options : WatchOptions) (read : Option (List ℕ)) (answer : Answer)
-    : Type 0 where
+pub record IsCutShort (terms : Terms) (read : Option (List ℕ)) (answer : Answer) : Type 0 where
   pub bounds : Bounds
   pub log : List Event
-  pub so_far : IsSoFar options.limits.events read bounds log
+  pub so_far : IsSoFar terms.most read bounds log
   pub alarm : Option Alarm
   pub exact : AlarmOf log alarm
   pub fault : CheckFault
-  pub reason : (GoesOn options.stop log
-      × EndsBehind options.limits.events options.limits.nodes read bounds log fault)
+  pub reason : (GoesOn terms.stop log × EndsAfter terms read bounds log fault)
       ⊎ ((fault ≡ Memory) × GrowthRefused)
   pub said : answer ≡ printing (told_text alarm) (Check fault)
 
@@ -116,47 +137,119 @@ IsUnopened read answer =
     (fault : CheckFault) × IsFaultOfHeader read fault × (answer ≡ silent (Check fault))
 
 -- What a watch has to say.
-abbrev pub IsWatchAnswer : Names → WatchOptions → Option (List ℕ) → Answer → Type 0
-IsWatchAnswer names options read answer =
-    IsWatched names options read answer ⊎ IsCutShort options read answer ⊎ IsUnopened read answer
+abbrev pub IsWatchAnswer : Names → Terms → Option (List ℕ) → Answer → Type 0
+IsWatchAnswer names terms read answer =
+    IsWatched names terms read answer ⊎ IsCutShort terms read answer ⊎ IsUnopened read answer
 
 -- the sink failed within the line of the alarm, which the last of the events so far raised
-pub record FailsAtAlarm (options : WatchOptions) (read : Option (List ℕ)) (stdout : Writing)
-    : Type 0 where
+pub record FailsAtAlarm (terms : Terms) (read : Option (List ℕ)) (stdout : Writing) : Type 0 where
   pub bounds : Bounds
   pub log : List Event
-  pub so_far : IsSoFar options.limits.events read bounds log
+  pub so_far : IsSoFar terms.most read bounds log
   pub ends : EndsAtAlarm log
   pub alarm : Alarm
   pub exact : IsAlarm log alarm
   pub part : BreaksOff stdout (alarm_line alarm)
 
 -- The fate of a watch: an answer to what was read was printed; or not even its first line was.
-abbrev pub Watches : Names → WatchOptions → Option (List ℕ) → Writing → Fate → Type 0
-Watches names options read stdout f =
-    ((answer : Answer) × IsWatchAnswer names options read answer × IsPrinted stdout answer f)
-    ⊎ ((f ≡ WriteFailed) × FailsAtAlarm options read stdout)
+abbrev pub Watches : Names → Terms → Option (List ℕ) → Writing → Fate → Type 0
+Watches names terms read stdout f =
+    ((answer : Answer) × IsWatchAnswer names terms read answer × IsPrinted stdout answer f)
+    ⊎ ((f ≡ WriteFailed) × FailsAtAlarm terms read stdout)
+
+-- ---- a log that is kept whole
+
+-- the limits of a configuration are those that were asked for
+pub record KeepsTo (limits : Limits) (config : Config) : Type 0 where
+  pub events : config.events ≡ limits.events
+  pub nodes : config.nodes ≡ limits.nodes
+
+-- the event is refused, or reads a wrong value, within these limits
+abbrev pub IsFaultWithin : Limits → Bounds → List Event → Event → LogReplayFault → Type 0
+IsFaultWithin limits bounds log e (replay.Refused p refusal) =
+    IsRefusedAt limits.events limits.nodes bounds (log ++ e ∷ []) p refusal
+IsFaultWithin limits bounds log e (replay.WrongValue p) =
+    IsWrongValueAt limits.events bounds (log ++ e ∷ []) p
+IsFaultWithin limits bounds log e replay.Memory = GrowthRefused
+
+abbrev pub terms_of_watch : WatchOptions → Terms
+terms_of_watch options =
+    record {
+      input = options.input.now;
+      names = options.names;
+      stop = options.stop;
+      certificate = options.certificate;
+      longest = MAX_EVENTS;
+      most = options.limits.events;
+      IsMet = IsMetBehind;
+      IsFaultAt = IsFaultWithin options.limits;
+    }
 
 -- ---- how far each step has come: words of the contracts within the crate
 
--- the events of the world were read, and the line of their alarm went out
-pub record HasWatched (options : WatchOptions) (read : Option (List ℕ)) (stdout : Writing)
-    (w : WorldState) : Type 0 where
-  pub so_far : IsSoFar options.limits.events read w.config.bounds w.log
-  pub read_to : IsReadTo options.stop read w.config.bounds w.log
-  pub alarm : Option Alarm
-  pub exact : AlarmOf w.log alarm
-  pub told : Writes stdout (told_text alarm)
+-- these events of the input happened, and the line of their alarm went out, if they have one
+pub record HasCome (terms : Terms) (read old new : Option (List ℕ)) (bounds : Bounds)
+    (log : List Event) : Type 0 where
+  pub so_far : IsSoFar terms.most read bounds log
+  pub told : Tells old new log
 
--- the world with the events that were read, or the one after which the watch failed
-abbrev pub Follows : Bool → Option (List ℕ) → Option (List ℕ) → Option (List ℕ) → Config
-    → {X : Type 0} → Result X WatchFault → WorldState → Type 0
-Follows stop read old new config (Ok x) w =
-    (w.config ≡ config) × CameAbout w × Tells old new w.log
-    × IsFront read w.config.bounds w.log × IsReadTo stop read w.config.bounds w.log
-Follows stop read old new config (Err fault) w =
-    (before : WorldState) × (before.config ≡ config) × GoesOn stop before.log
-    × IsFront read before.config.bounds before.log × FailsAfter read old new before fault
+-- the line of the alarm broke off, which the last of these events raised
+pub record BreaksAtAlarm (terms : Terms) (read old new : Option (List ℕ)) (bounds : Bounds)
+    (log : List Event) : Type 0 where
+  pub so_far : IsSoFar terms.most read bounds log
+  pub ends : EndsAtAlarm log
+  pub part : TellsPart old new log
+
+-- why no event comes after these, whose alarm is told
+abbrev pub FailsAfter : Terms → Option (List ℕ) → Option (List ℕ) → Option (List ℕ) → Bounds
+    → List Event → WatchFault → Type 0
+FailsAfter terms read old new bounds log (watch_fault.Log fault) =
+    HasCome terms read old new bounds log × EndsAfter terms read bounds log (Log fault)
+FailsAfter terms read old new bounds log (watch_fault.Replay replay.Memory) =
+    HasCome terms read old new bounds log × GrowthRefused
+FailsAfter terms read old new bounds log (watch_fault.Replay fault) =
+    HasCome terms read old new bounds log
+    × EndsAfter terms read bounds log (check_fault_of fault)
+FailsAfter terms read old new bounds log watch_fault.Write =
+    (e : Event) × BreaksAtAlarm terms read old new bounds (log ++ e ∷ [])
+
+-- one event more happened; or the input is at its end, and is these events; or neither
+abbrev pub StepsOn : Terms → Option (List ℕ) → Option (List ℕ) → Option (List ℕ) → Bounds
+    → List Event → Result Bool WatchFault → Bounds → (List Event → Type 0) → (List Event → Type 0)
+    → Type 0
+StepsOn terms read old new bounds log (Ok true) bounds' HasSeen IsAt =
+    (e : Event) × HasCome terms read old new bounds' (log ++ e ∷ []) × HasSeen (log ++ e ∷ [])
+    × IsAt (log ++ e ∷ [])
+StepsOn terms read old new bounds log (Ok false) bounds' HasSeen IsAt =
+    HasCome terms read old new bounds' log × HasSeen log × IsInput read bounds' log
+StepsOn terms read old new bounds log (Err fault) bounds' HasSeen IsAt =
+    FailsAfter terms read old new bounds log fault
+
+-- the events that were read; or those after which the watch failed
+abbrev pub Follows : Terms → Option (List ℕ) → Option (List ℕ) → Option (List ℕ) → {X : Type 0}
+    → Result X WatchFault → Bounds → (List Event → Type 0) → Type 0
+Follows terms read old new (Ok x) bounds HasSeen =
+    (log : List Event) × HasCome terms read old new bounds log
+    × IsReadTo terms.stop read bounds log × HasSeen log
+Follows terms read old new (Err fault) bounds HasSeen =
+    (before : Bounds) × (log : List Event) × GoesOn terms.stop log
+    × FailsAfter terms read old new before log fault
+
+-- a watch within the limits can go on
+pub record CanWatch (options : WatchOptions) (watch : Watch) : Type 0 where
+  pub goes_on : CanGoOn watch
+  pub limits : KeepsTo options.limits watch.world.config
+
+-- these events were read, and the line of their alarm went out
+pub record HasWatched (terms : Terms) (read : Option (List ℕ)) (stdout : Writing)
+    (bounds : Bounds) (HasSeen : List Event → Type 0) : Type 0 where
+  pub log : List Event
+  pub so_far : IsSoFar terms.most read bounds log
+  pub read_to : IsReadTo terms.stop read bounds log
+  pub alarm : Option Alarm
+  pub exact : AlarmOf log alarm
+  pub told : Writes stdout (told_text alarm)
+  pub seen : HasSeen log
 
 -- the fault of a check where a watch ends early
 abbrev pub check_fault_by : WatchFault → CheckFault

@@ -1,24 +1,113 @@
 //! `velodrome watch`: a log that is checked as it comes.
-ghost use Rattle.std.specs.Prelude.{◌≡◌, List, ℕ, Option, Err, IfOk, IfErr, OnOk, false};
-ghost use Rattle.velo_watch.specs.UnderWay.{CanGoOn, IsUnderWay, read_failures, write_failures};
+ghost use Rattle.std.specs.Prelude.{◌≡◌, ◌<◌, ◌↔◌, ◌-◌, List, ℕ, Bool, Option, Err, IfOk, IfErr, IsTrue, OnOk, true, [], length};
 ghost use Rattle.velo_delivery.specs.Disk.{store};
+ghost use Rattle.velo_delivery.specs.Writing.{writing};
+ghost use Rattle.velo_events.specs.declared.config.Bounds.{Bounds as BoundsOf};
+ghost use Rattle.velo_events.specs.declared.event.Event.{Event as EventOf};
+ghost use Rattle.velo_events.specs.Graph.{HasCycle};
+ghost use Rattle.velo_fate.specs.Failures.{failures_told};
 ghost use Rattle.velo_log_commands.specs.Check.{fate_of};
 ghost use Rattle.velo_log_commands.specs.Commands.{DoesWatch, WatchesBy, WatchesLog};
-ghost use Rattle.velo_fate.specs.Failures.{failures_told};
+ghost use Rattle.velo_log_commands.specs.Steps.{ShowsLog};
+ghost use Rattle.velo_log_commands.specs.Watching.{check_fault_by, CanWatch, Follows, HasWatched, StepsOn, Terms, Watches, terms_of_watch};
 ghost use Rattle.velo_report.specs.declared.names.Names.{Names as Shown};
-ghost use Rattle.velo_log_commands.specs.Watching.{check_fault_by, Follows, HasWatched, Watches};
-ghost use Rattle.velo_delivery.specs.Writing.{writing};
+ghost use Rattle.velo_watch.specs.UnderWay.{IsFaultOfOpening, IsUnderWay, read_failures, write_failures};
 
 use crate::check::{fate_of, fault_of, finish};
 use crate::naming::{ByNames, do_by_names, shown_by};
 use std::alloc::Global;
 use velo_bytes::{Sink, Source};
 use velo_delivery::{Files, Operand};
-use velo_fate::{CheckFault, Fate, open_input};
+use velo_fate::{CheckFault, Fate, Verdict, open_input};
 use velo_report::Names;
 use velo_request::WatchOptions;
 use velo_watch::{Watch, WatchFault};
-use velo_world::Closed;
+
+/// A watch that was asked for.
+pub trait AskedWatch {
+    /// Where it stands in a log.
+    type State: Drop;
+
+    /// What was asked for, and what bounds it.
+    ghost terms: { Self → Terms };
+
+    /// The bounds that the log's header says.
+    ghost bounds: { Self.State → BoundsOf };
+
+    /// These events happened.
+    ghost has_seen: { Self.State → List EventOf → Type 0 };
+
+    /// They were read from the input, so much of it remains, and the output grew by what is told of them.
+    ghost is_at: { Self.State → Option (List ℕ) → Option (List ℕ) → Option (List ℕ) → Option (List ℕ) → List EventOf → Type 0 };
+
+    /// It may go on.
+    ghost can_go_on: { Self → Self.State → Type 0 };
+
+    /// So many events may still come at most.
+    ghost left: { Self.State → ℕ };
+
+    /// The path of the log, or `-`.
+    fn input(&self) -> &str
+        ensures { result.now ≡ (terms self.now).input };
+
+    /// Whether the event that closes the first cycle ends it.
+    fn stops(&self) -> bool
+        ensures { result ≡ (terms self.now).stop };
+
+    /// Reads the header of a log.
+    ///
+    /// # Errors
+    /// `Log` where the header is wrong or could not be read; `Replay` with `Memory` where a growth was
+    /// refused.
+    fn open<I: Source>(&self, alloc: Global, log: &mut I) -> Result<Self::State, WatchFault>
+        ensures at_start { IfOk result (λ watch. (contents : Option (List ℕ)) →
+            is_at watch (I.remaining log.old) (I.remaining log.new) contents contents []) }
+        ensures goes_on { IfOk result (can_go_on self.now) }
+        ensures fault { IfErr result (IsFaultOfOpening (I.remaining log.old)) }
+        ensures reads { I.failures log.new ≡ read_failures result (I.failures log.old) };
+
+    /// Lets the next event of the log happen, and prints its alarm if it raises the first one.
+    /// Without a next event the answer is false.
+    ///
+    /// # Errors
+    /// `Log` for the first wrong line, or where the source failed; `Replay` where the next event cannot
+    /// happen; `Write` where the sink failed.
+    fn step<I: Source, O: Sink>(
+        &self,
+        alloc: Global,
+        watch: &mut Self::State,
+        log: &mut I,
+        out: &mut O,
+    ) -> Result<bool, WatchFault>
+        requires { can_go_on self.now watch.old }
+        ensures goes_on { OnOk result (can_go_on self.now watch.new) }
+        ensures steps { (read old : Option (List ℕ)) (events : List EventOf)
+            → is_at watch.old read (I.remaining log.old) old (O.contents out.old) events
+            → StepsOn (terms self.now) read old (O.contents out.new) (bounds watch.old) events result
+            (bounds watch.new) (has_seen watch.new)
+            (is_at watch.new read (I.remaining log.new) old (O.contents out.new)) }
+        ensures ends { IfOk result (λ more. more ≡ true → left watch.new < left watch.old) }
+        ensures reads { I.failures log.new ≡ read_failures result (I.failures log.old) }
+        ensures writes { O.failures out.new ≡ write_failures result (O.failures out.old) };
+
+    /// Whether its events raised an alarm.
+    fn has_told(&self, watch: &Self::State) -> bool
+        ensures { (events : List EventOf) → has_seen watch.now events
+            → IsTrue result ↔ HasCycle events };
+
+    /// Writes what its events show by the names, and returns their verdict.
+    fn show<O: Sink>(
+        &self,
+        alloc: Global,
+        watch: Self::State,
+        names: &Names,
+        out: &mut O,
+    ) -> Result<Verdict, CheckFault>
+        requires { can_go_on self.now watch }
+        ensures { (events : List EventOf) → has_seen watch events
+            → ShowsLog names.now (terms self.now).certificate (bounds watch).threads events
+            (writing O.contents O.failures out.old out.new) result };
+}
 
 /// The same fault of a check.
 fn fault_of_watch(fault: WatchFault) -> CheckFault
@@ -33,51 +122,54 @@ fn fault_of_watch(fault: WatchFault) -> CheckFault
 
 /// Lets the events of a log happen, up to its end, or if that is asked for up to the event that
 /// closes the first cycle. This is printed as soon as it has happened.
-fn follow<I: Source, O: Sink>(
-    watch: &mut Watch,
-    stop: bool,
+fn follow<A: AskedWatch, I: Source, O: Sink>(
+    alloc: Global,
+    asked: &A,
+    watch: &mut A::State,
     log: &mut I,
     out: &mut O,
 ) -> Result<(), WatchFault>
-    requires goes_on { CanGoOn watch.old }
-    requires untold { watch.old.told ≡ false }
-    ensures goes_on { CanGoOn watch.new }
-    ensures follows { (read old : Option (List ℕ)) →
-        IsUnderWay read (I.remaining log.old) old (O.contents out.old) watch.old
-        → Follows stop read old (O.contents out.new) watch.old.world.config result watch.new.world }
+    requires { A.can_go_on asked.now watch.old }
+    ensures goes_on { OnOk result (A.can_go_on asked.now watch.new) }
+    ensures follows { (read old : Option (List ℕ))
+        → A.is_at watch.old read (I.remaining log.old) old (O.contents out.old) []
+        → Follows (A.terms asked.now) read old (O.contents out.new) result (A.bounds watch.new)
+        (A.has_seen watch.new) }
     ensures reads { I.failures log.new ≡ read_failures result (I.failures log.old) }
     ensures writes { O.failures out.new ≡ write_failures result (O.failures out.old) }
 {
-    while watch.step(log, out)? {
-        if stop && watch.has_told() {
+    while asked.step(alloc, watch, log, out)? {
+        if asked.stops() && asked.has_told(watch) {
             return Ok(());
         }
     }
     Ok(())
 }
 
-/// The world of the events that were read, after its end; the line of their alarm, if they have
-/// one, was written.
-fn watch_input<I: Source, O: Sink>(
+/// The watch after the events that were read; the line of their alarm, if they have one, was
+/// written.
+fn watch_input<A: AskedWatch, I: Source, O: Sink>(
     alloc: Global,
-    options: &WatchOptions,
+    asked: &A,
     log: &mut I,
     out: &mut O,
-) -> Result<Closed, CheckFault>
-    ensures ok { IfOk result (HasWatched options.now (I.remaining log.old)
-        (writing O.contents O.failures out.old out.new)) }
-    ensures err { (shown : Shown) → IfErr result (λ fault. Watches shown options.now (I.remaining log.old)
-        (writing O.contents O.failures out.old out.new) (fate_of (Err fault))) }
+) -> Result<A::State, CheckFault>
+    ensures goes_on { IfOk result (A.can_go_on asked.now) }
+    ensures ok { IfOk result (λ watch. HasWatched (A.terms asked.now) (I.remaining log.old)
+        (writing O.contents O.failures out.old out.new) (A.bounds watch) (A.has_seen watch)) }
+    ensures err { (shown : Shown) → IfErr result (λ fault. Watches shown (A.terms asked.now)
+        (I.remaining log.old) (writing O.contents O.failures out.old out.new)
+        (fate_of (Err fault))) }
     ensures read { OnOk result (I.failures log.new ≡ I.failures log.old) }
     ensures failure { IfErr result (λ fault. I.failures log.new
         ≡ failures_told (fate_of (Err fault)) (I.failures log.old)) }
 {
-    let mut watch = match Watch::open(alloc, log, options.limits.events, options.limits.nodes) {
+    let mut watch = match asked.open(alloc, log) {
         Ok(watch) => watch,
         Err(fault) => return Err(fault_of_watch(fault)),
     };
-    match follow(&mut watch, options.stop, log, out) {
-        Ok(()) => Ok(watch.close()),
+    match follow(alloc, asked, &mut watch, log, out) {
+        Ok(()) => Ok(watch),
         Err(fault) => {
             drop(watch);
             Err(fault_of_watch(fault))
@@ -85,45 +177,97 @@ fn watch_input<I: Source, O: Sink>(
     }
 }
 
-/// Watches a log: its alarm is printed at once, and its report by the names at the end, with its
-/// certificate if that was asked for.
-fn watch_log<I: Source, O: Sink>(
+/// Watches a log: its alarm is printed at once, and what its events show by the names at the end.
+fn watch_log<A: AskedWatch, I: Source, O: Sink>(
     alloc: Global,
-    options: &WatchOptions,
+    asked: &A,
     names: &Names,
     log: &mut I,
     out: &mut O,
 ) -> Fate
-    ensures told { Watches names.now options.now (I.remaining log.old)
+    ensures told { Watches names.now (A.terms asked.now) (I.remaining log.old)
         (writing O.contents O.failures out.old out.new) result }
     ensures failures { I.failures log.new ≡ failures_told result (I.failures log.old) }
 {
-    let answer = match watch_input(alloc, options, log, out) {
-        Ok(closed) => finish(alloc, closed, names, options.certificate, out),
+    let answer = match watch_input(alloc, asked, log, out) {
+        Ok(watch) => asked.show(alloc, watch, names, out),
         Err(fault) => Err(fault),
     };
     fate_of(answer)
 }
 
 /// Watches the log that was asked for, and reports it by the names.
-fn watch_named<F: Files, O: Sink>(
+pub fn watch_named<A: AskedWatch, F: Files, O: Sink>(
     alloc: Global,
-    options: &WatchOptions,
+    asked: &A,
     names: &Names,
     files: &F,
     out: &mut O,
 ) -> Fate
-    ensures { WatchesLog names.now options.now (store F.disk files.now files.now)
+    ensures { WatchesLog names.now (A.terms asked.now) (store F.disk files.now files.now)
         (writing O.contents O.failures out.old out.new) result }
 {
-    match open_input(files, Operand::Log, options.input, None) {
-        Ok(mut log) => watch_log(alloc, options, names, &mut log, out),
+    match open_input(files, Operand::Log, asked.input(), None) {
+        Ok(mut log) => watch_log(alloc, asked, names, &mut log, out),
         Err(fate) => fate,
     }
 }
 
+impl AskedWatch for WatchOptions<'_> {
+    type State = Watch;
+
+    ghost terms = { terms_of_watch };
+
+    ghost bounds = { λ watch. watch.world.config.bounds };
+
+    ghost has_seen = { λ watch events. (watch.world.log ≡ events) × (IsTrue watch.told ↔ HasCycle watch.world.log) };
+
+    ghost is_at = { λ watch read remaining old new events. (watch.world.log ≡ events)
+        × IsUnderWay read remaining old new watch };
+
+    ghost can_go_on = { CanWatch };
+
+    ghost left = { λ watch. watch.world.config.events - length watch.world.log };
+
+    fn input(&self) -> &str {
+        self.input
+    }
+
+    fn stops(&self) -> bool {
+        self.stop
+    }
+
+    fn open<I: Source>(&self, alloc: Global, log: &mut I) -> Result<Watch, WatchFault> {
+        Watch::open(alloc, log, self.limits.events, self.limits.nodes)
+    }
+
+    fn step<I: Source, O: Sink>(
+        &self,
+        _alloc: Global,
+        watch: &mut Watch,
+        log: &mut I,
+        out: &mut O,
+    ) -> Result<bool, WatchFault> {
+        watch.step(log, out)
+    }
+
+    fn has_told(&self, watch: &Watch) -> bool {
+        watch.has_told()
+    }
+
+    fn show<O: Sink>(
+        &self,
+        alloc: Global,
+        watch: Watch,
+        names: &Names,
+        out: &mut O,
+    ) -> Result<Verdict, CheckFault> {
+        finish(alloc, watch.close(), names, self.certificate, out)
+    }
+}
+
 impl ByNames for WatchOptions<'_> {
-    ghost does = { λ options names. WatchesBy names options };
+    ghost does = { λ options names. WatchesBy names (terms_of_watch options) };
 
     fn do_by<F: Files, O: Sink>(
         &self,

@@ -27,7 +27,7 @@ use Rattle.velo_delivery.specs.declared.failure.Operand.TheVariants.{File, Log}
 use Rattle.velo_request.specs.declared.request.PredictOptions.{PredictOptions}
 use Rattle.velo_request.specs.declared.request.RunOptions.{RunOptions}
 use Rattle.velo_request.specs.declared.request.Request.{Request}
-use Rattle.velo_request.specs.declared.request.WatchOptions.{WatchOptions}
+use Rattle.velo_request.specs.declared.request.Limits.{Limits}
 use Rattle.velo_request.specs.declared.request.Request.TheVariants as request
 use Rattle.velo_request.specs.declared.request.ScheduleSource.{ScheduleSource}
 use Rattle.velo_request.specs.declared.request.ScheduleSource.TheVariants as source
@@ -62,7 +62,10 @@ use Rattle.velo_program.specs.Program.{Does}
 use Rattle.velo_workload_commands.specs.Commands.{DoesPlay}
 use Rattle.velo_turns.specs.Schedule.{IsFaultOfSchedule, IsFaultOfTurns}
 use Rattle.velo_workload_commands.specs.Scheduling.{HaveFaultOfSchedule, LacksSchedule, turns_file}
-use Rattle.velo_log_commands.specs.Watching.{EndsBehind, IsFaultOfHeader, IsWatchAnswer, Watches}
+use Rattle.velo_log_commands.specs.Watching.{EndsAfter, IsFaultOfHeader, IsFaultWithin, IsWatchAnswer, Terms, Watches, terms_of_watch}
+use Rattle.velo_log_commands.specs.Endless.{IsFaultOfWhole, terms_of_endless}
+use Rattle.velo_log_commands.specs.Commands.{DoesWatchBy}
+use Rattle.velo_world.specs.declared.log_replay.LogReplayFault.TheVariants as replay
 use Rattle.velo_delivery.specs.Writing.{Writing}
 use Rattle.velo_log_commands.specs.Thinning.{map_of}
 use Rattle.velo_workload_commands.proofs.OnFindings.{caused}
@@ -303,12 +306,18 @@ played needs play options store stdout f so (inr h) =
     of_in_turn needs store options.target options.names_target h.2 stdout h.1 f (of_play needs play options h.0.bytes h.1 h.2 so h.5) h.6
 
 -- of a log that was watched
-of_end_behind : (limit nodes : ℕ) (read : Option (List ℕ)) (bounds : Bounds) (log : List Event) (f : CheckFault) → EndsBehind limit nodes read bounds log f → CheckByGrowth f
-of_end_behind limit nodes read bounds log (check_fault.Log f) is = of_log f is.0.1
-of_end_behind limit nodes read bounds log (check_fault.Refused p r) is = of_refused limit nodes bounds _ p r is.2
-of_end_behind limit nodes read bounds log (check_fault.WrongValue p) is = tt
-of_end_behind limit nodes read bounds log check_fault.Write is = absurd is
-of_end_behind limit nodes read bounds log check_fault.Memory is = absurd is
+abbrev RefusesByGrowth : Terms → Type 0
+RefusesByGrowth terms = (bounds : Bounds) (log : List Event) (e : Event) (p : ℕ) (r : Refusal) → terms.IsFaultAt bounds log e (replay.Refused p r) → RefusedByGrowth r
+
+of_fault_within : (limits : Limits) → (bounds : Bounds) (log : List Event) (e : Event) (p : ℕ) (r : Refusal) → IsFaultWithin limits bounds log e (replay.Refused p r) → RefusedByGrowth r
+of_fault_within limits bounds log e p r is = of_refused limits.events limits.nodes bounds _ p r is
+
+of_fault_of_whole : (limits : Limits) → (bounds : Bounds) (log : List Event) (e : Event) (p : ℕ) (r : Refusal) → IsFaultOfWhole limits bounds log e (replay.Refused p r) → RefusedByGrowth r
+of_fault_of_whole limits bounds log e p r (config, same, keeps, (there, why)) =
+    ⊎_elim
+    (λ flawed. of_flaw config.bounds log e r flawed)
+    (λ full. ⊎_elim (λ h. rw h.0 tt) (λ h. rw h.0 tt) full.1.1)
+    why
 
 of_header : (read : Option (List ℕ)) (f : CheckFault) → IsFaultOfHeader read f → CheckByGrowth f
 of_header read (check_fault.Log f) is = of_log f is.0.1
@@ -317,15 +326,28 @@ of_header read (check_fault.Refused p r) is = absurd is
 of_header read (check_fault.WrongValue p) is = absurd is
 of_header read check_fault.Write is = absurd is
 
-of_watch_answer : (names : Names) (options : WatchOptions) (read : Option (List ℕ)) (answer : Answer) → IsWatchAnswer names options read answer → ComesByRefusal Growths answer.fate
-of_watch_answer names options read answer (inl w) = said Growths answer _ w.said tt
-of_watch_answer names options read answer (inr (inl c)) =
-    said Growths answer _ c.said (⊎_elim (λ h. of_end_behind _ _ read c.bounds c.log c.fault h.1) (λ h. subst CheckByGrowth (sym h.0) h.1) c.reason)
-of_watch_answer names options read answer (inr (inr u)) = said Growths answer (silent (fate.Check u.0)) u.2 (of_header read u.0 u.1)
+module _ (terms : Terms) (so : RefusesByGrowth terms) where
+  of_end_after : (read : Option (List ℕ)) (bounds : Bounds) (log : List Event) (f : CheckFault) → EndsAfter terms read bounds log f → CheckByGrowth f
+  of_end_after read bounds log (check_fault.Log f) is = of_log f is.0.1
+  of_end_after read bounds log (check_fault.Refused p r) is = so bounds log is.0 p r is.2
+  of_end_after read bounds log (check_fault.WrongValue p) is = tt
+  of_end_after read bounds log check_fault.Write is = absurd is
+  of_end_after read bounds log check_fault.Memory is = absurd is
 
-of_watch : (names : Names) (options : WatchOptions) (read : Option (List ℕ)) (out : Writing) (f : Fate) → Watches names options read out f → ComesByRefusal Growths f
-of_watch names options read out f (inl h) = of_printed Growths out h.0 f (of_watch_answer names options read h.0 h.1) h.2
-of_watch names options read out f (inr h) = subst (ComesByRefusal Growths) (sym h.0) tt
+  of_watch_answer : (names : Names) (read : Option (List ℕ)) (answer : Answer) → IsWatchAnswer names terms read answer → ComesByRefusal Growths answer.fate
+  of_watch_answer names read answer (inl w) = said Growths answer _ w.said tt
+  of_watch_answer names read answer (inr (inl c)) =
+      said Growths answer _ c.said (⊎_elim (λ h. of_end_after read c.bounds c.log c.fault h.1) (λ h. subst CheckByGrowth (sym h.0) h.1) c.reason)
+  of_watch_answer names read answer (inr (inr u)) = said Growths answer (silent (fate.Check u.0)) u.2 (of_header read u.0 u.1)
+
+  of_watch : (names : Names) (read : Option (List ℕ)) (out : Writing) (f : Fate) → Watches names terms read out f → ComesByRefusal Growths f
+  of_watch names read out f (inl h) = of_printed Growths out h.0 f (of_watch_answer names read h.0 h.1) h.2
+  of_watch names read out f (inr h) = subst (ComesByRefusal Growths) (sym h.0) tt
+
+  of_watch_by : (store : Store) (stdout : Writing) (f : Fate) → DoesWatchBy terms store stdout f → ComesByRefusal Growths f
+  of_watch_by store stdout f (inl h) = unnamed Growths store.disk terms.names f h.0
+  of_watch_by store stdout f (inr (names, read, (shown, are, inl h))) = unread Growths store.disk Log terms.input None f h.0
+  of_watch_by store stdout f (inr (names, read, (shown, are, inr h))) = of_watch shown h.0.bytes stdout f h.3
 
 pub of_done : (store : Store) (asked : Request) (stdout : Writing) (f : Fate) → Does store asked stdout f → AnswersWithCause asked f
 unfolding Does
@@ -347,9 +369,8 @@ of_done store (request.Replay options) stdout f (inr h) = played Growths (ByTurn
 of_done store (request.Explore options) stdout f (inl h) = unplayed Growths store.disk options.input.now options.target options.names_target f h.0
 of_done store (request.Explore options) stdout f (inr h) =
     of_in_turn Growths store options.target options.names_target h.2 stdout h.1 f (of_exploration options h.0.bytes h.1 h.2 h.5) h.6
-of_done store (request.Watch options) stdout f (inl h) = unnamed Growths store.disk options.names f h.0
-of_done store (request.Watch options) stdout f (inr (names, read, (shown, are, inl h))) = unread Growths store.disk Log options.input.now None f h.0
-of_done store (request.Watch options) stdout f (inr (names, read, (shown, are, inr h))) = of_watch shown options h.0.bytes stdout f h.3
+of_done store (request.Watch options) stdout f h = of_watch_by (terms_of_watch options) (of_fault_within options.limits) store stdout f h
+of_done store (request.WatchEndless options) stdout f h = of_watch_by (terms_of_endless options) (of_fault_of_whole options.limits) store stdout f h
 of_done store (request.Audit options) stdout f (inl h) = unnamed Growths store.disk options.names f h.0
 of_done store (request.Audit options) stdout f (inr (names, read, h)) = of_asked (λ asked. AuditsLog names asked options) names (audit_words options) store stdout f (of_audited names options store stdout f) h
 of_done store (request.Predict options) stdout f (inl h) = unnamed Growths store.disk options.names f h.0

@@ -7,9 +7,9 @@
 use Rattle.velo_delivery.specs.Disk.{Store}
 use Rattle.velo_delivery.specs.Writing.{Writing}
 use Rattle.velo_fate.specs.declared.fate.Fate.{Fate}
-use Rattle.velo_log_commands.specs.Commands.{DoesAudit, DoesCarry, DoesCheck, DoesExplain, DoesPredict, DoesThin, DoesWatch}
+use Rattle.velo_log_commands.specs.Commands.{DoesAudit, DoesCarry, DoesCheck, DoesExplain, DoesPredict, DoesThin, DoesWatch, DoesWatchEndless}
 use Rattle.velo_request.specs.declared.request.Request.{Request}
-use Rattle.velo_request.specs.declared.request.Request.TheVariants.{Audit, Carry, Check, Explain, Explore, Predict, Replay, Run, Thin, Watch}
+use Rattle.velo_request.specs.declared.request.Request.TheVariants.{Audit, Carry, Check, Explain, Explore, Predict, Replay, Run, Thin, Watch, WatchEndless}
 use Rattle.velo_workload_commands.specs.Commands.{DoesExplore, DoesReplay, DoesRun}
 
 -- What was asked for was done. (Callers take it as a word: only what is proved of it here opens it.)
@@ -18,6 +18,7 @@ Does store (Check options) stdout f = DoesCheck options store stdout f
 Does store (Explain options) stdout f = DoesExplain options store stdout f
 Does store (Carry options) stdout f = DoesCarry options store stdout f
 Does store (Watch options) stdout f = DoesWatch options store stdout f
+Does store (WatchEndless options) stdout f = DoesWatchEndless options store stdout f
 Does store (Audit options) stdout f = DoesAudit options store stdout f
 Does store (Predict options) stdout f = DoesPredict options store stdout f
 Does store (Thin options) stdout f = DoesThin options store stdout f

@@ -11,7 +11,8 @@ use velo_bytes::Sink;
 use velo_delivery::Files;
 use velo_fate::Fate;
 use velo_log_commands::{
-    audit_file, carry_file, check_file, explain_file, predict_file, thin_file, watch_file,
+    audit_file, carry_file, check_file, explain_file, predict_file, thin_file, watch_endless_file,
+    watch_file,
 };
 use velo_request::Request;
 use velo_workload_commands::{ExploreProgress, explore_file, replay_file, run_file};
@@ -55,6 +56,7 @@ fn do_by<R: Threads + Wait + Sync, F: Files, O: Sink, P: ExploreProgress>(
         Request::Carry(options) => carry_file(alloc, options, files),
         Request::Explore(options) => explore_file(alloc, options, files, out, progress),
         Request::Watch(options) => watch_file(alloc, options, files, out),
+        Request::WatchEndless(options) => watch_endless_file(alloc, options, files, out),
         Request::Audit(options) => audit_file(alloc, options, files, out),
         Request::Predict(options) => predict_file(alloc, options, files, out),
         Request::Thin(options) => thin_file(alloc, options, files, out),

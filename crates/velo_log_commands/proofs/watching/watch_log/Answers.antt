@@ -7,11 +7,12 @@ use Rattle.velo_log_commands.proofs.watching.watch_log.Goals.{in-Ok, in-Err}
 pub returns-clause-told : goal.returns-clause-told
 returns-clause-told g c =
     let wrote = writing g.O.Sink.contents g.O.Sink.failures in
+    let A = g.A.AskedWatch in
     let between = c.watch_input.new.out in
     rw c.fate_of.ensures
     (elim c.match-watch_input.branch [
       | in-Ok w ↦ rw (w.out-is, w.answer-is)
-          (shown c.args.names.now c.args.options.now (g.I.Source.remaining c.args.log.now) w.in-Ok.closed (wrote c.args.out.now between) (wrote between w.finish-answer.new.sink) (wrote c.args.out.now w.finish-answer.new.sink) w.finish-answer.result
-          w.in-Ok.ensures.ok w.finish-answer.ensures refl refl refl refl refl refl)
+          (shown c.args.names.now (A.terms c.args.asked.now) (g.I.Source.remaining c.args.log.now) (A.bounds w.in-Ok.watch) (A.has_seen w.in-Ok.watch) (wrote c.args.out.now between) (wrote between w.show-answer.new.out) (wrote c.args.out.now w.show-answer.new.out) w.show-answer.result
+          w.in-Ok.ensures.ok (w.show-answer.ensures w.in-Ok.ensures.ok.log w.in-Ok.ensures.ok.seen) refl refl refl refl refl refl)
       | in-Err w ↦ rw (w.out-is, w.answer-is) (w.in-Err.ensures.err c.args.names.now)
     ])

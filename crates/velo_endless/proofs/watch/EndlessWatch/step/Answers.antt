@@ -57,6 +57,7 @@ returns-in_err-tell-clause-steps g c = λ read old log h.
       record {
         front = front;
         came = subst (λ (k : Config). IsWellFormed k.bounds all) c.admit.ensures.config (well_judged all new judged);
+        room = given.few;
         no_cycle = no_cycle_before log own.piece own.alarm off before.judged;
         part = part_told old (g.O.Sink.contents c.args.sink.now) (g.O.Sink.contents c.tell.new.sink) all new.piece own.alarm new.alarm off h.told judged.judged part;
       },

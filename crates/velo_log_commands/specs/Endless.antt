@@ -1,0 +1,42 @@
+-- What a watch of a log without end has to say: what any watch has (`Watching`), of a log of any
+-- length, of which it keeps no more events than its limit says.
+use Rattle.std.specs.Prelude.{◌≡◌, false, List}
+use Rattle.velo_events.specs.declared.config.Bounds.{Bounds}
+use Rattle.velo_events.specs.declared.config.Config.{Config}
+use Rattle.velo_events.specs.declared.event.Event.{Event}
+use Rattle.velo_endless.specs.Endless.{CanGoOn}
+use Rattle.velo_endless.specs.Kept.{IsFaultBehind}
+use Rattle.velo_endless.specs.Reading.{IsMetAfter}
+use Rattle.velo_endless.specs.declared.reading.TheConstants.{MAX_WATCHED}
+use Rattle.velo_endless.specs.declared.watch.EndlessWatch.{EndlessWatch}
+use Rattle.velo_request.specs.declared.request.EndlessOptions.{EndlessOptions}
+use Rattle.velo_request.specs.declared.request.Limits.{Limits}
+use Rattle.velo_world.specs.declared.log_replay.LogReplayFault.{LogReplayFault}
+use Rattle.velo_log_commands.specs.Watching.{KeepsTo, Terms}
+
+-- The event is refused, or reads a wrong value, at its position in the whole log. A limit is met only
+-- where no cut helps: a block is open, or what the events leave takes as many events as may be kept.
+abbrev pub IsFaultOfWhole : Limits → Bounds → List Event → Event → LogReplayFault → Type 0
+IsFaultOfWhole limits bounds log e fault =
+    (config : Config) × (config.bounds ≡ bounds) × KeepsTo limits config
+    × IsFaultBehind config log e fault
+
+abbrev pub terms_of_endless : EndlessOptions → Terms
+terms_of_endless options =
+    record {
+      input = options.input.now;
+      names = options.names;
+      stop = options.stop;
+      certificate = false;
+      longest = MAX_WATCHED;
+      most = MAX_WATCHED;
+      IsMet = IsMetAfter;
+      IsFaultAt = IsFaultOfWhole options.limits;
+    }
+
+-- ---- a word of the contracts within the crate
+
+-- a watch that keeps to the limits can go on
+pub record CanWatchOn (options : EndlessOptions) (watch : EndlessWatch) : Type 0 where
+  pub goes_on : CanGoOn watch
+  pub limits : KeepsTo options.limits watch.piece.world.config

@@ -1,0 +1,132 @@
+//! `velodrome watch --endless`: a log of any length that is checked as it comes.
+ghost use Rattle.std.specs.Prelude.{◌-◌, List, false};
+ghost use Rattle.velo_delivery.specs.Disk.{store};
+ghost use Rattle.velo_delivery.specs.Writing.{writing};
+ghost use Rattle.velo_endless.specs.declared.reading.TheConstants.{MAX_WATCHED};
+ghost use Rattle.velo_endless.specs.Endless.{CanGoOn, HasSeen, IsUnderWay};
+ghost use Rattle.velo_events.specs.declared.event.Event.{Event as EventOf};
+ghost use Rattle.velo_fate.specs.Verdict.{IsVerdict};
+ghost use Rattle.velo_log_commands.specs.Commands.{DoesWatchEndless, WatchesBy};
+ghost use Rattle.velo_log_commands.specs.Steps.{ShowsLog};
+ghost use Rattle.velo_log_commands.specs.Endless.{CanWatchOn, terms_of_endless};
+
+use crate::naming::{ByNames, do_by_names, shown_by};
+use crate::watching::{AskedWatch, watch_named};
+use std::alloc::Global;
+use velo_bytes::{Sink, Source, WriteFault};
+use velo_delivery::Files;
+use velo_endless::EndlessWatch;
+use velo_fate::{CheckFault, Fate, Verdict};
+use velo_report::Names;
+use velo_request::EndlessOptions;
+use velo_watch::WatchFault;
+
+impl AskedWatch for EndlessOptions<'_> {
+    type State = EndlessWatch;
+
+    ghost terms = { terms_of_endless };
+
+    ghost bounds = { λ watch. watch.piece.world.config.bounds };
+
+    ghost has_seen = { λ watch events. HasSeen events watch };
+
+    ghost is_at = { λ watch read remaining old new events. IsUnderWay read remaining old new events watch };
+
+    ghost can_go_on = { CanWatchOn };
+
+    ghost left = { λ watch. MAX_WATCHED - watch.reader.given };
+
+    fn input(&self) -> &str {
+        self.input
+    }
+
+    fn stops(&self) -> bool {
+        self.stop
+    }
+
+    fn open<I: Source>(&self, alloc: Global, log: &mut I) -> Result<EndlessWatch, WatchFault> {
+        EndlessWatch::open(alloc, log, self.limits.events, self.limits.nodes)
+    }
+
+    fn step<I: Source, O: Sink>(
+        &self,
+        alloc: Global,
+        watch: &mut EndlessWatch,
+        log: &mut I,
+        out: &mut O,
+    ) -> Result<bool, WatchFault> {
+        watch.step(alloc, log, out)
+    }
+
+    fn has_told(&self, watch: &EndlessWatch) -> bool {
+        watch.has_told()
+    }
+
+    fn show<O: Sink>(
+        &self,
+        _alloc: Global,
+        watch: EndlessWatch,
+        names: &Names,
+        out: &mut O,
+    ) -> Result<Verdict, CheckFault> {
+        let answer = report_of(&watch, names, out);
+        drop(watch);
+        answer
+    }
+}
+
+/// The verdict of the events that a watch has seen.
+fn verdict_of(watch: &EndlessWatch) -> Verdict
+    ensures { (events : List EventOf) → HasSeen events watch.now → IsVerdict events result }
+{
+    if watch.has_told() {
+        Verdict::Alarm
+    } else {
+        Verdict::Clean
+    }
+}
+
+/// Writes the report of the events that a watch has seen, and returns their verdict.
+fn report_of<O: Sink>(
+    watch: &EndlessWatch,
+    names: &Names,
+    out: &mut O,
+) -> Result<Verdict, CheckFault>
+    requires { CanGoOn watch.now }
+    ensures { (events : List EventOf) → HasSeen events watch.now
+        → ShowsLog names.now false watch.now.piece.world.config.bounds.threads events
+        (writing O.contents O.failures out.old out.new) result }
+{
+    match watch.report(names, out) {
+        Ok(()) => Ok(verdict_of(watch)),
+        Err(WriteFault) => Err(CheckFault::Write),
+    }
+}
+
+impl ByNames for EndlessOptions<'_> {
+    ghost does = { λ options names. WatchesBy names (terms_of_endless options) };
+
+    fn do_by<F: Files, O: Sink>(
+        &self,
+        alloc: Global,
+        names: &velo_names::Names,
+        files: &mut F,
+        out: &mut O,
+    ) -> Fate {
+        let shown = shown_by(self.names, names);
+        watch_named(alloc, self, &shown, files, out)
+    }
+}
+
+/// Watches the log that was asked for, of any length. The names are read first.
+pub fn watch_endless_file<F: Files, O: Sink>(
+    alloc: Global,
+    options: &EndlessOptions,
+    files: &mut F,
+    out: &mut O,
+) -> Fate
+    ensures { DoesWatchEndless options.now (store F.disk files.old files.new)
+        (writing O.contents O.failures out.old out.new) result }
+{
+    do_by_names(alloc, options, options.names, files, out)
+}
