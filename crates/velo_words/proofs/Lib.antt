@@ -1,0 +1,3 @@
+mod OnLines
+mod OnPages
+mod OnSaying

@@ -1,0 +1,5 @@
+pub mod Lines
+pub mod Header
+pub mod Line
+pub mod Log
+pub mod Saying
