@@ -5,3 +5,4 @@ pub mod Line
 pub mod Log
 pub mod Saying
 pub mod Refused
+pub mod Work

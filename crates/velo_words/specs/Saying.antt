@@ -12,10 +12,13 @@ use Rattle.velo_fate.specs.declared.fate.Fate.TheVariants as fate
 use Rattle.velo_fate.specs.declared.fault.CheckFault.TheVariants as check_fault
 use Rattle.velo_logtext.specs.declared.fault.LogFault.{LogFault}
 use Rattle.velo_request.specs.declared.request.Request.{Request}
-use Rattle.velo_request.specs.declared.request.Request.TheVariants.{Audit, Carry, Check, Explain, Predict, Thin, Watch}
+use Rattle.velo_request.specs.declared.request.Request.TheVariants.{Audit, Carry, Check, Explain, Explore, Predict, Replay, Run, Thin, Watch}
+use Rattle.velo_workload.specs.declared.fault.WorkFault.{WorkFault}
+use Rattle.velo_workload.specs.declared.fault.WorkFault.TheVariants as work_fault
 use Rattle.velo_words.specs.Events.{HasEvent}
 use Rattle.velo_words.specs.Log.{log_words}
 use Rattle.velo_words.specs.Refused.{refused_words, wrong_value_words}
+use Rattle.velo_words.specs.Work.{work_words}
 
 -- the path of the log whose faults are said in words, if the request has one. A log that is watched
 -- without an end can be longer than others may be: its limits are other ones
@@ -29,6 +32,13 @@ log_of (Check options) = if options.why then Some options.input.now else None
 log_of (Carry options) = if options.why then Some options.input.now else None
 log_of _ = None
 
+-- the path of the workload whose faults are said in words, if the request has one
+abbrev pub work_of : Request → Option (List ℕ)
+work_of (Explore options) = Some options.input.now
+work_of (Run options) = if options.why then Some options.input.now else None
+work_of (Replay options) = if options.run.why then Some options.run.input.now else None
+work_of _ = None
+
 -- what is said of a fault of the log at a path: its words, by bytes that the file gave when it was
 -- read once more, all of them or more than so many
 pub record SaysLog (disk : Disk) (path : List ℕ) (fault : LogFault) (words : List ℕ) : Type 0 where
@@ -36,6 +46,13 @@ pub record SaysLog (disk : Disk) (path : List ℕ) (fault : LogFault) (words : L
   pub bytes : List ℕ
   pub read : Reads (bytes_up_to most) disk path bytes
   pub said : words ≡ log_words path bytes fault
+
+-- the same of a workload
+pub record SaysWork (disk : Disk) (path : List ℕ) (fault : WorkFault) (words : List ℕ) : Type 0 where
+  pub most : ℕ
+  pub bytes : List ℕ
+  pub read : Reads (bytes_up_to most) disk path bytes
+  pub said : words ≡ work_words path bytes fault
 
 -- by the header, the events before it and the event: that it is refused, or else reads a wrong value
 abbrev pub event_words : List ℕ → Option Refusal → Bounds → List Event → Event → List ℕ
@@ -67,6 +84,9 @@ IsSaid disk request (fate.Check (check_fault.Refused p refusal)) words =
     IfSome (log_of request) (λ path. SaysEvent disk path (Some refusal) p words)
 IsSaid disk request (fate.Check (check_fault.WrongValue p)) words =
     IfSome (log_of request) (λ path. SaysEvent disk path None p words)
+IsSaid disk request (fate.Work work_fault.Memory) words = ⊥
+IsSaid disk request (fate.Work fault) words =
+    IfSome (work_of request) (λ path. SaysWork disk path fault words)
 IsSaid disk request f words = ⊥
 
 -- The program ends by its fate: with its line and its status; or what is said of the fate goes out

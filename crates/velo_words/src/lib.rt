@@ -8,6 +8,7 @@ mod lines;
 mod log;
 mod refused;
 mod saying;
+mod work;
 
 pub use header::{HeaderFault, header_fault_of};
 pub use saying::end_in_words;

@@ -3,11 +3,12 @@ ghost use Rattle.std.specs.Prelude.{◌≡◌, ◌≤◌, ◌++◌, IfOk, IfSome
 ghost use Rattle.velo_delivery.specs.Writing.{writing};
 ghost use Rattle.velo_events.specs.declared.limits.TheConstants.{MAX_EVENTS};
 ghost use Rattle.velo_fate.specs.Fate.{Closes, line_of, status_of};
-ghost use Rattle.velo_words.specs.Saying.{EndsInWords, IsSaid, IsTextAt, SaysEvent, SaysLog, event_words, log_of};
+ghost use Rattle.velo_words.specs.Saying.{EndsInWords, IsSaid, IsTextAt, SaysEvent, SaysLog, SaysWork, event_words, log_of, work_of};
 
 use crate::events::events_up_to;
 use crate::log::log_words;
 use crate::refused::{refused_words, wrong_value_words};
+use crate::work::work_words;
 use std::alloc::Global;
 use velo_bytes::{Bytes, Sink, WriteFault, write_all};
 use velo_delivery::Files;
@@ -17,6 +18,7 @@ use velo_fate::{CheckFault, Fate, end_with, read_file};
 use velo_logtext::LogFault;
 use velo_request::Request;
 use velo_request::status::FAILED;
+use velo_workload::{MAX_WORKLOAD_BYTES, WorkFault};
 
 /// The path where words are asked for.
 fn if_asked(why: bool, path: &str) -> Option<&str>
@@ -39,6 +41,18 @@ fn log_of<'a>(request: &Request<'a>) -> Option<&'a str>
         Request::Carry(options) => if_asked(options.why, options.input),
         Request::Replay(_) | Request::Run(_) | Request::Explore(_) | Request::WatchEndless(_) =>
             None,
+    }
+}
+
+/// The path of the workload whose faults are said in words, if the request has one.
+fn work_of<'a>(request: &Request<'a>) -> Option<&'a str>
+    ensures { option_map (λ path. path.now) result ≡ work_of request.now }
+{
+    match request {
+        Request::Explore(options) => Some(options.input),
+        Request::Run(options) => if_asked(options.why, options.input),
+        Request::Replay(options) => if_asked(options.run.why, options.run.input),
+        _ => None,
     }
 }
 
@@ -66,6 +80,22 @@ fn words_of_log<F: Files>(alloc: Global, path: &str, fault: LogFault, files: &F)
     }
     match read_file(alloc, path, most_up_to(last_line_of(fault)), files) {
         Ok(bytes) => match log_words(alloc, path, &bytes, fault) {
+            Ok(page) => Some(page),
+            Err(_) => None,
+        },
+        Err(_) => None,
+    }
+}
+
+/// What is said of a fault of the workload at a path, whose bytes are read again.
+fn words_of_work<F: Files>(alloc: Global, path: &str, fault: WorkFault, files: &F) -> Option<Page>
+    ensures { IfSome result (SaysWork (F.disk files.now) path.now fault) }
+{
+    if !files.are_one(path, path) {
+        return None;
+    }
+    match read_file(alloc, path, MAX_WORKLOAD_BYTES, files) {
+        Ok(bytes) => match work_words(alloc, path, &bytes, fault) {
             Ok(page) => Some(page),
             Err(_) => None,
         },
@@ -142,6 +172,8 @@ fn words_of<F: Files>(alloc: Global, request: &Request, fate: Fate, files: &F) -
         Fate::Check(CheckFault::WrongValue { position }) => {
             words_of_event(alloc, log_of(request)?, position, None, files)
         }
+        Fate::Work(WorkFault::Memory) => None,
+        Fate::Work(fault) => words_of_work(alloc, work_of(request)?, fault, files),
         _ => None,
     }
 }
