@@ -1,3 +1,4 @@
+mod OnEvents
 mod OnLines
 mod OnPages
 mod OnSaying
