@@ -36,29 +36,36 @@ flag name = record (new_rule name) { long = Some name; action = Some SetTrue }
 abbrev pub numbered : Text → ℕ → Rule
 numbered name most = record (valued name) { parser = Some (Signed (pos 1) (pos most)) }
 
+-- the same, with this default
+abbrev pub numbered_or : Text → ℕ → Text → Rule
+numbered_or name most default = record (numbered name most) { defaults = default ∷ [] }
+
+-- an option with a number that 64 bits hold
+abbrev pub wide : Text → Rule
+wide name = record (valued name) { parser = Some (Unsigned 0 18446744073709551615) }
+
 -- the most events of a log, with this default
 abbrev pub events : Text → Rule
-events default = record (numbered (codes "events") MAX_EVENTS) { defaults = default ∷ [] }
+events default = numbered_or (codes "events") MAX_EVENTS default
 
 -- the most nodes of a graph, with this default
 abbrev pub nodes : Text → Rule
-nodes default = record (numbered (codes "nodes") MAX_NODES) { defaults = default ∷ [] }
+nodes default = numbered_or (codes "nodes") MAX_NODES default
 
 -- the most states of a search
 abbrev pub states : Rule
-states = record (numbered (codes "states") MAX_STATES) { defaults = codes "2097152" ∷ [] }
+states = numbered_or (codes "states") MAX_STATES (codes "2097152")
 
 -- how many delays are tried for each label in a round
 abbrev pub tries : Rule
-tries = record (numbered (codes "tries") MAX_TRIES) { defaults = codes "200" ∷ [] }
+tries = numbered_or (codes "tries") MAX_TRIES (codes "200")
 
 -- how many random runs, if they are asked for
 abbrev pub random : Rule
 random = numbered (codes "random") MAX_RUNS
 
--- a seed, which 64 bits hold
 abbrev pub seed : Rule
-seed = record (valued (codes "seed")) { parser = Some (Unsigned 0 18446744073709551615) }
+seed = wide (codes "seed")
 
 -- the options of each command that keeps a graph
 abbrev pub graph_options : List Rule

@@ -1,10 +1,17 @@
 //! The command line: its subcommands.
-ghost use Rattle.std.specs.Prelude.{◌≡◌, IfOk};
+ghost use Rattle.std.specs.Prelude.{◌≡◌, map, IfOk};
 ghost use Rattle.clap.specs.Words.{app_of};
-ghost use Rattle.velo_arguments.specs.CommandLine.{AddsRules, IsSubcommand, audit, bare, carry, check, command_line, explain, explore, graph_options, label_options, predict, replay, run, run_options, search_options, thin, watch};
+ghost use Rattle.velo_arguments.specs.CommandLine.{AddsRules, IsSubcommand, audit, bare, carry, check, command_line, explain, explore, predict, replay, run, subcommand, thin, watch};
+ghost use Rattle.velo_arguments.specs.Options.{rule_for};
 
 use crate::growth::{with_argument, with_subcommand};
-use crate::{help, options};
+use crate::help;
+use crate::options::{
+    ALL_EVENTS, ALL_NODES, Argument, CARRIED_LOG, CERTIFICATE, DELAY_SEED, DOT, ENDLESS, EVENTS,
+    FILE, FIRST, FOUND_LOG, IGNORE_LOCK, IGNORE_VARIABLE, LOG, MAP, NAMES, NAMES_OUT, NO_WITNESS,
+    NODES, NOT_ATOMIC, PREDICTED_LOG, PROGRESS, RANDOM, RUN_LOG, RUN_SEED, SCHEDULE, SITES, STATES,
+    STOP, STOP_WATCH, TRIES, TURNS, VALUES, WHY, argument_of,
+};
 use clap::Command;
 use std::alloc::Global;
 use velo_events::Memory;
@@ -50,161 +57,163 @@ fn bare<'a>(alloc: Global) -> Command<'a>
 fn check<'a>(alloc: Global) -> Result<Command<'a>, Memory>
     ensures { IfOk result (IsSubcommand check) }
 {
-    let command = Command::new(alloc, "check")
-        .about("Reads a recorded log and reports the verdict")
-        .after_help(help::OF_CHECK);
-    let command = with_argument(command, options::log(alloc))?;
-    let command = with_argument(command, options::names(alloc))?;
-    let command = with_argument(command, options::why(alloc))?;
-    with_graph_options(alloc, command)
+    let about = "Reads a recorded log and reports the verdict";
+    let arguments = [LOG, NAMES, WHY, EVENTS, NODES, CERTIFICATE];
+    subcommand(alloc, "check", about, help::OF_CHECK, &arguments)
 }
 
 fn replay<'a>(alloc: Global) -> Result<Command<'a>, Memory>
     ensures { IfOk result (IsSubcommand replay) }
 {
-    let command = Command::new(alloc, "replay")
-        .about("Runs a workload by a schedule and reports the verdict")
-        .after_help(help::OF_REPLAY);
-    let command = with_argument(command, options::file(alloc))?;
-    let command = with_argument(command, options::schedule(alloc))?;
-    let command = with_argument(command, options::turns(alloc))?;
-    with_run_options(alloc, command)
+    let about = "Runs a workload by a schedule and reports the verdict";
+    let arguments = [
+        FILE,
+        SCHEDULE,
+        TURNS,
+        STOP,
+        WHY,
+        RUN_LOG,
+        NAMES_OUT,
+        EVENTS,
+        NODES,
+        CERTIFICATE,
+    ];
+    subcommand(alloc, "replay", about, help::OF_REPLAY, &arguments)
 }
 
 fn run<'a>(alloc: Global) -> Result<Command<'a>, Memory>
     ensures { IfOk result (IsSubcommand run) }
 {
-    let command = Command::new(alloc, "run")
-        .about("Runs a workload on real threads and reports the verdict")
-        .after_help(help::OF_RUN);
-    let command = with_argument(command, options::file(alloc))?;
-    with_run_options(alloc, command)
+    let about = "Runs a workload on real threads and reports the verdict";
+    let arguments = [
+        FILE,
+        STOP,
+        WHY,
+        RUN_LOG,
+        NAMES_OUT,
+        EVENTS,
+        NODES,
+        CERTIFICATE,
+    ];
+    subcommand(alloc, "run", about, help::OF_RUN, &arguments)
 }
 
 fn explain<'a>(alloc: Global) -> Result<Command<'a>, Memory>
     ensures { IfOk result (IsSubcommand explain) }
 {
-    let command = Command::new(alloc, "explain")
-        .about("Reads a recorded log and explains the verdict in lanes and words")
-        .after_help(help::OF_EXPLAIN);
-    let command = with_argument(command, options::log(alloc))?;
-    let command = with_argument(command, options::dot(alloc))?;
-    let command = with_argument(command, options::names(alloc))?;
-    with_argument(command, options::sites(alloc))
+    let about = "Reads a recorded log and explains the verdict in lanes and words";
+    let arguments = [LOG, DOT, NAMES, SITES];
+    subcommand(alloc, "explain", about, help::OF_EXPLAIN, &arguments)
 }
 
 fn carry<'a>(alloc: Global) -> Result<Command<'a>, Memory>
     ensures { IfOk result (IsSubcommand carry) }
 {
-    let command = Command::new(alloc, "carry")
-        .about("Reads a recorded log and writes it in the newest version")
-        .after_help(help::OF_CARRY);
-    let command = with_argument(command, options::log(alloc))?;
-    let command = with_argument(command, options::carried(alloc))?;
-    with_argument(command, options::why(alloc))
+    let about = "Reads a recorded log and writes it in the newest version";
+    let arguments = [LOG, CARRIED_LOG, WHY];
+    subcommand(alloc, "carry", about, help::OF_CARRY, &arguments)
 }
 
 fn explore<'a>(alloc: Global) -> Result<Command<'a>, Memory>
     ensures { IfOk result (IsSubcommand explore) }
 {
-    let command = Command::new(alloc, "explore")
-        .about("Tries every schedule of a workload and reports what it finds")
-        .after_help(help::OF_EXPLORE);
-    let command = with_argument(command, options::file(alloc))?;
-    with_search_options(alloc, command)
+    let about = "Tries every schedule of a workload and reports what it finds";
+    let arguments = [
+        FILE,
+        STATES,
+        FIRST,
+        PROGRESS,
+        RANDOM,
+        RUN_SEED,
+        FOUND_LOG,
+        NAMES_OUT,
+        EVENTS,
+        NODES,
+        CERTIFICATE,
+    ];
+    subcommand(alloc, "explore", about, help::OF_EXPLORE, &arguments)
 }
 
 fn watch<'a>(alloc: Global) -> Result<Command<'a>, Memory>
     ensures { IfOk result (IsSubcommand watch) }
 {
-    let command = Command::new(alloc, "watch")
-        .about("Reads a log as it is written, prints its alarm at once, and reports the verdict")
-        .after_help(help::OF_WATCH);
-    let command = with_argument(command, options::log(alloc))?;
-    let command = with_argument(command, options::names(alloc))?;
-    let command = with_argument(command, options::stop_of_watch(alloc))?;
-    let command = with_argument(command, options::endless(alloc))?;
-    with_graph_options(alloc, command)
+    let about = "Reads a log as it is written, prints its alarm at once, and reports the verdict";
+    let arguments = [LOG, NAMES, STOP_WATCH, ENDLESS, EVENTS, NODES, CERTIFICATE];
+    subcommand(alloc, "watch", about, help::OF_WATCH, &arguments)
 }
 
 fn audit<'a>(alloc: Global) -> Result<Command<'a>, Memory>
     ensures { IfOk result (IsSubcommand audit) }
 {
-    let command = Command::new(alloc, "audit")
-        .about("Reads a recorded log and lists the labels whose blocks are not atomic")
-        .after_help(help::OF_AUDIT);
-    let command = with_argument(command, options::log(alloc))?;
-    let command = with_argument(command, options::no_witness(alloc))?;
-    with_label_options(alloc, command)
+    let about = "Reads a recorded log and lists the labels whose blocks are not atomic";
+    let arguments = [
+        LOG,
+        NO_WITNESS,
+        NAMES,
+        NOT_ATOMIC,
+        IGNORE_LOCK,
+        IGNORE_VARIABLE,
+        ALL_EVENTS,
+        ALL_NODES,
+    ];
+    subcommand(alloc, "audit", about, help::OF_AUDIT, &arguments)
 }
 
 fn thin<'a>(alloc: Global) -> Result<Command<'a>, Memory>
     ensures { IfOk result (IsSubcommand thin) }
 {
-    let command = Command::new(alloc, "thin")
-        .about("Leaves out of a recorded log what adds nothing to its verdict")
-        .after_help(help::OF_THIN);
-    let command = with_argument(command, options::log(alloc))?;
-    let command = with_argument(command, options::carried(alloc))?;
-    with_argument(command, options::map(alloc))
+    let about = "Leaves out of a recorded log what adds nothing to its verdict";
+    let arguments = [LOG, CARRIED_LOG, MAP];
+    subcommand(alloc, "thin", about, help::OF_THIN, &arguments)
 }
 
 fn predict<'a>(alloc: Global) -> Result<Command<'a>, Memory>
     ensures { IfOk result (IsSubcommand predict) }
 {
-    let command = Command::new(alloc, "predict")
-        .about("Searches a recorded log for what other runs of its program can show")
-        .after_help(help::OF_PREDICT);
-    let command = with_argument(command, options::log(alloc))?;
-    let command = with_argument(command, options::predicted_log(alloc))?;
-    let command = with_argument(command, options::values(alloc))?;
-    let command = with_argument(command, options::tries(alloc))?;
-    let command = with_argument(command, options::seed(alloc, options::SEED_OF_DELAYS))?;
-    with_label_options(alloc, command)
+    let about = "Searches a recorded log for what other runs of its program can show";
+    let arguments = [
+        LOG,
+        PREDICTED_LOG,
+        VALUES,
+        TRIES,
+        DELAY_SEED,
+        NAMES,
+        NOT_ATOMIC,
+        IGNORE_LOCK,
+        IGNORE_VARIABLE,
+        ALL_EVENTS,
+        ALL_NODES,
+    ];
+    subcommand(alloc, "predict", about, help::OF_PREDICT, &arguments)
 }
 
-/// The command with the options of each command that runs a workload.
-fn with_run_options<'a>(alloc: Global, command: Command<'a>) -> Result<Command<'a>, Memory>
-    ensures { IfOk result (AddsRules run_options command.entry) }
+/// A subcommand with these arguments.
+fn subcommand<'a>(
+    alloc: Global,
+    name: &'a str,
+    about: &'a str,
+    after_help: &'a str,
+    arguments: &[Argument<'a>],
+) -> Result<Command<'a>, Memory>
+    ensures { IfOk result (IsSubcommand (subcommand name.entry.now (map rule_for arguments.now))) }
 {
-    let command = with_argument(command, options::stop(alloc))?;
-    let command = with_argument(command, options::why(alloc))?;
-    let command = with_argument(command, options::out(alloc))?;
-    let command = with_argument(command, options::saved_names(alloc))?;
-    with_graph_options(alloc, command)
+    let command = Command::new(alloc, name)
+        .about(about)
+        .after_help(after_help);
+    with_arguments(alloc, command, arguments)
 }
 
-/// The command with the options of each command that searches.
-fn with_search_options<'a>(alloc: Global, command: Command<'a>) -> Result<Command<'a>, Memory>
-    ensures { IfOk result (AddsRules search_options command.entry) }
+/// The command with these arguments more, after its own.
+fn with_arguments<'a>(
+    alloc: Global,
+    command: Command<'a>,
+    arguments: &[Argument<'a>],
+) -> Result<Command<'a>, Memory>
+    ensures { IfOk result (AddsRules (map rule_for arguments.now) command.entry) }
 {
-    let command = with_argument(command, options::states_argument(alloc))?;
-    let command = with_argument(command, options::first(alloc))?;
-    let command = with_argument(command, options::progress(alloc))?;
-    let command = with_argument(command, options::random(alloc))?;
-    let command = with_argument(command, options::seed(alloc, options::SEED_OF_RUNS))?;
-    let command = with_argument(command, options::found_log(alloc))?;
-    let command = with_argument(command, options::saved_names(alloc))?;
-    with_graph_options(alloc, command)
-}
-
-/// The command with the options of each command that keeps a graph.
-fn with_graph_options<'a>(alloc: Global, command: Command<'a>) -> Result<Command<'a>, Memory>
-    ensures { IfOk result (AddsRules graph_options command.entry) }
-{
-    let command = with_argument(command, options::events_argument(alloc, "1048576"))?;
-    let command = with_argument(command, options::nodes_argument(alloc, "1024"))?;
-    with_argument(command, options::certificate(alloc))
-}
-
-/// The command with the options of each command that goes by labels.
-fn with_label_options<'a>(alloc: Global, command: Command<'a>) -> Result<Command<'a>, Memory>
-    ensures { IfOk result (AddsRules label_options command.entry) }
-{
-    let command = with_argument(command, options::names(alloc))?;
-    let command = with_argument(command, options::not_atomic(alloc))?;
-    let command = with_argument(command, options::ignored_locks(alloc))?;
-    let command = with_argument(command, options::ignored_variables(alloc))?;
-    let command = with_argument(command, options::events_argument(alloc, "16777216"))?;
-    with_argument(command, options::nodes_argument(alloc, "4096"))
+    let mut built = command;
+    for argument in arguments {
+        built = with_argument(built, argument_of(alloc, argument))?;
+    }
+    Ok(built)
 }

@@ -1,285 +1,251 @@
-//! The arguments of the subcommands.
-ghost use Rattle.std.specs.Prelude.{codes};
-ghost use Rattle.velo_arguments.specs.CommandLine.{IsArgument, events, flag, needed, nodes, numbered, random, repeated, seed, states, tries, valued, word};
+//! The arguments of the subcommands, each a constant.
+ghost use Rattle.velo_arguments.specs.CommandLine.{IsArgument, flag, numbered, valued, word};
+ghost use Rattle.velo_arguments.specs.Options.{rule_for};
 
 use clap::{Arg, ArgAction, value_parser};
 use std::alloc::Global;
 use velo_events::{MAX_EVENTS, MAX_NODES};
 use velo_request::{MAX_RUNS, MAX_STATES, MAX_TRIES};
 
-pub fn log<'a>(alloc: Global) -> Arg<'a>
-    ensures { IsArgument (word (codes "LOG")) result }
-{
-    word(alloc, "LOG", "The path of the log, or - for standard input")
+/// What an argument takes.
+#[derive(Clone, Copy)]
+pub enum Takes<'a> {
+    /// It is a word that has to be there.
+    Operand,
+    /// Nothing.
+    Nothing,
+    /// A value, which help calls so.
+    Value(&'a str),
+    /// The same, which has to be there.
+    Needed(&'a str),
+    /// The same, which may be given again and again.
+    Values(&'a str),
+    /// A number from 1 to this one.
+    Number(u32),
+    /// The same, and what it is by default.
+    NumberOr(u32, &'a str),
+    /// A number that 64 bits hold.
+    Wide,
 }
 
-pub fn file<'a>(alloc: Global) -> Arg<'a>
-    ensures { IsArgument (word (codes "FILE")) result }
-{
-    word(
-        alloc,
-        "FILE",
-        "The path of the workload, or - for standard input",
-    )
+/// An argument of a subcommand.
+#[derive(Clone, Copy)]
+pub struct Argument<'a> {
+    /// The name of the option, or the word that stands for the operand.
+    pub name: &'a str,
+    /// What it takes.
+    pub takes: Takes<'a>,
+    /// What help says of it.
+    pub help: &'a str,
 }
 
-pub fn schedule<'a>(alloc: Global) -> Arg<'a>
-    ensures { IsArgument (valued (codes "schedule")) result }
-{
-    valued(
-        alloc,
-        "schedule",
-        "TEXT",
-        "Whose turns come first: thread numbers from 0 to 63, separated by one space",
-    )
-}
+pub const LOG: Argument<'static> = Argument {
+    name: "LOG",
+    takes: Takes::Operand,
+    help: "The path of the log, or - for standard input",
+};
 
-pub fn turns<'a>(alloc: Global) -> Arg<'a>
-    ensures { IsArgument (valued (codes "turns")) result }
-{
-    valued(
-        alloc,
-        "turns",
-        "TEXT",
-        "The same in short, as explore prints it: THREAD*N is N turns; @PATH reads it from a file",
-    )
-}
+pub const FILE: Argument<'static> = Argument {
+    name: "FILE",
+    takes: Takes::Operand,
+    help: "The path of the workload, or - for standard input",
+};
 
-pub fn stop<'a>(alloc: Global) -> Arg<'a>
-    ensures { IsArgument (flag (codes "stop")) result }
-{
-    flag(alloc, "stop", "End the run at an alarm")
-}
+pub const SCHEDULE: Argument<'static> = Argument {
+    name: "schedule",
+    takes: Takes::Value("TEXT"),
+    help: "Whose turns come first: thread numbers from 0 to 63, separated by one space",
+};
 
-pub fn why<'a>(alloc: Global) -> Arg<'a>
-    ensures { IsArgument (flag (codes "why")) result }
-{
-    let help = "Say on standard error in words, too, what is wrong and where";
-    flag(alloc, "why", help)
-}
+pub const TURNS: Argument<'static> = Argument {
+    name: "turns",
+    takes: Takes::Value("TEXT"),
+    help: "The same in short, as explore prints it: THREAD*N is N turns; @PATH reads it from a file",
+};
 
-pub fn out<'a>(alloc: Global) -> Arg<'a>
-    ensures { IsArgument (valued (codes "log")) result }
-{
-    valued(
-        alloc,
-        "log",
-        "OUT",
-        "Write the log of the run to OUT, before the report",
-    )
-}
+pub const STOP: Argument<'static> = Argument {
+    name: "stop",
+    takes: Takes::Nothing,
+    help: "End the run at an alarm",
+};
 
-pub fn saved_names<'a>(alloc: Global) -> Arg<'a>
-    ensures { IsArgument (valued (codes "names-out")) result }
-{
-    valued(
-        alloc,
-        "names-out",
-        "NAMES",
-        "Write the names of the workload to NAMES, after the log",
-    )
-}
+pub const STOP_WATCH: Argument<'static> = Argument {
+    name: "stop",
+    takes: Takes::Nothing,
+    help: "End the watch at an alarm",
+};
 
-pub fn names<'a>(alloc: Global) -> Arg<'a>
-    ensures { IsArgument (valued (codes "names")) result }
-{
-    valued(
-        alloc,
-        "names",
-        "FILE",
-        "Read the names of threads, variables, locks and labels; - is standard input",
-    )
-}
+pub const ENDLESS: Argument<'static> = Argument {
+    name: "endless",
+    takes: Takes::Nothing,
+    help: "Forget what is done where no block is open, so that the log may be of any length",
+};
 
-pub fn sites<'a>(alloc: Global) -> Arg<'a>
-    ensures { IsArgument (valued (codes "sites")) result }
-{
-    valued(
-        alloc,
-        "sites",
-        "FILE",
-        "Read where in the source each event happened; - is standard input",
-    )
-}
+pub const WHY: Argument<'static> = Argument {
+    name: "why",
+    takes: Takes::Nothing,
+    help: "Say on standard error in words, too, what is wrong and where",
+};
 
-pub fn first<'a>(alloc: Global) -> Arg<'a>
-    ensures { IsArgument (flag (codes "first")) result }
-{
-    flag(alloc, "first", "End the search at the first finding")
-}
+pub const NAMES: Argument<'static> = Argument {
+    name: "names",
+    takes: Takes::Value("FILE"),
+    help: "Read the names of threads, variables, locks and labels; - is standard input",
+};
 
-pub fn progress<'a>(alloc: Global) -> Arg<'a>
-    ensures { IsArgument (flag (codes "progress")) result }
-{
-    flag(
-        alloc,
-        "progress",
-        "Print progress on standard error, also where that is no terminal",
-    )
-}
+pub const SITES: Argument<'static> = Argument {
+    name: "sites",
+    takes: Takes::Value("FILE"),
+    help: "Read where in the source each event happened; - is standard input",
+};
 
-/// How many random runs there are.
-pub fn random<'a>(alloc: Global) -> Arg<'a>
-    ensures { IsArgument random result }
-{
-    let help = "Make N random runs in place of the search, 1 to 1000000";
-    numbered(alloc, "random", help, MAX_RUNS)
-}
+pub const DOT: Argument<'static> = Argument {
+    name: "dot",
+    takes: Takes::Value("OUT"),
+    help: "Write the cycle of an alarm to OUT, as a Graphviz picture",
+};
 
-/// The help of the seed of random runs.
-pub const SEED_OF_RUNS: &str =
-    "The seed of the random runs, 0 to 18446744073709551615 [default: 1]";
+pub const CERTIFICATE: Argument<'static> = Argument {
+    name: "certificate",
+    takes: Takes::Nothing,
+    help: "Print a serial order, or with an alarm a shortest cycle, after the report",
+};
 
-/// The help of the seed of the delays.
-pub const SEED_OF_DELAYS: &str =
-    "The seed of the delays that are tried, 0 to 18446744073709551615 [default: 1]";
+pub const RUN_LOG: Argument<'static> = Argument {
+    name: "log",
+    takes: Takes::Value("OUT"),
+    help: "Write the log of the run to OUT, before the report",
+};
 
-pub fn seed<'a>(alloc: Global, help: &'a str) -> Arg<'a>
-    ensures { IsArgument seed result }
-{
-    valued(alloc, "seed", "S", help).value_parser(value_parser!(u64))
-}
+pub const FOUND_LOG: Argument<'static> = Argument {
+    name: "log",
+    takes: Takes::Value("OUT"),
+    help: "Write the log of the reported replay to OUT, before the report",
+};
 
-pub fn found_log<'a>(alloc: Global) -> Arg<'a>
-    ensures { IsArgument (valued (codes "log")) result }
-{
-    valued(
-        alloc,
-        "log",
-        "OUT",
-        "Write the log of the reported replay to OUT, before the report",
-    )
-}
+pub const PREDICTED_LOG: Argument<'static> = Argument {
+    name: "log",
+    takes: Takes::Value("OUT"),
+    help: "Write the log of the first witness to OUT, before the findings",
+};
 
-pub fn not_atomic<'a>(alloc: Global) -> Arg<'a>
-    ensures { IsArgument (valued (codes "not-atomic")) result }
-{
-    valued(
-        alloc,
-        "not-atomic",
-        "FILE",
-        "Read known labels, and leave out their begins and ends; - is standard input",
-    )
-}
+pub const CARRIED_LOG: Argument<'static> = Argument {
+    name: "log",
+    takes: Takes::Needed("OUT"),
+    help: "Write the log to OUT, which is emptied first",
+};
 
-pub fn map<'a>(alloc: Global) -> Arg<'a>
-    ensures { IsArgument (valued (codes "map")) result }
-{
-    valued(
-        alloc,
-        "map",
-        "MAP",
-        "Write to MAP which position each event had in LOG, one a line",
-    )
-}
+pub const MAP: Argument<'static> = Argument {
+    name: "map",
+    takes: Takes::Value("MAP"),
+    help: "Write to MAP which position each event had in LOG, one a line",
+};
 
-pub fn predicted_log<'a>(alloc: Global) -> Arg<'a>
-    ensures { IsArgument (valued (codes "log")) result }
-{
-    valued(
-        alloc,
-        "log",
-        "OUT",
-        "Write the log of the first witness to OUT, before the findings",
-    )
-}
+pub const NAMES_OUT: Argument<'static> = Argument {
+    name: "names-out",
+    takes: Takes::Value("NAMES"),
+    help: "Write the names of the workload to NAMES, after the log",
+};
 
-pub fn values<'a>(alloc: Global) -> Arg<'a>
-    ensures { IsArgument (flag (codes "values")) result }
-{
-    flag(
-        alloc,
-        "values",
-        "The values in the log are those of the program",
-    )
-}
+pub const FIRST: Argument<'static> = Argument {
+    name: "first",
+    takes: Takes::Nothing,
+    help: "End the search at the first finding",
+};
 
-/// How many delays are tried.
-pub fn tries<'a>(alloc: Global) -> Arg<'a>
-    ensures { IsArgument tries result }
-{
-    let help = "How many delays are tried for each label in a round, 1 to 1000000";
-    numbered(alloc, "tries", help, MAX_TRIES).default_value("200")
-}
+pub const PROGRESS: Argument<'static> = Argument {
+    name: "progress",
+    takes: Takes::Nothing,
+    help: "Print progress on standard error, also where that is no terminal",
+};
 
-pub fn endless<'a>(alloc: Global) -> Arg<'a>
-    ensures { IsArgument (flag (codes "endless")) result }
-{
-    flag(
-        alloc,
-        "endless",
-        "Forget what is done where no block is open, so that the log may be of any length",
-    )
-}
+pub const STATES: Argument<'static> = Argument {
+    name: "states",
+    takes: Takes::NumberOr(MAX_STATES, "2097152"),
+    help: "The most states that the search may look at, 1 to 16777216",
+};
 
-pub fn stop_of_watch<'a>(alloc: Global) -> Arg<'a>
-    ensures { IsArgument (flag (codes "stop")) result }
-{
-    flag(alloc, "stop", "End the watch at an alarm")
-}
+pub const RANDOM: Argument<'static> = Argument {
+    name: "random",
+    takes: Takes::Number(MAX_RUNS),
+    help: "Make N random runs in place of the search, 1 to 1000000",
+};
 
-pub fn ignored_locks<'a>(alloc: Global) -> Arg<'a>
-    ensures { IsArgument (repeated (codes "ignore-lock")) result }
-{
-    valued(
-        alloc,
-        "ignore-lock",
-        "N",
-        "Leave out the events on this lock, a number or a name; may be repeated",
-    )
-    .action(ArgAction::Append)
-}
+pub const RUN_SEED: Argument<'static> = Argument {
+    name: "seed",
+    takes: Takes::Wide,
+    help: "The seed of the random runs, 0 to 18446744073709551615 [default: 1]",
+};
 
-pub fn ignored_variables<'a>(alloc: Global) -> Arg<'a>
-    ensures { IsArgument (repeated (codes "ignore-variable")) result }
-{
-    valued(
-        alloc,
-        "ignore-variable",
-        "N",
-        "Leave out the events on this variable, a number or a name; may be repeated",
-    )
-    .action(ArgAction::Append)
-}
+pub const DELAY_SEED: Argument<'static> = Argument {
+    name: "seed",
+    takes: Takes::Wide,
+    help: "The seed of the delays that are tried, 0 to 18446744073709551615 [default: 1]",
+};
 
-pub fn no_witness<'a>(alloc: Global) -> Arg<'a>
-    ensures { IsArgument (flag (codes "no-witness")) result }
-{
-    flag(alloc, "no-witness", "Print no witnesses")
-}
+pub const TRIES: Argument<'static> = Argument {
+    name: "tries",
+    takes: Takes::NumberOr(MAX_TRIES, "200"),
+    help: "How many delays are tried for each label in a round, 1 to 1000000",
+};
 
-pub fn carried<'a>(alloc: Global) -> Arg<'a>
-    ensures { IsArgument (needed (codes "log")) result }
-{
-    valued(
-        alloc,
-        "log",
-        "OUT",
-        "Write the log to OUT, which is emptied first",
-    )
-    .required(true)
-}
+pub const VALUES: Argument<'static> = Argument {
+    name: "values",
+    takes: Takes::Nothing,
+    help: "The values in the log are those of the program",
+};
 
-pub fn dot<'a>(alloc: Global) -> Arg<'a>
-    ensures { IsArgument (valued (codes "dot")) result }
-{
-    valued(
-        alloc,
-        "dot",
-        "OUT",
-        "Write the cycle of an alarm to OUT, as a Graphviz picture",
-    )
-}
+pub const NOT_ATOMIC: Argument<'static> = Argument {
+    name: "not-atomic",
+    takes: Takes::Value("FILE"),
+    help: "Read known labels, and leave out their begins and ends; - is standard input",
+};
 
-pub fn certificate<'a>(alloc: Global) -> Arg<'a>
-    ensures { IsArgument (flag (codes "certificate")) result }
-{
-    flag(
-        alloc,
-        "certificate",
-        "Print a serial order, or with an alarm a shortest cycle, after the report",
-    )
-}
+pub const IGNORE_LOCK: Argument<'static> = Argument {
+    name: "ignore-lock",
+    takes: Takes::Values("N"),
+    help: "Leave out the events on this lock, a number or a name; may be repeated",
+};
+
+pub const IGNORE_VARIABLE: Argument<'static> = Argument {
+    name: "ignore-variable",
+    takes: Takes::Values("N"),
+    help: "Leave out the events on this variable, a number or a name; may be repeated",
+};
+
+pub const NO_WITNESS: Argument<'static> = Argument {
+    name: "no-witness",
+    takes: Takes::Nothing,
+    help: "Print no witnesses",
+};
+
+const EVENTS_HELP: &str = "The most events that the log may have, 1 to 16777216";
+
+const NODES_HELP: &str = "The most transactions that the graph may hold at once, 1 to 4096";
+
+pub const EVENTS: Argument<'static> = Argument {
+    name: "events",
+    takes: Takes::NumberOr(MAX_EVENTS, "1048576"),
+    help: EVENTS_HELP,
+};
+
+pub const NODES: Argument<'static> = Argument {
+    name: "nodes",
+    takes: Takes::NumberOr(MAX_NODES as u32, "1024"),
+    help: NODES_HELP,
+};
+
+pub const ALL_EVENTS: Argument<'static> = Argument {
+    name: "events",
+    takes: Takes::NumberOr(MAX_EVENTS, "16777216"),
+    help: EVENTS_HELP,
+};
+
+pub const ALL_NODES: Argument<'static> = Argument {
+    name: "nodes",
+    takes: Takes::NumberOr(MAX_NODES as u32, "4096"),
+    help: NODES_HELP,
+};
 
 /// A required operand.
 fn word<'a>(alloc: Global, name: &'a str, help: &'a str) -> Arg<'a>
@@ -318,30 +284,21 @@ fn numbered<'a>(alloc: Global, name: &'a str, help: &'a str, most: u32) -> Arg<'
     valued(alloc, name, "N", help).value_parser(value_parser!(u32).range(1..=i64::from(most)))
 }
 
-/// The most events of a log.
-pub fn events_argument<'a>(alloc: Global, default: &'a str) -> Arg<'a>
-    ensures { IsArgument (events default.entry.now) result }
+/// The argument, for `clap`.
+pub fn argument_of<'a>(alloc: Global, argument: &Argument<'a>) -> Arg<'a>
+    ensures { IsArgument (rule_for argument.now) result }
 {
-    let help = "The most events that the log may have, 1 to 16777216";
-    numbered(alloc, "events", help, MAX_EVENTS).default_value(default)
-}
-
-/// The most nodes of a graph.
-pub fn nodes_argument<'a>(alloc: Global, default: &'a str) -> Arg<'a>
-    ensures { IsArgument (nodes default.entry.now) result }
-{
-    Arg::new(alloc, "nodes")
-        .long("nodes")
-        .value_name("N")
-        .help("The most transactions that the graph may hold at once, 1 to 4096")
-        .value_parser(value_parser!(u16).range(1..=i64::from(MAX_NODES)))
-        .default_value(default)
-}
-
-/// The most states of a search.
-pub fn states_argument<'a>(alloc: Global) -> Arg<'a>
-    ensures { IsArgument states result }
-{
-    let help = "The most states that the search may look at, 1 to 16777216";
-    numbered(alloc, "states", help, MAX_STATES).default_value("2097152")
+    let (name, help) = (argument.name, argument.help);
+    match argument.takes {
+        Takes::Operand => word(alloc, name, help),
+        Takes::Nothing => flag(alloc, name, help),
+        Takes::Value(value) => valued(alloc, name, value, help),
+        Takes::Needed(value) => valued(alloc, name, value, help).required(true),
+        Takes::Values(value) => valued(alloc, name, value, help).action(ArgAction::Append),
+        Takes::Number(most) => numbered(alloc, name, help, most),
+        Takes::NumberOr(most, default) => {
+            numbered(alloc, name, help, most).default_value(default)
+        }
+        Takes::Wide => valued(alloc, name, "S", help).value_parser(value_parser!(u64)),
+    }
 }
