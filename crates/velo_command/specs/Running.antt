@@ -4,7 +4,7 @@ use Rattle.clap.specs.Words.{IsAmong, Text}
 use Rattle.clap.specs.declared.error.kind.ErrorKind.{ErrorKind}
 use Rattle.velo_program.specs.Causes.{AnswersWithCause}
 use Rattle.velo_delivery.specs.Disk.{Store}
-use Rattle.velo_fate.specs.Fate.{Closes, Ends}
+use Rattle.velo_fate.specs.Fate.{Closes}
 use Rattle.velo_program.specs.Program.{Does}
 use Rattle.velo_fate.specs.declared.fate.Fate.{Fate}
 use Rattle.velo_request.specs.declared.request.Request.{Request}
@@ -12,17 +12,18 @@ use Rattle.velo_arguments.specs.Asked.{Asked}
 use Rattle.velo_arguments.specs.CommandLine.{asked_by, faults_of}
 use Rattle.velo_arguments.specs.Together.{IsApart, IsTogether, line_of_clash}
 use Rattle.velo_command.specs.Usage.{Console, LacksMemory, TellsError, bad_usage}
+use Rattle.velo_words.specs.Saying.{EndsInWords}
 use Rattle.velo_arguments.specs.declared.together.Clash.{Clash}
 
 -- a request that was asked for, whose options go together, was done, and the end is that of its
--- fate
+-- fate; what is wrong may be said in words before the line, by a file as it was left
 pub record DoesRequest (asked : Asked) (store : Store) (console : Console) : Type 0 where
   pub request : Request
   pub fate : Fate
   pub asked_for : IsTogether asked request
   pub done : Does store request console.stdout fate
   pub cause : AnswersWithCause request fate
-  pub ended : Ends fate console.stderr console.status
+  pub ended : EndsInWords (store.said store.left) request fate console.stderr console.status
 
 -- a request was asked for whose options do not go together, and this was reported: standard output
 -- is as it was, and the end is that of bad usage

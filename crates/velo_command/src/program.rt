@@ -23,6 +23,7 @@ use velo_delivery::Files;
 use velo_events::Memory;
 use velo_fate::{Fate, end_with};
 use velo_program::do_request;
+use velo_words::end_in_words;
 use velo_workload_commands::ExploreProgress;
 
 /// Does what the words ask for, with reports and help on the one sink and all else on the other,
@@ -77,7 +78,10 @@ fn do_asked<R: Threads + Wait + Sync, F: Files, O: Sink, E: Sink, P: ExploreProg
         (writing E.contents E.failures err.old err.new) result) }
 {
     match read_request(matches) {
-        Ok(request) => end_with(&do_request(rt, alloc, &request, files, out, progress), err),
+        Ok(request) => {
+            let fate = do_request(rt, alloc, &request, files, out, progress);
+            end_in_words(alloc, &request, &fate, files, err)
+        }
         Err(clash) => tell_clash(clash, err),
     }
 }

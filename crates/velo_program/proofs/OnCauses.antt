@@ -4,6 +4,7 @@ use Rattle.std.specs.Prelude.{ℕ, Bool, true, false, List, Option, Some, None, 
 use Rattle.std.specs.Borrow.{Bor}
 use Rattle.velo_events.specs.declared.config.Bounds.{Bounds}
 use Rattle.velo_events.specs.declared.event.Event.{Event}
+use Rattle.velo_events.specs.declared.refusal.Refusal.{Refusal}
 use Rattle.velo_list.specs.declared.fault.ListFault.{ListFault}
 use Rattle.velo_list.specs.declared.fault.ListFault.TheVariants as list_fault
 use Rattle.velo_names.specs.declared.fault.NamesFault.{NamesFault}
@@ -28,6 +29,7 @@ use Rattle.velo_request.specs.declared.request.PredictOptions.{PredictOptions}
 use Rattle.velo_request.specs.declared.request.RunOptions.{RunOptions}
 use Rattle.velo_request.specs.declared.request.Request.{Request}
 use Rattle.velo_request.specs.declared.request.Limits.{Limits}
+use Rattle.velo_worker.specs.Causes.{RefusedByGrowth}
 use Rattle.velo_request.specs.declared.request.Request.TheVariants as request
 use Rattle.velo_request.specs.declared.request.ScheduleSource.{ScheduleSource}
 use Rattle.velo_request.specs.declared.request.ScheduleSource.TheVariants as source
@@ -69,7 +71,7 @@ use Rattle.velo_world.specs.declared.log_replay.LogReplayFault.TheVariants as re
 use Rattle.velo_delivery.specs.Writing.{Writing}
 use Rattle.velo_log_commands.specs.Thinning.{map_of}
 use Rattle.velo_workload_commands.proofs.OnFindings.{caused}
-use Rattle.velo_program.proofs.OnRefusals.{of_log, of_refused}
+use Rattle.velo_program.proofs.OnRefusals.{of_flaw, of_log, of_refused}
 use Rattle.velo_program.proofs.OnThinning.{of_thin}
 
 -- ---- by what each command has to say

@@ -9,7 +9,7 @@ ghost use Rattle.velo_world.specs.FirstCycle.{AreNoted, ClosesFirst, IsFirstClos
 use crate::analysis::Alarm;
 use std::alloc::Global;
 use velo_blame::Clocks;
-use velo_events::{Config, Event, Memory};
+use velo_events::{Config, Event, Memory, Resolved};
 use velo_traces::open_blocks_since;
 
 /// The event that closes the first cycle of a log.
@@ -54,8 +54,11 @@ fn clocks_of(alloc: Global, config: &Config, events: &[Event]) -> Result<Clocks,
 {
     let mut clocks = Clocks::new(alloc, config)?;
     for position in 0..events.len() {
-        clocks.reserve_for(&events[position])?;
-        clocks.note(position, &events[position]);
+        let event = Resolved::of(&events[position]);
+        if !clocks.has_room_for(&event) {
+            clocks.reserve_for(event.event())?;
+        }
+        clocks.note_resolved(position, &event);
     }
     Ok(clocks)
 }

@@ -1,4 +1,4 @@
-use Rattle.std.proofs.Common.{◌≡◌, ℕ, ◌+◌, ◌<◌, ◌≤◌, List, [], ◌∷◌, ◌++◌, length, take, take_all, Some, refl, sym, ap, ◌∙◌, subst, arith}
+use Rattle.std.proofs.Common.{◌≡◌, ℕ, ◌+◌, ◌<◌, List, [], ◌∷◌, ◌++◌, length, take, take_all, Some, sym, ap, ◌∙◌, subst, arith}
 use Rattle.std.specs.Prelude.{slice_get}
 use Rattle.std.proofs.lemmas.Option.{slice_get-get_or}
 use Rattle.velo_events.specs.declared.config.Bounds.{Bounds}
@@ -7,9 +7,10 @@ use Rattle.velo_events.specs.WellFormed.{IsWellFormed}
 use Rattle.velo_events.proofs.OnScans.{take-next}
 use Rattle.velo_events.proofs.OnWellFormed.{IsWellFormed-take}
 use Rattle.velo_clocks.specs.Clocks.{AreClocksOf}
-use Rattle.velo_clocks.specs.Noted.{IsOfThreads}
+use Rattle.velo_clocks.specs.Noted.{HasRoomToNote, IsOfThreads}
 use Rattle.velo_clocks.proofs.OnThreads.{IsOfThreads-follows}
 use Rattle.velo_world.proofs.OnAlarms.{length-before}
+use Rattle.velo_world.proofs.first_cycle.clocks_of.Goals.{then-not-has_room_for+in_ok-reserve_for, else-not-has_room_for}
 use Rattle.velo_world.proofs.first_cycle.clocks_of.Goals as goal
 
 -- the threads of an event are among those of the run
@@ -23,26 +24,39 @@ well_next bounds bounds' events p e same well within here =
 pub loop-position-init : goal.loop-position-init
 loop-position-init c = record { bounds = c.in_ok-clocks.ensures.bounds; stands = c.in_ok-clocks.ensures.start [] }
 
-pub note-requires-clause-room : goal.note-requires-clause-room
-note-requires-clause-room c =
+pub note_resolved-requires-clause-room : goal.note_resolved-requires-clause-room
+note_resolved-requires-clause-room c =
     let kept = c.loop-position.invariant in
-    let here = slice_get-get_or c.args.events.now c.loop-position.position _ c.loop-position-test.true in
-    c.in_ok-reserve_for.ensures.ok (threads_at _ _ c.args.events.now c.loop-position.position _ kept.bounds c.requires.well_formed here)
+    let here : slice_get c.args.events.now c.loop-position.position ≡ Some c.of-event.result = slice_get-get_or c.args.events.now c.loop-position.position _ c.loop-position-test.true ∙ ap Some (sym c.of-event.ensures) in
+    let threads = threads_at _ _ c.args.events.now c.loop-position.position c.of-event.result kept.bounds c.requires.well_formed here in
+    elim c.if-not-has_room_for.branch [
+      | then-not-has_room_for+in_ok-reserve_for w ↦
+          rw w.clocks-is (subst (HasRoomToNote _ _) w.event.ensures (w.in_ok-reserve_for.ensures.ok (rw w.event.ensures threads)))
+      | else-not-has_room_for w ↦
+          rw w.clocks-is (c.has_room_for.ensures w.if-not-has_room_for.false threads)
+    ]
 
-pub note-requires-clause-fits : goal.note-requires-clause-fits
-note-requires-clause-fits c = (let few = c.requires.few in let within = c.loop-position-test.true in omega (arith, few, within))
+pub note_resolved-requires-clause-fits : goal.note_resolved-requires-clause-fits
+note_resolved-requires-clause-fits c = (let few = c.requires.few in let within = c.loop-position-test.true in omega (arith, few, within))
 
 pub loop-position-preserved : goal.loop-position-preserved
 loop-position-preserved c =
     let kept = c.loop-position.invariant in
     let events = c.args.events.now in
     let p = c.loop-position.position in
-    let here = slice_get-get_or events p _ c.loop-position-test.true in
-    let same = c.reserve_for.ensures.bounds ∙ kept.bounds in
+    let here : slice_get events p ≡ Some c.of-event.result = slice_get-get_or events p _ c.loop-position-test.true ∙ ap Some (sym c.of-event.ensures) in
+    let same : c.if-not-has_room_for.clocks.bounds ≡ c.args.config.now.bounds = elim c.if-not-has_room_for.branch [
+      | then-not-has_room_for+in_ok-reserve_for w ↦ rw w.clocks-is (w.reserve_for.ensures.bounds ∙ kept.bounds)
+      | else-not-has_room_for w ↦ rw w.clocks-is kept.bounds
+    ] in
+    let stands : AreClocksOf c.if-not-has_room_for.clocks.state (take p events) = elim c.if-not-has_room_for.branch [
+      | then-not-has_room_for+in_ok-reserve_for w ↦ rw w.clocks-is (w.reserve_for.ensures.same 0 (take p events) kept.stands)
+      | else-not-has_room_for w ↦ rw w.clocks-is kept.stands
+    ] in
     record {
-      bounds = c.note.ensures.bounds ∙ same;
-      stands = subst (AreClocksOf c.note.new.self.state) (sym (take-next events p _ here))
-          (c.note.ensures.next 0 (take p events) (c.reserve_for.ensures.same 0 (take p events) kept.stands) (length-before events p _ here) (well_next _ _ events p _ same c.requires.well_formed c.loop-position-test.true here));
+      bounds = c.note_resolved.ensures.bounds ∙ same;
+      stands = subst (AreClocksOf c.note_resolved.new.self.state) (sym (take-next events p c.of-event.result here))
+          (c.note_resolved.ensures.next 0 (take p events) stands (length-before events p c.of-event.result here) (well_next _ _ events p c.of-event.result same c.requires.well_formed c.loop-position-test.true here));
     }
 
 pub returns-clause-bounds : goal.returns-clause-bounds

@@ -1,0 +1,4 @@
+mod OnEvents
+mod OnLines
+mod OnPages
+mod OnSaying

@@ -1,0 +1,13 @@
+//! What is wrong, in words: with path, line, the text there and the reason.
+#![tactic(auto)]
+
+mod events;
+mod header;
+mod line;
+mod lines;
+mod log;
+mod refused;
+mod saying;
+
+pub use header::{HeaderFault, header_fault_of};
+pub use saying::end_in_words;

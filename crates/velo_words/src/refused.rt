@@ -1,0 +1,482 @@
+//! What is said of an event of a log that is refused, or reads a wrong value.
+ghost use Rattle.std.specs.Prelude.{◌≡◌, ◌≤◌, ◌++◌, IfOk, OnOk, length};
+ghost use Rattle.velo_events.specs.Event.{value_of};
+ghost use Rattle.velo_events.specs.declared.limits.TheConstants.{MAX_EVENTS};
+ghost use Rattle.velo_words.specs.Refused.{at_line, bound_words, by_acquire, by_line, forked_words, full_words, held_words, holder_words, joined_words, kind_words, lock_acquired, not_live_words, own_words, plain_refusal, read_help, read_words, reason, refusal_help, refused_words, shown_event, since_words, thread_words, value_words, wrong_value_words};
+
+use crate::events::{Sought, last_of};
+use crate::lines::{add_line, add_text};
+use std::alloc::Global;
+use velo_events::{Bounds, Event, Kind, LockId, Memory, Refusal, ThreadId};
+use velo_explain::{Page, Piece};
+
+/// Adds what a thread does.
+#[tactic(auto, unfolding(crate::specs::Refused::kind_words))]
+fn add_kind(page: &mut Page, kind: Kind) -> Result<(), Memory>
+    ensures { OnOk result (page.new ≡ page.old ++ kind_words kind) }
+{
+    match kind {
+        Kind::Read(x, value) => page.add(&[
+            Piece::Text("reads "),
+            Piece::Number(value),
+            Piece::Text(" from variable "),
+            Piece::Number(u64::from(x.0)),
+        ]),
+        Kind::Write(x, value) => page.add(&[
+            Piece::Text("writes "),
+            Piece::Number(value),
+            Piece::Text(" to variable "),
+            Piece::Number(u64::from(x.0)),
+        ]),
+        Kind::Acquire(m) => {
+            page.add(&[Piece::Text("acquires lock "), Piece::Number(u64::from(m.0))])
+        }
+        Kind::Release(m) => {
+            page.add(&[Piece::Text("releases lock "), Piece::Number(u64::from(m.0))])
+        }
+        Kind::AcquireShared(m) => {
+            page.add(&[
+                Piece::Text("acquires a share of lock "),
+                Piece::Number(u64::from(m.0)),
+            ])
+        }
+        Kind::ReleaseShared(m) => {
+            page.add(&[
+                Piece::Text("releases a share of lock "),
+                Piece::Number(u64::from(m.0)),
+            ])
+        }
+        Kind::Begin(label) => {
+            page.add(&[
+                Piece::Text("begins block "),
+                Piece::Number(u64::from(label.0)),
+            ])
+        }
+        Kind::End => page.add(&[Piece::Text("ends a block")]),
+        Kind::Fork(u) => page.add(&[Piece::Text("forks thread "), Piece::Number(u64::from(u.0))]),
+        Kind::Join(u) => page.add(&[Piece::Text("joins thread "), Piece::Number(u64::from(u.0))]),
+        Kind::Exit => page.add(&[Piece::Text("exits")]),
+    }
+}
+
+/// Adds which thread it is.
+#[tactic(auto, unfolding(crate::specs::Refused::thread_words))]
+fn add_thread(page: &mut Page, thread: ThreadId) -> Result<(), Memory>
+    ensures { OnOk result (page.new ≡ page.old ++ thread_words thread) }
+{
+    page.add(&[
+        Piece::Text("thread "),
+        Piece::Number(u64::from(thread.0)),
+        Piece::Text(" "),
+    ])
+}
+
+/// Adds how many of something the header has.
+#[tactic(auto, unfolding(crate::specs::Refused::bound_words))]
+fn add_bound(page: &mut Page, count: u64, what: &str) -> Result<(), Memory>
+    ensures { OnOk result (page.new ≡ page.old ++ bound_words count what.now) }
+{
+    page.add(&[
+        Piece::Text(", but the header has "),
+        Piece::Number(count),
+        Piece::Text(" "),
+        Piece::Text(what),
+    ])
+}
+
+/// Adds words and a line, or those without one.
+#[tactic(auto, unfolding(crate::specs::Refused::at_line))]
+fn add_at_line(
+    page: &mut Page,
+    words: &str,
+    last: Option<(u64, Event)>,
+    without: &str,
+) -> Result<(), Memory>
+    ensures { OnOk result (page.new ≡ page.old ++ at_line words.now last without.now) }
+{
+    match last {
+        Some((line, _)) => page.add(&[Piece::Text(words), Piece::Number(line)]),
+        None => add_text(page, without),
+    }
+}
+
+/// Adds what a line did, or the words without one.
+#[tactic(auto, unfolding(crate::specs::Refused::by_line))]
+fn add_by_line(
+    page: &mut Page,
+    last: Option<(u64, Event)>,
+    words: &str,
+    without: &str,
+) -> Result<(), Memory>
+    ensures { OnOk result (page.new ≡ page.old ++ by_line last words.now without.now) }
+{
+    match last {
+        Some((line, _)) => page.add(&[
+            Piece::Text(", which line "),
+            Piece::Number(line),
+            Piece::Text(words),
+        ]),
+        None => add_text(page, without),
+    }
+}
+
+/// Adds which thread holds a lock since when.
+#[tactic(auto, unfolding(crate::specs::Refused::since_words))]
+fn add_since(page: &mut Page, line: u64, thread: ThreadId) -> Result<(), Memory>
+    ensures { OnOk result (page.new ≡ page.old ++ since_words line thread) }
+{
+    page.add(&[
+        Piece::Text(", which thread "),
+        Piece::Number(u64::from(thread.0)),
+        Piece::Text(" holds since line "),
+        Piece::Number(line),
+    ])
+}
+
+/// Adds who holds a lock since when, by the last operation on it, or the words where nobody does.
+fn add_by_acquire(
+    page: &mut Page,
+    line: u64,
+    thread: ThreadId,
+    kind: Kind,
+    without: &str,
+) -> Result<(), Memory>
+    ensures { OnOk result (page.new ≡ page.old ++ by_acquire line thread kind without.now) }
+{
+    match kind {
+        Kind::Acquire(_) => add_since(page, line, thread),
+        _ => add_text(page, without),
+    }
+}
+
+/// Adds who holds a lock since when, by the last operation on it, or the words where there is none.
+fn add_holder(page: &mut Page, last: Option<(u64, Event)>, without: &str) -> Result<(), Memory>
+    ensures { OnOk result (page.new ≡ page.old ++ holder_words last without.now) }
+{
+    match last {
+        Some((line, event)) => add_by_acquire(page, line, event.thread, event.kind, without),
+        None => add_text(page, without),
+    }
+}
+
+/// The value that an operation reads or writes, or 0.
+fn value_of(kind: Kind) -> u64
+    ensures { result ≡ value_of kind }
+{
+    match kind {
+        Kind::Read(_, value) | Kind::Write(_, value) => value,
+        _ => 0,
+    }
+}
+
+/// Adds which value a variable has since when, by its last write.
+#[tactic(auto, unfolding(crate::specs::Refused::value_words))]
+fn add_value(page: &mut Page, last: Option<(u64, Event)>) -> Result<(), Memory>
+    ensures { OnOk result (page.new ≡ page.old ++ value_words last) }
+{
+    match last {
+        Some((line, event)) => page.add(&[
+            Piece::Text(", but its value is "),
+            Piece::Number(value_of(event.kind)),
+            Piece::Text(" since line "),
+            Piece::Number(line),
+        ]),
+        None => page.add(&[Piece::Text(", but its value is 0, as no line before writes it")]),
+    }
+}
+
+/// Adds why a thread is not running.
+#[tactic(auto, unfolding(crate::specs::Refused::not_live_words))]
+fn add_not_live(
+    page: &mut Page,
+    bounds: Bounds,
+    before: &[Event],
+    thread: ThreadId,
+) -> Result<(), Memory>
+    requires { length before.now ≤ MAX_EVENTS }
+    ensures { OnOk result (page.new ≡ page.old ++ not_live_words bounds before.now thread) }
+{
+    if bounds.threads <= thread.0 {
+        return add_bound(page, u64::from(bounds.threads), "threads");
+    }
+    let last = last_of(before, Sought::Exit(thread));
+    add_at_line(
+        page,
+        ", but exited in line ",
+        last,
+        ", but no line before forks it",
+    )
+}
+
+/// Adds who holds the lock of an operation, or the words where nobody does.
+fn add_held(page: &mut Page, before: &[Event], kind: Kind, without: &str) -> Result<(), Memory>
+    requires { length before.now ≤ MAX_EVENTS }
+    ensures { OnOk result (page.new ≡ page.old ++ held_words before.now kind without.now) }
+{
+    match kind {
+        Kind::Acquire(m) | Kind::AcquireShared(m) | Kind::Release(m) => {
+            add_holder(page, last_of(before, Sought::OnLock(m)), without)
+        }
+        _ => add_text(page, without),
+    }
+}
+
+/// The lock that an operation acquires, if it acquires one.
+fn lock_acquired(kind: Kind) -> Option<LockId>
+    ensures { result ≡ lock_acquired kind }
+{
+    match kind {
+        Kind::Acquire(m) | Kind::AcquireShared(m) => Some(m),
+        _ => None,
+    }
+}
+
+/// Adds since when a thread holds a lock.
+fn add_own(
+    page: &mut Page,
+    before: &[Event],
+    thread: ThreadId,
+    lock: Option<LockId>,
+) -> Result<(), Memory>
+    requires { length before.now ≤ MAX_EVENTS }
+    ensures { OnOk result (page.new ≡ page.old ++ own_words before.now thread lock) }
+{
+    match lock {
+        Some(m) => {
+            let last = last_of(before, Sought::Acquire(thread, m));
+            add_at_line(
+                page,
+                ", which it holds since line ",
+                last,
+                ", which it holds",
+            )
+        }
+        None => add_text(page, ", which it holds"),
+    }
+}
+
+/// Adds which line forks the thread of a fork.
+fn add_forked(page: &mut Page, before: &[Event], kind: Kind) -> Result<(), Memory>
+    requires { length before.now ≤ MAX_EVENTS }
+    ensures { OnOk result (page.new ≡ page.old ++ forked_words before.now kind) }
+{
+    match kind {
+        Kind::Fork(u) => {
+            let last = last_of(before, Sought::Fork(u));
+            add_by_line(page, last, " forks", ", which runs from the start")
+        }
+        _ => Ok(()),
+    }
+}
+
+/// Adds which line joins the thread of a join.
+fn add_joined(page: &mut Page, before: &[Event], kind: Kind) -> Result<(), Memory>
+    requires { length before.now ≤ MAX_EVENTS }
+    ensures { OnOk result (page.new ≡ page.old ++ joined_words before.now kind) }
+{
+    match kind {
+        Kind::Join(u) => add_by_line(page, last_of(before, Sought::Join(u)), " joins", ""),
+        _ => Ok(()),
+    }
+}
+
+/// Adds how many events the log may have.
+#[tactic(auto, unfolding(crate::specs::Refused::full_words))]
+fn add_full(page: &mut Page, count: usize) -> Result<(), Memory>
+    ensures { OnOk result (page.new ≡ page.old ++ full_words count) }
+{
+    page.add(&[
+        Piece::Text(", but the log may have no more than "),
+        Piece::Number(count as u64),
+        Piece::Text(" events"),
+    ])
+}
+
+/// The reason of a refusal that needs no other line.
+fn plain_refusal(refusal: Refusal) -> &'static str
+    ensures { result.now ≡ plain_refusal refusal }
+{
+    match refusal {
+        Refusal::NoOpenBlock => ", but has no block open",
+        Refusal::TooDeep => ", but has 32 blocks open, as many as there may be",
+        Refusal::NotForked => ", which no line before forks",
+        Refusal::NotExited => ", which has not exited",
+        Refusal::BlockOpen => ", but has a block open",
+        Refusal::LockHeld => ", but holds a lock",
+        Refusal::GraphFull => ", but no node of the graph is free",
+        _ => "",
+    }
+}
+
+/// Adds the reason of a refusal that needs no other line.
+fn add_plain_refusal(page: &mut Page, refusal: Refusal) -> Result<(), Memory>
+    ensures { OnOk result (page.new ≡ page.old ++ plain_refusal refusal) }
+{
+    add_text(page, plain_refusal(refusal))?;
+    Ok(())
+}
+
+/// Adds why an event is refused after those before it.
+fn add_reason(
+    page: &mut Page,
+    bounds: Bounds,
+    before: &[Event],
+    event: Event,
+    refusal: Refusal,
+) -> Result<(), Memory>
+    requires { length before.now ≤ MAX_EVENTS }
+    ensures { OnOk result (page.new ≡ page.old ++ reason bounds before.now event refusal) }
+{
+    match refusal {
+        Refusal::NotLive => add_not_live(page, bounds, before, event.thread),
+        Refusal::NoSuchVariable => add_bound(page, u64::from(bounds.variables), "variables"),
+        Refusal::NoSuchLock => add_bound(page, u64::from(bounds.locks), "locks"),
+        Refusal::NoSuchThread => add_bound(page, u64::from(bounds.threads), "threads"),
+        Refusal::Busy => add_held(page, before, event.kind, ", of which others hold a share"),
+        Refusal::AlreadyHeld => add_own(page, before, event.thread, lock_acquired(event.kind)),
+        Refusal::NotHolder => add_held(page, before, event.kind, ", which it does not hold"),
+        Refusal::AlreadyForked => add_forked(page, before, event.kind),
+        Refusal::AlreadyJoined => add_joined(page, before, event.kind),
+        Refusal::LogFull => add_full(page, before.len()),
+        _ => add_plain_refusal(page, refusal),
+    }
+}
+
+/// What to do about a refusal.
+fn refusal_help(refusal: Refusal) -> &'static str
+    ensures { result.now ≡ refusal_help refusal }
+{
+    match refusal {
+        Refusal::NotLive => {
+            "help: a line `T fork U` is to stand before the first event of thread U\n"
+        }
+        Refusal::NoSuchVariable | Refusal::NoSuchLock | Refusal::NoSuchThread => {
+            "help: the header is `vlog 2 THREADS VARIABLES LOCKS`\n"
+        }
+        Refusal::AlreadyHeld => "help: write down the outermost acquire and release only\n",
+        Refusal::LogFull => "help: raise the limit: see --events\n",
+        Refusal::GraphFull => "help: raise the limit: see --nodes\n",
+        _ => "",
+    }
+}
+
+/// Adds what to do about a refusal.
+fn add_refusal_help(page: &mut Page, refusal: Refusal) -> Result<(), Memory>
+    ensures { OnOk result (page.new ≡ page.old ++ refusal_help refusal) }
+{
+    add_text(page, refusal_help(refusal))?;
+    Ok(())
+}
+
+/// Adds the line of an event after four spaces.
+#[tactic(auto, unfolding(crate::specs::Refused::shown_event))]
+fn add_event(page: &mut Page, event: Event) -> Result<(), Memory>
+    ensures { OnOk result (page.new ≡ page.old ++ shown_event event) }
+{
+    page.add(&[
+        Piece::Text("\n    "),
+        Piece::Words(event),
+        Piece::Text("\n"),
+    ])
+}
+
+/// Adds what is said of an event that is refused after those before it.
+fn add_refused(
+    page: &mut Page,
+    path: &str,
+    bounds: Bounds,
+    before: &[Event],
+    event: Event,
+    refusal: Refusal,
+) -> Result<(), Memory>
+    requires { length before.now ≤ MAX_EVENTS }
+    ensures { OnOk result
+        (page.new ≡ page.old ++ refused_words path.now bounds before.now event refusal) }
+{
+    add_line(page, path, before.len() + 2)?;
+    add_thread(page, event.thread)?;
+    add_kind(page, event.kind)?;
+    add_reason(page, bounds, before, event, refusal)?;
+    add_event(page, event)?;
+    add_refusal_help(page, refusal)?;
+    Ok(())
+}
+
+/// What is said of an event that is refused after those before it.
+///
+/// # Errors
+/// `Memory` if an allocation failed.
+pub fn refused_words(
+    alloc: Global,
+    path: &str,
+    bounds: Bounds,
+    before: &[Event],
+    event: Event,
+    refusal: Refusal,
+) -> Result<Page, Memory>
+    requires { length before.now ≤ MAX_EVENTS }
+    ensures { IfOk result (λ page. page ≡ refused_words path.now bounds before.now event refusal) }
+{
+    let mut page = Page::new(alloc);
+    add_refused(&mut page, path, bounds, before, event, refusal)?;
+    Ok(page)
+}
+
+/// Adds the value that a variable has in place of the one that was read.
+fn add_read(page: &mut Page, before: &[Event], kind: Kind) -> Result<(), Memory>
+    requires { length before.now ≤ MAX_EVENTS }
+    ensures { OnOk result (page.new ≡ page.old ++ read_words before.now kind) }
+{
+    match kind {
+        Kind::Read(x, _) => add_value(page, last_of(before, Sought::Write(x))),
+        _ => Ok(()),
+    }
+}
+
+/// Adds what to do about a wrong value.
+#[tactic(auto, unfolding(crate::specs::Refused::read_help))]
+fn add_read_help(page: &mut Page) -> Result<(), Memory>
+    ensures { OnOk result (page.new ≡ page.old ++ read_help) }
+{
+    page.add(&[Piece::Text(
+        "help: is a write missing, or do an access and its line stand in two holds of the recorder's lock?\n",
+    )])
+}
+
+/// Adds what is said of an event that reads a wrong value after the events before it.
+fn add_wrong_value(
+    page: &mut Page,
+    path: &str,
+    before: &[Event],
+    event: Event,
+) -> Result<(), Memory>
+    requires { length before.now ≤ MAX_EVENTS }
+    ensures { OnOk result (page.new ≡ page.old ++ wrong_value_words path.now before.now event) }
+{
+    add_line(page, path, before.len() + 2)?;
+    add_thread(page, event.thread)?;
+    add_kind(page, event.kind)?;
+    add_read(page, before, event.kind)?;
+    add_event(page, event)?;
+    add_read_help(page)?;
+    Ok(())
+}
+
+/// What is said of an event that reads a value that its variable does not have after the events
+/// before it.
+///
+/// # Errors
+/// `Memory` if an allocation failed.
+pub fn wrong_value_words(
+    alloc: Global,
+    path: &str,
+    before: &[Event],
+    event: Event,
+) -> Result<Page, Memory>
+    requires { length before.now ≤ MAX_EVENTS }
+    ensures { IfOk result (λ page. page ≡ wrong_value_words path.now before.now event) }
+{
+    let mut page = Page::new(alloc);
+    add_wrong_value(&mut page, path, before, event)?;
+    Ok(page)
+}

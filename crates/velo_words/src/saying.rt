@@ -1,0 +1,177 @@
+//! What a command says of its end, before its last line.
+ghost use Rattle.std.specs.Prelude.{◌≡◌, ◌≤◌, ◌++◌, IfOk, IfSome, None, Some, if◌then◌else◌, length, option_map};
+ghost use Rattle.velo_delivery.specs.Writing.{writing};
+ghost use Rattle.velo_events.specs.declared.limits.TheConstants.{MAX_EVENTS};
+ghost use Rattle.velo_fate.specs.Fate.{Closes, line_of, status_of};
+ghost use Rattle.velo_words.specs.Saying.{EndsInWords, IsSaid, IsTextAt, SaysEvent, SaysLog, event_words, log_of};
+
+use crate::events::events_up_to;
+use crate::log::log_words;
+use crate::refused::{refused_words, wrong_value_words};
+use std::alloc::Global;
+use velo_bytes::{Bytes, Sink, WriteFault, write_all};
+use velo_delivery::Files;
+use velo_events::{Bounds, Event, Memory, Refusal};
+use velo_explain::Page;
+use velo_fate::{CheckFault, Fate, end_with, read_file};
+use velo_logtext::LogFault;
+use velo_request::Request;
+use velo_request::status::FAILED;
+
+/// The path where words are asked for.
+fn if_asked(why: bool, path: &str) -> Option<&str>
+    ensures { option_map (λ path. path.now) result ≡ (if why then Some path.now else None) }
+{
+    if why { Some(path) } else { None }
+}
+
+/// The path of the log whose faults are said in words, if the request has one.
+fn log_of<'a>(request: &Request<'a>) -> Option<&'a str>
+    ensures { option_map (λ path. path.now) result ≡ log_of request.now }
+{
+    match request {
+        Request::Explain(options) => Some(options.input),
+        Request::Watch(options) => Some(options.input),
+        Request::WatchEndless(options) => Some(options.input),
+        Request::Audit(options) => Some(options.input),
+        Request::Thin(options) => Some(options.input),
+        Request::Predict(options) => Some(options.input),
+        Request::Check(options) => if_asked(options.why, options.input),
+        Request::Carry(options) => if_asked(options.why, options.input),
+        Request::Replay(_) | Request::Run(_) | Request::Explore(_) => None,
+    }
+}
+
+/// The most bytes that are read to say what is wrong with a line: as many as the lines up to it can
+/// have, and some more.
+fn most_up_to(line: usize) -> usize {
+    line.saturating_mul(65).saturating_add(128)
+}
+
+/// The last line that is read to say what a fault is.
+fn last_line_of(fault: LogFault) -> usize {
+    match fault {
+        LogFault::BadLine(n) | LogFault::Truncated(n) => n,
+        _ => 1,
+    }
+}
+
+/// What is said of a fault of the log at a path, whose bytes are read again. Only what is known to be
+/// a file is opened, as another thing could keep its reader waiting.
+fn words_of_log<F: Files>(alloc: Global, path: &str, fault: LogFault, files: &F) -> Option<Page>
+    ensures { IfSome result (SaysLog (F.disk files.now) path.now fault) }
+{
+    if !files.are_one(path, path) {
+        return None;
+    }
+    match read_file(alloc, path, most_up_to(last_line_of(fault)), files) {
+        Ok(bytes) => match log_words(alloc, path, &bytes, fault) {
+            Ok(page) => Some(page),
+            Err(_) => None,
+        },
+        Err(_) => None,
+    }
+}
+
+/// What is said of an event that is refused, or else reads a wrong value.
+fn event_words(
+    alloc: Global,
+    path: &str,
+    refusal: Option<Refusal>,
+    bounds: Bounds,
+    before: &[Event],
+    event: Event,
+) -> Result<Page, Memory>
+    requires { length before.now ≤ MAX_EVENTS }
+    ensures { IfOk result (λ page. page ≡ event_words path.now refusal bounds before.now event) }
+{
+    match refusal {
+        Some(refusal) => refused_words(alloc, path, bounds, before, event, refusal),
+        None => wrong_value_words(alloc, path, before, event),
+    }
+}
+
+/// What is said of the event at a position, by the bytes of its log.
+fn words_in(
+    alloc: Global,
+    path: &str,
+    bytes: &[u8],
+    position: usize,
+    refusal: Option<Refusal>,
+) -> Option<Page>
+    ensures { IfSome result (IsTextAt path.now refusal position bytes.now) }
+{
+    let mut source = Bytes::new(bytes);
+    let (bounds, trace, event) = events_up_to(alloc, &mut source, position)?;
+    match event_words(alloc, path, refusal, bounds, trace.as_slice(), event) {
+        Ok(page) => Some(page),
+        Err(_) => None,
+    }
+}
+
+/// What is said of the event at a position of the log at a path, whose bytes are read again.
+fn words_of_event<F: Files>(
+    alloc: Global,
+    path: &str,
+    position: usize,
+    refusal: Option<Refusal>,
+    files: &F,
+) -> Option<Page>
+    ensures { IfSome result (SaysEvent (F.disk files.now) path.now refusal position) }
+{
+    if !files.are_one(path, path) {
+        return None;
+    }
+    match read_file(alloc, path, most_up_to(position.saturating_add(2)), files) {
+        Ok(bytes) => words_in(alloc, path, &bytes, position, refusal),
+        Err(_) => None,
+    }
+}
+
+/// What is said of a fate, if there is something to say.
+fn words_of<F: Files>(alloc: Global, request: &Request, fate: Fate, files: &F) -> Option<Page>
+    ensures { IfSome result (IsSaid (F.disk files.now) request.now fate) }
+{
+    match fate {
+        Fate::Check(CheckFault::Log(fault)) => {
+            words_of_log(alloc, log_of(request)?, fault, files)
+        }
+        Fate::Check(CheckFault::Refused { position, refusal }) => {
+            words_of_event(alloc, log_of(request)?, position, Some(refusal), files)
+        }
+        Fate::Check(CheckFault::WrongValue { position }) => {
+            words_of_event(alloc, log_of(request)?, position, None, files)
+        }
+        _ => None,
+    }
+}
+
+/// Writes the words, and then reports how a run ended.
+fn end_after<E: Sink>(words: &[u8], fate: &Fate, err: &mut E) -> u8
+    ensures { Closes (status_of fate.now) (words.now ++ line_of fate.now)
+        (writing E.contents E.failures err.old err.new) result }
+{
+    match write_all(err, words) {
+        Ok(()) => end_with(fate, err),
+        Err(WriteFault) => FAILED,
+    }
+}
+
+/// Reports how a run ended, in words before the line where the request asks for them and they can be
+/// had, and returns the status to end with: that of `end_line`, or [`FAILED`] where what is to be
+/// written could not be written.
+pub fn end_in_words<F: Files, E: Sink>(
+    alloc: Global,
+    request: &Request,
+    fate: &Fate,
+    files: &F,
+    err: &mut E,
+) -> u8
+    ensures { EndsInWords (F.disk files.now) request.now fate.now
+        (writing E.contents E.failures err.old err.new) result }
+{
+    match words_of(alloc, request, *fate, files) {
+        Some(page) => end_after(page.as_slice(), fate, err),
+        None => end_with(fate, err),
+    }
+}
