@@ -12,16 +12,16 @@ use Rattle.velo_fate.specs.declared.fate.Fate.TheVariants as fate
 use Rattle.velo_fate.specs.declared.fault.CheckFault.TheVariants as check_fault
 use Rattle.velo_logtext.specs.declared.fault.LogFault.{LogFault}
 use Rattle.velo_request.specs.declared.request.Request.{Request}
-use Rattle.velo_request.specs.declared.request.Request.TheVariants.{Audit, Carry, Check, Explain, Predict, Thin, Watch, WatchEndless}
+use Rattle.velo_request.specs.declared.request.Request.TheVariants.{Audit, Carry, Check, Explain, Predict, Thin, Watch}
 use Rattle.velo_words.specs.Events.{HasEvent}
 use Rattle.velo_words.specs.Log.{log_words}
 use Rattle.velo_words.specs.Refused.{refused_words, wrong_value_words}
 
--- the path of the log whose faults are said in words, if the request has one
+-- the path of the log whose faults are said in words, if the request has one. A log that is watched
+-- without an end can be longer than others may be: its limits are other ones
 abbrev pub log_of : Request → Option (List ℕ)
 log_of (Explain options) = Some options.input.now
 log_of (Watch options) = Some options.input.now
-log_of (WatchEndless options) = Some options.input.now
 log_of (Audit options) = Some options.input.now
 log_of (Thin options) = Some options.input.now
 log_of (Predict options) = Some options.input.now

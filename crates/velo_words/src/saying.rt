@@ -32,13 +32,13 @@ fn log_of<'a>(request: &Request<'a>) -> Option<&'a str>
     match request {
         Request::Explain(options) => Some(options.input),
         Request::Watch(options) => Some(options.input),
-        Request::WatchEndless(options) => Some(options.input),
         Request::Audit(options) => Some(options.input),
         Request::Thin(options) => Some(options.input),
         Request::Predict(options) => Some(options.input),
         Request::Check(options) => if_asked(options.why, options.input),
         Request::Carry(options) => if_asked(options.why, options.input),
-        Request::Replay(_) | Request::Run(_) | Request::Explore(_) => None,
+        Request::Replay(_) | Request::Run(_) | Request::Explore(_) | Request::WatchEndless(_) =>
+            None,
     }
 }
 
