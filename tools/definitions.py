@@ -49,14 +49,16 @@ PARTS = [
         "velo_audit_text": "Text",
         "velo_list": "Line* Known* List"}),
     ("What one log says of other schedules", {
-        "velo_predict": "Predictions* Deadlocks* Feasible*"}),
+        "velo_predict": "Predictions* Deadlocks* Feasible* Differences* Waits",
+        "velo_delays": "Anew* Differing* Found* Deadlock*",
+        "velo_predict_text": "Text"}),
     ("Laws of logs", {
         "velo_laws": "Cut* Restart* Renumber Ordered* Repeats*",
         "velo_renew": "Renewal*",
         "velo_races": "Races*"}),
     ("What the program does", {
         "velo_program": "Program* Causes",
-        "velo_log_commands": "Commands* Check Explaining Carrying",
+        "velo_log_commands": "Commands* Check Explaining Carrying Predicting",
         "velo_workload_commands": "Commands* Scheduling Playing ByChance Exploring*",
         "velo_fate": "Verdict Format Delivery Barred Fate Failures Causes",
         "velo_delivery": "Disk Reading Writing Answers",

@@ -277,37 +277,54 @@ def without(events, labels):
     return rest
 
 
-def unforetold(events, trace):
-    """Why the log does not foretell the trace, and how many reads of it differ."""
-    scripts = {}
-    for t, event in events:
-        scripts.setdefault(t, []).append(event)
-    done, unsure, turned, loose, values, holders, differ = {}, set(), set(), False, {}, {}, 0
-    for position, (t, event) in enumerate(trace):
-        if event[0] == READ and values.get(event[1], 0) != event[2]:
-            return f"event {position} reads what was not written", 0
-        if event[0] == ACQUIRE and holders.get(event[1]) is not None or event[0] == RELEASE and holders.get(event[1]) != t:
-            return f"event {position} cannot happen", 0
-        if event[0] == WRITE:
-            values[event[1]] = event[2]
+class Wrong(Exception):
+    """Why something that was told is wrong."""
+
+
+class Judge:
+    """How the threads of a trace stand that a log foretells so far."""
+
+    def __init__(self, events):
+        self.scripts, self.done, self.values, self.holders = {}, {}, {}, {}
+        for t, event in events:
+            self.scripts.setdefault(t, []).append(event)
+        self.turned, self.unsure, self.loose, self.differ = set(), set(), False, 0
+
+    def next(self, t):
+        """The thread's next event in the log, if what it does is known."""
+        script, place = self.scripts.get(t, []), self.done.get(t, 0)
+        return script[place] if t not in self.unsure and place < len(script) else None
+
+    def take(self, t, event):
+        if event[0] == READ and self.values.get(event[1], 0) != event[2]:
+            raise Wrong(f"{t} {event} reads what was not written")
         if event[0] in (ACQUIRE, RELEASE):
-            holders[event[1]] = t if event[0] == ACQUIRE else None
-        if t in unsure:
+            if self.holders.get(event[1]) != (None if event[0] == ACQUIRE else t):
+                raise Wrong(f"{t} {event} cannot happen")
+            self.holders[event[1]] = t if event[0] == ACQUIRE else None
+        if event[0] == WRITE:
+            self.values[event[1]] = event[2]
+        if t in self.unsure:
             if event[0] != RELEASE:
-                return f"event {position}: its thread goes on", 0
-            loose = loose or t in turned
-            continue
-        place = done.get(t, 0)
-        theirs = scripts.get(t, [])[place:place + 1]
-        if not theirs or theirs[0] != event and (theirs[0][:2] != event[:2] or event[0] != READ):
-            return f"event {position} is not the next of its thread", 0
-        done[t] = place + 1
-        if theirs[0] != event:
-            differ += 1
-            turned.add(t)
-        if theirs[0] != event or loose and event[0] == READ:
-            unsure.add(t)
-    return None, differ
+                raise Wrong(f"{t} {event}: its thread goes on")
+            self.loose = self.loose or t in self.turned
+            return
+        theirs = self.next(t)
+        if theirs != event and (theirs is None or event[0] != READ or theirs[:2] != event[:2]):
+            raise Wrong(f"{t} {event} is not the next of its thread")
+        self.done[t] = self.done.get(t, 0) + 1
+        if theirs != event:
+            self.differ += 1
+            self.turned.add(t)
+        if theirs != event or self.loose and event[0] == READ:
+            self.unsure.add(t)
+
+    def wait(self, t, event, other):
+        """The thread waits to do the event for the other one."""
+        if self.next(t) != event:
+            raise Wrong(f"thread {t} does not wait at {event}")
+        if other != (self.holders.get(event[1]) if event[0] == ACQUIRE else event[1]):
+            raise Wrong(f"thread {t} does not wait for {other}")
 
 
 # ---- the program under test
@@ -318,57 +335,62 @@ def text_of(shape, events):
     return "\n".join(lines + [" ".join(map(str, (t, *event))) for t, event in events]) + "\n"
 
 
-def events_of(text):
-    lines = [line.split() for line in text.splitlines()[1:]]
-    return [(int(words[0]), (words[1], *map(int, words[2:]))) for words in lines]
-
-
 def ran(*words):
     done = subprocess.run(words, capture_output=True, text=True, timeout=60)
     return done.returncode, done.stdout, done.stderr
 
 
+def event_of(text):
+    words = text.split()
+    return int(words[0]), (words[1], *map(int, words[2:]))
+
+
 def told_by(text):
-    """The labels of the log itself, those without a block to blame, those of the first prediction, its lines, and the deadlocks."""
-    own, idle, blamed, first, deadlocks = [], [], [], [], []
+    """The labels of the log itself, those of rounds without a block to blame, and the lines of each prediction."""
+    own, idle, predictions, before = [], [], [], ""
     for line in text.splitlines():
-        if line.startswith("not atomic? "):
-            if first and not first[-1].startswith("not atomic? "):
-                break
-            blamed.append(int(line.split()[2]))
-            first.append(line)
-        elif first:
-            first.append(line)
+        if line.startswith("deadlock? ") or line.startswith("not atomic? ") and not before.startswith("not atomic? "):
+            predictions.append([line])
+        elif predictions and not line.startswith("nothing "):
+            predictions[-1].append(line)
         elif line.startswith("not atomic "):
             own.append(int(line.split()[2]))
         elif line == "  no block alone is to blame":
             idle.append(own.pop())
-        elif line.startswith("deadlock? "):
-            deadlocks.append(line)
-    return own, idle, blamed, first, deadlocks
+        before = line
+    return own, idle, predictions
 
 
-def wrong_witness(exe, shape, events, left, values, blamed, first, out):
-    """Why the witness at the path is not what was told."""
-    trace = events_of(open(out, encoding="utf-8").read())
-    log = without(events if values else renewed(events), left)
-    why, differ = unforetold(log, trace)
-    if why:
-        return why
-    if differ != sum(line.startswith("  line ") for line in first) or f"  witness {len(trace)} events" not in first:
-        return "other reads or events are told"
+def labels_of(prediction):
+    return [int(line.split()[2]) for line in prediction if line.startswith("not atomic? ")]
+
+
+def see_witness(exe, log, prediction, out):
+    """Sees that the log at the path is a witness of what was told."""
+    trace = [event_of(line) for line in open(out, encoding="utf-8").read().splitlines()[1:]]
+    judge = Judge(log)
+    for t, event in trace:
+        judge.take(t, event)
+    reads = [line for line in prediction if line.startswith("  line ") and line.endswith(" in the log")]
+    if judge.differ != len(reads) or f"  witness {len(trace)} events" not in prediction:
+        raise Wrong("other reads or events are told")
     status, text, fault = ran(exe, "check", out)
     report = [line.split() for line in text.splitlines()]
-    closing = next(int(line.split()[1]) - 2 for line in first if line.startswith("  Line "))
-    if status != 3 or ["verdict", "alarm", str(closing)] not in report:
-        return f"check says otherwise: {text}{fault}"
-    if [int(words[2]) for words in report if words[0] == "blame"] != blamed:
-        return f"check blames others: {text}"
-    return None
+    if labels_of(prediction):
+        closing = next(int(line.split()[1]) - 2 for line in prediction if line.startswith("  Line "))
+        blamed = [int(words[2]) for words in report if words[0] == "blame" and words[1] != "none"]
+        if status != 3 or ["verdict", "alarm", str(closing)] not in report or blamed != labels_of(prediction):
+            raise Wrong(f"check says otherwise: {text}{fault}")
+        return
+    circle = [event_of(line.split("`")[1]) for line in prediction if " waits at `" in line]
+    for place, (t, event) in enumerate(circle):
+        judge.wait(t, event, circle[(place + 1) % len(circle)][0])
+    if status not in (0, 3) or len(circle) != int(prediction[0].split()[1]):
+        raise Wrong(f"check does not take the witness: {text}{fault}")
 
 
 def tell_all(exe, shape, events, values, folder):
-    """The labels and whether a deadlock is told of a log, and what is wrong with it."""
+    """The labels that are told of a log, whether a deadlock is, and how many witnesses were seen."""
     log, out, known = (os.path.join(folder, name) for name in ("a.log", "b.log", "known"))
     open(log, "w", encoding="utf-8").write(text_of(shape, events))
     left, told, circle, witnesses = [], set(), False, 0
@@ -377,20 +399,25 @@ def tell_all(exe, shape, events, values, folder):
         if os.path.exists(out):
             os.remove(out)
         status, text, fault = ran(exe, "predict", log, "--log", out, "--not-atomic", known, *(["--values"] if values else []))
-        if status not in (0, 3) or not text.splitlines()[-1].endswith(" tries"):
-            return told, circle, witnesses, f"status {status}: {text}{fault}"
-        own, idle, blamed, first, deadlocks = told_by(text)
-        if (status == 3) != bool(own or idle or blamed or deadlocks) or os.path.exists(out) != bool(blamed):
-            return told, circle, witnesses, f"status {status}: {text}"
-        circle = circle or bool(deadlocks)
-        if not blamed:
-            return told | set(own), circle, witnesses, None
-        witnesses += 1
-        why = wrong_witness(exe, shape, events, left + own + idle, values, blamed, first, out)
-        if why:
-            return told, circle, witnesses, f"{why}\n{text}"
-        told |= set(own) | set(blamed)
-        left += [label for label in own + idle + blamed if label not in left]
+        own, idle, predictions = told_by(text)
+        if status != (3 if own or idle or predictions else 0) or os.path.exists(out) != bool(predictions):
+            raise Wrong(f"status {status}: {text}{fault}")
+        if not text.endswith(" tries\n"):
+            raise Wrong(f"no end: {text}")
+        circle = circle or any(it[0].startswith("deadlock? ") for it in predictions)
+        told |= set(own)
+        if predictions:
+            witnesses += 1
+            try:
+                see_witness(exe, without(events if values else renewed(events), left + own + idle), predictions[0], out)
+            except Wrong as wrong:
+                raise Wrong(f"{wrong}\n{text}") from None
+        if not predictions or not labels_of(predictions[0]):
+            return told, circle, witnesses
+        blamed = [label for prediction in predictions for label in labels_of(prediction)]
+        told |= set(blamed)
+        first = labels_of(predictions[0])
+        left += [label for label in own + idle + first if label not in left]
 
 
 def main(words):
@@ -399,7 +426,8 @@ def main(words):
         return 2
     exe, count = os.path.abspath(words[0]), int(words[1]) if len(words) > 1 else 1000
     draw = random.Random(words[2] if len(words) > 2 else "1")
-    failed = programs = wrong = logs = witnesses = blamable = found = 0
+    failed = programs = logs = witnesses = 0
+    counts = 0, 0, 0, 0
     with tempfile.TemporaryDirectory() as folder:
         while programs < count or logs < count:
             truth = None
@@ -414,19 +442,19 @@ def main(words):
                 shape, events = drawn(draw)
                 logs += 1
             for values in (False, True):
-                told, circle, some, why = tell_all(exe, shape, events, values, folder)
-                witnesses += some
-                if truth and not why and (told - truth[0] or circle and not truth[1]):
-                    wrong += 1
-                    why = f"told {sorted(told)} {circle}, but runs show {sorted(truth[0])} {truth[1]}"
-                if truth and not values:
-                    blamable += len(truth[0])
-                    found += len(told)
-                if why:
+                try:
+                    told, circle, some = tell_all(exe, shape, events, values, folder)
+                    witnesses += some
+                    if truth and (told - truth[0] or circle and not truth[1]):
+                        raise Wrong(f"told {sorted(told)} {circle}, but runs show {sorted(truth[0])} {truth[1]}")
+                except Wrong as wrong:
                     failed += 1
-                    print(text_of(shape, events) + why, "with --values" if values else "", flush=True)
-    print(f"{programs} programs, {blamable} labels to blame, {found} told from one log each, wrong in {wrong}")
-    print(f"{logs} logs by chance; {witnesses} witnesses in all")
+                    print(text_of(shape, events) + str(wrong), "with --values" if values else "", flush=True)
+                    continue
+                if truth and not values:
+                    counts = counts[0] + len(truth[0]), counts[1] + len(told), counts[2] + truth[1], counts[3] + circle
+    print("%d labels are to blame, %d were told from one log each; %d programs come to a circle, %d were told" % counts)
+    print(f"{programs} programs, {logs} logs by chance, {witnesses} witnesses")
     print(f"{2 * (programs + logs) - failed} passed, {failed} failed")
     return 1 if failed else 0
 

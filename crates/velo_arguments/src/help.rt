@@ -395,15 +395,17 @@ run, with status 3. 'velodrome explain witness.log' shows how.
 
 It reads and judges the whole log first, and finds the labels that are not atomic in this run, as
 'velodrome audit' does. Then it looks for more that are not atomic in other runs of the same program: it
-delays one thread within a block, or two, and lets the others go on. A witness is such an order that the
+delays one thread within a block, or two, and lets the others go on. It also stops one where it has a
+lock and acquires another, in search of deadlocks. A witness is such an order that the
 program is known to have: each thread does what it did in the log while it reads what it read there;
 after a read of another value it is only known to release the locks that it holds. The labels that a
 witness blames are left out in the next round. The last round finds nothing.
 
 It prints what 'velodrome audit' prints, up to the last witness. Then come for each prediction
 'not atomic? L' for each block to blame, 'witness N events', a line for each read that had another value
-in the log, and the cycle. Lines are those of the witness. The last line is 'nothing found in N tries',
-or 'nothing else found in N tries': it never says that there is nothing.
+in the log, and the cycle. Lines are those of the witness. 'deadlock? N threads wait in a circle' is
+followed by such lines, too, and by what each thread waits to do. The last line is
+'nothing found in N tries', or 'nothing else found in N tries': it never says that there is nothing.
 
 Predictions are right for a program whose threads do what follows from what they read, whose critical
 sections end, and of which the log has every read. So do not thin the log. Without --values two reads
@@ -423,7 +425,7 @@ Statuses, each with the lines on standard error:
      'wrong value at P'; the text of --names is no file of names: 'names fault K line N'; the text of
      --not-atomic is no list: 'list fault K line N'; a word of --ignore-lock or --ignore-variable means
      nothing: 'ignored fault K'
-  3  a label was found whose blocks are not atomic, in this run or in another
+  3  a label was found whose blocks are not atomic, in this run or in another, or a deadlock in another
   4  a limit was met: 'refused 17 at P', 'refused 18 at P'
   5  memory or a device failed: 'out of memory', 'read failed', 'write failed', 'cannot open'
 

@@ -1,2 +1,3 @@
 pub mod OnAnew
 pub mod OnFound
+pub mod OnDeadlocks

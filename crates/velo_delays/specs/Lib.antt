@@ -2,3 +2,4 @@ pub mod Stands
 pub mod Anew
 pub mod Differing
 pub mod Found
+pub mod Deadlock

@@ -88,7 +88,7 @@ fn as_recorded(
 }
 
 /// The reads of a prediction that have another value than in the log, if it is one.
-fn differing_of(
+pub(crate) fn differing_of(
     alloc: Global,
     config: &Config,
     log: &Trace,

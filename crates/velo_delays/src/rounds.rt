@@ -77,7 +77,7 @@ fn try_one(
 }
 
 /// The run goes on as recorded from one position to another.
-fn follow_to(
+pub(crate) fn follow_to(
     run: &mut Run,
     log: &Trace,
     lookup: &Lookup,
@@ -152,7 +152,7 @@ fn try_all(
     ensures labels { SameButLabels (left_of left.old) (left_of left.new) }
     ensures found { OnOk result (Adds (IsFound config.now.bounds log.now.events) searched.old.found.items searched.new.found.items) }
 {
-    let mut base = Run::new(alloc, config, lookup)?;
+    let mut base = Run::new(alloc, config, lookup, true)?;
     let mut done = LeftOut::new(alloc);
     let mut position = 0;
     for at in 0..delays.len() {

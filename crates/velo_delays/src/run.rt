@@ -25,6 +25,8 @@ pub(crate) struct Run {
     unsure: ThreadSet,
     /// Whether a thread without a lock does a read after which its next action is unknown.
     is_bold: bool,
+    /// Whether cycles are looked for.
+    is_watched: bool,
     /// Whether one of them has given up a lock.
     is_loose: bool,
     /// Whether the last event closed a cycle.
@@ -36,7 +38,7 @@ pub(crate) struct Run {
 }
 
 /// How many locks a thread holds after its operation.
-fn held_after(held: usize, kind: Kind) -> usize {
+pub(crate) fn held_after(held: usize, kind: Kind) -> usize {
     match kind {
         Kind::Acquire(_) | Kind::AcquireShared(_) => held.saturating_add(1),
         Kind::Release(_) | Kind::ReleaseShared(_) => held.saturating_sub(1),
@@ -84,7 +86,12 @@ const PASSED: usize = 1_000;
 
 impl Run {
     /// The run before all events.
-    pub(crate) fn new(alloc: Global, config: &Config, lookup: &Lookup) -> Result<Run, Memory>
+    pub(crate) fn new(
+        alloc: Global,
+        config: &Config,
+        lookup: &Lookup,
+        is_watched: bool,
+    ) -> Result<Run, Memory>
         ensures { IfOk result (λ run. Stands run.heap) }
     {
         let heap = Heap::new(alloc, config)?;
@@ -99,6 +106,7 @@ impl Run {
             held,
             unsure: ThreadSet::none(),
             is_bold: false,
+            is_watched,
             is_loose: false,
             is_closed: false,
             trace: Trace::new(alloc),
@@ -122,6 +130,7 @@ impl Run {
             held,
             unsure: ThreadSet::none(),
             is_bold,
+            is_watched: self.is_watched,
             is_loose: false,
             is_closed: self.is_closed,
             trace: Trace::new(alloc),
@@ -148,12 +157,14 @@ impl Run {
         ensures { Stands self.new.heap }
     {
         self.trace.push(event)?;
-        if self.marks.would_close(event) {
+        if self.is_watched && self.marks.would_close(event) {
             self.is_closed = true;
             return Ok(());
         }
         let inside = apply(&mut self.heap, event);
-        self.marks.step(event, inside)?;
+        if self.is_watched {
+            self.marks.step(event, inside)?;
+        }
         let thread = usize::from(event.thread.0);
         put_number(&mut self.places, thread, place);
         let held = number_at(&self.held, thread, 0);
@@ -307,6 +318,21 @@ impl Run {
             }
         }
         Ok(())
+    }
+
+    /// Whether the thread waits for a lock of another one, and so on, up to one that waits for a lock of the thread.
+    pub(crate) fn is_in_circle(&self, events: &[Event], thread: ThreadId) -> bool {
+        let mut last = thread;
+        for _ in 0..self.bounds.threads {
+            let Some(owner) = self.in_the_way(events, last) else {
+                return false;
+            };
+            if owner == thread {
+                return last != thread;
+            }
+            last = owner;
+        }
+        false
     }
 
     /// Who has the lock that the thread needs next.

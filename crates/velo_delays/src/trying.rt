@@ -12,7 +12,7 @@ use velo_traces::Trace;
 const FORCED: usize = 2_000;
 
 /// All threads but one go on as recorded, up to the position.
-fn go_on_without(
+pub(crate) fn go_on_without(
     run: &mut Run,
     events: &[Event],
     lookup: &Lookup,

@@ -1,4 +1,6 @@
-//! Logs that are cut: more events come about than are kept, and what is told is of all of them.
+//! Logs that are cut: more events happen than are kept, and what is told is of all of them.
+ghost use Rattle.velo_endless.specs.Endless.{CanGoOn};
+
 use crate::EndlessWatch;
 use std::alloc::Global;
 use std::test::Fail;
@@ -11,15 +13,18 @@ use velo_world::LogReplayFault;
 /// So many events are kept.
 const KEPT: u32 = 8;
 
-/// Watches a log to its end, and reports it; or why the watch ended before.
-fn watched(alloc: Global, log: &[u8], sink: &mut Text) -> Option<WatchFault> {
-    let mut source = Bytes::new(log).in_steps(7);
-    let mut watch = match EndlessWatch::open(alloc, &mut source, KEPT, 100) {
-        Ok(watch) => watch,
-        Err(fault) => return Some(fault),
-    };
-    for _ in 0..log.len() {
-        match watch.step(alloc, &mut source, sink) {
+/// Watches so many events of a log at most, and reports it; or why the watch ended before.
+fn follow(
+    alloc: Global,
+    watch: &mut EndlessWatch,
+    source: &mut Bytes,
+    most: usize,
+    sink: &mut Text,
+) -> Option<WatchFault>
+    requires { CanGoOn watch.old }
+{
+    for _ in 0..most {
+        match watch.step(alloc, source, sink) {
             Ok(true) => {}
             Ok(false) => break,
             Err(fault) => return Some(fault),
@@ -28,6 +33,19 @@ fn watched(alloc: Global, log: &[u8], sink: &mut Text) -> Option<WatchFault> {
     match watch.report(&Names::Numbers, sink) {
         Ok(()) => None,
         Err(_) => Some(WatchFault::Write),
+    }
+}
+
+/// Watches a log to its end, and reports it; or why the watch ended before.
+fn watched(alloc: Global, log: &[u8], sink: &mut Text) -> Option<WatchFault> {
+    let mut source = Bytes::new(log).in_steps(7);
+    match EndlessWatch::open(alloc, &mut source, KEPT, 100) {
+        Ok(mut watch) => {
+            let fault = follow(alloc, &mut watch, &mut source, log.len(), sink);
+            drop(watch);
+            fault
+        }
+        Err(fault) => Some(fault),
     }
 }
 
@@ -45,8 +63,12 @@ fn an_alarm_after_a_cut_is_that_of_the_whole(rt: HostRuntime) -> Result<(), Fail
     let mut sink = Text::new(rt.alloc());
     let fault = watched(rt.alloc(), LOST_UPDATE, &mut sink);
     assert_eq!(rt; fault, None);
-    assert_eq!(rt; sink.as_slice(), b"alarm 20 blame 17 9\n\
-        events 22\nthread 0 13\nthread 1 9\nverdict alarm 20\ntransaction 17\nblame 17 9\n".as_slice());
+    assert_eq!(rt;
+        sink.as_slice(),
+        b"alarm 20 blame 17 9\n\
+        events 22\nthread 0 13\nthread 1 9\nverdict alarm 20\ntransaction 17\nblame 17 9\n"
+            .as_slice()
+    );
     Ok(())
 }
 
@@ -86,10 +108,13 @@ fn a_refusal_after_a_cut_is_that_of_the_whole(rt: HostRuntime) -> Result<(), Fai
     for case in &REFUSED {
         let mut sink = Text::new(rt.alloc());
         let fault = watched(rt.alloc(), case.log, &mut sink);
-        assert_eq!(rt; fault, Some(WatchFault::Replay(LogReplayFault::Refused {
-            position: case.position,
-            refusal: case.refusal,
-        })));
+        assert_eq!(rt;
+            fault,
+            Some(WatchFault::Replay(LogReplayFault::Refused {
+                position: case.position,
+                refusal: case.refusal,
+            }))
+        );
     }
     Ok(())
 }

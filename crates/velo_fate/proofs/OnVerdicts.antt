@@ -108,4 +108,3 @@ module _ (names : Names) (w : WorldState) where
     record { report = report.text; is_report = report.is_report; lines = part.text; certified = (list, certifies, part.is_certificate); whole = refl },
     (beginning_then out.old middle out.new report.text part.text [] (report.text ++ part.text) report.appends part.appends (sym (append-nil (report.text ++ part.text))), err ∙ ap with_failure kept),
   )
-

@@ -1,5 +1,5 @@
--- What a line of a list of known labels says. The lines that an audit writes are such lines, so
--- that its text is a list.
+-- What a line of a list of known labels says. The lines that an audit writes are such lines, and so
+-- are those of predictions, so that their text is a list.
 use Rattle.std.specs.Prelude.{ℕ, ◌-◌, ◌^◌, ◌==◌, ◌||◌, Bool, true, false, List, [], ◌∷◌, codes, Option, Some, None, option_map, if◌then◌else◌}
 use Rattle.std.specs.Option.{option_map_or}
 use Rattle.std.specs.Str.{bytes_eq}
@@ -33,9 +33,19 @@ is_counted before behind line =
     (after_word before line >>= number_at (2 ^ 64 - 1)) false
 
 -- "atomic 3 labels", "rounds 2"
-abbrev pub is_count : List ℕ → Bool
-is_count line =
+abbrev pub is_audit_count : List ℕ → Bool
+is_audit_count line =
     is_counted (codes "atomic ") (codes " labels") line || is_counted (codes "rounds ") [] line
+
+-- "nothing found in 600 tries", "nothing else found in 600 tries", "deadlock? 2 threads wait in a circle"
+abbrev pub is_predict_count : List ℕ → Bool
+is_predict_count line =
+    is_counted (codes "nothing found in ") (codes " tries") line
+    || (is_counted (codes "nothing else found in ") (codes " tries") line
+    || is_counted (codes "deadlock? ") (codes " threads wait in a circle") line)
+
+abbrev pub is_count : List ℕ → Bool
+is_count line = is_audit_count line || is_predict_count line
 
 -- ---- what an audit prints
 
@@ -61,14 +71,16 @@ bare_entry line =
     if is_number line then option_map Number (number_of_kind Label line)
     else (if is_name line then Some (Name line) else None)
 
--- what follows one of the words that an audit writes before a number, or else the line itself
+-- what follows one of the words that an audit writes before a number, or predictions do, or else the
+-- line itself
 unfoldable pub told_entry : List ℕ → Option Entry
 told_entry line =
     by_word (after_word (codes "not atomic ") line) (told_at Label)
+    (by_word (after_word (codes "not atomic? ") line) (told_at Label)
     (by_word (after_word (codes "left out label ") line) (told_at Label)
     (by_word (after_word (codes "left out lock ") line) (other_at Lock)
     (by_word (after_word (codes "left out variable ") line) (other_at Variable)
-    (bare_entry line))))
+    (bare_entry line)))))
 
 -- what the line says, if it is an entry
 abbrev pub entry_of : List ℕ → Option Entry

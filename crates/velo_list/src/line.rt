@@ -1,7 +1,7 @@
 //! What a line of a list of known labels says.
 ghost use Rattle.std.specs.Prelude.{◌≡◌, option_map};
 ghost use Rattle.velo_list.specs.Answers.{entry};
-ghost use Rattle.velo_list.specs.Line.{bare_entry, entry_of, is_count, is_counted, is_silent, named_at, other_at, told_at, told_entry};
+ghost use Rattle.velo_list.specs.Line.{bare_entry, entry_of, is_audit_count, is_count, is_counted, is_predict_count, is_silent, named_at, other_at, told_at, told_entry};
 
 use velo_bytes::{after, number};
 use velo_names::{NameKind, is_name, is_number, number_of_kind};
@@ -43,10 +43,26 @@ fn is_counted(before: &[u8], behind: &[u8], line: &[u8]) -> bool
 }
 
 /// Whether a line is one of the counts of an audit.
+fn is_audit_count(line: &[u8]) -> bool
+    ensures { result ≡ is_audit_count line.now }
+{
+    is_counted(b"atomic ", b" labels", line) || is_counted(b"rounds ", b"", line)
+}
+
+/// Whether a line counts what was tried in search of predictions, or threads that wait.
+fn is_predict_count(line: &[u8]) -> bool
+    ensures { result ≡ is_predict_count line.now }
+{
+    is_counted(b"nothing found in ", b" tries", line)
+        || is_counted(b"nothing else found in ", b" tries", line)
+        || is_counted(b"deadlock? ", b" threads wait in a circle", line)
+}
+
+/// Whether a line is a count.
 fn is_count(line: &[u8]) -> bool
     ensures { result ≡ is_count line.now }
 {
-    is_counted(b"atomic ", b" labels", line) || is_counted(b"rounds ", b"", line)
+    is_audit_count(line) || is_predict_count(line)
 }
 
 /// A label by its number, and by the name after it if there is one.
@@ -99,6 +115,9 @@ fn told_entry(line: &[u8]) -> Option<Entry<'_>>
     ensures { option_map entry result ≡ told_entry line.now }
 {
     if let Some(rest) = after(line, b"not atomic ") {
+        return told(NameKind::Label, rest);
+    }
+    if let Some(rest) = after(line, b"not atomic? ") {
         return told(NameKind::Label, rest);
     }
     if let Some(rest) = after(line, b"left out label ") {

@@ -6,14 +6,13 @@ use Rattle.std.proofs.lemmas.List.Elements.{All-weaker}
 use Rattle.velo_events.specs.declared.config.Bounds.{Bounds}
 use Rattle.velo_events.specs.declared.event.Event.{Event}
 use Rattle.velo_names.specs.Names.{NameLists}
-use Rattle.velo_thin.specs.Left.{Left}
+use Rattle.velo_thin.specs.Left.{Left, rest_of}
 use Rattle.velo_audit.specs.declared.told.Told.{Told}
 use Rattle.velo_audit_text.specs.declared.words.Asked.{Asked}
-use Rattle.velo_delays.specs.declared.judged.Found.{Found}
-use Rattle.velo_delays.specs.declared.rounds.Searched.{Searched}
+use Rattle.velo_delays.specs.Deadlock.{IsDeadlockIn}
 use Rattle.velo_delays.specs.Found.{IsFoundIn}
-use Rattle.velo_predict_text.specs.Text.{CanBeTold}
-use Rattle.velo_predict_text.proofs.OnFound.{CanBeTold-from}
+use Rattle.velo_predict_text.specs.Text.{CanBeTold, CanTellDeadlock}
+use Rattle.velo_predict_text.proofs.OnFound.{CanBeTold-from, CanTellDeadlock-from}
 use Rattle.velo_fate.specs.declared.fate.Fate.{Fate}
 use Rattle.velo_fate.specs.declared.fate.Fate.TheVariants as fate
 use Rattle.velo_fate.specs.Delivery.{Answer, IsDelivered, IsPrinted, LacksMemory, Saves, printing, silent}
@@ -22,18 +21,24 @@ use Rattle.velo_fate.proofs.OnDelivery.{delivered_reads, printed_put, same_fate}
 use Rattle.velo_delivery.specs.Disk.{Store}
 use Rattle.velo_delivery.specs.Writing.{Writing, WritesNothing}
 use Rattle.velo_request.specs.declared.request.PredictOptions.{PredictOptions}
+use Rattle.velo_log_commands.specs.declared.predicting.Findings.{Findings}
 use Rattle.velo_log_commands.specs.Auditing.{AreRoundsOf, LacksRounds, left_at_first, left_at_last}
 use Rattle.velo_log_commands.specs.Predicting.{ArePredictionsOf, IsSearched, Predicts, PredictsEvents, predicted}
 use Rattle.velo_log_commands.specs.Steps.{DeliversOrLacks}
 
 -- what a search of this log answers
-pub foretold_of : {E : Type 0} (values : Bool) (bounds : Bounds) (log searched : List Event) (left : Left) (result : Result Searched E) → IsSearched values log searched
-    → IfOk result (λ (s : Searched). All (IsFoundIn bounds searched left) s.found.items) → IfOk result (λ (s : Searched). ArePredictionsOf values bounds log left s.found.items)
-foretold_of values bounds log searched left (Ok s) is each = record { searched = searched; is_searched = is; each = each }
-foretold_of values bounds log searched left (Err e) is each = tt
+pub foretold_of : {E : Type 0} (values : Bool) (bounds : Bounds) (log searched : List Event) (left : Left) (result : Result Findings E) → IsSearched values log searched
+    → IfOk result (λ (f : Findings). All (IsFoundIn bounds searched left) f.labels.items) → IfOk result (λ (f : Findings). All (IsDeadlockIn bounds searched left) f.deadlocks.items)
+    → IfOk result (λ (f : Findings). ArePredictionsOf values bounds log left f)
+foretold_of values bounds log searched left (Ok f) is labels deadlocks = record { searched = searched; is_searched = is; labels = labels; deadlocks = deadlocks }
+foretold_of values bounds log searched left (Err e) is labels deadlocks = tt
 
-pub can_be_told : (values : Bool) (bounds : Bounds) (log : List Event) (left : Left) (founds : List Found) → ArePredictionsOf values bounds log left founds → All CanBeTold founds
-can_be_told values bounds log left founds are = All-weaker _ CanBeTold (λ found is. CanBeTold-from bounds are.searched left found is) founds are.each
+module _ (values : Bool) (bounds : Bounds) (log : List Event) (left : Left) (findings : Findings) (are : ArePredictionsOf values bounds log left findings) where
+  pub can_be_told : All CanBeTold findings.labels.items
+  can_be_told = All-weaker _ CanBeTold (λ found is. CanBeTold-from bounds are.searched left found is) findings.labels.items are.labels
+
+  pub can_tell_deadlocks : All CanTellDeadlock findings.deadlocks.items
+  can_tell_deadlocks = All-weaker (IsDeadlockIn bounds are.searched left) CanTellDeadlock (λ deadlock is. CanTellDeadlock-from bounds (rest_of left are.searched) deadlock is) findings.deadlocks.items are.deadlocks
 
 module _ (names : NameLists) (asked : Asked) (options : PredictOptions) (store : Store) (stdout : Writing) where
   -- an answer without a word
@@ -41,15 +46,15 @@ module _ (names : NameLists) (asked : Asked) (options : PredictOptions) (store :
   silent_delivered target f g is put = subst (λ (h : Fate). IsDelivered store target stdout (silent h) h) (sym (ap (λ (a : Answer). a.fate) is)) put
 
   -- what was found is told, or memory was wanting
-  pub told_so : (bounds : Bounds) (log : List Event) (rounds : List Told) (founds : List Found) (tries : ℕ) (f : Fate) → AreRoundsOf true log (left_at_first asked) rounds
-      → ArePredictionsOf options.values bounds log (left_at_last log (left_at_first asked) rounds) founds → DeliversOrLacks (predicted names bounds log asked rounds founds tries) store options.target stdout f
+  pub told_so : (bounds : Bounds) (log : List Event) (rounds : List Told) (findings : Findings) (f : Fate) → AreRoundsOf true log (left_at_first asked) rounds
+      → ArePredictionsOf options.values bounds log (left_at_last log (left_at_first asked) rounds) findings → DeliversOrLacks (predicted names bounds log asked rounds findings) store options.target stdout f
       → Predicts names asked options bounds log store stdout f
-  told_so bounds log rounds founds tries f are foretold (inl put) = (
-    predicted names bounds log asked rounds founds tries,
-    inl (inl (record { rounds = rounds; are_rounds = are; founds = founds; are_predictions = foretold; tries = tries; said = refl })),
+  told_so bounds log rounds findings f are foretold (inl put) = (
+    predicted names bounds log asked rounds findings,
+    inl (inl (record { rounds = rounds; are_rounds = are; findings = findings; are_predictions = foretold; said = refl })),
     put,
   )
-  told_so bounds log rounds founds tries f are foretold (inr lacks) =
+  told_so bounds log rounds findings f are foretold (inr lacks) =
       (silent fate.Memory, inr (lacks.0, refl), subst (λ (g : Fate). IsDelivered store options.target stdout (silent fate.Memory) g) (sym lacks.1) (refl, lacks.2, lacks.3))
 
   -- there are no rounds, and nothing is told

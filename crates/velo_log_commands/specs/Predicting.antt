@@ -1,5 +1,5 @@
 -- What a search for predictions has to say, by the bytes of its input and by the definitions.
-use Rattle.std.specs.Prelude.{◌≡◌, ◌⊎◌, ℕ, Bool, true, false, All, List, [], ◌∷◌, Option, Some, None}
+use Rattle.std.specs.Prelude.{◌≡◌, ◌⊎◌, ℕ, Bool, true, false, All, List, [], ◌∷◌, Option, Some, None, option_map}
 use Rattle.std.specs.Borrow.{Bor}
 use Rattle.velo_events.specs.declared.config.Bounds.{Bounds}
 use Rattle.velo_events.specs.declared.event.Event.{Event}
@@ -9,7 +9,9 @@ use Rattle.velo_thin.specs.Left.{Left}
 use Rattle.velo_audit.specs.declared.told.Told.{Told}
 use Rattle.velo_audit_text.specs.declared.words.Asked.{Asked}
 use Rattle.velo_delays.specs.declared.judged.Found.{Found}
+use Rattle.velo_delays.specs.declared.stuck.Deadlock.{Deadlock}
 use Rattle.velo_delays.specs.Anew.{IsAnew}
+use Rattle.velo_delays.specs.Deadlock.{IsDeadlockIn}
 use Rattle.velo_delays.specs.Found.{IsFoundIn}
 use Rattle.velo_predict_text.specs.Text.{is_something_told, predictions_text}
 use Rattle.velo_worker.specs.declared.ending.Ending.TheVariants.{Done}
@@ -21,6 +23,7 @@ use Rattle.velo_delivery.specs.Disk.{Store}
 use Rattle.velo_delivery.specs.Reading.{Reading}
 use Rattle.velo_delivery.specs.Writing.{Writing}
 use Rattle.velo_request.specs.declared.request.PredictOptions.{PredictOptions}
+use Rattle.velo_log_commands.specs.declared.predicting.Findings.{Findings}
 use Rattle.velo_log_commands.specs.Auditing.{AreRoundsOf, HasFullGraph, left_at_first, left_at_last}
 use Rattle.velo_log_commands.specs.Check.{ComesAbout, IsUnchecked}
 
@@ -32,31 +35,36 @@ abbrev pub IsSearched : Bool → List Event → List Event → Type 0
 IsSearched true log searched = searched ≡ log
 IsSearched false log searched = IsAnew log searched
 
--- Each is a prediction of this log without what is left out, the blocks of some more labels dissolved
--- (`IsFound`): its trace is foretold and has a cycle; the blocks told are those to blame at the first
--- alarm of the trace, and the reads told are those that have another value than in the log. That
--- there are no others is not claimed.
+-- What the search found are predictions of this log without what is left out. The trace of each is
+-- foretold, and the reads told are those that have another value than in the log. That there are no
+-- others is not claimed.
 pub record ArePredictionsOf (values : Bool) (bounds : Bounds) (log : List Event) (left : Left)
-    (founds : List Found) : Type 0 where
+    (findings : Findings) : Type 0 where
   pub searched : List Event
   pub is_searched : IsSearched values log searched
-  pub each : All (IsFoundIn bounds searched left) founds
+  -- The blocks of some more labels dissolved (`IsFound`): the trace has a cycle, and the blocks told
+  -- are those to blame at its first alarm.
+  pub labels : All (IsFoundIn bounds searched left) findings.labels.items
+  -- After the trace threads wait in a circle (`IsDeadlock`), to do the events that are told.
+  pub deadlocks : All (IsDeadlockIn bounds searched left) findings.deadlocks.items
 
 -- ---- what is said of it
 
--- the text of a log whose events are the trace of the first, if there is one
-abbrev pub first_log : Bounds → List Found → Option (List ℕ)
-first_log bounds [] = None
-first_log bounds (found ∷ founds) = Some (log_text bounds found.trace.events)
+-- the trace that is told first, if there is one
+abbrev pub first_trace : List Found → List Deadlock → Option (List Event)
+first_trace (found ∷ founds) deadlocks = Some found.trace.events
+first_trace [] (deadlock ∷ deadlocks) = Some deadlock.trace.events
+first_trace [] [] = None
 
--- the trace of the first is to be saved, and the rounds of the log itself and the predictions are to
--- be printed; it is an alarm where something is told
-abbrev pub predicted : NameLists → Bounds → List Event → Asked → List Told → List Found → ℕ → Answer
-predicted names bounds log asked rounds founds tries =
+-- this trace is to be saved as a log, and the rounds of the log itself and the predictions are to be
+-- printed; it is an alarm where something is told
+abbrev pub predicted : NameLists → Bounds → List Event → Asked → List Told → Findings → Answer
+predicted names bounds log asked rounds findings =
     record {
-      saved = first_log bounds founds;
-      printed = Some (predictions_text names log asked rounds founds tries);
-      fate = Finished Done (is_something_told rounds founds);
+      saved = option_map (log_text bounds) (first_trace findings.labels.items findings.deadlocks.items);
+      printed = Some (predictions_text names log asked rounds findings.labels.items
+          findings.deadlocks.items findings.tries);
+      fate = Finished Done (is_something_told rounds findings.labels.items findings.deadlocks.items);
     }
 
 -- The rounds of the log are told, as by an audit with witnesses. Their labels are left out, and then
@@ -65,11 +73,10 @@ pub record TellsPredictions (names : NameLists) (asked : Asked) (values : Bool) 
     (log : List Event) (answer : Answer) : Type 0 where
   pub rounds : List Told
   pub are_rounds : AreRoundsOf true log (left_at_first asked) rounds
-  pub founds : List Found
+  pub findings : Findings
   pub are_predictions : ArePredictionsOf values bounds log
-      (left_at_last log (left_at_first asked) rounds) founds
-  pub tries : ℕ
-  pub said : answer ≡ predicted names bounds log asked rounds founds tries
+      (left_at_last log (left_at_first asked) rounds) findings
+  pub said : answer ≡ predicted names bounds log asked rounds findings
 
 abbrev pub PredictsEvents : NameLists → Asked → PredictOptions → Bounds → List Event → Answer → Type 0
 PredictsEvents names asked options bounds log answer =

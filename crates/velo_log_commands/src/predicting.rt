@@ -1,8 +1,12 @@
 //! `velodrome predict`.
-ghost use Rattle.std.specs.Prelude.{◌≡◌, ◌≤◌, All, Some, false, true, length, IfOk};
+ghost use Rattle.std.specs.Prelude.{◌≡◌, ◌≤◌, All, Some, false, true, length, option_map, IfOk};
+ghost use Rattle.std.specs.Option.{option_copied};
 ghost use Rattle.velo_events.specs.declared.limits.TheConstants.{MAX_EVENTS};
 ghost use Rattle.velo_events.specs.WellFormed.{IsWellFormed};
+ghost use Rattle.velo_logtext.specs.Text.{log_text};
 ghost use Rattle.velo_thin.specs.Tables.{left_of};
+ghost use Rattle.velo_delays.specs.Deadlock.{IsDeadlockIn};
+ghost use Rattle.velo_delays.specs.Found.{IsFoundIn};
 ghost use Rattle.velo_worker.specs.declared.ending.Ending.TheVariants.{Done};
 ghost use Rattle.velo_delivery.specs.Disk.{store};
 ghost use Rattle.velo_delivery.specs.Reading.{reading};
@@ -10,7 +14,7 @@ ghost use Rattle.velo_delivery.specs.Writing.{writing};
 ghost use Rattle.velo_fate.specs.declared.fate.Fate.TheVariants.{Finished};
 ghost use Rattle.velo_log_commands.specs.Auditing.{AreRoundsOf, left_at_first, left_at_last};
 ghost use Rattle.velo_log_commands.specs.Commands.{DoesPredict, PredictsLog, PredictsNamed};
-ghost use Rattle.velo_log_commands.specs.Predicting.{ArePredictionsOf, Predicts, PredictsInput, first_log, predicted};
+ghost use Rattle.velo_log_commands.specs.Predicting.{ArePredictionsOf, Predicts, PredictsInput, first_trace, predicted};
 ghost use Rattle.velo_log_commands.specs.Steps.{DeliversOrLacks};
 
 use crate::asking::{AskedWords, ByAsked, do_by_asked};
@@ -22,9 +26,9 @@ use std::alloc::Global;
 use velo_audit::Told;
 use velo_audit_text::Asked;
 use velo_bytes::{Sink, Source};
-use velo_delays::{Draws, Found, Searched, search, with_lines};
+use velo_delays::{Deadlock, Draws, Found, search, search_deadlocks, with_lines};
 use velo_delivery::{Files, Operand};
-use velo_events::{Bounds, Config, Memory};
+use velo_events::{Bounds, Config, Event, Memory};
 use velo_fate::{Fate, open_input};
 use velo_names::Names;
 use velo_predict_text::{is_something_told, predictions_text, trace_text};
@@ -41,55 +45,106 @@ struct Inquiry<'i, 'n, 'a, 'o> {
     options: &'i PredictOptions<'o>,
 }
 
-/// Predictions of a log without what is left out. Their labels are left out, too.
+/// What the search found.
+#[derive(Drop)]
+pub struct Findings {
+    /// Labels that may not be atomic.
+    pub labels: Vec<Found>,
+    /// Deadlocks.
+    pub deadlocks: Vec<Deadlock>,
+    /// How many delays were tried.
+    pub tries: u64,
+}
+
+/// Predictions of a log without what is left out. The labels that they blame are left out, too.
+fn search_in(
+    alloc: Global,
+    config: &Config,
+    log: &Trace,
+    options: &PredictOptions,
+    left: &mut LeftOut,
+) -> Result<Findings, Memory>
+    requires goes_on { config.now.stop ≡ false }
+    requires few { length log.now.events ≤ MAX_EVENTS }
+    requires well_formed { IsWellFormed config.now.bounds log.now.events }
+    ensures labels { IfOk result (λ findings. All (IsFoundIn config.now.bounds log.now.events
+        (left_of left.old)) findings.labels.items) }
+    ensures deadlocks { IfOk result (λ findings. All (IsDeadlockIn config.now.bounds log.now.events
+        (left_of left.old)) findings.deadlocks.items) }
+{
+    let draws = Draws {
+        tries: options.tries,
+        seed: options.seed,
+    };
+    let stuck = search_deadlocks(alloc, config, log, options.tries, left)?;
+    let cyclic = search(alloc, config, log, draws, left)?;
+    Ok(Findings {
+        labels: cyclic.found,
+        deadlocks: stuck.found,
+        tries: cyclic.tries.saturating_add(stuck.tries),
+    })
+}
+
+/// Predictions of a log without what is left out, by its values or by those that tell where they come
+/// from. The labels that they blame are left out, too.
 fn search_log(
     alloc: Global,
     config: &Config,
     log: &Trace,
     options: &PredictOptions,
     left: &mut LeftOut,
-) -> Result<Searched, Memory>
+) -> Result<Findings, Memory>
     requires goes_on { config.now.stop ≡ false }
     requires few { length log.now.events ≤ MAX_EVENTS }
     requires well_formed { IsWellFormed config.now.bounds log.now.events }
-    ensures { IfOk result (λ searched. ArePredictionsOf options.now.values config.now.bounds
-        log.now.events (left_of left.old) searched.found.items) }
+    ensures { IfOk result (λ findings. ArePredictionsOf options.now.values config.now.bounds
+        log.now.events (left_of left.old) findings) }
 {
-    let draws = Draws {
-        tries: options.tries,
-        seed: options.seed,
-    };
     if options.values {
-        return search(alloc, config, log, draws, left);
+        return search_in(alloc, config, log, options, left);
     }
     let anew = with_lines(alloc, config, log)?;
-    search(alloc, config, &anew, draws, left)
+    search_in(alloc, config, &anew, options, left)
 }
 
-/// Saves the trace of the first prediction as a log at the target, if there are both, and then prints
-/// the words.
+/// The trace that is told first, if there is one.
+fn first_trace<'f>(founds: &'f [Found], deadlocks: &'f [Deadlock]) -> Option<&'f [Event]>
+    ensures { option_copied result ≡ first_trace founds.now deadlocks.now }
+{
+    match (founds.first(), deadlocks.first()) {
+        (Some(found), _) => Some(found.trace.as_slice()),
+        (None, Some(deadlock)) => Some(deadlock.trace.as_slice()),
+        (None, None) => None,
+    }
+}
+
+/// Saves the trace as a log at the target, if there are both, and then prints the words.
 fn save_and_print<F: Files, O: Sink>(
     alloc: Global,
     bounds: Bounds,
     words: &[u8],
     alarm: bool,
-    founds: &[Found],
+    trace: Option<&[Event]>,
     target: Option<&str>,
     files: &mut F,
     out: &mut O,
 ) -> Fate
     ensures { DeliversOrLacks
-        (record { saved = first_log bounds founds.now; printed = Some words.now; fate = Finished Done alarm })
+        (record {
+          saved = option_map (log_text bounds) (option_copied trace.entry);
+          printed = Some words.now;
+          fate = Finished Done alarm;
+        })
         (store F.disk files.old files.new) target.entry
         (writing O.contents O.failures out.old out.new) result }
 {
-    let Some(found) = founds.first() else {
+    let Some(events) = trace else {
         return print(words, alarm, out);
     };
     let Some(path) = target else {
         return print(words, alarm, out);
     };
-    let log = match trace_text(alloc, bounds, found.trace.as_slice()) {
+    let log = match trace_text(alloc, bounds, events) {
         Ok(log) => log,
         Err(Memory) => return Fate::Memory,
     };
@@ -106,7 +161,7 @@ fn tell<F: Files, O: Sink>(
     log: &Trace,
     inquiry: &Inquiry,
     rounds: &[Told],
-    searched: &Searched,
+    findings: &Findings,
     files: &mut F,
     out: &mut O,
 ) -> Fate
@@ -115,13 +170,14 @@ fn tell<F: Files, O: Sink>(
     requires rounds { AreRoundsOf true log.now.events (left_at_first inquiry.now.asked.now) rounds.now }
     requires found { ArePredictionsOf inquiry.now.options.now.values bounds log.now.events
         (left_at_last log.now.events (left_at_first inquiry.now.asked.now) rounds.now)
-        searched.now.found.items }
+        findings.now }
     ensures { DeliversOrLacks (predicted inquiry.now.names.now bounds log.now.events
-        inquiry.now.asked.now rounds.now searched.now.found.items searched.now.tries)
+        inquiry.now.asked.now rounds.now findings.now)
         (store F.disk files.old files.new) inquiry.now.options.now.target
         (writing O.contents O.failures out.old out.new) result }
 {
-    let founds = &searched.found;
+    let founds = &findings.labels;
+    let deadlocks = &findings.deadlocks;
     let made = predictions_text(
         alloc,
         inquiry.names,
@@ -129,20 +185,22 @@ fn tell<F: Files, O: Sink>(
         inquiry.asked,
         rounds,
         founds,
-        searched.tries,
+        deadlocks,
+        findings.tries,
     );
     let words = match made {
         Ok(words) => words,
         Err(Memory) => return Fate::Memory,
     };
-    let alarm = is_something_told(rounds, founds);
+    let alarm = is_something_told(rounds, founds, deadlocks);
+    let trace = first_trace(founds, deadlocks);
     let target = inquiry.options.target;
     save_and_print(
         alloc,
         bounds,
         words.as_slice(),
         alarm,
-        founds,
+        trace,
         target,
         files,
         out,
@@ -171,10 +229,10 @@ fn predict_after<F: Files, O: Sink>(
         (writing O.contents O.failures out.old out.new) result }
 {
     match search_log(alloc, config, log, inquiry.options, left) {
-        Ok(searched) => {
+        Ok(findings) => {
             let bounds = config.bounds;
-            let fate = tell(alloc, bounds, log, inquiry, rounds, &searched, files, out);
-            drop(searched);
+            let fate = tell(alloc, bounds, log, inquiry, rounds, &findings, files, out);
+            drop(findings);
             fate
         }
         Err(Memory) => Fate::Memory,

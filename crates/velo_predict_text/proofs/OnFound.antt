@@ -9,9 +9,11 @@ use Rattle.velo_thin.specs.Left.{Left}
 use Rattle.velo_predict.specs.declared.difference.Difference.{Difference}
 use Rattle.velo_delays.specs.declared.judged.Differing.{Differing}
 use Rattle.velo_delays.specs.declared.judged.Found.{Found}
+use Rattle.velo_delays.specs.declared.stuck.Deadlock.{Deadlock}
+use Rattle.velo_delays.specs.Deadlock.{IsDeadlock}
 use Rattle.velo_delays.specs.Differing.{differing_of, AreDiffering}
 use Rattle.velo_delays.specs.Found.{IsFoundIn}
-use Rattle.velo_predict_text.specs.Text.{CanBeTold}
+use Rattle.velo_predict_text.specs.Text.{CanBeTold, CanTellDeadlock}
 
 within_trace : (log trace : List Event) (differing : List Differing) → AreDiffering log trace differing → All (λ (d : Differing). d.position < length trace) differing
 within_trace log trace differing are =
@@ -19,6 +21,9 @@ within_trace log trace differing are =
     All-same (λ (d : Differing). d.position < length trace) differing _ are.is
     (All-map (λ (d : Differing). d.position < length trace) (differing_of log) differences
     (All-weaker (Contains differences) (λ (d : Difference). d.position < length trace) (λ d there. let its = (are.are_they.each d).0 there in slice_get_within trace d.position its.read its.here) differences (All-contains_itself differences)))
+
+pub CanTellDeadlock-from : (bounds : Bounds) (log : List Event) (deadlock : Deadlock) → IsDeadlock bounds log deadlock → CanTellDeadlock deadlock
+CanTellDeadlock-from bounds log deadlock is = record { few = is.short; differing = within_trace _ deadlock.trace.events deadlock.differing.items is.differing }
 
 pub CanBeTold-from : (bounds : Bounds) (log : List Event) (left : Left) (found : Found) → IsFoundIn bounds log left found → CanBeTold found
 CanBeTold-from bounds log left found is = record {

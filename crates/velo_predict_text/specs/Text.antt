@@ -18,6 +18,7 @@ use Rattle.velo_audit_text.specs.Text.{optional_witness_text, told_text}
 use Rattle.velo_audit_text.specs.Words.{asked_text}
 use Rattle.velo_delays.specs.declared.judged.Differing.{Differing}
 use Rattle.velo_delays.specs.declared.judged.Found.{Found}
+use Rattle.velo_delays.specs.declared.stuck.Deadlock.{Deadlock}
 
 -- "not atomic? 7 flush"
 unfoldable pub maybe_text : NameLists → Block → List ℕ
@@ -42,11 +43,28 @@ found_text names found =
     ++ (flat_map (difference_text names found.trace.events) found.differing.items
     ++ optional_witness_text names found.trace.events found.told.closing found.told.witness))
 
--- a round told something of the log itself, or a prediction was found
-abbrev pub is_something_told : List Told → List Found → Bool
-is_something_told [] [] = false
-is_something_told [] (found ∷ founds) = true
-is_something_told (told ∷ rounds) founds = true
+-- "  thread 0 main waits at `0 acq 1` n"
+unfoldable pub waiting_text : NameLists → Event → List ℕ
+waiting_text names e = joined (
+    codes "  thread " ∷ decimal e.thread.0 ∷ named names kind.Thread e.thread.0 ∷ codes " waits at `" ∷ event_text e ∷ codes "`"
+    ∷ name_text (name_about names e.kind) ∷ codes "\n" ∷ [])
+
+-- "deadlock? 2 threads wait in a circle"
+unfoldable pub circle_text : ℕ → List ℕ
+circle_text n = joined (codes "deadlock? " ∷ decimal n ∷ codes " threads wait in a circle\n" ∷ [])
+
+-- how many threads wait; how long the trace is; the reads that differ from the log; and what each thread waits to do
+abbrev pub deadlock_text : NameLists → Deadlock → List ℕ
+deadlock_text names deadlock =
+    circle_text (length deadlock.waiting.items)
+    ++ (size_text (length deadlock.trace.events)
+    ++ (flat_map (difference_text names deadlock.trace.events) deadlock.differing.items
+    ++ flat_map (waiting_text names) deadlock.waiting.items))
+
+-- a round told something of the log itself, or something was predicted
+abbrev pub is_something_told : List Told → List Found → List Deadlock → Bool
+is_something_told [] [] [] = false
+is_something_told rounds founds deadlocks = true
 
 -- "nothing found in 600 tries"; "nothing else found in 600 tries" after something
 abbrev pub nothing_text : Bool → List ℕ
@@ -56,14 +74,15 @@ nothing_text true = codes "nothing else found in "
 unfoldable pub end_text : Bool → ℕ → List ℕ
 end_text something tries = joined (nothing_text something ∷ decimal tries ∷ codes " tries\n" ∷ [])
 
--- what was to be left out and the rounds of the log itself, both as an audit prints them; what was found; and how many delays were
--- tried
-abbrev pub predictions_text : NameLists → List Event → Asked → List Told → List Found → ℕ → List ℕ
-predictions_text names log asked rounds founds tries =
+-- what was to be left out and the rounds of the log itself, both as an audit prints them; the labels that may not be atomic, and the
+-- deadlocks; and how many delays were tried
+abbrev pub predictions_text : NameLists → List Event → Asked → List Told → List Found → List Deadlock → ℕ → List ℕ
+predictions_text names log asked rounds founds deadlocks tries =
     asked_text names asked
     ++ (flat_map (told_text names log) rounds
     ++ (flat_map (found_text names) founds
-    ++ end_text (is_something_told rounds founds) tries))
+    ++ (flat_map (deadlock_text names) deadlocks
+    ++ end_text (is_something_told rounds founds deadlocks) tries)))
 
 -- ---- what can be told. Private contracts cite these words
 
@@ -73,3 +92,7 @@ pub record CanBeTold (found : Found) : Type 0 where
   pub can_come_about : CanComeAbout found.trace.events
   pub within : IsWitnessWithin (length found.trace.events) found.told.closing found.told.witness
   pub differing : All (λ d. d.position < length found.trace.events) found.differing.items
+
+pub record CanTellDeadlock (deadlock : Deadlock) : Type 0 where
+  pub few : length deadlock.trace.events ≤ MAX_EVENTS
+  pub differing : All (λ d. d.position < length deadlock.trace.events) deadlock.differing.items

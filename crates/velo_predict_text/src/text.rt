@@ -4,12 +4,12 @@ ghost use Rattle.std.specs.List.{flat_map};
 ghost use Rattle.velo_events.specs.declared.limits.TheConstants.{MAX_EVENTS};
 ghost use Rattle.velo_thin.specs.Thinned.{CanComeAbout};
 ghost use Rattle.velo_audit.specs.Audit.{TellsTruly};
-ghost use Rattle.velo_predict_text.specs.Text.{CanBeTold, maybe_text, size_text, difference_text, found_text, is_something_told, nothing_text, end_text, predictions_text};
+ghost use Rattle.velo_predict_text.specs.Text.{CanBeTold, CanTellDeadlock, maybe_text, size_text, difference_text, found_text, waiting_text, circle_text, deadlock_text, is_something_told, nothing_text, end_text, predictions_text};
 
 use std::alloc::Global;
 use velo_audit::Told;
 use velo_audit_text::{Asked, add_asked, add_rounds, add_witness_if_any};
-use velo_delays::{Differing, Found};
+use velo_delays::{Deadlock, Differing, Found};
 use velo_events::{Event, Memory};
 use velo_explain::{Page, Piece, line_of};
 use velo_names::{NameKind, Names};
@@ -112,12 +112,74 @@ fn add_found(page: &mut Page, names: &Names, alloc: Global, found: &Found) -> Re
     )
 }
 
-/// Whether there is something to tell: a label of the log itself, or a prediction.
-pub fn is_something_told(rounds: &[Told], founds: &[Found]) -> bool
-    ensures { result ≡ is_something_told rounds.now founds.now }
+/// Adds what a thread waits to do.
+#[tactic(auto, unfolding(crate::specs::Text::waiting_text))]
+fn add_waiting(page: &mut Page, names: &Names, event: Event) -> Result<(), Memory>
+    ensures { OnOk result (page.new ≡ page.old ++ waiting_text names.now event) }
 {
-    match (rounds.first(), founds.first()) {
-        (None, None) => false,
+    page.add(&[
+        Piece::Text("  thread "),
+        Piece::Number(u64::from(event.thread.0)),
+        Piece::ThreadName(names, event.thread),
+        Piece::Text(" waits at `"),
+        Piece::Words(event),
+        Piece::Text("`"),
+        Piece::KindName(names, event.kind),
+        Piece::Text("\n"),
+    ])
+}
+
+/// Adds what the threads wait to do.
+fn add_all_waiting(page: &mut Page, names: &Names, waiting: &[Event]) -> Result<(), Memory>
+    ensures { OnOk result (page.new ≡ page.old ++ flat_map (waiting_text names.now) waiting.now) }
+{
+    for event in waiting {
+        add_waiting(page, names, *event)?;
+    }
+    Ok(())
+}
+
+/// Adds how many threads wait in a circle.
+#[tactic(auto, unfolding(crate::specs::Text::circle_text))]
+fn add_circle(page: &mut Page, count: usize) -> Result<(), Memory>
+    ensures { OnOk result (page.new ≡ page.old ++ circle_text count) }
+{
+    page.add(&[
+        Piece::Text("deadlock? "),
+        Piece::Number(count as u64),
+        Piece::Text(" threads wait in a circle\n"),
+    ])
+}
+
+/// Adds a deadlock.
+fn add_deadlock(page: &mut Page, names: &Names, deadlock: &Deadlock) -> Result<(), Memory>
+    requires { CanTellDeadlock deadlock.now }
+    ensures { OnOk result (page.new ≡ page.old ++ deadlock_text names.now deadlock.now) }
+{
+    let events = deadlock.trace.as_slice();
+    add_circle(page, deadlock.waiting.len())?;
+    add_size(page, events.len())?;
+    add_differences(page, names, events, &deadlock.differing)?;
+    add_all_waiting(page, names, &deadlock.waiting)
+}
+
+/// Adds the deadlocks.
+fn add_deadlocks(page: &mut Page, names: &Names, deadlocks: &[Deadlock]) -> Result<(), Memory>
+    requires { All CanTellDeadlock deadlocks.now }
+    ensures { OnOk result (page.new ≡ page.old ++ flat_map (deadlock_text names.now) deadlocks.now) }
+{
+    for deadlock in deadlocks {
+        add_deadlock(page, names, deadlock)?;
+    }
+    Ok(())
+}
+
+/// Whether there is something to tell: a label of the log itself, or a prediction.
+pub fn is_something_told(rounds: &[Told], founds: &[Found], deadlocks: &[Deadlock]) -> bool
+    ensures { result ≡ is_something_told rounds.now founds.now deadlocks.now }
+{
+    match (rounds.first(), founds.first(), deadlocks.first()) {
+        (None, None, None) => false,
         _ => true,
     }
 }
@@ -156,8 +218,8 @@ fn add_all(page: &mut Page, names: &Names, alloc: Global, founds: &[Found]) -> R
 }
 
 /// What a log shows and foretells, as text: what was to be left out; the labels and the witness of each round of the log's own
-/// audit; for each prediction the labels to blame, how long its trace is, the reads that differ from the log, and the cycle; and
-/// how many delays were tried. A number that has a name stands before it.
+/// audit; for each prediction the labels to blame, or what each thread of a circle waits to do, how long its trace is, the reads
+/// that differ from the log, and the cycle; and how many delays were tried. A name comes after its number.
 ///
 /// # Errors
 /// `Memory` where a growth was refused.
@@ -168,18 +230,22 @@ pub fn predictions_text(
     asked: &Asked,
     rounds: &[Told],
     founds: &[Found],
+    deadlocks: &[Deadlock],
     tries: u64,
 ) -> Result<Page, Memory>
     requires few { length log.now.events ≤ MAX_EVENTS }
     requires can_come_about { CanComeAbout log.now.events }
     requires truly { All (TellsTruly log.now.events) rounds.now }
     requires founds { All CanBeTold founds.now }
-    ensures { IfOk result (λ page. page ≡ predictions_text names.now log.now.events asked.now rounds.now founds.now tries) }
+    requires deadlocks { All CanTellDeadlock deadlocks.now }
+    ensures { IfOk result (λ page. page ≡ predictions_text names.now log.now.events asked.now rounds.now founds.now deadlocks.now tries) }
 {
     let mut page = Page::new(alloc);
     add_asked(&mut page, names, asked)?;
     add_rounds(&mut page, names, alloc, log.as_slice(), rounds)?;
     add_all(&mut page, names, alloc, founds)?;
-    add_end(&mut page, is_something_told(rounds, founds), tries)?;
+    add_deadlocks(&mut page, names, deadlocks)?;
+    let something = is_something_told(rounds, founds, deadlocks);
+    add_end(&mut page, something, tries)?;
     Ok(page)
 }

@@ -2,26 +2,22 @@
 use Rattle.std.proofs.Common.{◌≡◌, ℕ, zero, suc, ◌+◌, ◌-◌, ◌<◌, List, [], ◌∷◌, ◌++◌, length, get_or, refl, sym, ap, ◌∙◌, subst, append_assoc, arith}
 use Rattle.std.proofs.lemmas.Grind.{flat_map-append}
 use Rattle.std.proofs.lemmas.List.{append-nil}
-use Rattle.std.specs.Prelude.{Option, Some, None, IfSome, IfNone, codes, decimal, slice_get}
-use Rattle.std.proofs.lemmas.Option.{get_or_from_slice_get, slice_get_within, same_Some}
+use Rattle.std.specs.Prelude.{Option, codes, decimal}
+use Rattle.std.proofs.lemmas.Option.{get_or_from_slice_get}
 use Rattle.std.specs.List.{flat_map, range_with_len}
 use Rattle.std.specs.Option.{option_copied}
 use Rattle.std.specs.Borrow.{Bor}
 use Rattle.std.specs.Io.KnownBytes.{Appends}
 use Rattle.velo_events.specs.declared.event.Event.{Event}
-use Rattle.velo_events.specs.Graph.{HasCycle}
 use Rattle.velo_events.specs.Tally.{events_of}
-use Rattle.velo_ledger.specs.declared.tally.Tally.{Tally}
-use Rattle.velo_ledger.specs.Logs.{tally_of}
-use Rattle.velo_ledger.specs.Views.{Accounts}
 use Rattle.velo_traces.specs.declared.block.Block.{Block}
 use Rattle.velo_bytes.specs.Device.{AppendsBeginning}
 use Rattle.velo_world.specs.declared.analysis.Alarm.{Alarm}
-use Rattle.velo_world.specs.World.{IsAlarm, AlarmOf, IsBookOf, WorldState}
+use Rattle.velo_world.specs.World.{AlarmOf}
 use Rattle.velo_report.specs.declared.names.Names.{Names}
 use Rattle.velo_report.specs.Lines.{line_of}
 use Rattle.velo_report.specs.Counted.{AreEventsOf}
-use Rattle.velo_report.specs.Report.{count_line, blame_line, blame_lines, thread_lines, verdict_lines, IsReport, AppendsReport, AppendsPartOfReport}
+use Rattle.velo_report.specs.Report.{blame_line, blame_lines, thread_lines, verdict_lines, IsReport, AppendsReport, AppendsPartOfReport}
 
 -- what is read past the end of some blocks
 abbrev pub no_block : Block

@@ -1,25 +1,18 @@
 -- The events that the monitor of a run took in.
-use Rattle.std.proofs.Common.{◌≡◌, ℕ, ◌<◌, ◌≤◌, List, [], ◌∷◌, ◌++◌, length, take, take_all, Option, Some, None, Result, Ok, Err, refl, sym, ap, ◌∙◌, subst, arith, inl, inr, ⊎_elim}
-use Rattle.std.specs.Prelude.{IsTrue, IsFalse, is_some, filter_map, OnOk}
+use Rattle.std.proofs.Common.{◌≡◌, ℕ, List, [], ◌∷◌, ◌++◌, length, take, take_all, Option, Some, None, Result, Ok, Err, refl, sym, ap, ◌∙◌, subst, arith, ⊎_elim}
+use Rattle.std.specs.Prelude.{IsTrue, IsFalse, is_some, OnOk}
 use Rattle.std.proofs.lemmas.Bool.{false≢true}
 use Rattle.std.proofs.lemmas.List.{take-append-le}
-use Rattle.std.proofs.lemmas.List.Sums.{count_by-le-length}
 use Rattle.velo_events.specs.declared.config.Bounds.{Bounds}
 use Rattle.velo_events.specs.declared.event.Event.{Event}
-use Rattle.velo_monitor.specs.Collection.{HasManyLive}
 use Rattle.velo_events.specs.Graph.{HasCycle}
 use Rattle.velo_events.proofs.OnGraphs.{IsClosing-unique, HasCycle-from_closing}
-use Rattle.velo_merge.specs.Merge.{GetsNew}
-use Rattle.velo_arena.specs.Slots.{Slots, used_in, limit_of}
 use Rattle.velo_clocks.specs.Clocks.{AreClocksOf, AreClocksSince}
 use Rattle.velo_clocks.specs.Noted.{HasRoomToNote, IsOfThreads}
-use Rattle.velo_events.specs.Place.{Place, looked_up}
-use Rattle.velo_tables.specs.LastAccesses.{LastAccesses, entry, steps_looked_up, HasRoomFor}
+use Rattle.velo_events.specs.Place.{Place}
+use Rattle.velo_tables.specs.LastAccesses.{entry, HasRoomFor}
 use Rattle.velo_clocks.proofs.OnThreads.{IsOfThreads-follows}
-use Rattle.velo_graph.specs.Nodes.{Nodes}
-use Rattle.velo_merge.specs.Named.{live_stamps, HasFinished, IsAncestor}
 use Rattle.velo_monitor.specs.Watched.{Watched, IsMonitorOf}
-use Rattle.velo_monitor.specs.Answers.{NeedsNode}
 use Rattle.velo_world.specs.declared.analysis.Alarm.{Alarm}
 use Rattle.velo_heap.specs.Contents.{Contents, bounds_of, IsHeapOf}
 use Rattle.velo_events.specs.WellFormed.{IsWellFormed, MayFollow}

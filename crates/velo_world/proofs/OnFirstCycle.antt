@@ -1,6 +1,6 @@
 -- The event that closes the first cycle of a log.
 use Rattle.std.proofs.Common.{◌≡◌, ℕ, zero, suc, ◌+◌, ◌<◌, ◌≤◌, List, [], ◌∷◌, ◌++◌, length, length-append, length-take, take, drop, Option, Some, None, refl, sym, ap, ◌∙◌, subst, arith}
-use Rattle.std.specs.Prelude.{slice_get, IsFalse}
+use Rattle.std.specs.Prelude.{IsFalse}
 use Rattle.std.proofs.lemmas.Bool.{both_ways, eq-eqb, false_from_ne_true}
 use Rattle.std.proofs.lemmas.List.{take-append-drop}
 use Rattle.velo_events.specs.declared.event.Event.{Event}
@@ -10,7 +10,7 @@ use Rattle.velo_events.specs.Graph.{Edge, HasCycle, IsClosing, IsCycle}
 use Rattle.velo_events.proofs.OnBlocks.{owner-append, owner-first, owner-le}
 use Rattle.velo_events.proofs.OnGraphs.{IsClosing-push, IsClosing-append, IsClosing-unique, HasCycle-from_closing}
 use Rattle.velo_events.proofs.OnOwners.{is_in_block-open}
-use Rattle.velo_events.proofs.OnScans.{passes_at-is, take-next, take-take_le}
+use Rattle.velo_events.proofs.OnScans.{passes_at-is, take-take_le}
 use Rattle.velo_events.proofs.OnTraces.{slice_get-push}
 use Rattle.velo_world.specs.declared.analysis.Alarm.{Alarm}
 use Rattle.velo_world.specs.declared.first_cycle.Closing.{Closing}

@@ -1,16 +1,13 @@
 -- The room for the node of an event.
-use Rattle.std.proofs.Common.{◌≡◌, ℕ, ◌<◌, ◌≤◌, List, [], ◌∷◌, Option, refl, subst, arith, inl, inr, ⊎_elim}
-use Rattle.std.specs.Prelude.{is_some, filter_map}
-use Rattle.std.proofs.lemmas.List.Sums.{count_by-le-length}
+use Rattle.std.proofs.Common.{◌≡◌, List, [], ◌∷◌, Option, refl, subst, inl, inr, ⊎_elim}
+use Rattle.std.specs.Prelude.{filter_map}
 use Rattle.velo_events.specs.declared.event.Event.{Event}
 use Rattle.velo_events.specs.Place.{Place, looked_up}
-use Rattle.velo_arena.specs.Slots.{Slots, used_in, limit_of}
 use Rattle.velo_graph.specs.Nodes.{Nodes}
 use Rattle.velo_merge.specs.Merge.{GetsNew}
-use Rattle.velo_merge.specs.Named.{live_stamps, HasFinished, IsAncestor}
+use Rattle.velo_merge.specs.Named.{live_stamps}
 use Rattle.velo_tables.specs.LastAccesses.{LastAccesses, entry, steps_looked_up}
 use Rattle.velo_monitor.specs.Answers.{NeedsNode}
-use Rattle.velo_monitor.specs.Collection.{HasManyLive}
 use Rattle.velo_monitor.specs.Watched.{Watched}
 use Rattle.velo_world.specs.NodeRoom.{HasSlot}
 

@@ -1,4 +1,4 @@
-use Rattle.std.proofs.Common.{ℕ, ◌++◌, List, length, get_or, subst, ◌∙◌}
+use Rattle.std.proofs.Common.{ℕ, ◌++◌, length, subst, ◌∙◌}
 use Rattle.std.specs.List.{flat_map, range_with_len}
 use Rattle.std.proofs.lemmas.Result.{err_from_is_err_and}
 use Rattle.velo_bytes.specs.Device.{AppendsBeginning}

@@ -1,4 +1,4 @@
-use Rattle.std.proofs.Common.{◌++◌, length, ap, refl, ◌∙◌}
+use Rattle.std.proofs.Common.{◌++◌, length, refl}
 use Rattle.std.specs.Option.{option_copied}
 use Rattle.std.proofs.lemmas.Result.{on_ok_weaker, on_err_weaker, err_from_is_err_and}
 use Rattle.velo_report.specs.Report.{thread_lines, verdict_lines}

@@ -1,5 +1,4 @@
-use Rattle.std.proofs.Common.{[], ◌∷◌, ◌++◌, List, refl, sym, subst}
-use Rattle.velo_events.specs.declared.event.Event.{Event}
+use Rattle.std.proofs.Common.{refl, sym, subst}
 use Rattle.velo_events.specs.WellFormed.{IsWellFormed}
 use Rattle.velo_events.proofs.OnScans.{take-next}
 use Rattle.velo_world.specs.FirstCycle.{ClosesFirst}

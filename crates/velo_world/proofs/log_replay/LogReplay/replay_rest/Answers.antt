@@ -1,4 +1,4 @@
-use Rattle.std.proofs.Common.{take_all, refl, sym, ◌∙◌, subst}
+use Rattle.std.proofs.Common.{take_all, refl, ◌∙◌, subst}
 use Rattle.velo_world.specs.LogReplay.{IsLogReplayOf}
 use Rattle.velo_world.proofs.log_replay.LogReplay.replay_rest.Goals as goal
 

@@ -1,4 +1,4 @@
-use Rattle.std.proofs.Common.{◌≡◌, ◌≤◌, length, take}
+use Rattle.std.proofs.Common.{◌≡◌, take}
 use Rattle.velo_world.specs.LogReplay.{IsLogReplayOf}
 use Rattle.velo_world.proofs.log_replay.LogReplay.replay_rest.Given as goal
 

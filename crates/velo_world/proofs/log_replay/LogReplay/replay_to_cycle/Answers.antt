@@ -1,4 +1,4 @@
-use Rattle.std.proofs.Common.{◌+◌, length, take_all, None, sym, ◌∙◌, subst, arith}
+use Rattle.std.proofs.Common.{◌+◌, length, take_all, sym, ◌∙◌, subst, arith}
 use Rattle.velo_world.specs.LogReplay.{ComesTo, IsQuiet}
 use Rattle.velo_world.proofs.log_replay.LogReplay.replay_to_cycle.Goals as goal
 

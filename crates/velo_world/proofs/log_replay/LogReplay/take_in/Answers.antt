@@ -1,11 +1,9 @@
 use Rattle.std.proofs.Common.{◌+◌, [], ◌∷◌, ◌++◌, take, sym, ap, ◌∙◌, subst, arith}
 use Rattle.velo_events.specs.Block.{owner}
-use Rattle.velo_events.specs.Graph.{HasCycle}
 use Rattle.velo_events.proofs.OnScans.{take-next}
 use Rattle.velo_traces.proofs.OnFlaws.{MayFollow-from_no_flaw}
 use Rattle.velo_monitor.specs.Watched.{IsMonitorOf}
 use Rattle.velo_world.specs.FirstCycle.{ClosesFirst}
-use Rattle.velo_world.specs.NodeRoom.{IsLimitedMonitorOf}
 use Rattle.velo_world.proofs.OnAlarms.{length-before}
 use Rattle.velo_world.proofs.OnFirstCycle.{ClosesFirst-push, ClosesFirst-whole}
 use Rattle.velo_world.proofs.log_replay.LogReplay.take_in.Goals as goal
