@@ -9,9 +9,9 @@ use Rattle.velo_arguments.specs.declared.options.Takes.TheVariants.{Needed, Noth
 abbrev pub rule_taking : Text → Takes → Rule
 rule_taking name Operand = word name
 rule_taking name Nothing = flag name
-rule_taking name (Value placeholder) = valued name
-rule_taking name (Needed placeholder) = needed name
-rule_taking name (Values placeholder) = repeated name
+rule_taking name (Value shown) = valued name
+rule_taking name (Needed shown) = needed name
+rule_taking name (Values shown) = repeated name
 rule_taking name (Number most) = numbered name most
 rule_taking name (NumberOr most default) = numbered_or name most default.now
 rule_taking name Wide = wide name

@@ -101,8 +101,7 @@ impl Monitor {
         })
     }
 
-    /// Makes room for what the next event leaves. The nodes stay as they are and the monitor is that of the same trace, also
-    /// where it is refused.
+    /// Makes room for what the next event leaves. Nodes and trace stay as they are, also where it is refused.
     ///
     /// # Errors
     /// `Memory` where a growth was refused.
@@ -367,8 +366,7 @@ impl Monitor {
         }
     }
 
-    /// Adds the edges from the nodes of the cell's last accesses but the own one into this, unless one of them closes a
-    /// cycle.
+    /// Adds the edges from the nodes of the cell's other last accesses into this, unless one of them closes a cycle.
     #[inline(always)]
     fn closes_or_follows(&mut self, cell: Cell, own: Step) -> bool
         requires borne { Bears self.old.nodes own.slot own.stamp }
@@ -417,8 +415,7 @@ impl Monitor {
         }
     }
 
-    /// Finishes the node of the step. Where it has no ancestors it is unneeded, and others may be with it if it leads to
-    /// some.
+    /// Finishes the node of the step. Without ancestors it is unneeded, and so may be others that it leads to.
     fn end_block(&mut self, own: Step)
         requires borne { Bears self.old.nodes own.slot own.stamp }
         requires nothing { HasNothingLeft self.old.nodes }
