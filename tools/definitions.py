@@ -35,19 +35,19 @@ PARTS = [
         "velo_runtime": "Rooms Steps Turns Waits Seats"}),
     ("Runs of a workload, and every schedule", {
         "velo_worker": "Progress Schedule Live Logs Causes",
-        "velo_turns": "Schedule Short File",
-        "velo_schedules": "Logs* Goals* Told*",
+        "velo_schedule_text": "Schedule Short File",
+        "velo_explore": "Logs* Goals* Told*",
         "velo_shrink": "Simple*",
-        "velo_chance": "Drawing Runs Tallies"}),
+        "velo_random": "Drawing Runs Tallies"}),
     ("What is told of a log", {
         "velo_report": "Names Report Alarm Certificate",
         "velo_explain": "Evidence Lanes Fitting Text Picture",
         "velo_watch": "Watch UnderWay"}),
     ("Which labels are not atomic", {
-        "velo_thin": "Left* Thinned",
+        "velo_filter": "Left* Thinned",
         "velo_audit": "Audit* Rounds* Tells Witness",
         "velo_audit_text": "Text",
-        "velo_list": "Line* Known* List"}),
+        "velo_suppressions": "Line* Known* List"}),
     ("What one log says of other schedules", {
         "velo_predict": "Predictions* Deadlocks* Feasible* Differences* Waits",
         "velo_delays": "Anew* Differing* Found* Deadlock*",
@@ -57,13 +57,13 @@ PARTS = [
         "velo_renew": "Renewal*",
         "velo_races": "Races*"}),
     ("What the program does", {
-        "velo_program": "Program* Causes",
+        "velo_commands": "Program* Causes",
         "velo_log_commands": "Commands* Check Explaining Carrying Predicting",
         "velo_workload_commands": "Commands* Scheduling Playing ByChance Exploring*",
         "velo_fate": "Verdict Format Delivery Barred Fate Failures Causes",
         "velo_delivery": "Disk Reading Writing Answers",
         "velo_arguments": "CommandLine Asked Together",
-        "velo_command": "Running Usage"}),
+        "velo_cli": "Running Usage"}),
     ("The library for other languages", {
         "velo_ffi": "Answers Numbers Texts* Pieces* Renewal* Words"}),
 ]

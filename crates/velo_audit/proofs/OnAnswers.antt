@@ -16,7 +16,7 @@ use Rattle.velo_traces.specs.Blocks.{block_at, label_of}
 use Rattle.velo_blame.specs.Blamed.{begins_of}
 use Rattle.velo_world.specs.Faults.{FindsNoNodeAt}
 use Rattle.velo_events.specs.Graph.{HasCycle}
-use Rattle.velo_thin.specs.Left.{Left, rest_of, places_of, place_of}
+use Rattle.velo_filter.specs.Left.{Left, rest_of, places_of, place_of}
 use Rattle.velo_audit.specs.Rounds.{told_of, IsRound, labels_told}
 use Rattle.velo_audit.specs.Tells.{told_as}
 use Rattle.velo_audit.specs.Witness.{block_as_read}
@@ -24,8 +24,8 @@ use Rattle.velo_audit.specs.Audit.{HasItsLabels, RoundTells, IsRoundFault, IsTol
 use Rattle.velo_audit.specs.declared.told.Told.{Told}
 use Rattle.velo_audit.specs.declared.round.AuditFault.{AuditFault}
 use Rattle.velo_audit.specs.declared.round.AuditFault.TheVariants.{Memory, GraphFull}
-use Rattle.velo_thin.proofs.OnRanks.{length-staying}
-use Rattle.velo_thin.proofs.OnLeft.{stays, rest_of-is, length-sub, sub-at, stands_for}
+use Rattle.velo_filter.proofs.OnRanks.{length-staying}
+use Rattle.velo_filter.proofs.OnLeft.{stays, rest_of-is, length-sub, sub-at, stands_for}
 use Rattle.velo_audit.proofs.OnWitness.{HasWitness-told}
 use Rattle.velo_audit.proofs.OnRounds.{closing-begins, blamed-begins}
 

@@ -6,7 +6,7 @@ use Rattle.std.proofs.lemmas.List.Elements.{All-append}
 use Rattle.velo_events.specs.declared.event.Event.{Event}
 use Rattle.velo_events.specs.Graph.{HasCycle}
 use Rattle.velo_events.specs.Reordering.{IsSerializable}
-use Rattle.velo_thin.specs.Left.{Left, rest_of, with_labels}
+use Rattle.velo_filter.specs.Left.{Left, rest_of, with_labels}
 use Rattle.velo_audit.specs.Rounds.{IsRound, Rounds, AreTheOnlyRounds, FirstRounds, AreFound, labels_told, labels_found, left_after, atomic_labels}
 use Rattle.velo_audit.specs.Rounds as round
 use Rattle.velo_audit.specs.Tells.{told_as}

@@ -12,8 +12,8 @@ use Rattle.velo_events.specs.declared.event.Kind.TheVariants.{Begin}
 use Rattle.velo_events.specs.declared.event.Label.{Label}
 use Rattle.velo_events.proofs.OnScans.{take-next}
 use Rattle.velo_traces.proofs.Past.{past}
-use Rattle.velo_thin.specs.Left.{Left, nothing, label_begun, is_listed, with_labels}
-use Rattle.velo_thin.proofs.OnTables.{is_listed-nil, is_listed-append}
+use Rattle.velo_filter.specs.Left.{Left, nothing, label_begun, is_listed, with_labels}
+use Rattle.velo_filter.proofs.OnTables.{is_listed-nil, is_listed-append}
 use Rattle.velo_audit.specs.Rounds.{each_once}
 use Rattle.velo_audit.specs.Count.{labels_begun, IsCountedTo}
 use Rattle.velo_audit.proofs.OnRounds.{is_listed-cases}

@@ -26,12 +26,12 @@ use Rattle.velo_events.proofs.OnTraces.{passes_at-append}
 use Rattle.velo_events.proofs.OnUnfinished.{Contains-open_blocks}
 use Rattle.velo_traces.specs.Blocks.{label_of}
 use Rattle.velo_blame.specs.Blamed.{AreBlamedAt, thread_at}
-use Rattle.velo_thin.specs.Left.{Left, is_among, label_begun, is_dissolved, rest_of, place_of, is_listed, with_labels}
+use Rattle.velo_filter.specs.Left.{Left, is_among, label_begun, is_dissolved, rest_of, place_of, is_listed, with_labels}
 use Rattle.velo_audit.specs.Rounds.{label_at, each_once, labels_in, atomic_labels, Told, labels_told, told_of, is_some_blamed, IsRound, left_after, Rounds, labels_found, AreFound}
 use Rattle.velo_certify.proofs.OnClosing.{no_cycle_before}
-use Rattle.velo_thin.proofs.OnRanks.{events_staying}
-use Rattle.velo_thin.proofs.OnLeft.{stays, rest_of-is, sub-passes, stands_for, is_left_out-begin, is_dissolved-is}
-use Rattle.velo_thin.proofs.OnKept.{blame-rest}
+use Rattle.velo_filter.proofs.OnRanks.{events_staying}
+use Rattle.velo_filter.proofs.OnLeft.{stays, rest_of-is, sub-passes, stands_for, is_left_out-begin, is_dissolved-is}
+use Rattle.velo_filter.proofs.OnKept.{blame-rest}
 
 -- ---- the closing transaction is a block
 

@@ -7,7 +7,7 @@ use Rattle.velo_events.specs.Reordering.{AreBlamed}
 use Rattle.velo_events.proofs.OnGraphs.{IsClosing-unique, HasCycle-from_closing}
 use Rattle.velo_certify.proofs.OnReordered.{same_rising}
 use Rattle.velo_blame.specs.Blamed.{AreBlamedAt, thread_at}
-use Rattle.velo_thin.specs.Left.{Left, rest_of, place_of, with_labels}
+use Rattle.velo_filter.specs.Left.{Left, rest_of, place_of, with_labels}
 use Rattle.velo_audit.specs.Rounds.{Told, IsRound, Rounds, labels_told, told_of, is_some_blamed}
 
 -- the blocks to blame are determined

@@ -13,8 +13,8 @@ use Rattle.velo_explain.specs.Evidence.{no_block, IsEvidence, HaveReasons, AreBl
 use Rattle.velo_explain.proofs.OnEvidence.{IsWithin-of}
 use Rattle.velo_world.specs.declared.analysis.Alarm.{Alarm}
 use Rattle.velo_world.specs.World.{IsAlarm}
-use Rattle.velo_thin.specs.Left.{Left, rest_of, places_of, place_of}
-use Rattle.velo_thin.proofs.OnLeft.{rest_of-is, stands_for}
+use Rattle.velo_filter.specs.Left.{Left, rest_of, places_of, place_of}
+use Rattle.velo_filter.proofs.OnLeft.{rest_of-is, stands_for}
 use Rattle.velo_audit.specs.Tells.{Tells}
 use Rattle.velo_audit.specs.Witness.{span_as_read, edge_as_read, blame_as_read, ReadsAs, IsWitness, HasWitness, IsWitnessWithin, IsEvidenceOf, WitnessTells}
 use Rattle.velo_audit.specs.declared.told.Told.{Told}

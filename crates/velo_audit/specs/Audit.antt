@@ -9,7 +9,7 @@ use Rattle.velo_blame.specs.Blamed.{begins_of}
 use Rattle.velo_world.specs.Faults.{FindsNoNodeAt}
 use Rattle.velo_world.specs.World.{IsAlarm}
 use Rattle.velo_world.specs.declared.analysis.Alarm.{Alarm}
-use Rattle.velo_thin.specs.Left.{Left, rest_of, place_of, with_labels}
+use Rattle.velo_filter.specs.Left.{Left, rest_of, place_of, with_labels}
 use Rattle.velo_audit.specs.Rounds.{IsRound, BlamesAsRead, FirstRounds, labels_told, left_after}
 use Rattle.velo_audit.specs.Rounds as round
 use Rattle.velo_audit.specs.Tells.{told_as, Tells}

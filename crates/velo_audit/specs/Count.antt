@@ -1,7 +1,7 @@
 -- How many labels are counted in the first events of a log. Private contracts cite these words.
 use Rattle.std.specs.Prelude.{◌≡◌, ℕ, ◌≤◌, not, List, take, filter_map, count_by}
 use Rattle.velo_events.specs.declared.event.Event.{Event}
-use Rattle.velo_thin.specs.Left.{Left, label_begun, is_listed}
+use Rattle.velo_filter.specs.Left.{Left, label_begun, is_listed}
 use Rattle.velo_audit.specs.Rounds.{each_once}
 
 -- the labels begun, each time

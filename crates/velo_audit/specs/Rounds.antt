@@ -6,7 +6,7 @@ use Rattle.velo_events.specs.Graph.{HasCycle, IsClosing}
 use Rattle.velo_events.specs.Reordering.{IsSelfSerializable}
 use Rattle.velo_traces.specs.Blocks.{block_at}
 use Rattle.velo_blame.specs.Blamed.{AreBlamedAt}
-use Rattle.velo_thin.specs.Left.{Left, label_begun, is_listed, with_labels, rest_of, place_of}
+use Rattle.velo_filter.specs.Left.{Left, label_begun, is_listed, with_labels, rest_of, place_of}
 
 -- ---- labels
 

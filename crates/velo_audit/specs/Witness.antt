@@ -10,7 +10,7 @@ use Rattle.velo_explain.specs.declared.evidence.Blame.{Blame}
 use Rattle.velo_explain.specs.declared.evidence.Evidence.{Evidence}
 use Rattle.velo_explain.specs.Evidence.{IsEvidence, HaveReasons, IsWithin}
 use Rattle.velo_world.specs.declared.analysis.Alarm.{Alarm}
-use Rattle.velo_thin.specs.Left.{Left, rest_of, place_of}
+use Rattle.velo_filter.specs.Left.{Left, rest_of, place_of}
 
 -- ---- each position as that for which it stands
 

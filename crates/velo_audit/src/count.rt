@@ -1,12 +1,12 @@
 //! How many labels are atomic.
 ghost use Rattle.std.specs.Prelude.{◌≡◌, ◌<◌, ◌+◌, length, IfOk, OnOk};
-ghost use Rattle.velo_thin.specs.Tables.{left_of};
+ghost use Rattle.velo_filter.specs.Tables.{left_of};
 ghost use Rattle.velo_audit.specs.Count.{IsCountedTo};
 ghost use Rattle.velo_audit.specs.Rounds.{atomic_labels};
 
 use std::alloc::Global;
 use velo_events::{Event, Kind, Memory};
-use velo_thin::LeftOut;
+use velo_filter::LeftOut;
 use velo_traces::Trace;
 
 /// How many labels have a begin in the log and are not left out. Behind an audit these are the atomic ones.

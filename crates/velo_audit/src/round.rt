@@ -3,7 +3,7 @@ ghost use Rattle.std.specs.Prelude.{◌≡◌, ◌≢◌, ◌*◌, ◌≤◌, fa
 ghost use Rattle.velo_events.specs.Refusals.{GrowthRefused};
 ghost use Rattle.velo_events.specs.WellFormed.{IsWellFormed};
 ghost use Rattle.velo_audit.specs.Audit.{RoundTells, IsRoundFault, CheckTells, IsCheckFault, out_of_memory};
-ghost use Rattle.velo_thin.specs.Tables.{left_of};
+ghost use Rattle.velo_filter.specs.Tables.{left_of};
 ghost use Rattle.velo_world.specs.Faults.{IsFaultOfLog};
 
 use crate::told::{Told, told_of};
@@ -11,7 +11,7 @@ use crate::witness::place_at;
 use std::alloc::Global;
 use thiserror::Error;
 use velo_events::{Config, Memory, Refusal};
-use velo_thin::{LeftOut, Thinned, thin};
+use velo_filter::{LeftOut, Thinned, thin};
 use velo_traces::Trace;
 use velo_world::{Closed, LogReplayFault};
 

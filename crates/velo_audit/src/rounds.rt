@@ -5,9 +5,9 @@ ghost use Rattle.velo_events.specs.Reordering.{IsSerializable};
 ghost use Rattle.velo_events.specs.WellFormed.{IsWellFormed};
 ghost use Rattle.velo_traces.specs.declared.block.Block.{Block as BlockOf};
 ghost use Rattle.velo_audit.specs.Audit.{RoundTells, TellsTruly, AreWitnessed, IsRoundFault, IsAuditFault, left_behind, out_of_memory};
-ghost use Rattle.velo_thin.specs.Left.{rest_of, with_labels};
+ghost use Rattle.velo_filter.specs.Left.{rest_of, with_labels};
 ghost use Rattle.velo_audit.specs.Rounds.{Rounds, AreTheOnlyRounds, AreFound, labels_found, atomic_labels};
-ghost use Rattle.velo_thin.specs.Tables.{left_of};
+ghost use Rattle.velo_filter.specs.Tables.{left_of};
 ghost use Rattle.velo_audit.specs.Tells.{told_as};
 
 use crate::round::{AuditFault, round};
@@ -15,7 +15,7 @@ use crate::told::Told;
 use std::alloc::Global;
 use velo_events::growth::reserve;
 use velo_events::{Config, Memory};
-use velo_thin::LeftOut;
+use velo_filter::LeftOut;
 use velo_traces::{Block, Trace};
 
 /// Checks the rest of a log, leaves out the labels of the blocks that the first alarm blames, and so on until there is

@@ -7,8 +7,8 @@ use Rattle.std.proofs.lemmas.Grind.{flat_map-append}
 use Rattle.std.proofs.lemmas.List.{append-nil, map-append, take_more, take-append-drop}
 use Rattle.velo_traces.specs.declared.block.Block.{Block}
 use Rattle.velo_names.specs.Names.{NameLists}
-use Rattle.velo_thin.specs.Left.{is_listed}
-use Rattle.velo_thin.proofs.OnTables.{is_listed-append}
+use Rattle.velo_filter.specs.Left.{is_listed}
+use Rattle.velo_filter.proofs.OnTables.{is_listed-append}
 use Rattle.velo_audit.specs.Rounds.{each_once}
 use Rattle.velo_audit.proofs.OnCount.{each_once-new, each_once-again}
 use Rattle.velo_audit_text.specs.Words.{not_atomic_text}

@@ -2,8 +2,8 @@
 ghost use Rattle.std.specs.Prelude.{◌≡◌, ◌≤◌, ◌++◌, length, map, All, IfOk, OnOk};
 ghost use Rattle.std.specs.List.{flat_map};
 ghost use Rattle.velo_events.specs.declared.limits.TheConstants.{MAX_EVENTS};
-ghost use Rattle.velo_thin.specs.Left.{is_listed};
-ghost use Rattle.velo_thin.specs.Thinned.{CanComeAbout};
+ghost use Rattle.velo_filter.specs.Left.{is_listed};
+ghost use Rattle.velo_filter.specs.Thinned.{CanComeAbout};
 ghost use Rattle.velo_audit.specs.Audit.{TellsTruly};
 ghost use Rattle.velo_audit.specs.Rounds.{each_once};
 ghost use Rattle.velo_audit.specs.Witness.{IsWitnessWithin};

@@ -16,8 +16,8 @@ use Rattle.velo_events.specs.Heap.{happened, times, value_in}
 use Rattle.velo_events.specs.WellFormed.{NamesKnown, IsInTurn, MayFollow, IsWellFormed}
 use Rattle.velo_events.proofs.OnTraces.{slice_get-append, slice_get-push}
 use Rattle.velo_heap.specs.Contents.{Contents, IsHeapOf}
-use Rattle.velo_explore.specs.Plain.{plain_kind, plain, plain_log}
-use Rattle.velo_explore.proofs.OnPlain.{same_access, same_begin, same_end, same_exit, same_acquire, same_release, same_acquire_shared, same_release_shared, was_born-plain, holder_in-plain, shares_in-plain, MayFollow-plain}
+use Rattle.velo_search.specs.Plain.{plain_kind, plain, plain_log}
+use Rattle.velo_search.proofs.OnPlain.{same_access, same_begin, same_end, same_exit, same_acquire, same_release, same_acquire_shared, same_release_shared, was_born-plain, holder_in-plain, shares_in-plain, MayFollow-plain}
 use Rattle.velo_delays.specs.Anew.{renewed_kind, renewed, IsAnew, IsAnewSoFar}
 
 -- the value plays no part in the test

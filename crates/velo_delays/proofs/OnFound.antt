@@ -6,7 +6,7 @@ use Rattle.std.proofs.lemmas.List.Elements.{All-nil, All-cons, All-head, All-app
 use Rattle.std.proofs.lemmas.Option.{none-some, same_Some, slice_get_within}
 use Rattle.velo_events.specs.declared.config.Bounds.{Bounds}
 use Rattle.velo_events.specs.declared.event.Event.{Event}
-use Rattle.velo_thin.specs.Left.{Left, rest_of}
+use Rattle.velo_filter.specs.Left.{Left, rest_of}
 use Rattle.velo_audit.specs.Audit.{AreWitnessed}
 use Rattle.velo_audit.specs.Rounds.{IsRound, Rounds}
 use Rattle.velo_audit.specs.Tells.{told_as}

@@ -6,7 +6,7 @@ use Rattle.velo_events.specs.declared.event.Kind.TheVariants.{Read, Write}
 use Rattle.velo_events.specs.Heap.{value_in}
 use Rattle.velo_heap.specs.Contents.{Contents, IsHeapOf}
 use Rattle.velo_explain.specs.Text.{line_of}
-use Rattle.velo_explore.specs.Plain.{plain_log}
+use Rattle.velo_search.specs.Plain.{plain_log}
 
 -- the operation after these events: a write writes the number of its line, a read has the latest value
 abbrev pub renewed_kind : List Event → Kind → Kind

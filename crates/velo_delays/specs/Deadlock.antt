@@ -4,7 +4,7 @@ use Rattle.velo_events.specs.declared.config.Bounds.{Bounds}
 use Rattle.velo_events.specs.declared.event.Event.{Event}
 use Rattle.velo_events.specs.declared.limits.TheConstants.{MAX_EVENTS}
 use Rattle.velo_certify.specs.Owners.{event_at}
-use Rattle.velo_thin.specs.Left.{Left, rest_of}
+use Rattle.velo_filter.specs.Left.{Left, rest_of}
 use Rattle.velo_predict.specs.declared.waits.Waiting.{Waiting}
 use Rattle.velo_predict.specs.Deadlocks.{PredictsDeadlock}
 use Rattle.velo_predict.specs.Waits.{IsCircle}

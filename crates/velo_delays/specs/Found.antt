@@ -3,7 +3,7 @@ use Rattle.std.specs.Prelude.{◌≡◌, ◌⊎◌, ◌≤◌, ℕ, Bool, true, 
 use Rattle.velo_events.specs.declared.config.Bounds.{Bounds}
 use Rattle.velo_events.specs.declared.limits.TheConstants.{MAX_EVENTS}
 use Rattle.velo_events.specs.declared.event.Event.{Event}
-use Rattle.velo_thin.specs.Left.{Left, nothing, rest_of}
+use Rattle.velo_filter.specs.Left.{Left, nothing, rest_of}
 use Rattle.velo_audit.specs.Audit.{TellsTruly}
 use Rattle.velo_audit.specs.Rounds.{IsRound}
 use Rattle.velo_audit.specs.Tells.{told_as}

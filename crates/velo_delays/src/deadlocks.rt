@@ -2,7 +2,7 @@
 ghost use Rattle.std.specs.Prelude.{◌≡◌, ◌≤◌, length, All, IfOk, IfSome, OnOk};
 ghost use Rattle.velo_events.specs.declared.limits.TheConstants.{MAX_EVENTS};
 ghost use Rattle.velo_events.specs.WellFormed.{IsWellFormed};
-ghost use Rattle.velo_thin.specs.Tables.{left_of};
+ghost use Rattle.velo_filter.specs.Tables.{left_of};
 ghost use Rattle.velo_delays.specs.Deadlock.{IsDeadlock, IsDeadlockIn};
 ghost use Rattle.velo_delays.specs.Found.{Adds, AddsAtMost};
 ghost use Rattle.velo_delays.specs.Stands.{Stands};
@@ -16,7 +16,7 @@ use crate::trying::{go_on_without, joined};
 use std::alloc::Global;
 use velo_events::growth::{filled, reserve};
 use velo_events::{Config, Event, Kind, LockId, Memory, ThreadId};
-use velo_thin::{LeftOut, thin};
+use velo_filter::{LeftOut, thin};
 use velo_traces::Trace;
 
 /// Where a thread that holds a lock acquires another one.

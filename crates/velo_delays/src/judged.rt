@@ -2,7 +2,7 @@
 ghost use Rattle.std.specs.Prelude.{◌≡◌, ◌≤◌, ◌<◌, false, true, length, map, All, IfOk, IfSome, IsTrue};
 ghost use Rattle.velo_events.specs.Event.{value_of};
 ghost use Rattle.velo_events.specs.WellFormed.{IsWellFormed};
-ghost use Rattle.velo_thin.specs.Left.{nothing};
+ghost use Rattle.velo_filter.specs.Left.{nothing};
 ghost use Rattle.velo_audit.specs.Audit.{TellsTruly};
 ghost use Rattle.velo_audit.specs.Rounds.{IsRound};
 ghost use Rattle.velo_audit.specs.Tells.{told_as};
@@ -14,8 +14,8 @@ use std::alloc::Global;
 use velo_audit::{AuditFault, Told, audit};
 use velo_events::growth::with_capacity;
 use velo_events::{Config, Event, Kind, Memory};
+use velo_filter::LeftOut;
 use velo_predict::{Difference, differing_reads, predicts_cycle};
-use velo_thin::LeftOut;
 use velo_traces::Trace;
 
 /// A read that has another value than in the log.

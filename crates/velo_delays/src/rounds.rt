@@ -2,7 +2,7 @@
 ghost use Rattle.std.specs.Prelude.{◌≡◌, ◌≤◌, false, length, All, IfOk, IfSome, OnOk};
 ghost use Rattle.velo_events.specs.declared.limits.TheConstants.{MAX_EVENTS};
 ghost use Rattle.velo_events.specs.WellFormed.{IsWellFormed};
-ghost use Rattle.velo_thin.specs.Tables.{left_of};
+ghost use Rattle.velo_filter.specs.Tables.{left_of};
 ghost use Rattle.velo_delays.specs.Found.{Adds, AddsAtMost, IsFound, IsFoundIn, SameButLabels};
 ghost use Rattle.velo_delays.specs.Stands.{Stands};
 
@@ -16,7 +16,7 @@ use rand_xoshiro::Xoshiro256PlusPlus;
 use std::alloc::Global;
 use velo_events::growth::reserve;
 use velo_events::{Config, Label, Memory};
-use velo_thin::{LeftOut, thin};
+use velo_filter::{LeftOut, thin};
 use velo_traces::{Block, Trace};
 
 /// How delays are drawn.

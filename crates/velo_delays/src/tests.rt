@@ -4,7 +4,7 @@ use std::alloc::Global;
 use std::process::Abort;
 use std::test::Fail;
 use velo_events::{Bounds, Config, Event, Kind, Label, LockId, ThreadId, VarId};
-use velo_thin::LeftOut;
+use velo_filter::LeftOut;
 use velo_traces::{Trace, well_formed};
 
 const BOUNDS: Bounds = Bounds {

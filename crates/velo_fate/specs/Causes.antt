@@ -3,8 +3,8 @@ use Rattle.std.specs.Prelude.{⊤}
 use Rattle.velo_events.specs.Refusals.{GrowthRefused}
 use Rattle.velo_logtext.specs.declared.fault.LogFault.{LogFault}
 use Rattle.velo_logtext.specs.declared.fault.LogFault.TheVariants as log_fault
-use Rattle.velo_list.specs.declared.fault.ListFault.{ListFault}
-use Rattle.velo_list.specs.declared.fault.ListFault.TheVariants as list_fault
+use Rattle.velo_suppressions.specs.declared.fault.ListFault.{ListFault}
+use Rattle.velo_suppressions.specs.declared.fault.ListFault.TheVariants as list_fault
 use Rattle.velo_names.specs.declared.fault.NamesFault.{NamesFault}
 use Rattle.velo_names.specs.declared.fault.NamesFault.TheVariants as names_fault
 use Rattle.velo_sites.specs.declared.fault.SitesFault.{SitesFault}
@@ -13,8 +13,8 @@ use Rattle.velo_worker.specs.declared.ending.Ending.{Ending}
 use Rattle.velo_worker.specs.Causes.{RefusedByGrowth, EndsByGrowth, EndsWithCause}
 use Rattle.velo_workload.specs.declared.fault.WorkFault.{WorkFault}
 use Rattle.velo_workload.specs.declared.fault.WorkFault.TheVariants as work_fault
-use Rattle.velo_turns.specs.declared.schedule.ScheduleFault.{ScheduleFault}
-use Rattle.velo_turns.specs.declared.schedule.ScheduleFault.TheVariants as schedule_fault
+use Rattle.velo_schedule_text.specs.declared.schedule.ScheduleFault.{ScheduleFault}
+use Rattle.velo_schedule_text.specs.declared.schedule.ScheduleFault.TheVariants as schedule_fault
 use Rattle.velo_fate.specs.declared.fault.CheckFault.{CheckFault}
 use Rattle.velo_fate.specs.declared.fault.CheckFault.TheVariants as check_fault
 use Rattle.velo_fate.specs.declared.fate.Fate.{Fate}

@@ -7,9 +7,9 @@ use Rattle.velo_logtext.specs.declared.fault.LogFault.{LogFault}
 use Rattle.velo_logtext.specs.declared.fault.LogFault.TheVariants.{BadHeader, BadLine, Truncated, TooLong, Read}
 use Rattle.velo_logtext.specs.declared.fault.LogFault.TheVariants as log_fault
 use Rattle.velo_events.specs.declared.event.ThreadId.{ThreadId}
-use Rattle.velo_list.specs.declared.fault.ListFault.{ListFault}
-use Rattle.velo_list.specs.declared.fault.ListFault.TheVariants as list_fault
-use Rattle.velo_list.specs.Fault.{fault_line as line_of_list_fault, fault_number as number_of_list_fault}
+use Rattle.velo_suppressions.specs.declared.fault.ListFault.{ListFault}
+use Rattle.velo_suppressions.specs.declared.fault.ListFault.TheVariants as list_fault
+use Rattle.velo_suppressions.specs.Fault.{fault_line as line_of_list_fault, fault_number as number_of_list_fault}
 use Rattle.velo_names.specs.declared.fault.NamesFault.{NamesFault}
 use Rattle.velo_sites.specs.declared.fault.SitesFault.{SitesFault}
 use Rattle.velo_sites.specs.declared.fault.SitesFault.TheVariants as sites_fault
@@ -21,8 +21,8 @@ use Rattle.velo_worker.specs.declared.ending.Ending.TheVariants as ending
 use Rattle.velo_workload.specs.declared.fault.WorkFault.{WorkFault}
 use Rattle.velo_workload.specs.declared.fault.WorkFault.TheVariants as work_fault
 use Rattle.velo_delivery.specs.Writing.{BreaksOff, Writing, Writes}
-use Rattle.velo_turns.specs.declared.schedule.ScheduleFault.{ScheduleFault}
-use Rattle.velo_turns.specs.declared.schedule.ScheduleFault.TheVariants as schedule_fault
+use Rattle.velo_schedule_text.specs.declared.schedule.ScheduleFault.{ScheduleFault}
+use Rattle.velo_schedule_text.specs.declared.schedule.ScheduleFault.TheVariants as schedule_fault
 use Rattle.velo_fate.specs.declared.fault.CheckFault.{CheckFault}
 use Rattle.velo_fate.specs.declared.fault.CheckFault.TheVariants.{Log, Refused, WrongValue, Write, Memory}
 use Rattle.velo_fate.specs.declared.fate.Fate.{Fate}

@@ -1,6 +1,6 @@
 //! How the program ends: its status, and the line on standard error.
 ghost use Rattle.std.specs.Prelude.{◌≡◌, ◌≢◌, ◌≤◌, ◌+◌, ◌++◌, [], length, take, IfOk, OnOk, OnErr};
-ghost use Rattle.velo_list.specs.Fault.{fault_line as line_of_list_fault, fault_number as number_of_list_fault};
+ghost use Rattle.velo_suppressions.specs.Fault.{fault_line as line_of_list_fault, fault_number as number_of_list_fault};
 ghost use Rattle.velo_names.specs.Fault.{fault_line, fault_number};
 ghost use Rattle.velo_sites.specs.Fault.{fault_line as line_of_sites_fault, fault_number as number_of_sites_fault};
 ghost use Rattle.velo_delivery.specs.Writing.{BreaksOff, Writes, writing};
@@ -10,13 +10,13 @@ use crate::fault::CheckFault;
 use velo_bytes::{Sink, WriteFault, put_bytes, put_number, write_all};
 use velo_delivery::{Failure, Operand};
 use velo_events::{Refusal, ThreadId};
-use velo_list::ListFault;
 use velo_logtext::LogFault;
 use velo_names::NamesFault;
 use velo_request::Ignorable;
 use velo_request::status::{ALARM, BAD_INPUT, DONE, FAILED, INCOMPLETE};
+use velo_schedule_text::ScheduleFault;
 use velo_sites::SitesFault;
-use velo_turns::ScheduleFault;
+use velo_suppressions::ListFault;
 use velo_worker::Ending;
 use velo_workload::WorkFault;
 

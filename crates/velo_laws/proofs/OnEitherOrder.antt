@@ -8,11 +8,11 @@ use Rattle.velo_events.specs.declared.event.Kind.TheVariants.{Begin, End}
 use Rattle.velo_events.specs.Event.{thread_of, is_by, is_begin, is_end, is_begin_by, is_end_by}
 use Rattle.velo_events.proofs.OnScans.{event_at, passes_at-event}
 use Rattle.velo_events.proofs.OnOwners.{is_open_at-begins, is_open_at-within}
-use Rattle.velo_thin.specs.Left.{Left, begins_such, is_dissolved, is_left_out, rest_of, place_of}
-use Rattle.velo_thin.specs.Stacks.{popped, stack}
-use Rattle.velo_thin.proofs.OnRanks.{rank, rank-zero, rank-stays, rank-goes, rank-le, events_staying, events_staying-stays, events_staying-goes, events_staying-at, length-events_staying}
-use Rattle.velo_thin.proofs.OnStacks.{stack-begin, stack-end, stack-other, stack-closes}
-use Rattle.velo_thin.proofs.OnLeft.{stays, sub, rest_of-is, length-sub, place-rank, is_dissolved-is, is_left_out-begin, is_left_out-end, is_left_out-end_alone, is_left_out-other}
+use Rattle.velo_filter.specs.Left.{Left, begins_such, is_dissolved, is_left_out, rest_of, place_of}
+use Rattle.velo_filter.specs.Stacks.{popped, stack}
+use Rattle.velo_filter.proofs.OnRanks.{rank, rank-zero, rank-stays, rank-goes, rank-le, events_staying, events_staying-stays, events_staying-goes, events_staying-at, length-events_staying}
+use Rattle.velo_filter.proofs.OnStacks.{stack-begin, stack-end, stack-other, stack-closes}
+use Rattle.velo_filter.proofs.OnLeft.{stays, sub, rest_of-is, length-sub, place-rank, is_dissolved-is, is_left_out-begin, is_left_out-end, is_left_out-end_alone, is_left_out-other}
 use Rattle.velo_laws.proofs.OnDropped.{sub-passes}
 
 pub inner-parts : (k : Kind) → IsFalse (is_begin k || is_end k) → IsFalse (is_begin k) × IsFalse (is_end k)

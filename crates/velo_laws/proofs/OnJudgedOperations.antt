@@ -16,10 +16,10 @@ use Rattle.velo_events.proofs.OnScans.{event_at}
 use Rattle.velo_events.proofs.OnWellFormed.{count_below-same}
 use Rattle.velo_events.proofs.OnOwners.{passes_at-within, is_open_at-within}
 use Rattle.velo_events.proofs.OnUnfinished.{Contains-open_blocks}
-use Rattle.velo_thin.specs.Left.{Left, is_left_out, is_on_such, rest_of, place_of}
-use Rattle.velo_thin.proofs.OnRanks.{rank, events_staying}
-use Rattle.velo_thin.proofs.OnLeft.{stays, sub, rest_of-is, length-sub, sub-passes, place-rank, StandsFor, stands_for}
-use Rattle.velo_thin.proofs.OnTurns.{IsWellFormed-rest}
+use Rattle.velo_filter.specs.Left.{Left, is_left_out, is_on_such, rest_of, place_of}
+use Rattle.velo_filter.proofs.OnRanks.{rank, events_staying}
+use Rattle.velo_filter.proofs.OnLeft.{stays, sub, rest_of-is, length-sub, sub-passes, place-rank, StandsFor, stands_for}
+use Rattle.velo_filter.proofs.OnTurns.{IsWellFormed-rest}
 use Rattle.velo_laws.specs.Ordered.{only, dissolving, leaving_out, IsOrderedWithin}
 use Rattle.velo_laws.specs.Judged.{without_labels, position, IsBlamedInLog, IsJudgedBy}
 use Rattle.velo_laws.proofs.OnOrderedKinds.{on}

@@ -11,11 +11,11 @@ use Rattle.velo_events.specs.Reordering.{AreBlamed}
 use Rattle.velo_events.proofs.OnScans.{event_at}
 use Rattle.velo_events.proofs.OnOwners.{passes_at-within, is_open_at-within}
 use Rattle.velo_events.proofs.OnUnfinished.{Contains-open_blocks}
-use Rattle.velo_thin.specs.Left.{is_among, is_left_out, places_of, place_of}
-use Rattle.velo_thin.proofs.OnRanks.{rank, rank-le, rank-lt, rank-lt_back, length-staying, length-events_staying}
-use Rattle.velo_thin.proofs.OnRestricted.{conflict-sub}
-use Rattle.velo_thin.proofs.OnLeft.{sub, rest_of-is, length-sub, sub-passes, place-rank, is_left_out-other, StandsFor, stands_for}
-use Rattle.velo_thin.proofs.OnLeft.{stays as stays_in}
+use Rattle.velo_filter.specs.Left.{is_among, is_left_out, places_of, place_of}
+use Rattle.velo_filter.proofs.OnRanks.{rank, rank-le, rank-lt, rank-lt_back, length-staying, length-events_staying}
+use Rattle.velo_filter.proofs.OnRestricted.{conflict-sub}
+use Rattle.velo_filter.proofs.OnLeft.{sub, rest_of-is, length-sub, sub-passes, place-rank, is_left_out-other, StandsFor, stands_for}
+use Rattle.velo_filter.proofs.OnLeft.{stays as stays_in}
 use Rattle.velo_laws.specs.Ordered.{dissolving}
 use Rattle.velo_laws.specs.Repeats.{Repeats, AreRepeats, without, place_with}
 use Rattle.velo_laws.specs.Judged.{without_labels, position, IsBlamedInLog, IsJudgedBy}

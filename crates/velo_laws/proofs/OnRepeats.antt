@@ -18,8 +18,8 @@ use Rattle.velo_events.proofs.OnOwners.{passes_at-one_thread, passes_at-within, 
 use Rattle.velo_events.proofs.OnLookUps.{are_same-some}
 use Rattle.velo_events.proofs.OnHappening.{ConflictsInOrder-same_thread}
 use Rattle.velo_events.proofs.OnGraphs.{Leads-trans}
-use Rattle.velo_thin.proofs.OnRanks.{rank-lt, rank-one}
-use Rattle.velo_thin.proofs.OnRestricted.{conflict-sub}
+use Rattle.velo_filter.proofs.OnRanks.{rank-lt, rank-one}
+use Rattle.velo_filter.proofs.OnRestricted.{conflict-sub}
 use Rattle.velo_laws.specs.Repeats.{IsAlike, Repeats, AreRepeats, without}
 use Rattle.velo_laws.proofs.OnOrderedPlaces.{conflict-is}
 use Rattle.velo_laws.proofs.OnOrderedGraphs.{owner-by, HasCycle-around}

@@ -16,8 +16,8 @@ use Rattle.velo_events.proofs.OnUnfinished.{Contains-open_blocks}
 use Rattle.velo_events.proofs.OnHappening.{HappensBefore-within}
 use Rattle.velo_events.proofs.OnReorderings.{conflict_at-within}
 use Rattle.velo_events.proofs.OnBlame.{IsInterrupted, self_serializable_law}
-use Rattle.velo_thin.proofs.OnRanks.{rank, rank-stays, rank-lt, rank-lt_back, rank-le_back, rank-one, rank-from, staying, staying-at}
-use Rattle.velo_thin.proofs.OnRestricted.{conflict-sub}
+use Rattle.velo_filter.proofs.OnRanks.{rank, rank-stays, rank-lt, rank-lt_back, rank-le_back, rank-one, rank-from, staying, staying-at}
+use Rattle.velo_filter.proofs.OnRestricted.{conflict-sub}
 use Rattle.velo_laws.specs.Repeats.{Repeats, AreRepeats, BlamesSameRepeated, place_without, place_with, without}
 use Rattle.velo_laws.proofs.OnDropped.{sub-long, sub-passes, open-to, open-from}
 use Rattle.velo_laws.proofs.OnOrderedBlame.{contains-map, contains-from_map, leads-else}

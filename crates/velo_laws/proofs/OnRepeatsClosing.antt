@@ -8,7 +8,7 @@ use Rattle.velo_events.specs.Event.{is_by, is_writing, is_reading}
 use Rattle.velo_events.specs.Graph.{HasCycle, IsClosing}
 use Rattle.velo_events.proofs.OnTraces.{slice_get-take}
 use Rattle.velo_events.proofs.OnScans.{event_at}
-use Rattle.velo_thin.proofs.OnRanks.{rank, rank-stays, rank-goes, rank-lt, rank-from, events_staying, events_staying-stays, events_staying-goes, length-events_staying, take-events_staying}
+use Rattle.velo_filter.proofs.OnRanks.{rank, rank-stays, rank-goes, rank-lt, rank-from, events_staying, events_staying-stays, events_staying-goes, length-events_staying, take-events_staying}
 use Rattle.velo_laws.specs.Ordered.{only}
 use Rattle.velo_laws.specs.Repeats.{IsAlike, AreRepeats, without}
 use Rattle.velo_laws.proofs.OnOrderedClosing.{conflict-take, passes-take, none_before}

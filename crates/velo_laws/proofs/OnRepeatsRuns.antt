@@ -16,7 +16,7 @@ use Rattle.velo_events.proofs.OnLookUps.{are_same-from, conflict-cell}
 use Rattle.velo_events.proofs.OnScans.{event_at, take-next, passes_at-is}
 use Rattle.velo_events.proofs.OnTraces.{latest-push, happened-push, happened-no, times-push, times-no, value_in-push}
 use Rattle.velo_events.proofs.OnWellFormed.{IsWellFormed-nil, IsWellFormed-push}
-use Rattle.velo_thin.proofs.OnRanks.{events_staying, events_staying-stays, events_staying-goes}
+use Rattle.velo_filter.proofs.OnRanks.{events_staying, events_staying-stays, events_staying-goes}
 use Rattle.velo_laws.specs.Repeats.{AreRepeats, AreEqualAccesses, without}
 use Rattle.velo_laws.proofs.OnOrderedPlaces.{conflict-is}
 use Rattle.velo_laws.proofs.OnDropped.{take-none}

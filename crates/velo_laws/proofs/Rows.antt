@@ -15,7 +15,7 @@ use Rattle.velo_events.proofs.OnGraphs.{IsClosing-push}
 use Rattle.velo_events.proofs.OnOwners.{is_open_at-thread, is_open_at-within}
 use Rattle.velo_events.proofs.OnReorderings.{conflict_at-within}
 use Rattle.velo_events.proofs.OnScans.{passes_at-event, passes_at-is}
-use Rattle.velo_thin.specs.Left.{Left, is_dissolved, ends_at, is_left_out, places_of, rest_of}
+use Rattle.velo_filter.specs.Left.{Left, is_dissolved, ends_at, is_left_out, places_of, rest_of}
 use Rattle.velo_laws.specs.Cut.{IsQuiet, IsJudgedApart}
 use Rattle.velo_laws.specs.Ordered.{only, AreOfOneThread, IsStep, IsOrdered}
 use Rattle.velo_laws.specs.Repeats.{IsAlike, Repeats, AreRepeats, without}

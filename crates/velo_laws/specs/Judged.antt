@@ -5,7 +5,7 @@ use Rattle.velo_events.specs.Event.{is_by}
 use Rattle.velo_events.specs.Block.{passes_at}
 use Rattle.velo_events.specs.Graph.{HasCycle, IsClosing}
 use Rattle.velo_events.specs.Reordering.{AreBlamed}
-use Rattle.velo_thin.specs.Left.{rest_of, place_of}
+use Rattle.velo_filter.specs.Left.{rest_of, place_of}
 use Rattle.velo_laws.specs.Ordered.{dissolving}
 
 -- the events without the blocks of the labels, and the position of each among them all

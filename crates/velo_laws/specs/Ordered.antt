@@ -6,7 +6,7 @@ use Rattle.velo_events.specs.Block.{passes_at, owner}
 use Rattle.velo_events.specs.Graph.{Path, Leads, conflict_at, ConflictsInOrder, IsClosing}
 use Rattle.velo_events.specs.Reordering.{AreBlamed}
 use Rattle.velo_events.specs.Place.{LastWrite, LastRead, last_at}
-use Rattle.velo_thin.specs.Left.{Left, is_left_out, rest_of, place_of}
+use Rattle.velo_filter.specs.Left.{Left, is_left_out, rest_of, place_of}
 
 -- the operations on these locks and variables are left out, and every block stays
 abbrev pub only : (ℕ → Bool) → (ℕ → Bool) → Left

@@ -3,7 +3,7 @@ ghost use Rattle.std.specs.Prelude.{◌≡◌, ℕ, Bool, List};
 ghost use Rattle.velo_events.specs.declared.config.Bounds.{Bounds};
 ghost use Rattle.velo_events.specs.declared.event.Event.{Event};
 ghost use Rattle.velo_events.specs.WellFormed.{IsWellFormed};
-ghost use Rattle.velo_thin.specs.Left.{rest_of, place_of};
+ghost use Rattle.velo_filter.specs.Left.{rest_of, place_of};
 ghost use Rattle.velo_laws.specs.Ordered.{only, IsOrderedWithin};
 ghost use Rattle.velo_laws.specs.Repeats.{AreRepeats, without, place_with};
 ghost use Rattle.velo_laws.specs.Judged.{IsJudgedBy};

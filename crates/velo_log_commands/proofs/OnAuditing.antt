@@ -10,8 +10,8 @@ use Rattle.velo_events.specs.declared.event.VarId.{VarId}
 use Rattle.velo_events.specs.declared.refusal.Refusal.TheVariants.{GraphFull}
 use Rattle.velo_events.specs.Reordering.{IsSerializable}
 use Rattle.velo_names.specs.Names.{NameLists}
-use Rattle.velo_thin.specs.Left.{Left, is_listed, nothing, rest_of, with_labels, with_lock, with_variable}
-use Rattle.velo_thin.proofs.OnTables.{is_listed-append, is_listed-nil, left_same}
+use Rattle.velo_filter.specs.Left.{Left, is_listed, nothing, rest_of, with_labels, with_lock, with_variable}
+use Rattle.velo_filter.proofs.OnTables.{is_listed-append, is_listed-nil, left_same}
 use Rattle.velo_audit.specs.Audit.{AreWitnessed, IsFullAfter, TellsTruly}
 use Rattle.velo_audit.specs.Rounds.{AreFound, AreTheOnlyRounds, Rounds, atomic_labels, labels_found}
 use Rattle.velo_audit.specs.Tells.{told_as}

@@ -1,9 +1,9 @@
 -- A list of labels that is read from a file.
 use Rattle.std.proofs.Common.{◌≡◌, arith, refl, subst}
 use Rattle.std.specs.Prelude.{ℕ, List, Option, Some, None, Result, Ok, Err, IfErr}
-use Rattle.velo_list.specs.declared.fault.ListFault.{ListFault}
-use Rattle.velo_list.specs.declared.fault.ListFault.TheVariants as list_fault
-use Rattle.velo_list.specs.List.{HasFault, Stands}
+use Rattle.velo_suppressions.specs.declared.fault.ListFault.{ListFault}
+use Rattle.velo_suppressions.specs.declared.fault.ListFault.TheVariants as list_fault
+use Rattle.velo_suppressions.specs.List.{HasFault, Stands}
 use Rattle.velo_names.specs.declared.limits.TheConstants.{MAX_NAMES_BYTES}
 use Rattle.velo_names.specs.Names.{NameLists}
 use Rattle.velo_fate.specs.declared.fate.Fate.{Fate}

@@ -6,7 +6,7 @@ use Rattle.std.proofs.lemmas.List.Elements.{All-weaker}
 use Rattle.velo_events.specs.declared.config.Bounds.{Bounds}
 use Rattle.velo_events.specs.declared.event.Event.{Event}
 use Rattle.velo_names.specs.Names.{NameLists}
-use Rattle.velo_thin.specs.Left.{Left, rest_of}
+use Rattle.velo_filter.specs.Left.{Left, rest_of}
 use Rattle.velo_audit.specs.declared.told.Told.{Told}
 use Rattle.velo_audit_text.specs.declared.words.Asked.{Asked}
 use Rattle.velo_delays.specs.Deadlock.{IsDeadlockIn}

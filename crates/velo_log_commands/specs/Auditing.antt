@@ -9,7 +9,7 @@ use Rattle.velo_events.specs.declared.event.VarId.{VarId}
 use Rattle.velo_events.specs.declared.refusal.Refusal.TheVariants.{GraphFull}
 use Rattle.velo_events.specs.Reordering.{IsSerializable}
 use Rattle.velo_names.specs.Names.{NameLists}
-use Rattle.velo_thin.specs.Left.{Left, is_listed, rest_of, with_labels}
+use Rattle.velo_filter.specs.Left.{Left, is_listed, rest_of, with_labels}
 use Rattle.velo_audit.specs.declared.told.Told.{Told}
 use Rattle.velo_audit.specs.Audit.{AreWitnessed, IsFullAfter, TellsTruly}
 use Rattle.velo_audit.specs.Rounds.{AreFound, AreTheOnlyRounds, Rounds, atomic_labels, labels_found}

@@ -2,11 +2,11 @@
 use Rattle.std.specs.Prelude.{◌≡◌, ℕ, List, [], Option, IfSome, Ok, Err}
 use Rattle.std.specs.Borrow.{Bor}
 use Rattle.velo_events.specs.Refusals.{GrowthRefused}
-use Rattle.velo_list.specs.declared.fault.ListFault.{ListFault}
-use Rattle.velo_list.specs.declared.fault.ListFault.TheVariants as list_fault
-use Rattle.velo_list.specs.Known.{labels_known}
-use Rattle.velo_list.specs.Line.{Entry}
-use Rattle.velo_list.specs.List.{HasFault, Stands}
+use Rattle.velo_suppressions.specs.declared.fault.ListFault.{ListFault}
+use Rattle.velo_suppressions.specs.declared.fault.ListFault.TheVariants as list_fault
+use Rattle.velo_suppressions.specs.Known.{labels_known}
+use Rattle.velo_suppressions.specs.Line.{Entry}
+use Rattle.velo_suppressions.specs.List.{HasFault, Stands}
 use Rattle.velo_names.specs.Names.{NameLists}
 use Rattle.velo_fate.specs.declared.fate.Fate.{Fate}
 use Rattle.velo_fate.specs.declared.fate.Fate.TheVariants as fate

@@ -1,6 +1,6 @@
 //! The labels that are known already, of a list.
 ghost use Rattle.std.specs.Prelude.{IfErr, IfOk};
-ghost use Rattle.velo_list.specs.Answers.{numbers};
+ghost use Rattle.velo_suppressions.specs.Answers.{numbers};
 ghost use Rattle.velo_fate.specs.Format.{LacksAt, Reads};
 ghost use Rattle.velo_log_commands.specs.Listing.{AreLabelsOf, AreNoList, LacksLabels, MeansLabels, list_file};
 
@@ -8,8 +8,8 @@ use std::alloc::Global;
 use velo_delivery::Files;
 use velo_events::{Label, Memory};
 use velo_fate::{Fate, read_file};
-use velo_list::{known_labels, parse_list};
 use velo_names::{MAX_NAMES_BYTES, Names};
+use velo_suppressions::{known_labels, parse_list};
 
 /// The labels that the bytes of a list mean by these names.
 ///

@@ -15,9 +15,9 @@ use Rattle.velo_events.specs.WellFormed.{MayFollow, IsWellFormed}
 use Rattle.velo_events.proofs.OnLists.{slice_get-set_same, slice_get-set_other, slice_get-replicate}
 use Rattle.velo_events.proofs.OnTraces.{slice_get-append, slice_get-push}
 use Rattle.velo_events.proofs.OnWellFormed.{IsWellFormed-push}
-use Rattle.velo_moves.specs.Free.{gives_up}
-use Rattle.velo_moves.specs.Programs.{own}
-use Rattle.velo_moves.proofs.OnHolders.{own-push_yes, own-push_no}
+use Rattle.velo_movers.specs.Free.{gives_up}
+use Rattle.velo_movers.specs.Programs.{own}
+use Rattle.velo_movers.proofs.OnHolders.{own-push_yes, own-push_no}
 use Rattle.velo_predict.specs.Courses.{IsCourse, TellsLoose}
 use Rattle.velo_predict.specs.Predictions.{IsUnsure, IsNextOf, IsForetold, IsPrediction}
 use Rattle.velo_predict.specs.Predictions.IsForetold.{Known, Unknown}

@@ -16,8 +16,8 @@ use Rattle.velo_events.specs.Event.{thread_of, is_by, is_read}
 use Rattle.velo_events.specs.Meaning.{action_of, kind_for}
 use Rattle.velo_events.proofs.OnScans.{take-take_le}
 use Rattle.velo_events.proofs.OnTraces.{slice_get-append, slice_get-push, slice_get-take}
-use Rattle.velo_moves.specs.Free.{gives_up}
-use Rattle.velo_moves.specs.Programs.{own}
+use Rattle.velo_movers.specs.Free.{gives_up}
+use Rattle.velo_movers.specs.Programs.{own}
 use Rattle.velo_predict.specs.Courses.{IsCourse}
 use Rattle.velo_predict.specs.Differences.{DiffersFrom, IsDifference, AreDifferences, TellsDifference, difference_at}
 use Rattle.velo_predict.specs.Predictions.{IsNextOf}

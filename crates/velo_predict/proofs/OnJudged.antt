@@ -8,7 +8,7 @@ use Rattle.velo_events.specs.Event.{thread_of}
 use Rattle.velo_events.specs.WellFormed.{MayFollow}
 use Rattle.velo_events.proofs.OnScans.{take-next}
 use Rattle.velo_heap.specs.Contents.{bounds_of, IsHeapOf}
-use Rattle.velo_moves.specs.Free.{gives_up}
+use Rattle.velo_movers.specs.Free.{gives_up}
 use Rattle.velo_predict.specs.Courses.{IsCourse, IsJudged, TellsLoose}
 use Rattle.velo_predict.specs.Differences.{AreDifferences}
 use Rattle.velo_predict.specs.Predictions.{IsForetold, IsPrediction}

@@ -14,10 +14,10 @@ use Rattle.velo_events.specs.Meaning.{action_of}
 use Rattle.velo_events.specs.WellFormed.{MayFollow, IsWellFormed}
 use Rattle.velo_events.proofs.OnTraces.{slice_get-append, slice_get-push}
 use Rattle.velo_events.proofs.OnWellFormed.{IsWellFormed-induct}
-use Rattle.velo_moves.specs.Programs.{own}
-use Rattle.velo_moves.specs.Wants.{Does}
-use Rattle.velo_moves.proofs.OnHolders.{own-push_yes, own-push_no}
-use Rattle.velo_moves.proofs.OnWants.{Does-push}
+use Rattle.velo_movers.specs.Programs.{own}
+use Rattle.velo_movers.specs.Wants.{Does}
+use Rattle.velo_movers.proofs.OnHolders.{own-push_yes, own-push_no}
+use Rattle.velo_movers.proofs.OnWants.{Does-push}
 use Rattle.velo_predict.specs.Deadlocks.{WaitsFor, IsDeadlock, IsNextAction}
 use Rattle.velo_predict.specs.Deadlocks.WaitsFor.{ForLock, ForShare, ForEnd}
 use Rattle.velo_predict.specs.Feasible.{IsRun, IsKept, KeptAreRuns, KeptDeadlocksAreFeasible}

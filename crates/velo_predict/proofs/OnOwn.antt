@@ -12,8 +12,8 @@ use Rattle.velo_events.specs.Heap.{happened, times, holder_in, shares_in}
 use Rattle.velo_events.specs.WellFormed.{IsWellFormed}
 use Rattle.velo_events.proofs.OnTraces.{append-induct, happened-nil, happened-no, happened-push, times-nil, times-push}
 use Rattle.velo_events.proofs.OnWellFormed.{holder_in-push, shares_in-push}
-use Rattle.velo_moves.specs.Programs.{own}
-use Rattle.velo_moves.proofs.OnHolders.{holder-by_own, own-push_no, own-push_yes, shares-by_own}
+use Rattle.velo_movers.specs.Programs.{own}
+use Rattle.velo_movers.proofs.OnHolders.{holder-by_own, own-push_no, own-push_yes, shares-by_own}
 
 -- ---- what happened to a thread, by its own events
 

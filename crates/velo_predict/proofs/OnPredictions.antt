@@ -9,9 +9,9 @@ use Rattle.std.proofs.lemmas.Option.{none-some, slice_get_within, same_Some}
 use Rattle.velo_events.specs.declared.event.Event.{Event}
 use Rattle.velo_events.specs.Event.{thread_of, is_by, is_read}
 use Rattle.velo_events.proofs.OnTraces.{slice_get-append, slice_get-push}
-use Rattle.velo_moves.specs.Free.{gives_up}
-use Rattle.velo_moves.specs.Programs.{own}
-use Rattle.velo_moves.proofs.OnHolders.{own-push_yes}
+use Rattle.velo_movers.specs.Free.{gives_up}
+use Rattle.velo_movers.specs.Programs.{own}
+use Rattle.velo_movers.proofs.OnHolders.{own-push_yes}
 use Rattle.velo_predict.specs.Predictions.{IsBeginning, HasTurned, IsLoose, HasReadBehind, IsUnsure}
 
 -- ---- beginnings

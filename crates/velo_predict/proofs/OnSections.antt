@@ -16,8 +16,8 @@ use Rattle.velo_events.specs.WellFormed.{IsInTurn, MayFollow, IsWellFormed}
 use Rattle.velo_events.proofs.OnLookUps.{are_same-both, are_same-from, conflict_at-events, fork-first, forks_or_joins, happened-at}
 use Rattle.velo_events.proofs.OnTraces.{slice_get-append, slice_get-push}
 use Rattle.velo_events.proofs.OnWellFormed.{Facts-from, IsWellFormed-induct, holder_in-push, shares_in-push}
-use Rattle.velo_moves.specs.Free.{do_clash, gives_up}
-use Rattle.velo_moves.proofs.OnHolders.{given_up-no_clash}
+use Rattle.velo_movers.specs.Free.{do_clash, gives_up}
+use Rattle.velo_movers.proofs.OnHolders.{given_up-no_clash}
 use Rattle.velo_predict.proofs.OnStands.{last_or_before, twins-conflict}
 
 -- ---- accesses

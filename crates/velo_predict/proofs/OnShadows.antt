@@ -34,12 +34,12 @@ use Rattle.velo_events.proofs.OnScans.{event_at, passes_at-event, passes_at-is}
 use Rattle.velo_events.proofs.OnTraces.{append-induct, happened-no, happened-push, slice_get-append, slice_get-push, times-push}
 use Rattle.velo_events.proofs.OnStatuses.{status_by}
 use Rattle.velo_events.proofs.OnWellFormed.{IsWellFormed-induct, IsWellFormed-nil, IsWellFormed-push, holder_in-push, shares_in-kept, shares_in-push}
-use Rattle.velo_moves.specs.Free.{gives_up}
-use Rattle.velo_moves.specs.Programs.{own}
-use Rattle.velo_moves.specs.Wants.{Does}
-use Rattle.velo_moves.proofs.OnHolders.{own-push_no, own-push_yes}
-use Rattle.velo_moves.proofs.OnRules.{kind-by_action}
-use Rattle.velo_moves.proofs.OnWants.{Does-push}
+use Rattle.velo_movers.specs.Free.{gives_up}
+use Rattle.velo_movers.specs.Programs.{own}
+use Rattle.velo_movers.specs.Wants.{Does}
+use Rattle.velo_movers.proofs.OnHolders.{own-push_no, own-push_yes}
+use Rattle.velo_movers.proofs.OnRules.{kind-by_action}
+use Rattle.velo_movers.proofs.OnWants.{Does-push}
 use Rattle.velo_predict.specs.Deadlocks.{WaitsFor, IsNextAction, PredictsDeadlock}
 use Rattle.velo_predict.specs.Deadlocks.WaitsFor.{ForLock, ForShare, ForEnd}
 use Rattle.velo_predict.specs.Feasible.{IsRun, GivesBack, SectionsEnd, BlameIsFeasible, CanBreak, CanCycle, CanDeadlock, CyclesAreFeasible, DeadlocksAreFeasible}

@@ -21,7 +21,7 @@ use Rattle.velo_events.proofs.OnLookUps.{are_same-from, are_same-some, happened-
 use Rattle.velo_events.proofs.OnTraces.{slice_get-append, slice_get-push}
 use Rattle.velo_events.proofs.OnStatuses.{is_Live, live_parts}
 use Rattle.velo_events.proofs.OnWellFormed.{IsWellFormed-induct, Facts-from, holder_in-push, shares_in-push}
-use Rattle.velo_moves.specs.Programs.{own}
+use Rattle.velo_movers.specs.Programs.{own}
 use Rattle.velo_predict.specs.Circles.{IsInRow}
 use Rattle.velo_predict.specs.Courses.{IsCourse}
 use Rattle.velo_predict.specs.Deadlocks.{WaitsFor, IsNextAction}

@@ -12,7 +12,7 @@ use Rattle.velo_events.specs.Graph.{conflict_at, HasCycle}
 use Rattle.velo_events.specs.Heap.{latest, happened, times}
 use Rattle.velo_events.proofs.Deciders.{all_below, makes_edge, edge_by}
 use Rattle.velo_events.proofs.OnLookUps.{happened-at}
-use Rattle.velo_moves.specs.Free.{gives_up}
+use Rattle.velo_movers.specs.Free.{gives_up}
 use Rattle.velo_predict.specs.Deadlocks.{WaitsFor, IsDeadlock, IsNextAction}
 use Rattle.velo_predict.specs.Deadlocks.WaitsFor.{ForLock}
 use Rattle.velo_predict.specs.Differences.{IsDifference}

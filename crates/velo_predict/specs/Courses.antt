@@ -3,7 +3,7 @@ use Rattle.std.specs.Prelude.{◌≡◌, ℕ, ◌≤◌, Bool, List, ◌++◌, d
 use Rattle.velo_events.specs.declared.config.Bounds.{Bounds}
 use Rattle.velo_events.specs.declared.event.Event.{Event}
 use Rattle.velo_heap.specs.Contents.{bounds_of, IsHeapOf}
-use Rattle.velo_moves.specs.Programs.{own}
+use Rattle.velo_movers.specs.Programs.{own}
 use Rattle.velo_predict.specs.Differences.{AreDifferences}
 use Rattle.velo_predict.specs.Predictions.{IsLoose, HasReadBehind, IsUnsure, IsPrediction}
 use Rattle.velo_predict.specs.declared.judge.Course.{Course}

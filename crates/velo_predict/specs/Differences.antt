@@ -3,7 +3,7 @@ use Rattle.std.specs.Prelude.{◌≡◌, ◌≢◌, ◌↔◌, ℕ, List, [], �
 use Rattle.std.specs.List.Sorted.{IsStrictlyIncreasing}
 use Rattle.velo_events.specs.declared.event.Event.{Event}
 use Rattle.velo_events.specs.Event.{thread_of, is_read}
-use Rattle.velo_moves.specs.Programs.{own}
+use Rattle.velo_movers.specs.Programs.{own}
 use Rattle.velo_predict.specs.declared.difference.Difference.{Difference}
 
 -- The event, after the trace, reads what the event at this position of the log does not. Their thread did the same before

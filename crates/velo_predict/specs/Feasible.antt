@@ -7,8 +7,8 @@ use Rattle.velo_events.specs.Event.{thread_of, is_read, thread_forked_or_joined}
 use Rattle.velo_events.specs.Graph.{HasCycle}
 use Rattle.velo_events.specs.Meaning.{holds}
 use Rattle.velo_events.specs.Reordering.{IsSelfSerializable, AreBlamed}
-use Rattle.velo_moves.specs.Programs.{own, IsLog}
-use Rattle.velo_moves.specs.Wants.{Does}
+use Rattle.velo_movers.specs.Programs.{own, IsLog}
+use Rattle.velo_movers.specs.Wants.{Does}
 use Rattle.velo_predict.specs.Deadlocks.{IsDeadlock, PredictsDeadlock}
 use Rattle.velo_predict.specs.Predictions.{IsUnsure, IsPrediction, PredictsCycle}
 

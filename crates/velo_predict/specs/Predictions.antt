@@ -6,8 +6,8 @@ use Rattle.velo_events.specs.Event.{thread_of, is_read}
 use Rattle.velo_events.specs.Graph.{HasCycle}
 use Rattle.velo_events.specs.Meaning.{action_of}
 use Rattle.velo_events.specs.WellFormed.{IsWellFormed}
-use Rattle.velo_moves.specs.Free.{gives_up}
-use Rattle.velo_moves.specs.Programs.{own}
+use Rattle.velo_movers.specs.Free.{gives_up}
+use Rattle.velo_movers.specs.Programs.{own}
 
 -- ---- how far a thread's next action is known from the log
 

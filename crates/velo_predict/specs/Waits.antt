@@ -9,7 +9,7 @@ use Rattle.velo_events.specs.declared.thread_set.ThreadSet.{ThreadSet}
 use Rattle.velo_events.specs.Event.{thread_of, are_same}
 use Rattle.velo_events.specs.Heap.{holder_in, status_in}
 use Rattle.velo_events.specs.Meaning.{holds, is_live}
-use Rattle.velo_moves.specs.Programs.{own}
+use Rattle.velo_movers.specs.Programs.{own}
 use Rattle.velo_predict.specs.Circles.{IsRing, IsInRow}
 use Rattle.velo_predict.specs.Courses.{IsCourse}
 use Rattle.velo_predict.specs.Deadlocks.{WaitsFor, IsNextAction}

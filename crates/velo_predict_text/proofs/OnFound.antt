@@ -5,7 +5,7 @@ use Rattle.std.proofs.lemmas.List.Elements.{All-same, All-map, All-weaker, All-c
 use Rattle.std.proofs.lemmas.Option.{slice_get_within}
 use Rattle.velo_events.specs.declared.config.Bounds.{Bounds}
 use Rattle.velo_events.specs.declared.event.Event.{Event}
-use Rattle.velo_thin.specs.Left.{Left}
+use Rattle.velo_filter.specs.Left.{Left}
 use Rattle.velo_predict.specs.declared.difference.Difference.{Difference}
 use Rattle.velo_delays.specs.declared.judged.Differing.{Differing}
 use Rattle.velo_delays.specs.declared.judged.Found.{Found}

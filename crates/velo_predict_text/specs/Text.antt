@@ -7,7 +7,7 @@ use Rattle.velo_traces.specs.declared.block.Block.{Block}
 use Rattle.velo_names.specs.declared.kind.NameKind.TheVariants as kind
 use Rattle.velo_names.specs.Names.{NameLists}
 use Rattle.velo_certify.specs.Owners.{event_at}
-use Rattle.velo_thin.specs.Thinned.{CanComeAbout}
+use Rattle.velo_filter.specs.Thinned.{CanComeAbout}
 use Rattle.velo_explain.specs.Pieces.{event_text, joined, name_about, name_text}
 use Rattle.velo_explain.specs.Text.{line_of}
 use Rattle.velo_audit.specs.Witness.{IsWitnessWithin}

@@ -2,7 +2,7 @@
 ghost use Rattle.std.specs.Prelude.{◌≡◌, ◌≤◌, ◌<◌, ◌++◌, length, All, IfOk, OnOk};
 ghost use Rattle.std.specs.List.{flat_map};
 ghost use Rattle.velo_events.specs.declared.limits.TheConstants.{MAX_EVENTS};
-ghost use Rattle.velo_thin.specs.Thinned.{CanComeAbout};
+ghost use Rattle.velo_filter.specs.Thinned.{CanComeAbout};
 ghost use Rattle.velo_audit.specs.Audit.{TellsTruly};
 ghost use Rattle.velo_predict_text.specs.Text.{CanBeTold, CanTellDeadlock, maybe_text, size_text, difference_text, found_text, waiting_text, circle_text, deadlock_text, is_something_told, nothing_text, end_text, predictions_text};
 

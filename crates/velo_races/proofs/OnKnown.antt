@@ -18,8 +18,8 @@ use Rattle.velo_events.proofs.OnReorderings.{conflict_at-within}
 use Rattle.velo_events.proofs.OnScans.{passes_at-event, passes_at-is}
 use Rattle.velo_events.proofs.OnWellFormed.{IsWellFormed-take}
 use Rattle.velo_clocks.specs.Clocks.{ClockState, OfLast, known_at, AreClocksOf}
-use Rattle.velo_thin.specs.Left.{is_left_out}
-use Rattle.velo_thin.proofs.OnRanks.{rank, rank-le, rank-lt}
+use Rattle.velo_filter.specs.Left.{is_left_out}
+use Rattle.velo_filter.proofs.OnRanks.{rank, rank-le, rank-lt}
 use Rattle.velo_laws.specs.Ordered.{only}
 use Rattle.velo_laws.proofs.OnOrderedKinds.{near, near-conflict_before}
 use Rattle.velo_laws.proofs.OnOrderedPlaces.{conflict-is, near-later, near-earlier, near-conflicts_after, fork-turn, exit-before_join, not_behind_exit, earlier-forks, later-joins}

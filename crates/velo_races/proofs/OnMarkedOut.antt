@@ -3,9 +3,9 @@ use Rattle.std.proofs.Common.{◌≡◌, ℕ, ◌+◌, ◌≤◌, Bool, true, fa
 use Rattle.std.specs.Prelude.{◌⊎◌, ◌&&◌, ◌||◌, ◌==◌, nat_lt, if◌then◌else◌, IfOk, IsTrue, IsFalse}
 use Rattle.std.proofs.lemmas.Bool.{cases_Bool, cases_eq, cases_lt, and_from, and_left, and_right, or_right, eq-eqb, ne_eqb, lt-ltb, le-ltb}
 use Rattle.std.proofs.lemmas.List.{get_or_past}
-use Rattle.velo_thin.specs.Left.{Left, nothing, with_variable}
-use Rattle.velo_thin.specs.Tables.{marked}
-use Rattle.velo_thin.proofs.OnTables.{left_same}
+use Rattle.velo_filter.specs.Left.{Left, nothing, with_variable}
+use Rattle.velo_filter.specs.Tables.{marked}
+use Rattle.velo_filter.proofs.OnTables.{left_same}
 use Rattle.velo_laws.specs.Ordered.{only}
 use Rattle.velo_races.specs.Races.{no_lock}
 use Rattle.velo_races.specs.Sweep.{with_marked}

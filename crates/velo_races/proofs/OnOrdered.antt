@@ -13,8 +13,8 @@ use Rattle.velo_events.specs.Place.{LastWrite, LastRead, last_at}
 use Rattle.velo_events.specs.WellFormed.{IsWellFormed}
 use Rattle.velo_events.proofs.OnScans.{passes_at-event, passes_at-is}
 use Rattle.velo_events.proofs.OnLookUps.{are_same-some}
-use Rattle.velo_thin.specs.Left.{is_among, is_left_out, rest_of}
-use Rattle.velo_thin.proofs.OnTurns.{IsWellFormed-rest}
+use Rattle.velo_filter.specs.Left.{is_among, is_left_out, rest_of}
+use Rattle.velo_filter.proofs.OnTurns.{IsWellFormed-rest}
 use Rattle.velo_laws.specs.Ordered.{only, dissolving, IsOrderedWithin, IsOrderedAtLast}
 use Rattle.velo_laws.proofs.OnOrderedBlame.{blame_law}
 use Rattle.velo_laws.proofs.OnOrderedClosing.{closing_law}
@@ -24,7 +24,7 @@ use Rattle.velo_laws.proofs.OnOrderedLast.{last-within, within-ordered}
 use Rattle.velo_laws.proofs.OnOrderedPlaces.{goes-is}
 use Rattle.velo_laws.proofs.OnOrderedPlacesOfRests.{closing_law-labels}
 use Rattle.velo_races.specs.declared.sweep.Sweep.{Sweep}
-use Rattle.velo_thin.specs.Tables.{marked}
+use Rattle.velo_filter.specs.Tables.{marked}
 use Rattle.velo_races.specs.Races.{no_lock, is_access_to, IsJudgedWithout}
 use Rattle.velo_races.specs.Sweep.{IsSwept}
 

@@ -27,7 +27,7 @@ use Rattle.velo_clocks.proofs.OnClocks.{opens, reserves, notes}
 use Rattle.velo_laws.specs.Ordered.{IsInner}
 use Rattle.velo_races.specs.declared.sweep.Sweep.{Sweep}
 use Rattle.velo_races.specs.declared.sweep.LastWrite as written
-use Rattle.velo_thin.specs.Tables.{marked}
+use Rattle.velo_filter.specs.Tables.{marked}
 use Rattle.velo_races.specs.Races.{is_synchronizing, synchronizes, is_access_to, IsFreeOfRaces, no_lock}
 use Rattle.velo_races.specs.Sweep.{stamp_at, synchronizing, stamp_of, is_known, no_write, KnowsWrite, KnowsReads, IsJudged, IsJoined, IsInOrderUpTo, IsLastWrite, IsSwept, IsNotedAfterRoom}
 use Rattle.velo_races.proofs.OnSynchronizing.{sub-more, sub-same}
@@ -35,7 +35,7 @@ use Rattle.velo_races.proofs.OnSynchronizedRuns.{well-synchronizing}
 use Rattle.velo_races.proofs.OnJoined.{known-joined}
 use Rattle.velo_races.proofs.OnKnown.{each, synchronized-known}
 use Rattle.velo_laws.proofs.OnOrderedPlaces.{goes-is, conflict-is}
-use Rattle.velo_thin.specs.Left.{is_among}
+use Rattle.velo_filter.specs.Left.{is_among}
 use Rattle.velo_events.specs.Conflict.{conflict}
 use Rattle.velo_events.proofs.OnLookUps.{conflict-cell}
 

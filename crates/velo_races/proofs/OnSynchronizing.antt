@@ -8,7 +8,7 @@ use Rattle.velo_events.specs.declared.event.Event.{Event}
 use Rattle.velo_events.specs.Block.{passes_at}
 use Rattle.velo_events.proofs.OnTraces.{slice_get-append, slice_get-push}
 use Rattle.velo_events.proofs.OnScans.{event_at, take-next, passes_at-event, passes_at-is}
-use Rattle.velo_thin.proofs.OnRanks.{rank, rank-zero, rank-stays, rank-goes, rank-from}
+use Rattle.velo_filter.proofs.OnRanks.{rank, rank-zero, rank-stays, rank-goes, rank-from}
 use Rattle.velo_races.specs.Races.{synchronizes}
 use Rattle.velo_races.specs.Sweep.{synchronizing}
 

@@ -7,8 +7,8 @@ use Rattle.velo_events.specs.declared.event.Kind.TheVariants.{Read, Write, Begin
 use Rattle.velo_events.specs.Event.{are_same, variable_of}
 use Rattle.velo_events.specs.Block.{passes_at}
 use Rattle.velo_events.specs.Graph.{Path, ConflictsInOrder, HasCycle}
-use Rattle.velo_thin.specs.declared.thinned.Thinned.{Thinned}
-use Rattle.velo_thin.specs.Left.{places_of, rest_of}
+use Rattle.velo_filter.specs.declared.thinned.Thinned.{Thinned}
+use Rattle.velo_filter.specs.Left.{places_of, rest_of}
 use Rattle.velo_laws.specs.Ordered.{only, dissolving, leaving_out, AreOfOneThread, IsOrderedWithin, ClosesAtSame, ClosesAtSameWithout, BlamesSame}
 
 -- ---- races

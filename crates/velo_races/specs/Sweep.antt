@@ -7,8 +7,8 @@ use Rattle.velo_events.specs.Graph.{Leads}
 use Rattle.velo_events.specs.Place.{LastWrite, LastRead, last_at}
 use Rattle.velo_clocks.specs.Clocks.{ClockState, OfLast, known_at, AreClocksOf, IsNoted, KnowsTheSame}
 use Rattle.velo_laws.specs.Ordered.{only, IsInnerStep}
-use Rattle.velo_thin.specs.Left.{Left, with_variable}
-use Rattle.velo_thin.specs.Tables.{marked}
+use Rattle.velo_filter.specs.Left.{Left, with_variable}
+use Rattle.velo_filter.specs.Tables.{marked}
 use Rattle.velo_races.specs.Races.{synchronizes, is_access_to, IsFreeOfRaces, no_lock}
 use Rattle.velo_races.specs.declared.sweep.Sweep.{Sweep}
 use Rattle.velo_races.specs.declared.sweep.LastWrite as written

@@ -3,7 +3,7 @@ ghost use Rattle.std.specs.Prelude.{◌≡◌, ◌≤◌, ◌<◌, ℕ, length, 
 ghost use Rattle.velo_events.specs.declared.limits.TheConstants.{MAX_EVENTS};
 ghost use Rattle.velo_events.specs.WellFormed.{IsWellFormed};
 ghost use Rattle.velo_laws.specs.Ordered.{only, IsOrderedWithin};
-ghost use Rattle.velo_thin.specs.Tables.{marked};
+ghost use Rattle.velo_filter.specs.Tables.{marked};
 ghost use Rattle.velo_races.specs.Races.{no_lock, IsFreeOfRaces, IsJudgedWithout};
 
 use crate::sweep::Sweep;

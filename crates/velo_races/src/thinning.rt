@@ -2,7 +2,7 @@
 ghost use Rattle.std.specs.Prelude.{◌≡◌, ◌≤◌, ◌<◌, length, IfOk, OnOk};
 ghost use Rattle.velo_events.specs.declared.limits.TheConstants.{MAX_EVENTS};
 ghost use Rattle.velo_events.specs.WellFormed.{IsWellFormed};
-ghost use Rattle.velo_thin.specs.Tables.{left_of, marked};
+ghost use Rattle.velo_filter.specs.Tables.{left_of, marked};
 ghost use Rattle.velo_laws.specs.Ordered.{only};
 ghost use Rattle.velo_races.specs.Races.{no_lock, IsThinned};
 ghost use Rattle.velo_races.specs.Sweep.{with_marked};
@@ -10,7 +10,7 @@ ghost use Rattle.velo_races.specs.Sweep.{with_marked};
 use crate::ordered::ordered_variables;
 use std::alloc::Global;
 use velo_events::{Config, Memory, VarId};
-use velo_thin::{LeftOut, Thinned, thin};
+use velo_filter::{LeftOut, Thinned, thin};
 use velo_traces::Trace;
 
 /// Leaves out the variable too, if it is marked.

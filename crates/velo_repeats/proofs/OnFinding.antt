@@ -12,7 +12,7 @@ use Rattle.velo_events.specs.Conflict.{conflict}
 use Rattle.velo_events.specs.Graph.{conflict_at}
 use Rattle.velo_events.proofs.OnScans.{event_at, passes_at-event, passes_at-is}
 use Rattle.velo_events.proofs.OnOwners.{passes_at-within}
-use Rattle.velo_thin.specs.Tables.{marked}
+use Rattle.velo_filter.specs.Tables.{marked}
 use Rattle.velo_laws.proofs.OnOrderedPlaces.{conflict-is}
 use Rattle.velo_repeats.specs.Repeating.{RepeatsAt, IsRepeat, AreExactly}
 use Rattle.velo_repeats.specs.Finding.{after_last, is_near, is_access_to, IsFound, IsFresh, IsSmall, AreFound, handled_after, near_after, written_after, accessed_after}

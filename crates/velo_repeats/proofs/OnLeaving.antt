@@ -4,8 +4,8 @@ use Rattle.std.specs.Prelude.{IsTrue, IsFalse}
 use Rattle.std.proofs.lemmas.Option.{slice_get-get_or}
 use Rattle.velo_events.specs.declared.event.Event.{Event}
 use Rattle.velo_traces.proofs.Past.{past}
-use Rattle.velo_thin.specs.declared.thinned.Thinned.{Thinned}
-use Rattle.velo_thin.proofs.OnRanks.{staying, staying-stays, staying-goes, events_staying, events_staying-stays, events_staying-goes}
+use Rattle.velo_filter.specs.declared.thinned.Thinned.{Thinned}
+use Rattle.velo_filter.proofs.OnRanks.{staying, staying-stays, staying-goes, events_staying, events_staying-stays, events_staying-goes}
 use Rattle.velo_repeats.specs.Finding.{IsLeftTo}
 
 module _ (goes : ℕ → Bool) (log : List Event) (n : ℕ) (old new : Thinned) (stands : IsLeftTo goes log n old) where

@@ -6,8 +6,8 @@ use Rattle.velo_events.specs.declared.event.Kind.{Kind}
 use Rattle.velo_events.specs.declared.event.Kind.TheVariants.{Read, Write, Fork, Join}
 use Rattle.velo_events.specs.Event.{are_same, thread_of, variable_of, thread_forked_or_joined, is_by, is_write_of}
 use Rattle.velo_events.specs.Block.{passes_at}
-use Rattle.velo_thin.specs.declared.thinned.Thinned.{Thinned}
-use Rattle.velo_thin.specs.Tables.{marked}
+use Rattle.velo_filter.specs.declared.thinned.Thinned.{Thinned}
+use Rattle.velo_filter.specs.Tables.{marked}
 use Rattle.velo_repeats.specs.Repeating.{IsRepeat}
 use Rattle.velo_repeats.specs.declared.finder.Finder.{Finder}
 

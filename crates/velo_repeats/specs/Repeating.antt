@@ -4,7 +4,7 @@ use Rattle.velo_events.specs.declared.event.Event.{Event}
 use Rattle.velo_events.specs.Event.{is_read, is_write}
 use Rattle.velo_events.specs.Block.{passes_at, positions}
 use Rattle.velo_events.specs.Graph.{conflict_at}
-use Rattle.velo_thin.specs.declared.thinned.Thinned.{Thinned}
+use Rattle.velo_filter.specs.declared.thinned.Thinned.{Thinned}
 use Rattle.velo_laws.specs.Repeats.{AreRepeats, AreEqualAccesses, without}
 
 -- Position j does again what position i does: a thread reads or writes a variable, with the same value, and nothing between the

@@ -3,7 +3,7 @@ ghost use Rattle.std.specs.Prelude.{◌≡◌, ◌↔◌, ◌≤◌, ◌<◌, �
 ghost use Rattle.velo_events.specs.declared.limits.TheConstants.{MAX_EVENTS};
 ghost use Rattle.velo_events.specs.declared.event.Event.{Event as EventOf};
 ghost use Rattle.velo_events.specs.Block.{passes_at};
-ghost use Rattle.velo_thin.specs.Tables.{marked};
+ghost use Rattle.velo_filter.specs.Tables.{marked};
 ghost use Rattle.velo_laws.specs.Repeats.{AreRepeats};
 ghost use Rattle.velo_repeats.specs.Repeating.{IsRepeat, AreExactly};
 ghost use Rattle.velo_repeats.specs.Finding.{IsFound, IsFresh, IsSmall, AreFound, near_after, written_after, accessed_after};

@@ -1,7 +1,7 @@
 //! A log without the accesses that repeat one just before them.
 ghost use Rattle.std.specs.Prelude.{◌≡◌, ◌≤◌, ◌<◌, ◌+◌, ◌++◌, ◌∷◌, [], length, IfOk, OnOk};
 ghost use Rattle.velo_events.specs.declared.limits.TheConstants.{MAX_EVENTS};
-ghost use Rattle.velo_thin.specs.Tables.{marked};
+ghost use Rattle.velo_filter.specs.Tables.{marked};
 ghost use Rattle.velo_repeats.specs.Repeating.{IsWithoutRepeats};
 ghost use Rattle.velo_repeats.specs.Finding.{IsLeftTo};
 
@@ -9,7 +9,7 @@ use crate::finder::repeats;
 use std::alloc::Global;
 use velo_events::growth::reserve;
 use velo_events::{Event, Memory};
-use velo_thin::Thinned;
+use velo_filter::Thinned;
 use velo_traces::Trace;
 
 /// Takes the event at the position in.

@@ -54,9 +54,9 @@ pub struct RunOptions<'a> {
 /// Where a schedule is, and in which form.
 #[derive(Clone, Copy, Debug)]
 pub enum ScheduleSource<'a> {
-    /// This is its text, as [`schedule_of`](velo_turns::schedule_of) takes it.
+    /// This is its text, as [`schedule_of`](velo_schedule_text::schedule_of) takes it.
     Text(&'a str),
-    /// These are its turns, as [`turns_of`](velo_turns::turns_of) takes them.
+    /// These are its turns, as [`turns_of`](velo_schedule_text::turns_of) takes them.
     Turns(&'a str),
     /// Its turns are in the file at this path, or on standard input with `-`.
     File(&'a str),

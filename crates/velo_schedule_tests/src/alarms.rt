@@ -3,7 +3,7 @@ ghost use Rattle.std.specs.Prelude.{◌≡◌};
 
 use std::alloc::Global;
 use velo_events::{Config, ThreadId};
-use velo_schedules::{Exploration, Progress, Quiet, explore, replayed};
+use velo_explore::{Exploration, Progress, Quiet, explore, replayed};
 use velo_workload::{Workload, parse};
 
 /// Whether the replay by a schedule has an alarm.

@@ -2,11 +2,11 @@
 ghost use Rattle.std.specs.Prelude.{◌≡◌};
 
 use std::alloc::Global;
-use velo_chance::{Blamed, DEFAULT_SEED, Tally, try_all, try_by_chance};
 use velo_events::{Config, Memory};
-use velo_schedules::Finding;
+use velo_explore::Finding;
+use velo_random::{Blamed, DEFAULT_SEED, Tally, try_all, try_by_chance};
+use velo_schedule_text::{append_turns, turns_of};
 use velo_shrink::{Shrunk, shrink_findings};
-use velo_turns::{append_turns, turns_of};
 use velo_workload::{Workload, parse};
 
 /// The tally of `runs` random runs of a workload.

@@ -1,4 +1,4 @@
-//! Tests of `velo_explore`, `velo_schedules`, `velo_shrink` and `velo_chance`, through their public
+//! Tests of `velo_search`, `velo_explore`, `velo_shrink` and `velo_random`, through their public
 //! calls.
 #![tactic(auto)]
 

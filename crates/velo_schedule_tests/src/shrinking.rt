@@ -3,9 +3,9 @@ ghost use Rattle.std.specs.Prelude.{◌≡◌};
 
 use std::alloc::Global;
 use velo_events::{Config, Memory, ThreadId};
-use velo_schedules::{Finding, Findings, Quiet, explore};
+use velo_explore::{Finding, Findings, Quiet, explore};
+use velo_schedule_text::append_turns;
 use velo_shrink::{Shrunk, shrink_findings};
-use velo_turns::append_turns;
 use velo_workload::{Workload, parse};
 
 /// What all schedules of a workload show, by simple schedules.

@@ -1,7 +1,7 @@
 //! Workloads, and what all their schedules lead to.
 use std::alloc::Global;
 use velo_events::Config;
-use velo_schedules::{Exploration, Finding, Quiet, explore};
+use velo_explore::{Exploration, Finding, Quiet, explore};
 use velo_workload::parse;
 
 /// What is known of a fault.

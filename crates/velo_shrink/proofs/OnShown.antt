@@ -19,18 +19,18 @@ use Rattle.velo_world.specs.World.{WorldState, IsAlarm}
 use Rattle.velo_worker.specs.declared.ending.Ending.{Ending}
 use Rattle.velo_worker.specs.declared.ending.Ending.TheVariants as endings
 use Rattle.velo_worker.specs.Schedule.{Replays}
-use Rattle.velo_schedules.specs.declared.finding.Finding.{Finding}
-use Rattle.velo_schedules.specs.declared.finding.Finding.TheVariants.{Shown, Never, Open}
-use Rattle.velo_schedules.specs.declared.finding.Witness.{Witness}
-use Rattle.velo_schedules.specs.declared.goal.Goal.{Goal}
-use Rattle.velo_schedules.specs.declared.goal.Goal.TheVariants.{Alarm, Stuck, Refused}
-use Rattle.velo_schedules.specs.Goals.{HasAlarm, Reached, Reaches, lacks_memory, shown_by}
+use Rattle.velo_explore.specs.declared.finding.Finding.{Finding}
+use Rattle.velo_explore.specs.declared.finding.Finding.TheVariants.{Shown, Never, Open}
+use Rattle.velo_explore.specs.declared.finding.Witness.{Witness}
+use Rattle.velo_explore.specs.declared.goal.Goal.{Goal}
+use Rattle.velo_explore.specs.declared.goal.Goal.TheVariants.{Alarm, Stuck, Refused}
+use Rattle.velo_explore.specs.Goals.{HasAlarm, Reached, Reaches, lacks_memory, shown_by}
 use Rattle.velo_shrink.specs.declared.findings.Replay.{Replay}
 use Rattle.velo_shrink.specs.Simple.{IsAbove, IsLimited, IsNeeded, IsReplayBy, IsReplayFor, IsSayable, KeepsFirst, KeepsReplay, Misses, ReachesWithin, without}
-use Rattle.velo_turns.specs.declared.limits.TheConstants.{MAX_TURNS}
-use Rattle.velo_turns.specs.Short.{short_text}
-use Rattle.velo_turns.proofs.OnShort.{short_reads_back}
-use Rattle.velo_turns.proofs.OnTexts.{threads_of_schedule}
+use Rattle.velo_schedule_text.specs.declared.limits.TheConstants.{MAX_TURNS}
+use Rattle.velo_schedule_text.specs.Short.{short_text}
+use Rattle.velo_schedule_text.proofs.OnShort.{short_reads_back}
+use Rattle.velo_schedule_text.proofs.OnTexts.{threads_of_schedule}
 
 -- what a run reaches, its turns reach
 pub reached : {X E : Type 0} (program : Program) (config : Config) (goal : Goal) (turns : List ThreadId) (ending : Ending) (closed : WorldState) → Replays program turns config ending closed → lacks_memory ending ≡ false

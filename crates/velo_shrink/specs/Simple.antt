@@ -9,20 +9,20 @@ use Rattle.velo_workload.specs.Program.{Program}
 use Rattle.velo_world.specs.World.{WorldState}
 use Rattle.velo_worker.specs.declared.ending.Ending.{Ending}
 use Rattle.velo_worker.specs.Schedule.{Replays}
-use Rattle.velo_schedules.specs.declared.finding.Finding.{Finding}
-use Rattle.velo_schedules.specs.declared.finding.Finding.TheVariants.{Shown, Never, Open}
-use Rattle.velo_schedules.specs.declared.finding.Findings.{Findings}
-use Rattle.velo_schedules.specs.declared.finding.Witness.{Witness}
-use Rattle.velo_schedules.specs.declared.goal.Goal.{Goal}
-use Rattle.velo_schedules.specs.declared.goal.Goal.TheVariants.{Alarm, Refused, Stuck}
-use Rattle.velo_explore.specs.declared.fault.Fault.{Fault}
-use Rattle.velo_schedules.specs.Goals.{DoesNotShow, IsReplayOf, Reaches, Shows, finding_of, first_of}
-use Rattle.velo_schedules.specs.Told.{OnShown}
+use Rattle.velo_explore.specs.declared.finding.Finding.{Finding}
+use Rattle.velo_explore.specs.declared.finding.Finding.TheVariants.{Shown, Never, Open}
+use Rattle.velo_explore.specs.declared.finding.Findings.{Findings}
+use Rattle.velo_explore.specs.declared.finding.Witness.{Witness}
+use Rattle.velo_explore.specs.declared.goal.Goal.{Goal}
+use Rattle.velo_explore.specs.declared.goal.Goal.TheVariants.{Alarm, Refused, Stuck}
+use Rattle.velo_search.specs.declared.fault.Fault.{Fault}
+use Rattle.velo_explore.specs.Goals.{DoesNotShow, IsReplayOf, Reaches, Shows, finding_of, first_of}
+use Rattle.velo_explore.specs.Told.{OnShown}
 use Rattle.velo_shrink.specs.declared.findings.Replay.{Replay}
 use Rattle.velo_shrink.specs.declared.findings.Shrunk.{Shrunk}
 use Rattle.velo_shrink.specs.declared.minimizing.TheConstants.{MAX_MINIMAL}
-use Rattle.velo_turns.specs.Schedule.{SaysTurns}
-use Rattle.velo_turns.specs.Short.{short_text}
+use Rattle.velo_schedule_text.specs.Schedule.{SaysTurns}
+use Rattle.velo_schedule_text.specs.Short.{short_text}
 
 -- the turns but the one at position i
 abbrev pub without : ℕ → List ThreadId → List ThreadId

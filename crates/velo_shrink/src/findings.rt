@@ -1,17 +1,17 @@
 //! The schedules of findings, made simple, as far as their texts can say them.
 ghost use Rattle.std.specs.Prelude.{◌≡◌, ◌<◌, ◌↔◌, All, IfNone, IfOk, IfSome, IsTrue, None, false, true};
 ghost use Rattle.velo_events.specs.declared.limits.TheConstants.{MAX_THREADS};
-ghost use Rattle.velo_schedules.specs.declared.finding.Finding.TheVariants.{Shown};
-ghost use Rattle.velo_schedules.specs.Goals.{DoesNotShow, Shows, finding_of};
-ghost use Rattle.velo_explore.specs.declared.fault.Fault.{Fault};
-ghost use Rattle.velo_schedules.specs.Told.{OnShown};
+ghost use Rattle.velo_explore.specs.declared.finding.Finding.TheVariants.{Shown};
+ghost use Rattle.velo_explore.specs.Goals.{DoesNotShow, Shows, finding_of};
+ghost use Rattle.velo_search.specs.declared.fault.Fault.{Fault};
+ghost use Rattle.velo_explore.specs.Told.{OnShown};
 ghost use Rattle.velo_shrink.specs.Simple.{IsReplayBy, IsSayable, IsShrunkFrom, IsToldBy, KeepsReplay};
 
 use crate::shrinking::{MAX_TRIES, shrink};
 use std::alloc::Global;
 use velo_events::{Config, MAX_THREADS, Memory, ThreadId};
-use velo_schedules::{Finding, Findings, Goal, Witness, replayed};
-use velo_turns::MAX_TURNS;
+use velo_explore::{Finding, Findings, Goal, Witness, replayed};
+use velo_schedule_text::MAX_TURNS;
 use velo_workload::Workload;
 use velo_world::Closed;
 

@@ -1,6 +1,6 @@
 //! Leaving out single turns of a schedule, until none can be left out.
 ghost use Rattle.std.specs.Prelude.{◌≡◌, ◌+◌, ◌<◌, ◌≤◌, length, IfNone, IfOk, IfSome};
-ghost use Rattle.velo_schedules.specs.Goals.{Reached};
+ghost use Rattle.velo_explore.specs.Goals.{Reached};
 ghost use Rattle.velo_shrink.specs.Simple.{IsMinimal, IsNeeded};
 
 use crate::budget::Budget;
@@ -8,7 +8,7 @@ use crate::edit::without_turn;
 use crate::trying::{config_of_try, tried};
 use std::alloc::Global;
 use velo_events::{Config, Memory, ThreadId};
-use velo_schedules::Goal;
+use velo_explore::Goal;
 use velo_workload::Workload;
 
 /// The most turns of a schedule of which each single one is tried to be left out.

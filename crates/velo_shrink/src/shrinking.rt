@@ -1,6 +1,6 @@
 //! Trying one change of a schedule after another.
 ghost use Rattle.std.specs.Prelude.{◌≡◌, ◌≤◌, length, IfOk};
-ghost use Rattle.velo_schedules.specs.Goals.{Reached};
+ghost use Rattle.velo_explore.specs.Goals.{Reached};
 ghost use Rattle.velo_shrink.specs.Simple.{Simplifies};
 
 use crate::budget::Budget;
@@ -10,7 +10,7 @@ use crate::plan::Plan;
 use crate::trying::simpler;
 use std::alloc::Global;
 use velo_events::{Config, Memory, ThreadId};
-use velo_schedules::Goal;
+use velo_explore::Goal;
 use velo_workload::Workload;
 
 /// How many tries are enough for most schedules.

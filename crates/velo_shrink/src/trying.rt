@@ -1,14 +1,14 @@
 //! One try: a schedule is replayed, and taken up if it shows the goal and is simpler.
 ghost use Rattle.std.specs.Prelude.{◌≡◌, ◌≤◌, ℕ, length, IsTrue, IfOk, IfSome};
 ghost use Rattle.velo_worker.specs.declared.ending.Ending.{Ending as EndingOf};
-ghost use Rattle.velo_schedules.specs.Goals.{HasAlarm, Reached, Reaches};
+ghost use Rattle.velo_explore.specs.Goals.{HasAlarm, Reached, Reaches};
 ghost use Rattle.velo_shrink.specs.Simple.{IsAbove, IsLimited, Misses, ReachesWithin, stops};
 
 use crate::budget::Budget;
 use std::alloc::Global;
 use velo_events::growth::reserve;
 use velo_events::{Config, Memory, ThreadId};
-use velo_schedules::{Goal, replayed};
+use velo_explore::{Goal, replayed};
 use velo_traces::Trace;
 use velo_worker::Ending;
 use velo_workload::Workload;

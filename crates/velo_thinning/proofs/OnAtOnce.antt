@@ -12,9 +12,9 @@ use Rattle.velo_events.specs.Reordering.{AreBlamed}
 use Rattle.velo_events.proofs.OnScans.{event_at, take-next}
 use Rattle.velo_events.proofs.OnOwners.{passes_at-within, is_open_at-within}
 use Rattle.velo_events.proofs.OnUnfinished.{Contains-open_blocks}
-use Rattle.velo_thin.specs.Left.{is_among}
-use Rattle.velo_thin.proofs.OnRanks.{rank, rank-zero, rank-stays, events_staying, events_staying-stays}
-use Rattle.velo_thin.proofs.OnLeft.{stays, rest_of-is, place-rank}
+use Rattle.velo_filter.specs.Left.{is_among}
+use Rattle.velo_filter.proofs.OnRanks.{rank, rank-zero, rank-stays, events_staying, events_staying-stays}
+use Rattle.velo_filter.proofs.OnLeft.{stays, rest_of-is, place-rank}
 use Rattle.velo_laws.specs.Ordered.{dissolving}
 use Rattle.velo_laws.specs.Judged.{without_labels, position, IsJudgedBy}
 use Rattle.velo_laws.proofs.OnDropped.{take-none}

@@ -11,7 +11,7 @@ use Rattle.velo_events.specs.Event.{are_same, variable_of}
 use Rattle.velo_events.specs.Heap.{happened}
 use Rattle.velo_events.proofs.OnTraces.{happened-push}
 use Rattle.velo_laws.specs.Length.{counted}
-use Rattle.velo_thin.specs.Tables.{marked}
+use Rattle.velo_filter.specs.Tables.{marked}
 use Rattle.velo_thinning.specs.Counting.{is_access_to, variables_in, marked_after, AreMarked}
 
 pub counted-same : (n : ℕ) (p q : ℕ → Bool) → ((k : ℕ) → k < n → p k ≡ q k) → counted n p ≡ counted n q

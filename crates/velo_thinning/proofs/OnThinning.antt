@@ -7,11 +7,11 @@ use Rattle.std.proofs.lemmas.List.{get_or-map, length-map}
 use Rattle.velo_events.specs.declared.config.Bounds.{Bounds}
 use Rattle.velo_events.specs.declared.event.Event.{Event}
 use Rattle.velo_events.specs.WellFormed.{IsWellFormed}
-use Rattle.velo_thin.specs.Left.{places_of, place_of}
-use Rattle.velo_thin.specs.declared.thinned.Thinned.{Thinned}
-use Rattle.velo_thin.proofs.OnRanks.{rank, rank-zero, rank-stays, rank-goes, rank-from, staying, staying-at, length-staying, length-events_staying}
-use Rattle.velo_thin.proofs.OnLeft.{stays, rest_of-is, length-sub}
-use Rattle.velo_thin.proofs.OnTurns.{IsWellFormed-rest}
+use Rattle.velo_filter.specs.Left.{places_of, place_of}
+use Rattle.velo_filter.specs.declared.thinned.Thinned.{Thinned}
+use Rattle.velo_filter.proofs.OnRanks.{rank, rank-zero, rank-stays, rank-goes, rank-from, staying, staying-at, length-staying, length-events_staying}
+use Rattle.velo_filter.proofs.OnLeft.{stays, rest_of-is, length-sub}
+use Rattle.velo_filter.proofs.OnTurns.{IsWellFormed-rest}
 use Rattle.velo_laws.specs.Ordered.{only}
 use Rattle.velo_laws.specs.Repeats.{without, place_with}
 use Rattle.velo_laws.specs.Judged.{IsJudgedBy}

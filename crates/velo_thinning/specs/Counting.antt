@@ -5,7 +5,7 @@ use Rattle.velo_events.specs.declared.event.Kind.{Kind}
 use Rattle.velo_events.specs.declared.event.Kind.TheVariants.{Read, Write}
 use Rattle.velo_events.specs.Event.{are_same, variable_of}
 use Rattle.velo_events.specs.Heap.{happened}
-use Rattle.velo_thin.specs.Tables.{marked}
+use Rattle.velo_filter.specs.Tables.{marked}
 use Rattle.velo_laws.specs.Length.{counted}
 
 abbrev pub is_access_to : ℕ → Event → Bool

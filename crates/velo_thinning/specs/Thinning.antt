@@ -7,8 +7,8 @@ use Rattle.velo_events.specs.Block.{passes_at}
 use Rattle.velo_events.specs.Graph.{HasCycle, IsClosing}
 use Rattle.velo_events.specs.Reordering.{AreBlamed}
 use Rattle.velo_events.specs.WellFormed.{IsWellFormed}
-use Rattle.velo_thin.specs.Left.{rest_of, place_of}
-use Rattle.velo_thin.specs.declared.thinned.Thinned.{Thinned}
+use Rattle.velo_filter.specs.Left.{rest_of, place_of}
+use Rattle.velo_filter.specs.declared.thinned.Thinned.{Thinned}
 use Rattle.velo_laws.specs.Ordered.{only}
 use Rattle.velo_laws.specs.Repeats.{without, place_with}
 use Rattle.velo_laws.specs.Judged.{IsJudgedBy}

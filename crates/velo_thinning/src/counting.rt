@@ -1,7 +1,7 @@
 //! How many variables a log accesses.
 ghost use Rattle.std.specs.Prelude.{◌≡◌, length, IfOk};
 ghost use Rattle.velo_laws.specs.Length.{counted};
-ghost use Rattle.velo_thin.specs.Tables.{marked};
+ghost use Rattle.velo_filter.specs.Tables.{marked};
 ghost use Rattle.velo_thinning.specs.Counting.{marked_after, variables_in};
 
 use std::alloc::Global;

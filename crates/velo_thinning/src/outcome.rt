@@ -3,7 +3,7 @@ ghost use Rattle.std.specs.Prelude.{◌≤◌, length};
 ghost use Rattle.velo_events.specs.declared.limits.TheConstants.{MAX_EVENTS};
 
 use velo_events::Config;
-use velo_thin::Thinned;
+use velo_filter::Thinned;
 
 /// A log that was thinned.
 #[derive(Drop)]

@@ -7,9 +7,9 @@ ghost use Rattle.velo_thinning.specs.Thinning.{IsThinnedLog};
 use std::alloc::Global;
 use velo_events::growth::with_capacity;
 use velo_events::{Config, Memory};
+use velo_filter::Thinned;
 use velo_races::thin_ordered;
 use velo_repeats::without_repeats;
-use velo_thin::Thinned;
 use velo_traces::Trace;
 
 /// For each place its place among others.

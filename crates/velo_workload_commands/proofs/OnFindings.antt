@@ -10,22 +10,22 @@ use Rattle.std.specs.List.Sorted.{IsNonDecreasingBy}
 use Rattle.velo_events.specs.declared.config.Config.{Config}
 use Rattle.velo_events.specs.declared.event.ThreadId.{ThreadId}
 use Rattle.velo_events.specs.declared.refusal.Refusal.TheVariants as refusal
-use Rattle.velo_explore.specs.declared.fault.Fault.{Fault}
-use Rattle.velo_schedules.specs.declared.finding.Finding.{Finding}
-use Rattle.velo_schedules.specs.declared.finding.Finding.TheVariants.{Shown, Never, Open}
-use Rattle.velo_schedules.specs.declared.finding.Findings.{Findings}
-use Rattle.velo_schedules.specs.declared.finding.Witness.{Witness}
-use Rattle.velo_schedules.specs.declared.goal.Goal.{Goal}
-use Rattle.velo_schedules.specs.declared.goal.Goal.TheVariants as goals
-use Rattle.velo_schedules.specs.Goals.{Reaches, Shows, fault_of, finding_of, first_of, lacks_memory}
-use Rattle.velo_schedules.specs.Told.{IsTold, OnShown}
+use Rattle.velo_search.specs.declared.fault.Fault.{Fault}
+use Rattle.velo_explore.specs.declared.finding.Finding.{Finding}
+use Rattle.velo_explore.specs.declared.finding.Finding.TheVariants.{Shown, Never, Open}
+use Rattle.velo_explore.specs.declared.finding.Findings.{Findings}
+use Rattle.velo_explore.specs.declared.finding.Witness.{Witness}
+use Rattle.velo_explore.specs.declared.goal.Goal.{Goal}
+use Rattle.velo_explore.specs.declared.goal.Goal.TheVariants as goals
+use Rattle.velo_explore.specs.Goals.{Reaches, Shows, fault_of, finding_of, first_of, lacks_memory}
+use Rattle.velo_explore.specs.Told.{IsTold, OnShown}
 use Rattle.velo_shrink.specs.declared.findings.Replay.{Replay}
 use Rattle.velo_shrink.specs.declared.findings.Shrunk.{Shrunk}
 use Rattle.velo_shrink.specs.Simple.{IsReplayFor, IsShrunkFrom, SimplifiesFinding}
 use Rattle.velo_worker.specs.declared.ending.Ending.{Ending}
 use Rattle.velo_worker.specs.declared.ending.Ending.TheVariants as ending
 use Rattle.velo_worker.specs.Causes.{EndsByGrowth}
-use Rattle.velo_waits.proofs.OnReplays.{Replays-config}
+use Rattle.velo_deadlock.proofs.OnReplays.{Replays-config}
 use Rattle.velo_workload.specs.Program.{Program}
 use Rattle.velo_fate.specs.declared.fate.Fate.{Fate}
 use Rattle.velo_fate.specs.declared.fate.Fate.TheVariants as fate
@@ -36,8 +36,8 @@ use Rattle.velo_delivery.specs.Disk.{Store}
 use Rattle.velo_delivery.specs.Writing.{Writes, Writing}
 use Rattle.velo_request.specs.declared.request.ExploreOptions.{ExploreOptions}
 use Rattle.velo_request.specs.declared.request.RandomRuns.{RandomRuns}
-use Rattle.velo_chance.specs.declared.tally.Tally.{Tally}
-use Rattle.velo_chance.specs.Tallies.{IsTriedBy, rank}
+use Rattle.velo_random.specs.declared.tally.Tally.{Tally}
+use Rattle.velo_random.specs.Tallies.{IsTriedBy, rank}
 use Rattle.velo_workload_commands.specs.declared.told.Told.{Told}
 use Rattle.velo_workload_commands.specs.ByChance.{IsBlameOf}
 use Rattle.velo_workload_commands.specs.Exploring.{IsExplored, IsSaidOf, IsToldBy, IsToldOf, fate_of_goal, fate_of_rest, fate_of_told, run_of, told_text, waits_after}

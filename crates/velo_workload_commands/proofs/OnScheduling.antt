@@ -2,10 +2,10 @@
 use Rattle.std.proofs.Common.{◌≡◌, ◌≤◌, arith, refl, subst}
 use Rattle.std.specs.Prelude.{ℕ, List, length, Option, Some, None}
 use Rattle.velo_events.specs.declared.event.ThreadId.{ThreadId}
-use Rattle.velo_turns.specs.declared.limits.TheConstants.{MAX_SCHEDULE_BYTES}
-use Rattle.velo_turns.specs.declared.schedule.ScheduleFault.TheVariants as schedule_fault
-use Rattle.velo_turns.specs.File.{IsScheduleIn}
-use Rattle.velo_turns.proofs.OnFile.{schedule_bytes}
+use Rattle.velo_schedule_text.specs.declared.limits.TheConstants.{MAX_SCHEDULE_BYTES}
+use Rattle.velo_schedule_text.specs.declared.schedule.ScheduleFault.TheVariants as schedule_fault
+use Rattle.velo_schedule_text.specs.File.{IsScheduleIn}
+use Rattle.velo_schedule_text.proofs.OnFile.{schedule_bytes}
 use Rattle.velo_fate.specs.declared.fate.Fate.{Fate}
 use Rattle.velo_fate.specs.declared.fate.Fate.TheVariants as fate
 use Rattle.velo_delivery.specs.Disk.{Disk}

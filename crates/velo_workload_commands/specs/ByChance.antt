@@ -1,9 +1,9 @@
 -- Random runs of a workload, and who is to blame for the alarms of some runs.
 use Rattle.std.specs.Prelude.{◌≡◌, All, List, count_by, map}
 use Rattle.std.specs.List.Sorted.{IsNonDecreasingBy}
-use Rattle.velo_chance.specs.declared.tally.Tally.{Tally}
-use Rattle.velo_chance.specs.Runs.{IsRun, Run, blames, has_alarm}
-use Rattle.velo_chance.specs.Tallies.{AreCounts, IsTried, rank}
+use Rattle.velo_random.specs.declared.tally.Tally.{Tally}
+use Rattle.velo_random.specs.Runs.{IsRun, Run, blames, has_alarm}
+use Rattle.velo_random.specs.Tallies.{AreCounts, IsTried, rank}
 use Rattle.velo_events.specs.declared.config.Config.{Config}
 use Rattle.velo_events.specs.declared.event.ThreadId.{ThreadId}
 use Rattle.velo_request.specs.declared.request.RandomRuns.{RandomRuns}

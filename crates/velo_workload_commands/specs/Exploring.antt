@@ -2,23 +2,23 @@
 use Rattle.std.specs.Prelude.{◌≡◌, ◌⊎◌, ◌≤◌, ◌-◌, ◌^◌, ◌++◌, ◌&&◌, [], ℕ, Bool, true, false, List, codes, decimal, map, min, slice_get, sum_by, take, Option, Some, None, if◌then◌else◌}
 use Rattle.std.specs.List.{flat_map}
 use Rattle.std.specs.Option.{option_map_or}
-use Rattle.velo_chance.specs.declared.tally.Blamed.{Blamed}
+use Rattle.velo_random.specs.declared.tally.Blamed.{Blamed}
 use Rattle.velo_events.specs.declared.config.Config.{Config}
 use Rattle.velo_events.specs.declared.event.Event.{Event}
 use Rattle.velo_events.specs.declared.event.ThreadId.{ThreadId}
-use Rattle.velo_explore.specs.declared.fault.Fault.{Fault}
-use Rattle.velo_schedules.specs.declared.exploration.Exploration.{Exploration}
-use Rattle.velo_schedules.specs.declared.finding.Finding.{Finding}
-use Rattle.velo_schedules.specs.declared.finding.Finding.TheVariants.{Shown, Never, Open}
-use Rattle.velo_schedules.specs.declared.finding.Findings.{Findings}
-use Rattle.velo_schedules.specs.declared.goal.Goal.{Goal}
-use Rattle.velo_schedules.specs.declared.goal.Goal.TheVariants.{Alarm, Refused}
-use Rattle.velo_schedules.specs.declared.goal.Goal.TheVariants as goals
-use Rattle.velo_schedules.specs.Goals.{finding_of, first_of}
-use Rattle.velo_schedules.specs.Told.{IsLeftOpen, IsTold, OnOpen}
+use Rattle.velo_search.specs.declared.fault.Fault.{Fault}
+use Rattle.velo_explore.specs.declared.exploration.Exploration.{Exploration}
+use Rattle.velo_explore.specs.declared.finding.Finding.{Finding}
+use Rattle.velo_explore.specs.declared.finding.Finding.TheVariants.{Shown, Never, Open}
+use Rattle.velo_explore.specs.declared.finding.Findings.{Findings}
+use Rattle.velo_explore.specs.declared.goal.Goal.{Goal}
+use Rattle.velo_explore.specs.declared.goal.Goal.TheVariants.{Alarm, Refused}
+use Rattle.velo_explore.specs.declared.goal.Goal.TheVariants as goals
+use Rattle.velo_explore.specs.Goals.{finding_of, first_of}
+use Rattle.velo_explore.specs.Told.{IsLeftOpen, IsTold, OnOpen}
 use Rattle.velo_shrink.specs.declared.findings.Replay.{Replay}
 use Rattle.velo_shrink.specs.Simple.{IsShrunkFrom}
-use Rattle.velo_waits.specs.Waits.{waits_text}
+use Rattle.velo_deadlock.specs.Waits.{waits_text}
 use Rattle.velo_worker.specs.declared.ending.Ending.TheVariants.{Done, Stuck}
 use Rattle.velo_worker.specs.declared.ending.Ending.TheVariants as ending
 use Rattle.velo_worker.specs.Counts.{body_events}
@@ -37,8 +37,8 @@ use Rattle.velo_workload_commands.specs.ByChance.{IsBlameOf, IsByChance}
 use Rattle.velo_fate.specs.Delivery.{Answer, LacksMemory, printing, silent}
 use Rattle.velo_fate.specs.Fate.{number_of}
 use Rattle.velo_workload_commands.specs.Playing.{IsConfigOf, IsReported, IsTextOf, IsUnread, text_of_names}
-use Rattle.velo_turns.specs.Schedule.{spaced}
-use Rattle.velo_turns.specs.Short.{longest}
+use Rattle.velo_schedule_text.specs.Schedule.{spaced}
+use Rattle.velo_schedule_text.specs.Short.{longest}
 
 -- ---- what is told of all schedules
 
@@ -170,7 +170,7 @@ run_of options =
       why = false;
     }
 
--- behind the report of a deadlock, who waits for what (`Waits` of `velo_waits`)
+-- behind the report of a deadlock, who waits for what (`Waits` of `velo_deadlock`)
 abbrev pub waits_of : Goal → Program → List Event → List ℕ
 waits_of goals.Stuck program log = waits_text program log
 waits_of goal program log = []

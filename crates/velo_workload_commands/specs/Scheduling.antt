@@ -3,10 +3,10 @@
 use Rattle.std.specs.Prelude.{◌≡◌, List, ℕ, Option, IfSome}
 use Rattle.velo_events.specs.declared.event.ThreadId.{ThreadId}
 use Rattle.velo_events.specs.Refusals.{GrowthRefused}
-use Rattle.velo_turns.specs.File.{IsScheduleIn}
-use Rattle.velo_turns.specs.Schedule.{IsFaultOfSchedule, IsFaultOfTurns, IsSchedule, SaysTurns}
-use Rattle.velo_turns.specs.declared.schedule.ScheduleFault.{ScheduleFault}
-use Rattle.velo_turns.specs.declared.schedule.ScheduleFault.TheVariants as schedule_fault
+use Rattle.velo_schedule_text.specs.File.{IsScheduleIn}
+use Rattle.velo_schedule_text.specs.Schedule.{IsFaultOfSchedule, IsFaultOfTurns, IsSchedule, SaysTurns}
+use Rattle.velo_schedule_text.specs.declared.schedule.ScheduleFault.{ScheduleFault}
+use Rattle.velo_schedule_text.specs.declared.schedule.ScheduleFault.TheVariants as schedule_fault
 use Rattle.velo_fate.specs.declared.fate.Fate.{Fate}
 use Rattle.velo_fate.specs.declared.fate.Fate.TheVariants as fate
 use Rattle.velo_request.specs.declared.request.ScheduleSource.{ScheduleSource}

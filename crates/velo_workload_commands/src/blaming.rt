@@ -5,8 +5,8 @@ ghost use Rattle.velo_workload_commands.specs.Exploring.{most_to_blame};
 
 use crate::told::ToBlame;
 use std::alloc::Global;
-use velo_chance::{Tally, try_all};
 use velo_events::{Config, Memory, ThreadId};
+use velo_random::{Tally, try_all};
 use velo_workload::Workload;
 
 /// The most replays that are asked whom they blame.

@@ -5,11 +5,11 @@ ghost use Rattle.velo_workload_commands.specs.Exploring.{blame_text, blamed_text
 use crate::told::{ToBlame, Told, Tried};
 use std::alloc::Global;
 use velo_bytes::{append, append_number};
-use velo_chance::Blamed;
 use velo_events::{Label, Memory, ThreadId};
+use velo_explore::{Finding, Findings, Goal};
 use velo_fate::number_of;
-use velo_schedules::{Finding, Findings, Goal};
-use velo_turns::append_turns;
+use velo_random::Blamed;
+use velo_schedule_text::append_turns;
 use velo_workload::Workload;
 
 /// Adds the name of a thread after a space, if it has one.

@@ -15,13 +15,13 @@ use crate::told::Told;
 use crate::work::{config_of_run, open_workload};
 use std::alloc::Global;
 use velo_bytes::{Sink, WriteFault, write_all};
+use velo_deadlock::waits_of;
 use velo_delivery::Files;
 use velo_events::Memory;
+use velo_explore::{Finding, Findings, Goal};
 use velo_fate::Fate;
 use velo_request::{ExploreOptions, RunOptions};
-use velo_schedules::{Finding, Findings, Goal};
 use velo_shrink::Replay;
-use velo_waits::waits_of;
 use velo_worker::Ending;
 use velo_workload::Workload;
 

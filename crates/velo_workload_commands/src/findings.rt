@@ -6,10 +6,10 @@ ghost use Rattle.velo_workload_commands.specs.Exploring.{IsExplorationOf, IsTold
 use crate::blaming::blame_of;
 use crate::told::{ToBlame, Told, Tried};
 use std::alloc::Global;
-use velo_chance::{Tally, try_by_chance};
 use velo_events::{Config, Memory};
+use velo_explore::{Exploration, Progress, explore};
+use velo_random::{Tally, try_by_chance};
 use velo_request::{ExploreOptions, RandomRuns};
-use velo_schedules::{Exploration, Progress, explore};
 use velo_shrink::shrink_findings;
 use velo_workload::Workload;
 

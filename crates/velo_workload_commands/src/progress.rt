@@ -1,6 +1,6 @@
 //! Telling how far the search of an exploration is.
 
-use velo_schedules::{Progress, Quiet};
+use velo_explore::{Progress, Quiet};
 
 /// Where an exploration reports how far its search is.
 pub trait ExploreProgress: Progress {

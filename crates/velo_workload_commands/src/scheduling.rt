@@ -1,6 +1,6 @@
 //! The schedule of a replay.
 ghost use Rattle.std.specs.Prelude.{IfErr, IfOk};
-ghost use Rattle.velo_turns.specs.File.{IsScheduleIn};
+ghost use Rattle.velo_schedule_text.specs.File.{IsScheduleIn};
 ghost use Rattle.velo_fate.specs.Format.{LacksAt, Reads};
 ghost use Rattle.velo_workload_commands.specs.Scheduling.{IsNoScheduleIn, IsScheduleOf, LacksSchedule, turns_file};
 
@@ -9,7 +9,7 @@ use velo_delivery::Files;
 use velo_events::ThreadId;
 use velo_fate::{Fate, read_file};
 use velo_request::ScheduleSource;
-use velo_turns::{MAX_SCHEDULE_BYTES, schedule_in, schedule_of, turns_of};
+use velo_schedule_text::{MAX_SCHEDULE_BYTES, schedule_in, schedule_of, turns_of};
 
 /// The schedule that the bytes of a file say.
 ///

@@ -1,5 +1,5 @@
 //! What is reported of the schedules of a workload.
-use velo_chance::Blamed;
+use velo_random::Blamed;
 use velo_shrink::Shrunk;
 
 /// How the schedules of a workload were tried.

@@ -4,7 +4,7 @@ use std::fs::{self, File, Metadata};
 use std::io::{self, Read, Stdin};
 use std::os::unix::fs::MetadataExt;
 use velo_bytes::{ReaderSource, WriterSink};
-use velo_program::Files;
+use velo_commands::Files;
 
 /// A file, or standard input.
 #[derive(Drop)]

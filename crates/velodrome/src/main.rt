@@ -9,7 +9,7 @@ use progress::{ProgressLine, is_terminal};
 use std::io::ErrorKind;
 use std::process::ExitCode;
 use velo_bytes::WriterSink;
-use velo_command::{end_without_words, run};
+use velo_cli::{end_without_words, run};
 
 /// The words of the command line.
 fn words_of(rt: &HostRuntime) -> Result<Vec<String>, ErrorKind> {

@@ -25,8 +25,8 @@ use std::process::Abort;
 use std::sync::Wait;
 use std::thread::Threads;
 use velo_bytes::{Bytes, Text};
-use velo_command::run;
-use velo_program::{Files, Quiet};
+use velo_cli::run;
+use velo_commands::{Files, Quiet};
 
 const LOST_UPDATE: &str = "vlog 1 2 1 0\n0 fork 1\n0 begin 7\n0 rd 0 0\n1 wr 0 5\n0 wr 0 1\n";
 

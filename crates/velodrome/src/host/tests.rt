@@ -5,8 +5,8 @@ use std::process::Abort;
 use std::sync::Wait;
 use std::thread::Threads;
 use velo_bytes::{Bytes, Text};
-use velo_command::run;
-use velo_program::{Files, Quiet};
+use velo_cli::run;
+use velo_commands::{Files, Quiet};
 
 /// Two paths, and whether one regular file is at both.
 const PATHS: [(&str, &str, bool); 6] = [

@@ -6,7 +6,7 @@ use std::io;
 use std::process::Abort;
 use std::time::{Clock, Duration};
 use velo_bytes::Text;
-use velo_program::{ExploreProgress, Progress};
+use velo_commands::{ExploreProgress, Progress};
 
 /// A clock that is set by hand, in milliseconds.
 #[derive(Drop)]

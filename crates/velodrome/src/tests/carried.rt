@@ -5,8 +5,8 @@ use std::process::Abort;
 use std::sync::Wait;
 use std::thread::Threads;
 use velo_bytes::{Bytes, Text};
+use velo_commands::{CarryFault, carry_run};
 use velo_logtext::LogFault;
-use velo_program::{CarryFault, carry_run};
 
 /// The lost update in version 2.
 pub const CARRIED: &str = "vlog 2 2 1 0\n0 fork 1\n0 begin 7\n0 rd 0 0\n1 wr 0 5\n0 wr 0 1\n";

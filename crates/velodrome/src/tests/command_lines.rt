@@ -5,9 +5,9 @@ use std::io::ErrorKind;
 use std::process::Abort;
 use std::test::Fail;
 use velo_bytes::Text;
-use velo_command::{end_without_words, help};
+use velo_cli::{end_without_words, help};
+use velo_commands::{DEFAULT_SEED, DEFAULT_TRIES, MAX_RUNS, MAX_STATES, MAX_TRIES};
 use velo_events::{MAX_EVENTS, MAX_NODES, MAX_THREADS, Refusal};
-use velo_program::{DEFAULT_SEED, DEFAULT_TRIES, MAX_RUNS, MAX_STATES, MAX_TRIES};
 
 /// Right words, with the status and standard error: of the two logs one raises an alarm at its last
 /// event.

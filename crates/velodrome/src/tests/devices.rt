@@ -5,10 +5,10 @@ use std::io::Write;
 use std::sync::Wait;
 use std::thread::Threads;
 use velo_bytes::{Bytes, Text, WriterSink};
-use velo_command::run;
+use velo_cli::run;
+use velo_commands::{CheckFault, Fate, Quiet, check_run, end_with};
 use velo_events::{MAX_EVENTS, Refusal};
 use velo_logtext::LogFault;
-use velo_program::{CheckFault, Fate, Quiet, check_run, end_with};
 
 #[test]
 fn reads_fail(rt: HostRuntime) {

@@ -5,10 +5,10 @@ use std::process::Abort;
 use std::sync::Wait;
 use std::thread::Threads;
 use velo_bytes::Text;
-use velo_events::MAX_EVENTS;
-use velo_program::{
+use velo_commands::{
     ExploreOptions, Limits, MAX_RUNS, MAX_STATES, Quiet, RandomRuns, Request, do_request, end_with,
 };
+use velo_events::MAX_EVENTS;
 
 /// A block that reads and writes, and a thread that writes.
 const LOST_UPDATE: &str =

@@ -6,10 +6,10 @@ use std::alloc::Global;
 use std::sync::Wait;
 use std::thread::Threads;
 use velo_bytes::{Bytes, WriterSink};
-use velo_command::run;
+use velo_cli::run;
+use velo_commands::{CarryFault, CheckFault, Quiet, Verdict, carry_run, check_run, config_of};
 use velo_events::{Action, Refusal, ThreadId, VarId};
 use velo_logtext::{LogFault, read_log};
-use velo_program::{CarryFault, CheckFault, Quiet, Verdict, carry_run, check_run, config_of};
 use velo_world::{LogReplayFault, World};
 
 /// What the call returns, or if an allocation fails, what the same call then returns.

@@ -11,9 +11,9 @@ use std::sync::Wait;
 use std::test::Fail;
 use std::thread::Threads;
 use velo_bytes::{Bytes, Text};
+use velo_commands::Files;
 use velo_events::Bounds;
 use velo_logtext::{LogFault, read_log};
-use velo_program::Files;
 use velo_traces::{Flaw, Trace, well_formed};
 
 /// One text for each path, and one file to be written, which both fail after a number of bytes.

@@ -6,8 +6,8 @@ use std::process::Abort;
 use std::sync::Wait;
 use std::thread::Threads;
 use velo_bytes::{Bytes, Text};
+use velo_commands::check_run;
 use velo_events::MAX_EVENTS;
-use velo_program::check_run;
 
 /// Reads of one block's write by operations outside blocks.
 const MERGED: &str =

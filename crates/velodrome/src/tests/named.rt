@@ -6,11 +6,11 @@ use std::process::Abort;
 use std::sync::Wait;
 use std::thread::Threads;
 use velo_bytes::{Bytes, Text, WriterSink};
-use velo_events::MAX_EVENTS;
-use velo_program::{
+use velo_commands::{
     ExploreOptions, Fate, Files, Limits, Quiet, ReplayOptions, Request, RunOptions, ScheduleSource,
     do_request, end_with,
 };
+use velo_events::MAX_EVENTS;
 
 /// A block that reads and writes, and a thread that writes under a lock: there is a name of each
 /// kind.

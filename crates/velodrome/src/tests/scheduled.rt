@@ -7,7 +7,7 @@ use std::process::Abort;
 use std::sync::Wait;
 use std::thread::Threads;
 use velo_bytes::{Bytes, Text};
-use velo_program::Files;
+use velo_commands::Files;
 
 /// The text of a file, which is standard input too, and what a replay by its turns shows.
 struct Row {

@@ -5,9 +5,9 @@ use std::process::Abort;
 use std::sync::Wait;
 use std::thread::Threads;
 use velo_bytes::{Bytes, Sink, Text, WriterSink};
+use velo_commands::{CheckFault, Fate, Files, Limits, Quiet, Request, WatchOptions, do_request};
 use velo_events::{MAX_EVENTS, Refusal};
 use velo_logtext::LogFault;
-use velo_program::{CheckFault, Fate, Files, Limits, Quiet, Request, WatchOptions, do_request};
 use velo_worker::Ending;
 
 /// The lost update, and events after its alarm.

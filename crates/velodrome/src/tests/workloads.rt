@@ -5,7 +5,7 @@ use std::process::Abort;
 use std::sync::Wait;
 use std::test::Fail;
 use std::thread::Threads;
-use velo_program::{MAX_TURNS, ScheduleFault, schedule_of};
+use velo_commands::{MAX_TURNS, ScheduleFault, schedule_of};
 
 /// The lost update as a workload.
 pub const COLLIDING: &str =

@@ -1,5 +1,5 @@
 use Rattle.std.proofs.Common.{sym, subst}
-use Rattle.velo_thin.specs.Tables.{left_of}
+use Rattle.velo_filter.specs.Tables.{left_of}
 use Rattle.velo_audit.specs.Count.{IsCountedTo}
 use Rattle.velo_audit.proofs.OnCount.{IsCountedTo-start}
 use Rattle.velo_audit.proofs.count.count_atomic.Goals as goal

@@ -1,4 +1,4 @@
-use Rattle.velo_thin.specs.Tables.{left_of}
+use Rattle.velo_filter.specs.Tables.{left_of}
 use Rattle.velo_audit.specs.Count.{IsCountedTo}
 use Rattle.velo_audit.proofs.count.count_atomic.Given as goal
 

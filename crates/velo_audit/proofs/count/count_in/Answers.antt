@@ -1,6 +1,6 @@
 use Rattle.std.proofs.Common.{◌≡◌, ◌+◌, ◌∷◌, [], ap, sym, ◌∙◌, arith, ℕ}
 use Rattle.std.specs.Prelude.{if◌then◌else◌}
-use Rattle.velo_thin.specs.Tables.{left_of}
+use Rattle.velo_filter.specs.Tables.{left_of}
 use Rattle.velo_audit.proofs.OnCount.{IsCountedTo-again, IsCountedTo-new, IsCountedTo-none, no_label}
 use Rattle.velo_audit.proofs.count.count_in.Goals as goal
 use Rattle.velo_audit.proofs.count.count_in.Goals.{then-not-has_label, else-not-has_label}

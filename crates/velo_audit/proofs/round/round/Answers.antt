@@ -1,8 +1,8 @@
 use Rattle.std.proofs.Common.{arith, ap, sym, subst, ◌∙◌, length}
 use Rattle.velo_events.specs.WellFormed.{IsWellFormed}
-use Rattle.velo_thin.specs.Tables.{left_of}
+use Rattle.velo_filter.specs.Tables.{left_of}
 use Rattle.velo_audit.proofs.OnAnswers.{length-rest, length-places, RoundTells-check, IsRoundFault-check, if_ok, if_err}
-use Rattle.velo_thin.proofs.OnTurns.{IsWellFormed-rest}
+use Rattle.velo_filter.proofs.OnTurns.{IsWellFormed-rest}
 use Rattle.velo_audit.proofs.round.round.Goals as goal
 
 pub thin-requires-clause-can_come_about : goal.thin-requires-clause-can_come_about

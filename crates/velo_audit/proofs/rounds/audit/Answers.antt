@@ -1,4 +1,4 @@
-use Rattle.velo_thin.specs.Tables.{left_of}
+use Rattle.velo_filter.specs.Tables.{left_of}
 use Rattle.velo_audit.proofs.OnAudit.{StandsAt-start, StandsAt-push, audit-smaller, audit-rounds, audit-left, audit-only, audit-found, audit-few, audit-serializable}
 use Rattle.velo_audit.proofs.rounds.audit.Goals as goal
 

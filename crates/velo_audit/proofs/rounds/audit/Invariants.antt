@@ -1,6 +1,6 @@
 use Rattle.velo_audit.specs.Audit.{StandsAt}
 use Rattle.velo_audit.specs.Rounds.{atomic_labels}
-use Rattle.velo_thin.specs.Tables.{left_of}
+use Rattle.velo_filter.specs.Tables.{left_of}
 use Rattle.velo_audit.proofs.rounds.audit.Given as goal
 
 abbrev pub invariant-loop-rounds : goal.invariant-loop-rounds

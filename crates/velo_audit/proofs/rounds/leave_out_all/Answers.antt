@@ -1,9 +1,9 @@
 use Rattle.std.proofs.Common.{◌∷◌, [], ap, sym, ◌∙◌, map, take, get_or}
 use Rattle.std.proofs.lemmas.List.{take_more, map-append}
 use Rattle.velo_traces.specs.declared.block.Block.{Block}
-use Rattle.velo_thin.specs.Left.{with_labels}
-use Rattle.velo_thin.specs.Tables.{left_of}
-use Rattle.velo_thin.proofs.OnTables.{with_labels-nil, with_labels-push}
+use Rattle.velo_filter.specs.Left.{with_labels}
+use Rattle.velo_filter.specs.Tables.{left_of}
+use Rattle.velo_filter.proofs.OnTables.{with_labels-nil, with_labels-push}
 use Rattle.velo_audit.proofs.rounds.leave_out_all.Goals as goal
 
 pub loop-block-init : goal.loop-block-init

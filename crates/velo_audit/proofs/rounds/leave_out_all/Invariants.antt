@@ -1,7 +1,7 @@
 use Rattle.std.proofs.Common.{◌≡◌, map, take}
 use Rattle.velo_traces.specs.declared.block.Block.{Block}
-use Rattle.velo_thin.specs.Left.{with_labels}
-use Rattle.velo_thin.specs.Tables.{left_of}
+use Rattle.velo_filter.specs.Left.{with_labels}
+use Rattle.velo_filter.specs.Tables.{left_of}
 use Rattle.velo_audit.proofs.rounds.leave_out_all.Given as goal
 
 abbrev pub invariant-loop-block : goal.invariant-loop-block

@@ -1,8 +1,8 @@
 use Rattle.std.proofs.Common.{ap, subst, ◌∙◌, map}
 use Rattle.velo_traces.specs.declared.block.Block.{Block}
 use Rattle.velo_audit.specs.Audit.{RoundTells}
-use Rattle.velo_thin.specs.Left.{with_labels}
-use Rattle.velo_thin.specs.Tables.{left_of}
+use Rattle.velo_filter.specs.Left.{with_labels}
+use Rattle.velo_filter.specs.Tables.{left_of}
 use Rattle.velo_audit.proofs.OnAnswers.{labels-told}
 use Rattle.velo_audit.proofs.rounds.next_round.Goals as goal
 

@@ -1,6 +1,6 @@
 use Rattle.std.proofs.Common.{sym, ◌∙◌}
 use Rattle.velo_traces.specs.declared.block.Block.{Block}
-use Rattle.velo_thin.proofs.OnTables.{is_listed-nil}
+use Rattle.velo_filter.proofs.OnTables.{is_listed-nil}
 use Rattle.velo_audit_text.proofs.OnLabels.{listed-not, listed-yes}
 use Rattle.velo_audit_text.proofs.whole.is_label_of.Goals as goal
 

@@ -2,7 +2,7 @@ use Rattle.std.proofs.Common.{◌≡◌, ◌<◌, true, length, map, Some, sym, 
 use Rattle.std.specs.Prelude.{slice_get}
 use Rattle.std.proofs.lemmas.Grind.{common_steps}
 use Rattle.std.proofs.lemmas.Option.{slice_get-get_or}
-use Rattle.velo_thin.specs.Left.{nothing}
+use Rattle.velo_filter.specs.Left.{nothing}
 use Rattle.velo_audit.specs.Audit.{TellsTruly, AreWitnessed}
 use Rattle.velo_audit.specs.Rounds.{Rounds}
 use Rattle.velo_audit.specs.Tells.{told_as}

@@ -1,4 +1,4 @@
-use Rattle.velo_thin.specs.Tables.{left_of}
+use Rattle.velo_filter.specs.Tables.{left_of}
 use Rattle.velo_delays.specs.Found.{SameButLabels}
 use Rattle.velo_delays.proofs.rounds.leave_out_all.Given as goal
 

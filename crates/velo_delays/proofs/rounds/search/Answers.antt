@@ -1,7 +1,7 @@
 use Rattle.std.proofs.Common.{◌≡◌, [], arith}
 use Rattle.std.proofs.lemmas.Grind.{common_steps}
 use Rattle.std.proofs.lemmas.List.Elements.{All-nil, All-same}
-use Rattle.velo_thin.specs.Tables.{left_of}
+use Rattle.velo_filter.specs.Tables.{left_of}
 use Rattle.velo_delays.specs.Found.{IsFoundIn}
 use Rattle.velo_delays.proofs.OnFound.{Adds-each, All-Adds, IsFoundIn-same, SameButLabels-refl, SameButLabels-more}
 use Rattle.velo_delays.proofs.rounds.search.Goals as goal

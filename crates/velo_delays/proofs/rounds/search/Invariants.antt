@@ -1,5 +1,5 @@
 use Rattle.std.specs.Prelude.{All}
-use Rattle.velo_thin.specs.Tables.{left_of}
+use Rattle.velo_filter.specs.Tables.{left_of}
 use Rattle.velo_delays.specs.Found.{IsFoundIn, SameButLabels}
 use Rattle.velo_delays.proofs.rounds.search.Given as goal
 

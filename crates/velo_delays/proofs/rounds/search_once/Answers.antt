@@ -1,5 +1,5 @@
 use Rattle.std.proofs.Common.{subst}
-use Rattle.velo_thin.specs.Tables.{left_of}
+use Rattle.velo_filter.specs.Tables.{left_of}
 use Rattle.velo_delays.specs.Found.{IsFound, IsFoundIn}
 use Rattle.velo_delays.proofs.OnFound.{Adds-each, IsFoundIn-rest, on_ok}
 use Rattle.velo_delays.proofs.rounds.search_once.Goals as goal

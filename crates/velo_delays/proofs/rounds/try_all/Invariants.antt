@@ -1,4 +1,4 @@
-use Rattle.velo_thin.specs.Tables.{left_of}
+use Rattle.velo_filter.specs.Tables.{left_of}
 use Rattle.velo_delays.specs.Found.{Adds, IsFound, SameButLabels}
 use Rattle.velo_delays.specs.Stands.{Stands}
 use Rattle.velo_delays.proofs.rounds.try_all.Given as goal

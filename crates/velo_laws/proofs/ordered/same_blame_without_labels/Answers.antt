@@ -2,8 +2,8 @@ use Rattle.velo_laws.specs.Ordered.{dissolving}
 use Rattle.velo_laws.proofs.OnOrderedBlame.{blame_law}
 use Rattle.velo_laws.proofs.OnOrderedLabels.{ordered-rest}
 use Rattle.velo_laws.proofs.ordered.same_blame_without_labels.Goals as goal
-use Rattle.velo_thin.specs.Left.{rest_of}
-use Rattle.velo_thin.proofs.OnTurns.{IsWellFormed-rest}
+use Rattle.velo_filter.specs.Left.{rest_of}
+use Rattle.velo_filter.proofs.OnTurns.{IsWellFormed-rest}
 
 pub returns : goal.returns
 returns c = λ labels locks variables bounds log well ordered.

@@ -1,5 +1,5 @@
 use Rattle.velo_laws.specs.Ordered.{only}
-use Rattle.velo_thin.proofs.OnTurns.{IsWellFormed-rest}
+use Rattle.velo_filter.proofs.OnTurns.{IsWellFormed-rest}
 use Rattle.velo_laws.proofs.ordered.well_formed.Goals as goal
 
 pub returns : goal.returns

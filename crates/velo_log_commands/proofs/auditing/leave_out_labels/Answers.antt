@@ -1,9 +1,9 @@
 use Rattle.std.proofs.Common.{ℕ, ◌∷◌, [], ap, sym, ◌∙◌, map, take, get_or}
 use Rattle.std.proofs.lemmas.List.{take_more, map-append}
 use Rattle.velo_events.specs.declared.event.Label.{Label}
-use Rattle.velo_thin.specs.Left.{with_labels}
-use Rattle.velo_thin.specs.Tables.{left_of}
-use Rattle.velo_thin.proofs.OnTables.{with_labels-nil, with_labels-push}
+use Rattle.velo_filter.specs.Left.{with_labels}
+use Rattle.velo_filter.specs.Tables.{left_of}
+use Rattle.velo_filter.proofs.OnTables.{with_labels-nil, with_labels-push}
 use Rattle.velo_log_commands.proofs.auditing.leave_out_labels.Goals as goal
 
 abbrev number : Label → ℕ

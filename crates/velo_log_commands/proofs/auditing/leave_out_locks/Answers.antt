@@ -1,8 +1,8 @@
 use Rattle.std.proofs.Common.{ℕ, ◌∷◌, [], ap, sym, ◌∙◌, map, take, get_or}
 use Rattle.std.proofs.lemmas.List.{take_more, map-append}
 use Rattle.velo_events.specs.declared.event.LockId.{LockId}
-use Rattle.velo_thin.specs.Tables.{left_of}
-use Rattle.velo_thin.specs.Left.{with_lock}
+use Rattle.velo_filter.specs.Tables.{left_of}
+use Rattle.velo_filter.specs.Left.{with_lock}
 use Rattle.velo_log_commands.specs.Auditing.{with_locks}
 use Rattle.velo_log_commands.proofs.OnAuditing.{with_locks-nil, with_locks-push}
 use Rattle.velo_log_commands.proofs.auditing.leave_out_locks.Goals as goal

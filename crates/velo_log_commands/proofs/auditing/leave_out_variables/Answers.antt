@@ -1,8 +1,8 @@
 use Rattle.std.proofs.Common.{ℕ, ◌∷◌, [], ap, sym, ◌∙◌, map, take, get_or}
 use Rattle.std.proofs.lemmas.List.{take_more, map-append}
 use Rattle.velo_events.specs.declared.event.VarId.{VarId}
-use Rattle.velo_thin.specs.Tables.{left_of}
-use Rattle.velo_thin.specs.Left.{with_variable}
+use Rattle.velo_filter.specs.Tables.{left_of}
+use Rattle.velo_filter.specs.Left.{with_variable}
 use Rattle.velo_log_commands.specs.Auditing.{with_variables}
 use Rattle.velo_log_commands.proofs.OnAuditing.{with_variables-nil, with_variables-push}
 use Rattle.velo_log_commands.proofs.auditing.leave_out_variables.Goals as goal

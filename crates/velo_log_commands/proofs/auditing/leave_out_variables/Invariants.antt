@@ -1,7 +1,7 @@
 use Rattle.std.proofs.Common.{◌≡◌, map, take}
 use Rattle.velo_events.specs.declared.event.VarId.{VarId}
 use Rattle.velo_log_commands.specs.Auditing.{with_variables}
-use Rattle.velo_thin.specs.Tables.{left_of}
+use Rattle.velo_filter.specs.Tables.{left_of}
 use Rattle.velo_log_commands.proofs.auditing.leave_out_variables.Given as goal
 
 abbrev pub invariant-loop-variable : goal.invariant-loop-variable

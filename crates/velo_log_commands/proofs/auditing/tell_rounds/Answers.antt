@@ -1,5 +1,5 @@
 use Rattle.std.proofs.Common.{◌∙◌, inl, inr, refl, rules}
-use Rattle.velo_thin.specs.Tables.{left_of}
+use Rattle.velo_filter.specs.Tables.{left_of}
 use Rattle.velo_delivery.specs.Writing.{writing}
 use Rattle.velo_log_commands.proofs.OnAuditing.{told_put}
 use Rattle.velo_log_commands.proofs.auditing.tell_rounds.Goals as goal

@@ -1,5 +1,5 @@
 use Rattle.std.proofs.Common.{inr, refl, subst, rules}
-use Rattle.velo_thin.specs.Left.{Left}
+use Rattle.velo_filter.specs.Left.{Left}
 use Rattle.velo_fate.specs.declared.fate.Fate.TheVariants.{Memory}
 use Rattle.velo_fate.specs.Delivery.{silent}
 use Rattle.velo_delivery.specs.Disk.{store}

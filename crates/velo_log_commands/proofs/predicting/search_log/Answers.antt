@@ -1,5 +1,5 @@
 use Rattle.std.proofs.Common.{refl, subst, sym}
-use Rattle.velo_thin.specs.Tables.{left_of}
+use Rattle.velo_filter.specs.Tables.{left_of}
 use Rattle.velo_log_commands.specs.Predicting.{IsSearched}
 use Rattle.velo_log_commands.proofs.OnPredicting.{foretold_of}
 use Rattle.velo_log_commands.proofs.predicting.search_log.Goals as goal

@@ -1,5 +1,5 @@
 use Rattle.std.proofs.Common.{◌≡◌, drop}
-use Rattle.velo_moves.specs.Programs.{own}
+use Rattle.velo_movers.specs.Programs.{own}
 use Rattle.velo_predict.proofs.judge.next_of.Given as goal
 
 abbrev pub invariant-loop-at : goal.invariant-loop-at

@@ -3,7 +3,7 @@ use Rattle.std.proofs.lemmas.Bool.{true_from_ne_false}
 use Rattle.velo_events.specs.declared.config.Bounds.{Bounds}
 use Rattle.velo_events.specs.WellFormed.{IsWellFormed}
 use Rattle.velo_laws.specs.Ordered.{only, IsOrderedWithin}
-use Rattle.velo_thin.specs.Tables.{marked}
+use Rattle.velo_filter.specs.Tables.{marked}
 use Rattle.velo_races.specs.Races.{no_lock, IsFreeOfRaces}
 use Rattle.velo_races.specs.Sweep.{IsSwept}
 use Rattle.velo_races.proofs.OnOrdered.{ordered, judged}

@@ -1,5 +1,5 @@
 use Rattle.std.proofs.Common.{◌≤◌, length, arith}
-use Rattle.velo_thin.specs.Tables.{left_of}
+use Rattle.velo_filter.specs.Tables.{left_of}
 use Rattle.velo_races.proofs.OnMarkedOut.{marked-start, marked-next, marked-all}
 use Rattle.velo_races.proofs.thinning.marked_out.Goals as goal
 

@@ -1,4 +1,4 @@
-use Rattle.velo_thin.specs.Tables.{left_of}
+use Rattle.velo_filter.specs.Tables.{left_of}
 use Rattle.velo_races.proofs.OnMarkedOut.{IsMarkedOut}
 use Rattle.velo_races.proofs.thinning.marked_out.Given as goal
 

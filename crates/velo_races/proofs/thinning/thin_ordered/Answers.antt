@@ -1,7 +1,7 @@
 use Rattle.std.proofs.Common.{◌≡◌, ap, ◌∙◌}
-use Rattle.velo_thin.specs.declared.thinned.Thinned.{Thinned}
-use Rattle.velo_thin.specs.Left.{rest_of, places_of}
-use Rattle.velo_thin.specs.Tables.{left_of, marked}
+use Rattle.velo_filter.specs.declared.thinned.Thinned.{Thinned}
+use Rattle.velo_filter.specs.Left.{rest_of, places_of}
+use Rattle.velo_filter.specs.Tables.{left_of, marked}
 use Rattle.velo_laws.specs.Ordered.{only}
 use Rattle.velo_races.specs.Races.{no_lock, IsThinned}
 use Rattle.velo_races.proofs.OnMarkedOut.{both_ok}

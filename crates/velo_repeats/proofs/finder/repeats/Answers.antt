@@ -1,7 +1,7 @@
 use Rattle.std.proofs.Common.{◌≡◌, ℕ, ◌+◌, ◌++◌, Bool, List, length, length-set, set, take, drop, sym, ap, ◌∙◌, subst, arith}
 use Rattle.std.proofs.Math.Seq.{take-length}
 use Rattle.std.proofs.lemmas.List.{take-append-le}
-use Rattle.velo_thin.specs.Tables.{marked}
+use Rattle.velo_filter.specs.Tables.{marked}
 use Rattle.velo_repeats.specs.Repeating.{AreExactly}
 use Rattle.velo_repeats.specs.Finding.{AreFound}
 use Rattle.velo_repeats.proofs.OnFinding.{marks-start, marks-next, marks-all}

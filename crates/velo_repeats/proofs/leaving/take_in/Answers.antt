@@ -1,5 +1,5 @@
 use Rattle.std.proofs.Common.{refl}
-use Rattle.velo_thin.specs.Tables.{marked}
+use Rattle.velo_filter.specs.Tables.{marked}
 use Rattle.velo_repeats.proofs.OnLeaving.{left-stays, left-goes}
 use Rattle.velo_repeats.proofs.leaving.take_in.Goals as goal
 use Rattle.velo_repeats.proofs.leaving.take_in.Goals.{then-not-marks-position+in_ok-push, else-not-marks-position}

@@ -1,5 +1,5 @@
 use Rattle.std.proofs.Common.{◌≡◌, length, subst, arith}
-use Rattle.velo_thin.specs.Tables.{marked}
+use Rattle.velo_filter.specs.Tables.{marked}
 use Rattle.velo_repeats.specs.Finding.{IsLeftTo}
 use Rattle.velo_repeats.proofs.OnRepeating.{repeats_of, equal_accesses}
 use Rattle.velo_repeats.proofs.leaving.without_repeats.Goals as goal

@@ -1,4 +1,4 @@
-use Rattle.velo_thin.specs.Tables.{marked}
+use Rattle.velo_filter.specs.Tables.{marked}
 use Rattle.velo_repeats.specs.Finding.{IsLeftTo}
 use Rattle.velo_repeats.proofs.leaving.without_repeats.Given as goal
 

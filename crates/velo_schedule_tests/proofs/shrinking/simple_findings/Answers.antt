@@ -1,5 +1,5 @@
-use Rattle.velo_schedules.specs.Goals.{finding_of}
-use Rattle.velo_schedules.proofs.OnFindings.{told-shows}
+use Rattle.velo_explore.specs.Goals.{finding_of}
+use Rattle.velo_explore.proofs.OnFindings.{told-shows}
 use Rattle.velo_schedule_tests.proofs.shrinking.simple_findings.Goals as goal
 
 pub shrink_findings-requires-clause-shows : goal.shrink_findings-requires-clause-shows

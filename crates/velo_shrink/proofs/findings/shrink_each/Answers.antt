@@ -1,9 +1,9 @@
-use Rattle.velo_explore.specs.declared.fault.Fault.{Fault}
-use Rattle.velo_explore.specs.declared.fault.Fault.TheVariants.{Cycle, Refusing, Stuck}
-use Rattle.velo_schedules.specs.declared.finding.Findings.{Findings}
-use Rattle.velo_schedules.specs.Goals.{Shows, finding_of}
-use Rattle.velo_schedules.specs.Told.{OnShown}
-use Rattle.velo_schedules.proofs.OnTold.{each_fault}
+use Rattle.velo_search.specs.declared.fault.Fault.{Fault}
+use Rattle.velo_search.specs.declared.fault.Fault.TheVariants.{Cycle, Refusing, Stuck}
+use Rattle.velo_explore.specs.declared.finding.Findings.{Findings}
+use Rattle.velo_explore.specs.Goals.{Shows, finding_of}
+use Rattle.velo_explore.specs.Told.{OnShown}
+use Rattle.velo_explore.proofs.OnTold.{each_fault}
 use Rattle.velo_shrink.specs.Simple.{IsSayable, SimplifiesFinding}
 use Rattle.velo_shrink.proofs.OnShown.{kept-first}
 use Rattle.velo_shrink.proofs.findings.shrink_each.Goals as goal

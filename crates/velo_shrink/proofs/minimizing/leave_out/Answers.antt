@@ -1,6 +1,6 @@
 use Rattle.std.proofs.Common.{◌≡◌, ◌∙◌, ◌-◌, ◌<◌, ℕ, List, arith, inl, inr, length, refl, subst, sym}
 use Rattle.velo_events.specs.declared.event.ThreadId.{ThreadId}
-use Rattle.velo_schedules.specs.Goals.{Reached}
+use Rattle.velo_explore.specs.Goals.{Reached}
 use Rattle.velo_shrink.specs.Simple.{IsLimited}
 use Rattle.velo_shrink.proofs.OnShown.{above-none, above-some, at_is_some, at_some, needed}
 use Rattle.velo_shrink.proofs.minimizing.leave_out.Goals as goal

@@ -1,5 +1,5 @@
 use Rattle.std.proofs.Common.{◌≤◌, length}
-use Rattle.velo_schedules.specs.Goals.{Reached}
+use Rattle.velo_explore.specs.Goals.{Reached}
 use Rattle.velo_shrink.proofs.minimizing.minimal.Given as goal
 
 abbrev pub invariant-loop-best : goal.invariant-loop-best

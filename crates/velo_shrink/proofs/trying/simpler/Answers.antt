@@ -1,6 +1,6 @@
 use Rattle.std.proofs.Common.{List, subst}
 use Rattle.velo_events.specs.declared.event.ThreadId.{ThreadId}
-use Rattle.velo_schedules.specs.Goals.{Reached}
+use Rattle.velo_explore.specs.Goals.{Reached}
 use Rattle.velo_shrink.proofs.OnShown.{at_some}
 use Rattle.velo_shrink.proofs.trying.simpler.Goals as goal
 

@@ -1,7 +1,7 @@
 use Rattle.std.proofs.Common.{◌≡◌, ◌+◌, sym, ap, ◌∙◌, arith}
 use Rattle.std.specs.Prelude.{if◌then◌else◌}
 use Rattle.velo_laws.specs.Length.{counted}
-use Rattle.velo_thin.specs.Tables.{marked}
+use Rattle.velo_filter.specs.Tables.{marked}
 use Rattle.velo_thinning.proofs.OnCounting.{counted-zero, counted-suc}
 use Rattle.velo_thinning.proofs.counting.count_marked.Goals as goal
 use Rattle.velo_thinning.proofs.counting.count_marked.Goals.{then-marks-number, else-marks-number}

@@ -4,7 +4,7 @@ use Rattle.std.proofs.lemmas.List.{take_more}
 use Rattle.velo_laws.specs.Length.{counted}
 use Rattle.velo_laws.proofs.OnDropped.{take-none}
 use Rattle.velo_traces.proofs.Past.{past}
-use Rattle.velo_thin.specs.Tables.{marked}
+use Rattle.velo_filter.specs.Tables.{marked}
 use Rattle.velo_thinning.specs.Counting.{AreMarked, marked_after}
 use Rattle.velo_thinning.proofs.OnCounting.{marked-start, marked-next, variables-marked, written_back, length-marked}
 use Rattle.velo_thinning.proofs.counting.count_variables.Goals as goal

@@ -1,10 +1,10 @@
 use Rattle.std.proofs.Common.{ℕ, List, arith, map, refl, subst, take}
 use Rattle.std.specs.Global.{Vec}
 use Rattle.velo_events.specs.declared.event.ThreadId.{ThreadId}
-use Rattle.velo_explore.specs.declared.fault.Fault.{Fault}
-use Rattle.velo_schedules.specs.Goals.{finding_of}
-use Rattle.velo_schedules.specs.Told.{IsLeftOpen, OnOpen}
-use Rattle.velo_schedules.proofs.OnFindings.{told-shows}
+use Rattle.velo_search.specs.declared.fault.Fault.{Fault}
+use Rattle.velo_explore.specs.Goals.{finding_of}
+use Rattle.velo_explore.specs.Told.{IsLeftOpen, OnOpen}
+use Rattle.velo_explore.proofs.OnFindings.{told-shows}
 use Rattle.velo_workload_commands.specs.ByChance.{IsBlameOf}
 use Rattle.velo_workload_commands.specs.Exploring.{most_to_blame}
 use Rattle.velo_workload_commands.proofs.OnFindings.{all_told}

@@ -1,8 +1,8 @@
 use Rattle.std.proofs.Common.{◌∙◌, ℕ, ap, refl, subst}
-use Rattle.velo_chance.specs.Tallies.{IsTried}
-use Rattle.velo_chance.proofs.OnRuns.{count-tried}
-use Rattle.velo_schedules.specs.Goals.{finding_of}
-use Rattle.velo_schedules.proofs.OnFindings.{witness-shows}
+use Rattle.velo_random.specs.Tallies.{IsTried}
+use Rattle.velo_random.proofs.OnRuns.{count-tried}
+use Rattle.velo_explore.specs.Goals.{finding_of}
+use Rattle.velo_explore.proofs.OnFindings.{witness-shows}
 use Rattle.velo_workload_commands.specs.declared.told.Tried.TheVariants as how
 use Rattle.velo_workload_commands.proofs.findings.try_some.Goals as goal
 

@@ -1,6 +1,6 @@
 use Rattle.std.proofs.Common.{List, ℕ, subst}
 use Rattle.std.proofs.lemmas.Result.{IfErr-weaker, IfOk-weaker}
-use Rattle.velo_turns.specs.File.{IsScheduleIn}
+use Rattle.velo_schedule_text.specs.File.{IsScheduleIn}
 use Rattle.velo_workload_commands.specs.Scheduling.{IsNoScheduleIn}
 use Rattle.velo_workload_commands.proofs.OnScheduling.{none_found, schedule_found}
 use Rattle.velo_workload_commands.proofs.scheduling.schedule_at.Goals as goal

@@ -1,0 +1,100 @@
+//! What the program does with the words of its command line, whatever its devices are.
+ghost use Rattle.std.specs.Prelude.{◌≡◌, map};
+ghost use Rattle.std.specs.declared.io.ErrorKind.TheVariants.{InvalidData};
+ghost use Rattle.clap.specs.Words.{subcommand_rows_of};
+ghost use Rattle.velo_delivery.specs.Disk.{store};
+ghost use Rattle.velo_fate.specs.Fate.{Closes, Ends};
+ghost use Rattle.velo_delivery.specs.Writing.{writing};
+ghost use Rattle.velo_fate.specs.declared.fate.Fate.TheVariants as fate;
+ghost use Rattle.velo_arguments.specs.Asked.{AsksForNothing};
+ghost use Rattle.velo_cli.specs.Running.{Answers, Runs};
+ghost use Rattle.velo_cli.specs.Usage.{bad_usage, console_of, not_utf8};
+
+use crate::telling::{tell_clash, tell_error, tell_fault};
+use clap::ArgMatches;
+use std::alloc::Global;
+use std::convert::AsStr;
+use std::io;
+use std::sync::Wait;
+use std::thread::Threads;
+use velo_arguments::{command, matches_of, read_request};
+use velo_bytes::Sink;
+use velo_commands::do_request;
+use velo_delivery::Files;
+use velo_events::Memory;
+use velo_fate::{Fate, end_with};
+use velo_words::end_in_words;
+use velo_workload_commands::ExploreProgress;
+
+/// Does what the words ask for, with reports and help on the one sink and all else on the other,
+/// and returns the status to end with. How far a search is goes to `progress`.
+pub fn run<R: Threads + Wait + Sync, F: Files, W: AsStr, O: Sink, E: Sink, P: ExploreProgress>(
+    rt: &R,
+    alloc: Global,
+    words: &[W],
+    files: &mut F,
+    out: &mut O,
+    err: &mut E,
+    progress: &mut P,
+) -> u8
+    ensures { Runs (map W.text words.now) (store F.disk files.old files.new)
+        (console_of (out.new ≡ out.old)
+        (writing O.contents O.failures out.old out.new)
+        (writing E.contents E.failures err.old err.new) result) }
+{
+    let command = match command(alloc) {
+        Ok(command) => command,
+        Err(Memory) => return end_with(&Fate::Memory, err),
+    };
+    match matches_of(command, words) {
+        Ok(matches) => {
+            let status = do_asked(rt, alloc, &matches, files, out, err, progress);
+            drop(matches);
+            status
+        }
+        Err(error) => {
+            let status = tell_error(alloc, &error, out, err);
+            drop(error);
+            status
+        }
+    }
+}
+
+/// Does what the matches ask for, if its options go together, and returns the status to end with.
+/// If the words have no fault, they ask for something.
+fn do_asked<R: Threads + Wait + Sync, F: Files, O: Sink, E: Sink, P: ExploreProgress>(
+    rt: &R,
+    alloc: Global,
+    matches: &ArgMatches,
+    files: &mut F,
+    out: &mut O,
+    err: &mut E,
+    progress: &mut P,
+) -> u8
+    requires { ¬ AsksForNothing (subcommand_rows_of matches.now) }
+    ensures { Answers (subcommand_rows_of matches.now) (store F.disk files.old files.new)
+        (console_of (out.new ≡ out.old)
+        (writing O.contents O.failures out.old out.new)
+        (writing E.contents E.failures err.old err.new) result) }
+{
+    match read_request(matches) {
+        Ok(request) => {
+            let fate = do_request(rt, alloc, &request, files, out, progress);
+            end_in_words(alloc, &request, &fate, files, err)
+        }
+        Err(clash) => tell_clash(clash, err),
+    }
+}
+
+/// Reports why the words of the command line could not be had, and returns the status to end with.
+pub fn end_without_words<E: Sink>(kind: io::ErrorKind, err: &mut E) -> u8
+    ensures not_utf8 { kind ≡ InvalidData → Closes bad_usage not_utf8
+        (writing E.contents E.failures err.old err.new) result }
+    ensures memory { ¬ (kind ≡ InvalidData) → Ends fate.Memory
+        (writing E.contents E.failures err.old err.new) result }
+{
+    if kind != io::ErrorKind::InvalidData {
+        return end_with(&Fate::Memory, err);
+    }
+    tell_fault(b"error: a word of the command line is not UTF-8\n", err)
+}

@@ -1,0 +1,379 @@
+-- Why the program comes to want of memory.
+use Rattle.std.proofs.Common.{◌≡◌, ⊎_elim, inl, inr, refl, subst, sym}
+use Rattle.std.specs.Prelude.{ℕ, Bool, true, false, List, Option, Some, None, IfSome, if◌then◌else◌}
+use Rattle.std.specs.Borrow.{Bor}
+use Rattle.velo_events.specs.declared.config.Bounds.{Bounds}
+use Rattle.velo_events.specs.declared.event.Event.{Event}
+use Rattle.velo_events.specs.declared.refusal.Refusal.{Refusal}
+use Rattle.velo_suppressions.specs.declared.fault.ListFault.{ListFault}
+use Rattle.velo_suppressions.specs.declared.fault.ListFault.TheVariants as list_fault
+use Rattle.velo_names.specs.declared.fault.NamesFault.{NamesFault}
+use Rattle.velo_names.specs.declared.fault.NamesFault.TheVariants as names_fault
+use Rattle.velo_names.specs.Names.{NameLists}
+use Rattle.velo_sites.specs.declared.fault.SitesFault.{SitesFault}
+use Rattle.velo_sites.specs.declared.fault.SitesFault.TheVariants as sites_fault
+use Rattle.velo_sites.specs.Sites.{Table}
+use Rattle.velo_audit_text.specs.declared.words.Asked.{Asked}
+use Rattle.velo_report.specs.declared.names.Names.{Names}
+use Rattle.velo_fate.specs.declared.fault.CheckFault.{CheckFault}
+use Rattle.velo_fate.specs.declared.fault.CheckFault.TheVariants as check_fault
+use Rattle.velo_fate.specs.declared.fate.Fate.{Fate}
+use Rattle.velo_fate.specs.declared.fate.Fate.TheVariants as fate
+use Rattle.velo_request.specs.declared.request.AuditOptions.{AuditOptions}
+use Rattle.velo_request.specs.declared.request.ExploreOptions.{ExploreOptions}
+use Rattle.velo_request.specs.declared.request.Ignorable.{Ignorable}
+use Rattle.velo_request.specs.declared.request.Ignorable.TheVariants.{Lock, Variable}
+use Rattle.velo_delivery.specs.declared.failure.Operand.{Operand}
+use Rattle.velo_delivery.specs.declared.failure.Operand.TheVariants.{File, Log}
+use Rattle.velo_request.specs.declared.request.PredictOptions.{PredictOptions}
+use Rattle.velo_request.specs.declared.request.RunOptions.{RunOptions}
+use Rattle.velo_request.specs.declared.request.Request.{Request}
+use Rattle.velo_request.specs.declared.request.Limits.{Limits}
+use Rattle.velo_worker.specs.Causes.{RefusedByGrowth}
+use Rattle.velo_request.specs.declared.request.Request.TheVariants as request
+use Rattle.velo_request.specs.declared.request.ScheduleSource.{ScheduleSource}
+use Rattle.velo_request.specs.declared.request.ScheduleSource.TheVariants as source
+use Rattle.velo_schedule_text.specs.declared.schedule.ScheduleFault.{ScheduleFault}
+use Rattle.velo_schedule_text.specs.declared.schedule.ScheduleFault.TheVariants as schedule_fault
+use Rattle.velo_worker.specs.declared.ending.Ending.{Ending}
+use Rattle.velo_worker.specs.declared.ending.Ending.TheVariants as ending
+use Rattle.velo_workload.specs.Program.{Program}
+use Rattle.velo_workload.specs.declared.fault.WorkFault.TheVariants as work_fault
+use Rattle.velo_world.specs.World.{WorldState}
+use Rattle.velo_commands.specs.Causes.{AnswersWithCause}
+use Rattle.velo_fate.specs.Causes.{CheckByGrowth, ComesByRefusal, EndsByRefusal, Growths, GrowthsAndStarts, ListByGrowth, NamesByGrowth, Needs, ScheduleByGrowth, SitesByGrowth}
+use Rattle.velo_log_commands.specs.Auditing.{IsAuditAnswer}
+use Rattle.velo_log_commands.specs.Carrying.{IsCarryAnswer, IsPut}
+use Rattle.velo_log_commands.specs.Check.{IsCheckAnswer, IsFaultOfInput}
+use Rattle.velo_fate.specs.Delivery.{Answer, DeliversBy, FailsSaving, IsDelivered, IsDeliveredInTurn, IsPrinted, LacksMemory, silent}
+use Rattle.velo_delivery.specs.Disk.{Disk, Store, behind}
+use Rattle.velo_fate.specs.declared.files.Beside.{Beside}
+use Rattle.velo_fate.specs.Barred.{IsBarred, IsBarredApart, IsBarredRun, names_beside}
+use Rattle.velo_log_commands.specs.Explaining.{IsExplanation}
+use Rattle.velo_workload_commands.specs.Exploring.{IsExploreAnswer}
+use Rattle.velo_log_commands.specs.declared.asking.AskedWords.{AskedWords}
+use Rattle.velo_log_commands.specs.Commands.{AuditsLog, DoesAsked, PredictsLog, audit_words, predict_words}
+use Rattle.velo_log_commands.specs.Ignoring.{AsksInVain, MeanNothing}
+use Rattle.velo_fate.specs.Format.{SaysNone}
+use Rattle.velo_log_commands.specs.Listing.{HaveFaultOfList, LacksLabels, list_file}
+use Rattle.velo_log_commands.specs.Predicting.{IsPredictAnswer}
+use Rattle.velo_log_commands.specs.Naming.{HaveFaultOfNames, LacksNames, names_file}
+use Rattle.velo_log_commands.specs.Siting.{HaveFaultOfSites, LacksSites, sites_file}
+use Rattle.velo_workload_commands.specs.Playing.{ByThreads, ByTurns, IsPlayAnswer, IsRunOf, IsSaidOfRun, IsUnread, Play}
+use Rattle.velo_commands.specs.Program.{Does}
+use Rattle.velo_workload_commands.specs.Commands.{DoesPlay}
+use Rattle.velo_schedule_text.specs.Schedule.{IsFaultOfSchedule, IsFaultOfTurns}
+use Rattle.velo_workload_commands.specs.Scheduling.{HaveFaultOfSchedule, LacksSchedule, turns_file}
+use Rattle.velo_log_commands.specs.Watching.{EndsAfter, IsFaultOfHeader, IsFaultWithin, IsWatchAnswer, Terms, Watches, terms_of_watch}
+use Rattle.velo_log_commands.specs.Endless.{IsFaultOfWhole, terms_of_endless}
+use Rattle.velo_log_commands.specs.Commands.{DoesWatchBy}
+use Rattle.velo_world.specs.declared.log_replay.LogReplayFault.TheVariants as replay
+use Rattle.velo_delivery.specs.Writing.{Writing}
+use Rattle.velo_log_commands.specs.Thinning.{map_of}
+use Rattle.velo_workload_commands.proofs.OnFindings.{caused}
+use Rattle.velo_commands.proofs.OnRefusals.{of_flaw, of_log, of_refused}
+use Rattle.velo_commands.proofs.OnThinning.{of_thin}
+
+-- ---- by what each command has to say
+
+of_fault : (limit nodes : ℕ) (read : Option (List ℕ)) (f : CheckFault) → IsFaultOfInput limit nodes read f → CheckByGrowth f
+of_fault limit nodes read (check_fault.Log f) fault = of_log f fault.1
+of_fault limit nodes read (check_fault.Refused p r) fault = of_refused limit nodes fault.bounds fault.trace p r fault.reason
+of_fault limit nodes read check_fault.Memory fault = fault
+of_fault limit nodes read _ fault = tt
+
+module _ (needs : Needs) where
+  abbrev HasCause : Answer → Type 0
+  HasCause answer = ComesByRefusal needs answer.fate
+
+  -- an end that is said so has its cause
+  said : (answer there : Answer) → answer ≡ there → HasCause there → HasCause answer
+  said answer there is cause = subst HasCause (sym is) cause
+
+  of_lack : (answer : Answer) → LacksMemory answer → HasCause answer
+  of_lack answer lacks = said answer (silent fate.Memory) lacks.1 lacks.0
+
+  of_check : (names : Names) (limit nodes : ℕ) (certificate : Bool) (read : Option (List ℕ)) (answer : Answer) → EndsByRefusal needs ending.Done → IsCheckAnswer names limit nodes certificate read answer → HasCause answer
+  of_check names limit nodes certificate read answer done (inl c) = said answer _ c.said done
+  of_check names limit nodes certificate read answer done (inr f) = said answer (silent (fate.Check f.0)) f.2 (of_fault limit nodes read f.0 f.1)
+
+  of_explanation : (names : NameLists) (sites : Option Table) (read : Option (List ℕ)) (answer : Answer) → EndsByRefusal needs ending.Done → IsExplanation names sites read answer → HasCause answer
+  of_explanation names sites read answer done (inl e) = ⊎_elim (λ alarm. said answer _ alarm.said done) (λ clean. said answer _ clean.1 done) e.verdict
+  of_explanation names sites read answer done (inr (inl other)) = said answer (silent fate.OtherSites) other.said tt
+  of_explanation names sites read answer done (inr (inr (inl f))) = said answer (silent (fate.Check f.0)) f.2 (of_fault _ _ read f.0 f.1)
+  of_explanation names sites read answer done (inr (inr (inr lacks))) = of_lack answer lacks
+
+  of_audit : (names : NameLists) (asked : Asked) (options : AuditOptions) (read : Option (List ℕ)) (answer : Answer) → EndsByRefusal needs ending.Done → IsAuditAnswer names asked options read answer
+      → HasCause answer
+  of_audit names asked options read answer done (inl is) = ⊎_elim (λ tells. said answer _ tells.said done) (λ full. said answer _ full.said tt) is.verdict
+  of_audit names asked options read answer done (inr (inl f)) = said answer (silent (fate.Check f.0)) f.2 (of_fault _ _ read f.0 f.1)
+  of_audit names asked options read answer done (inr (inr lacks)) = of_lack answer lacks
+
+  of_prediction : (names : NameLists) (asked : Asked) (options : PredictOptions) (read : Option (List ℕ)) (answer : Answer) → EndsByRefusal needs ending.Done → IsPredictAnswer names asked options read answer
+      → HasCause answer
+  of_prediction names asked options read answer done (inl is) = ⊎_elim (λ tells. said answer _ tells.said done) (λ full. said answer _ full.said tt) is.verdict
+  of_prediction names asked options read answer done (inr (inl f)) = said answer (silent (fate.Check f.0)) f.2 (of_fault _ _ read f.0 f.1)
+  of_prediction names asked options read answer done (inr (inr lacks)) = of_lack answer lacks
+
+  of_carry : (read : Option (List ℕ)) (answer : Answer) → EndsByRefusal needs ending.Done → IsCarryAnswer read answer → HasCause answer
+  of_carry read answer done (inl c) = said answer _ c.3 done
+  of_carry read answer done (inr f) = said answer (silent (fate.Check (check_fault.Log f.0))) f.2 (of_log f.0 f.1.1)
+
+  of_unread : (read : Option (List ℕ)) (f : Fate) → IsUnread read f → ComesByRefusal needs f
+  of_unread read (fate.Work work_fault.Memory) h = h
+  of_unread read (fate.Work (work_fault.BadLine n)) h = tt
+  of_unread read (fate.Work (work_fault.Unknown n)) h = tt
+  of_unread read (fate.Work (work_fault.Twice n)) h = tt
+  of_unread read (fate.Work (work_fault.Unmatched n)) h = tt
+  of_unread read (fate.Work (work_fault.TooMany n)) h = tt
+  of_unread read fate.ReadFailed h = tt
+  of_unread read fate.Memory h = h
+  of_unread read _ h = absurd h
+
+  of_end : (program : Program) (certificate : Bool) (ended : Ending) (w : WorldState) (answer : Answer) → IsSaidOfRun program certificate ended w answer → EndsByRefusal needs ended → HasCause answer
+  of_end program certificate ended w answer (inl is) cause = said answer _ is.1 cause
+  of_end program certificate ended w answer (inr is) cause = said answer _ is.1.2.said cause
+
+  of_play : (play : Play) (options : RunOptions) (read : Option (List ℕ)) (answer : Answer) (names : List ℕ) → ((program : Program) (ended : Ending) (w : WorldState) → IsRunOf play options program ended w → EndsByRefusal needs ended)
+      → IsPlayAnswer play options read answer names → HasCause answer
+  of_play play options read answer names so (inl (program, text, are, inl played)) =
+      of_end program options.certificate played.ended played.world answer played.says (so program played.ended played.world played.is_run)
+  of_play (ByTurns schedule) options read answer names so (inl (program, text, are, inr (inl lost))) = absurd lost
+  of_play ByThreads options read answer names so (inl (program, text, are, inr (inl lost))) = said answer (silent fate.Lost) lost tt
+  of_play play options read answer names so (inl (program, text, are, inr (inr lacks))) = of_lack answer lacks
+  of_play play options read answer names so (inr (f, unread, is)) = said answer (silent f) is (of_unread read f unread)
+
+  -- what became of the answer has its cause
+  of_delivered : (store : Store) (path : Option (Bor (List ℕ))) (out : Writing) (answer : Answer) (f : Fate) → HasCause answer → IsDelivered store path out answer f → ComesByRefusal needs f
+  of_delivered store path out answer fate.CannotOpen cause put = tt
+  of_delivered store path out answer fate.WriteFailed cause put = tt
+  of_delivered store path out answer f cause put = subst (ComesByRefusal needs) (sym put.0) cause
+
+  of_in_turn : (store : Store) (target path : Option (Bor (List ℕ))) (names : List ℕ) (out : Writing) (answer : Answer) (f : Fate) → HasCause answer → IsDeliveredInTurn store target path names out answer f → ComesByRefusal needs f
+  of_in_turn store target path names out answer f cause put = by answer.saved path put
+    where
+      failed : (log : List ℕ) (f : Fate) → FailsSaving store target (Some log) f → ComesByRefusal needs f
+      failed log fate.CannotOpen h = tt
+      failed log fate.WriteFailed h = tt
+      failed log f h = absurd h
+
+      by : (saved : Option (List ℕ)) (path : Option (Bor (List ℕ))) → DeliversBy saved path store target names out answer f → ComesByRefusal needs f
+      by (Some log) (Some path) (inl h) = failed log f h.0
+      by (Some log) (Some path) (inr h) = of_delivered (behind store h.0) (Some path) out (record answer { saved = Some names }) f cause h.2
+      by (Some log) None h = of_delivered store target out answer f cause h
+      by None path h = of_delivered store target out answer f cause h
+
+  of_put : (sink : Writing) (answer : Answer) (f : Fate) → HasCause answer → IsPut sink answer f → ComesByRefusal needs f
+  of_put sink answer fate.WriteFailed cause put = tt
+  of_put sink answer f cause put = subst (ComesByRefusal needs) (sym put.0) cause
+
+  of_printed : (sink : Writing) (answer : Answer) (f : Fate) → HasCause answer → IsPrinted sink answer f → ComesByRefusal needs f
+  of_printed sink answer fate.WriteFailed cause put = tt
+  of_printed sink answer f cause put = subst (ComesByRefusal needs) (sym put.0) cause
+
+-- ---- by what was done
+
+of_schedule : (text : List ℕ) (fault : ScheduleFault) → IsFaultOfSchedule text fault → ScheduleByGrowth fault
+of_schedule text schedule_fault.Bad is = tt
+of_schedule text schedule_fault.Memory is = is
+
+of_turns : (text : List ℕ) (fault : ScheduleFault) → IsFaultOfTurns text fault → ScheduleByGrowth fault
+of_turns text schedule_fault.Bad is = tt
+of_turns text schedule_fault.Memory is = is
+
+of_schedule_read : (read : Option (List ℕ)) (fault : ScheduleFault) → HaveFaultOfSchedule read fault → ScheduleByGrowth fault
+of_schedule_read read schedule_fault.Bad is = tt
+of_schedule_read read schedule_fault.Memory is = is
+
+unscheduled_by : (needs : Needs) (read : Option (List ℕ)) (f : Fate) → SaysNone turns_file read f → ComesByRefusal needs f
+unscheduled_by needs read (fate.Schedule fault) is = of_schedule_read read fault is
+unscheduled_by needs read fate.ReadFailed is = tt
+unscheduled_by needs read fate.Memory is = is
+unscheduled_by needs read f is = absurd is
+
+unscheduled : (needs : Needs) (disk : Disk) (source : ScheduleSource) (f : Fate) → LacksSchedule disk source f → ComesByRefusal needs f
+unscheduled needs disk (source.Text text) f lacks = subst (ComesByRefusal needs) (sym lacks.2) (of_schedule text.now lacks.0 lacks.1)
+unscheduled needs disk (source.Turns text) f lacks = subst (ComesByRefusal needs) (sym lacks.2) (of_turns text.now lacks.0 lacks.1)
+unscheduled needs disk (source.File path) f (inl closed) = subst (ComesByRefusal needs) (sym closed.0) tt
+unscheduled needs disk (source.File path) f (inr broken) = unscheduled_by needs broken.read.bytes f broken.unsaid
+
+-- what was not read is told otherwise
+unread : (needs : Needs) (disk : Disk) (operand : Operand) (input : List ℕ) (target : Option (Bor (List ℕ))) (f : Fate) → IsBarred disk operand input target f → ComesByRefusal needs f
+unread needs disk operand input target f (inl closed) = subst (ComesByRefusal needs) (sym closed.0) tt
+unread needs disk operand input target f (inr one) = subst (ComesByRefusal needs) (sym one.0) tt
+
+unread_apart : (needs : Needs) (disk : Disk) (operand : Operand) (input : List ℕ) (target : Option (Bor (List ℕ))) (beside : Beside) (f : Fate) → IsBarredApart disk operand input target beside f → ComesByRefusal needs f
+unread_apart needs disk operand input target beside f (inl barred) = unread needs disk operand input target f barred
+unread_apart needs disk operand input target beside f (inr (inl one)) = subst (ComesByRefusal needs) (sym one.0) tt
+unread_apart needs disk operand input target beside f (inr (inr one)) = subst (ComesByRefusal needs) (sym one.0) tt
+
+-- nor is a workload that is not read
+unplayed : (needs : Needs) (disk : Disk) (input : List ℕ) (target names : Option (Bor (List ℕ))) (f : Fate) → IsBarredRun disk input target names f → ComesByRefusal needs f
+unplayed needs disk input target names f barred = unread_apart needs disk File input target (names_beside names) f barred
+
+-- nor names
+of_names : (read : Option (List ℕ)) (f : NamesFault) → HaveFaultOfNames read f → NamesByGrowth f
+of_names read names_fault.Memory is = is
+of_names read (names_fault.BadLine n) is = tt
+of_names read (names_fault.NamedTwice n) is = tt
+of_names read names_fault.TooManyLines is = tt
+of_names read names_fault.TooManyBytes is = tt
+of_names read names_fault.NotText is = tt
+
+unsaid : (needs : Needs) (read : Option (List ℕ)) (f : Fate) → SaysNone names_file read f → ComesByRefusal needs f
+unsaid needs read (fate.Names fault) is = of_names read fault is
+unsaid needs read fate.ReadFailed is = tt
+unsaid needs read fate.Memory is = is
+unsaid needs read f is = absurd is
+
+pub unnamed : (needs : Needs) (disk : Disk) (path : Option (Bor (List ℕ))) (f : Fate) → LacksNames disk path f → ComesByRefusal needs f
+unnamed needs disk None f lacks = absurd lacks
+unnamed needs disk (Some path) f (inl closed) = subst (ComesByRefusal needs) (sym closed.0) tt
+unnamed needs disk (Some path) f (inr broken) = unsaid needs broken.read.bytes f broken.unsaid
+
+-- nor sites
+of_sites : (read : Option (List ℕ)) (f : SitesFault) → HaveFaultOfSites read f → SitesByGrowth f
+of_sites read sites_fault.Memory is = is
+of_sites read (sites_fault.BadLine n) is = tt
+of_sites read (sites_fault.EndsEarly n) is = tt
+of_sites read sites_fault.TooManyBytes is = tt
+of_sites read sites_fault.NotText is = tt
+
+ungiven : (needs : Needs) (read : Option (List ℕ)) (f : Fate) → SaysNone sites_file read f → ComesByRefusal needs f
+ungiven needs read (fate.Sites fault) is = of_sites read fault is
+ungiven needs read fate.ReadFailed is = tt
+ungiven needs read fate.Memory is = is
+ungiven needs read f is = absurd is
+
+unsited : (needs : Needs) (disk : Disk) (path : Option (Bor (List ℕ))) (f : Fate) → LacksSites disk path f → ComesByRefusal needs f
+unsited needs disk None f lacks = absurd lacks
+unsited needs disk (Some path) f (inl closed) = subst (ComesByRefusal needs) (sym closed.0) tt
+unsited needs disk (Some path) f (inr broken) = ungiven needs broken.read.bytes f broken.unsaid
+
+-- nor a list
+of_list : (read : Option (List ℕ)) (f : ListFault) → HaveFaultOfList read f → ListByGrowth f
+of_list read list_fault.Memory is = is
+of_list read (list_fault.BadLine n) is = tt
+of_list read list_fault.TooManyLines is = tt
+of_list read list_fault.TooManyBytes is = tt
+of_list read list_fault.NotText is = tt
+
+unlisted_by : (names : NameLists) (needs : Needs) (read : Option (List ℕ)) (f : Fate) → SaysNone (list_file names) read f → ComesByRefusal needs f
+unlisted_by names needs read (fate.List fault) is = of_list read fault is
+unlisted_by names needs read fate.ReadFailed is = tt
+unlisted_by names needs read fate.Memory is = is
+unlisted_by names needs read f is = absurd is
+
+unlisted : (names : NameLists) (needs : Needs) (disk : Disk) (path : Option (Bor (List ℕ))) (f : Fate) → LacksLabels names disk path f → ComesByRefusal needs f
+unlisted names needs disk None f lacks = absurd lacks
+unlisted names needs disk (Some path) f (inl closed) = subst (ComesByRefusal needs) (sym closed.0) tt
+unlisted names needs disk (Some path) f (inr broken) = unlisted_by names needs broken.read.bytes f broken.unsaid
+
+-- nor what is to be ignored
+of_words : (needs : Needs) (names : NameLists) (what : Ignorable) (words : List (Bor (List ℕ))) (f : Fate) → MeanNothing names what words f → ComesByRefusal needs f
+of_words needs names what words (fate.Ignored it) is = tt
+of_words needs names what words fate.Memory is = is
+of_words needs names what words f is = absurd is
+
+unmeant : (needs : Needs) (names : NameLists) (words : AskedWords) (f : Fate) → AsksInVain names words f → ComesByRefusal needs f
+unmeant needs names words f (inl locks) = of_words needs names Lock words.locks.now f locks
+unmeant needs names words f (inr variables) = of_words needs names Variable words.variables.now f variables.1
+
+-- of a log of which something was left out
+of_asked : (does : Asked → Store → Writing → Fate → Type 0) (names : NameLists) (words : AskedWords) (store : Store) (stdout : Writing) (f : Fate) → ((asked : Asked) → does asked store stdout f → ComesByRefusal Growths f)
+    → DoesAsked does names words store stdout f → ComesByRefusal Growths f
+of_asked does names words store stdout f so (inl h) = unlisted names Growths store.disk words.known f h.0
+of_asked does names words store stdout f so (inr (known, list, inl h)) = unmeant Growths names words f h.0
+of_asked does names words store stdout f so (inr (known, list, inr (asked, asks, h))) = so asked h
+
+of_audited : (names : NameLists) (options : AuditOptions) (store : Store) (stdout : Writing) (f : Fate) (asked : Asked) → AuditsLog names asked options store stdout f → ComesByRefusal Growths f
+of_audited names options store stdout f asked (inl h) = unread Growths store.disk Log options.input.now None f h.0
+of_audited names options store stdout f asked (inr h) = of_delivered Growths store None stdout h.1 f (of_audit Growths names asked options h.0.bytes h.1 tt h.4) h.5
+
+of_predicted : (names : NameLists) (options : PredictOptions) (store : Store) (stdout : Writing) (f : Fate) (asked : Asked) → PredictsLog names asked options store stdout f → ComesByRefusal Growths f
+of_predicted names options store stdout f asked (inl h) = unread Growths store.disk Log options.input.now options.target f h.0
+of_predicted names options store stdout f asked (inr h) = of_delivered Growths store options.target stdout h.1 f (of_prediction Growths names asked options h.0.bytes h.1 tt h.4) h.5
+
+-- of a workload whose schedules were tried
+of_exploration : (options : ExploreOptions) (read : Option (List ℕ)) (answer : Answer) (names : List ℕ) → IsExploreAnswer options read answer names → HasCause Growths answer
+of_exploration options read answer names (inl (program, text, are, inl explored)) = caused options program answer explored
+of_exploration options read answer names (inl (program, text, are, inr lacks)) = of_lack Growths answer lacks
+of_exploration options read answer names (inr (f, unread, is)) = said Growths answer (silent f) is (of_unread Growths read f unread)
+
+-- of a workload that was played
+played : (needs : Needs) (play : Play) (options : RunOptions) (store : Store) (stdout : Writing) (f : Fate)
+    → ((program : Program) (ended : Ending) (w : WorldState) → IsRunOf play options program ended w → EndsByRefusal needs ended) → DoesPlay play options store stdout f → ComesByRefusal needs f
+played needs play options store stdout f so (inl h) = unplayed needs store.disk options.input.now options.target options.names_target f h.0
+played needs play options store stdout f so (inr h) =
+    of_in_turn needs store options.target options.names_target h.2 stdout h.1 f (of_play needs play options h.0.bytes h.1 h.2 so h.5) h.6
+
+-- of a log that was watched
+abbrev RefusesByGrowth : Terms → Type 0
+RefusesByGrowth terms = (bounds : Bounds) (log : List Event) (e : Event) (p : ℕ) (r : Refusal) → terms.IsFaultAt bounds log e (replay.Refused p r) → RefusedByGrowth r
+
+of_fault_within : (limits : Limits) → (bounds : Bounds) (log : List Event) (e : Event) (p : ℕ) (r : Refusal) → IsFaultWithin limits bounds log e (replay.Refused p r) → RefusedByGrowth r
+of_fault_within limits bounds log e p r is = of_refused limits.events limits.nodes bounds _ p r is
+
+of_fault_of_whole : (limits : Limits) → (bounds : Bounds) (log : List Event) (e : Event) (p : ℕ) (r : Refusal) → IsFaultOfWhole limits bounds log e (replay.Refused p r) → RefusedByGrowth r
+of_fault_of_whole limits bounds log e p r (config, same, keeps, (there, why)) =
+    ⊎_elim
+    (λ flawed. of_flaw config.bounds log e r flawed)
+    (λ full. ⊎_elim (λ h. rw h.0 tt) (λ h. rw h.0 tt) full.1.1)
+    why
+
+of_header : (read : Option (List ℕ)) (f : CheckFault) → IsFaultOfHeader read f → CheckByGrowth f
+of_header read (check_fault.Log f) is = of_log f is.0.1
+of_header read check_fault.Memory is = is
+of_header read (check_fault.Refused p r) is = absurd is
+of_header read (check_fault.WrongValue p) is = absurd is
+of_header read check_fault.Write is = absurd is
+
+module _ (terms : Terms) (so : RefusesByGrowth terms) where
+  of_end_after : (read : Option (List ℕ)) (bounds : Bounds) (log : List Event) (f : CheckFault) → EndsAfter terms read bounds log f → CheckByGrowth f
+  of_end_after read bounds log (check_fault.Log f) is = of_log f is.0.1
+  of_end_after read bounds log (check_fault.Refused p r) is = so bounds log is.0 p r is.2
+  of_end_after read bounds log (check_fault.WrongValue p) is = tt
+  of_end_after read bounds log check_fault.Write is = absurd is
+  of_end_after read bounds log check_fault.Memory is = absurd is
+
+  of_watch_answer : (names : Names) (read : Option (List ℕ)) (answer : Answer) → IsWatchAnswer names terms read answer → ComesByRefusal Growths answer.fate
+  of_watch_answer names read answer (inl w) = said Growths answer _ w.said tt
+  of_watch_answer names read answer (inr (inl c)) =
+      said Growths answer _ c.said (⊎_elim (λ h. of_end_after read c.bounds c.log c.fault h.1) (λ h. subst CheckByGrowth (sym h.0) h.1) c.reason)
+  of_watch_answer names read answer (inr (inr u)) = said Growths answer (silent (fate.Check u.0)) u.2 (of_header read u.0 u.1)
+
+  of_watch : (names : Names) (read : Option (List ℕ)) (out : Writing) (f : Fate) → Watches names terms read out f → ComesByRefusal Growths f
+  of_watch names read out f (inl h) = of_printed Growths out h.0 f (of_watch_answer names read h.0 h.1) h.2
+  of_watch names read out f (inr h) = subst (ComesByRefusal Growths) (sym h.0) tt
+
+  of_watch_by : (store : Store) (stdout : Writing) (f : Fate) → DoesWatchBy terms store stdout f → ComesByRefusal Growths f
+  of_watch_by store stdout f (inl h) = unnamed Growths store.disk terms.names f h.0
+  of_watch_by store stdout f (inr (names, read, (shown, are, inl h))) = unread Growths store.disk Log terms.input None f h.0
+  of_watch_by store stdout f (inr (names, read, (shown, are, inr h))) = of_watch shown h.0.bytes stdout f h.3
+
+pub of_done : (store : Store) (asked : Request) (stdout : Writing) (f : Fate) → Does store asked stdout f → AnswersWithCause asked f
+unfolding Does
+of_done store (request.Check options) stdout f (inl h) = unnamed Growths store.disk options.names f h.0
+of_done store (request.Check options) stdout f (inr (names, read, (shown, are, inl h))) = unread Growths store.disk Log options.input.now None f h.0
+of_done store (request.Check options) stdout f (inr (names, read, (shown, are, inr h))) = of_delivered Growths store None stdout h.1 f (of_check Growths shown _ _ _ h.0.bytes h.1 tt h.4) h.5
+of_done store (request.Explain options) stdout f (inl h) = unnamed Growths store.disk options.names f h.0
+of_done store (request.Explain options) stdout f (inr (names, read, inl h)) = unsited Growths store.disk options.sites f h.0
+of_done store (request.Explain options) stdout f (inr (names, read, inr (sites, given, inl h))) = unread Growths store.disk Log options.input.now options.target f h.0
+of_done store (request.Explain options) stdout f (inr (names, read, inr (sites, given, inr h))) = of_delivered Growths store options.target stdout h.1 f (of_explanation Growths names sites h.0.bytes h.1 tt h.4) h.5
+of_done store (request.Carry options) stdout f (inl h) = unread Growths store.disk Log options.input.now (Some options.target) f h.0
+of_done store (request.Carry options) stdout f (inr (inl h)) = subst (ComesByRefusal Growths) (sym h.0) tt
+of_done store (request.Carry options) stdout f (inr (inr h)) = of_put Growths h.2 h.1 f (of_carry Growths h.0.bytes h.1 tt h.5) h.7
+of_done store (request.Thin options) stdout f (inl h) = unread_apart Growths store.disk Log options.input.now (Some options.target) (map_of options) f h.0
+of_done store (request.Thin options) stdout f (inr h) = of_thin Growths options h.0.bytes store stdout f tt h.3
+of_done store (request.Run options) stdout f h = played GrowthsAndStarts ByThreads options store stdout f (λ program ended w run. run.cause) h
+of_done store (request.Replay options) stdout f (inl lacks) = unscheduled Growths store.disk options.schedule f lacks.0
+of_done store (request.Replay options) stdout f (inr h) = played Growths (ByTurns h.0) options.run store stdout f (λ program ended w run. run.cause) h.2
+of_done store (request.Explore options) stdout f (inl h) = unplayed Growths store.disk options.input.now options.target options.names_target f h.0
+of_done store (request.Explore options) stdout f (inr h) =
+    of_in_turn Growths store options.target options.names_target h.2 stdout h.1 f (of_exploration options h.0.bytes h.1 h.2 h.5) h.6
+of_done store (request.Watch options) stdout f h = of_watch_by (terms_of_watch options) (of_fault_within options.limits) store stdout f h
+of_done store (request.WatchEndless options) stdout f h = of_watch_by (terms_of_endless options) (of_fault_of_whole options.limits) store stdout f h
+of_done store (request.Audit options) stdout f (inl h) = unnamed Growths store.disk options.names f h.0
+of_done store (request.Audit options) stdout f (inr (names, read, h)) = of_asked (λ asked. AuditsLog names asked options) names (audit_words options) store stdout f (of_audited names options store stdout f) h
+of_done store (request.Predict options) stdout f (inl h) = unnamed Growths store.disk options.names f h.0
+of_done store (request.Predict options) stdout f (inr (names, read, h)) = of_asked (λ asked. PredictsLog names asked options) names (predict_words options) store stdout f (of_predicted names options store stdout f) h

@@ -1,0 +1,64 @@
+//! Each command is done, whatever the files and the output are.
+ghost use Rattle.velo_commands.specs.Causes.{AnswersWithCause};
+ghost use Rattle.velo_commands.specs.Program.{Does};
+ghost use Rattle.velo_delivery.specs.Disk.{store};
+ghost use Rattle.velo_delivery.specs.Writing.{writing};
+
+use std::alloc::Global;
+use std::sync::Wait;
+use std::thread::Threads;
+use velo_bytes::Sink;
+use velo_delivery::Files;
+use velo_fate::Fate;
+use velo_log_commands::{
+    audit_file, carry_file, check_file, explain_file, predict_file, thin_file, watch_endless_file,
+    watch_file,
+};
+use velo_request::Request;
+use velo_workload_commands::{ExploreProgress, explore_file, replay_file, run_file};
+
+/// Does what was asked for, with the report, the certificate or the words of an explanation on the
+/// sink, and returns its fate. How far a search is goes to `progress`. A run of a workload by
+/// threads of its own may wait; the other commands start no thread.
+pub fn do_request<R: Threads + Wait + Sync, F: Files, O: Sink, P: ExploreProgress>(
+    rt: &R,
+    alloc: Global,
+    request: &Request,
+    files: &mut F,
+    out: &mut O,
+    progress: &mut P,
+) -> Fate
+    ensures done { Does (store F.disk files.old files.new) request.now
+        (writing O.contents O.failures out.old out.new) result }
+    ensures memory { AnswersWithCause request.now result }
+{
+    do_by(rt, alloc, request, files, out, progress)
+}
+
+/// Does what was asked for, by the command that it names.
+#[tactic(auto, unfolding(crate::specs::Program::Does))]
+fn do_by<R: Threads + Wait + Sync, F: Files, O: Sink, P: ExploreProgress>(
+    rt: &R,
+    alloc: Global,
+    request: &Request,
+    files: &mut F,
+    out: &mut O,
+    progress: &mut P,
+) -> Fate
+    ensures { Does (store F.disk files.old files.new) request.now
+        (writing O.contents O.failures out.old out.new) result }
+{
+    match request {
+        Request::Check(options) => check_file(alloc, options, files, out),
+        Request::Replay(options) => replay_file(alloc, options, files, out),
+        Request::Run(options) => run_file(rt, alloc, options, files, out),
+        Request::Explain(options) => explain_file(alloc, options, files, out),
+        Request::Carry(options) => carry_file(alloc, options, files),
+        Request::Explore(options) => explore_file(alloc, options, files, out, progress),
+        Request::Watch(options) => watch_file(alloc, options, files, out),
+        Request::WatchEndless(options) => watch_endless_file(alloc, options, files, out),
+        Request::Audit(options) => audit_file(alloc, options, files, out),
+        Request::Predict(options) => predict_file(alloc, options, files, out),
+        Request::Thin(options) => thin_file(alloc, options, files, out),
+    }
+}

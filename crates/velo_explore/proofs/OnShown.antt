@@ -1,0 +1,204 @@
+-- What is shown was replayed.
+use Rattle.std.proofs.Common.{◌≡◌, ◌↔◌, Bool, true, false, ℕ, ◌<◌, List, [], ◌∷◌, ◌++◌, append-nil, length, Option, Some, None, Result, Ok, Err, map, refl, sym, ap, subst, ◌∙◌, ⊎_elim, arith}
+use Rattle.std.specs.Borrow.{Bor}
+use Rattle.std.specs.Global.{Vec}
+use Rattle.std.specs.Option.{option_map}
+use Rattle.std.specs.Prelude.{IfNone, IfOk, IfSome, IsTrue, IsFalse, is_some, not, if◌then◌else◌}
+use Rattle.std.proofs.lemmas.Bool.{false≢true}
+use Rattle.std.proofs.lemmas.Option.{none-some, same_Some}
+use Rattle.velo_events.specs.declared.config.Config.{Config}
+use Rattle.velo_events.specs.declared.event.Event.{Event}
+use Rattle.velo_events.specs.declared.event.ThreadId.{ThreadId}
+use Rattle.velo_events.specs.Graph.{HasCycle}
+use Rattle.velo_events.proofs.OnGraphs.{HasCycle-from_closing}
+use Rattle.velo_workload.specs.Program.{Program}
+use Rattle.velo_world.specs.declared.analysis.Alarm.{Alarm as AlarmOf}
+use Rattle.velo_world.specs.World.{WorldState, IsAlarm}
+use Rattle.velo_worker.specs.declared.ending.Ending.{Ending}
+use Rattle.velo_worker.specs.declared.ending.Ending.TheVariants as endings
+use Rattle.velo_worker.specs.Schedule.{Replays}
+use Rattle.velo_explore.specs.declared.finding.Finding.{Finding}
+use Rattle.velo_explore.specs.declared.finding.Finding.TheVariants.{Shown, Never, Open}
+use Rattle.velo_explore.specs.declared.goal.Goal.{Goal}
+use Rattle.velo_explore.specs.declared.goal.Goal.TheVariants.{Alarm, Stuck, Refused}
+use Rattle.velo_explore.specs.declared.outcome.Outcome.{Outcome}
+use Rattle.velo_explore.specs.Goals.{HasAlarm, Reached, Reaches, fault_of, goal_in}
+use Rattle.velo_explore.specs.Logs.{ends_refused, is_for_room}
+use Rattle.velo_explore.specs.Told.{AreAlarms, IsMissed, IsOutcome, Lacks, OnShown}
+use Rattle.velo_explore.specs.Bodies.{all_scripts}
+use Rattle.velo_search.specs.declared.fault.Fault.TheVariants as faults
+use Rattle.velo_search.specs.declared.fault.Fault.{Fault}
+use Rattle.velo_search.specs.declared.fault.Fault.TheVariants.{Cycle, Refusing}
+use Rattle.velo_search.specs.declared.schedules.Schedules.{Schedules}
+use Rattle.velo_search.specs.Trail.{LeadToCycles, LeadsTo, alarms_of}
+use Rattle.velo_explore.proofs.OnFollowed.{follows-cycle, follows-stuck, follows-refused}
+
+-- an alarm is kept exactly where the log has a cycle
+pub cycle_by : (closed : WorldState) (alarm : Option (Bor AlarmOf)) → IfNone alarm (¬ HasCycle closed.log) → IfSome alarm (λ a. IsAlarm closed.log a.now) → IsTrue (is_some alarm) ↔ HasCycle closed.log
+cycle_by closed None none is = (λ some. absurd (false≢true some), λ cycle. absurd (none cycle))
+cycle_by closed (Some alarm) none is = (λ some. HasCycle-from_closing closed.log alarm.now.position is.closing, λ cycle. refl)
+
+-- and what it is is known
+pub known_by : (log : List Event) (alarm : Option (Bor AlarmOf)) → IfNone alarm (¬ HasCycle log) → IfSome alarm (λ a. IsAlarm log a.now) → HasAlarm log
+known_by log None none is = (None, none)
+known_by log (Some alarm) none is = (Some alarm.now, is)
+
+-- ---- the goals of a run
+
+pub goal-reaches : (fault : Fault) (alarm : Bool) (ending : Ending) (closed : WorldState) (goal : Goal) → IsTrue alarm ↔ HasCycle closed.log → goal_in fault alarm ending ≡ Some goal
+    → Reaches goal ending closed × (fault_of goal ≡ fault)
+goal-reaches Cycle true ending closed goal is h = subst (λ (g : Goal). Reaches g ending closed × (fault_of g ≡ Cycle)) (same_Some Alarm goal h) (is.0 refl, refl)
+goal-reaches Cycle false ending closed goal is h = absurd (none-some goal h)
+goal-reaches faults.Stuck alarm endings.Stuck closed goal is h = subst (λ (g : Goal). Reaches g endings.Stuck closed × (fault_of g ≡ faults.Stuck)) (same_Some Stuck goal h) (refl, refl)
+goal-reaches faults.Stuck alarm endings.Done closed goal is h = absurd (none-some goal h)
+goal-reaches faults.Stuck alarm endings.Halted closed goal is h = absurd (none-some goal h)
+goal-reaches faults.Stuck alarm (endings.Refused t r) closed goal is h = absurd (none-some goal h)
+goal-reaches faults.Stuck alarm endings.Gated closed goal is h = absurd (none-some goal h)
+goal-reaches Refusing alarm (endings.Refused t r) closed goal is h = by (is_for_room r) refl h
+  where
+    by : (room : Bool) → is_for_room r ≡ room → (if room then None else Some (Refused t r)) ≡ Some goal → Reaches goal (endings.Refused t r) closed × (fault_of goal ≡ Refusing)
+    by true same h = absurd (none-some goal h)
+    by false same h = subst (λ (g : Goal). Reaches g (endings.Refused t r) closed × (fault_of g ≡ Refusing)) (same_Some (Refused t r) goal h) ((refl, same), refl)
+goal-reaches Refusing alarm endings.Done closed goal is h = absurd (none-some goal h)
+goal-reaches Refusing alarm endings.Stuck closed goal is h = absurd (none-some goal h)
+goal-reaches Refusing alarm endings.Halted closed goal is h = absurd (none-some goal h)
+goal-reaches Refusing alarm endings.Gated closed goal is h = absurd (none-some goal h)
+
+-- ---- a replay
+
+module _ (program : Program) (config : Config) (turns : List ThreadId) (outcome : Outcome) (h : IsOutcome program config turns outcome) where
+  pub shows-goal : (fault : Fault) (goal : Goal) (schedule : List ThreadId) → turns ≡ schedule → goal_in fault outcome.alarm outcome.ending ≡ Some goal → Reached program config goal schedule × (fault_of goal ≡ fault)
+  shows-goal fault goal schedule same is =
+      let shown = goal-reaches fault outcome.alarm outcome.ending h.closed goal h.cycle is in (
+        record {
+          closed = h.closed;
+          replay = record {
+            ending = outcome.ending;
+            replays = subst (λ (ts : List ThreadId). Replays program ts config outcome.ending h.closed) same h.replays;
+            memory = h.memory;
+            alarm = h.known;
+            reaches = shown.0;
+          };
+        },
+        shown.1,
+      )
+
+  pub lacks-goal : (fault : Fault) (schedule : List ThreadId) → turns ≡ schedule → goal_in fault outcome.alarm outcome.ending ≡ None → Lacks program config fault schedule
+  lacks-goal fault schedule same none = record { outcome = outcome; is_outcome = subst (λ (ts : List ThreadId). IsOutcome program config ts outcome) same h; none = none }
+
+no_alarm : (alarm : Bool) (ending : Ending) → goal_in Cycle alarm ending ≡ None → alarm ≡ false
+no_alarm false ending none = refl
+no_alarm true ending none = absurd (none-some Alarm (sym none))
+
+not_refused : (alarm : Bool) (ending : Ending) → goal_in Refusing alarm ending ≡ None → ends_refused ending ≡ false
+not_refused alarm (endings.Refused t r) none = by (is_for_room r) none
+  where
+    by : (room : Bool) → (if room then None else Some (Refused t r)) ≡ None → not room ≡ false
+    by true h = refl
+    by false h = absurd (none-some (Refused t r) (sym h))
+not_refused alarm endings.Done none = refl
+not_refused alarm endings.Stuck none = refl
+not_refused alarm endings.Halted none = refl
+not_refused alarm endings.Gated none = refl
+
+module _ (program : Program) (config : Config) (same : config.bounds ≡ program.bounds) (schedule : List ThreadId) where
+  pub missed-alarm : Lacks program config Cycle schedule → LeadsTo program.bounds (all_scripts program) Cycle schedule → IsMissed program config Cycle
+  missed-alarm w leads =
+      let h = w.is_outcome in
+      record {
+        schedule = schedule;
+        leads = leads;
+        more = [];
+        ending = w.outcome.ending;
+        closed = h.closed;
+        replays = subst (λ ts. Replays program ts config w.outcome.ending h.closed) (sym (append-nil schedule)) h.replays;
+        cut = ⊎_elim
+            (λ cycle. absurd (false≢true (sym (no_alarm w.outcome.alarm w.outcome.ending w.none) ∙ h.cycle.1 cycle)))
+            (λ cut. cut)
+            (follows-cycle program leads.log leads.run config same w.outcome.ending h.closed leads.bad (subst (λ ts. Replays program ts config w.outcome.ending h.closed) (sym leads.by) h.replays));
+      }
+
+  pub missed-stuck : length program.bodies ≡ program.bounds.threads → Lacks program config faults.Stuck schedule → LeadsTo program.bounds (all_scripts program) faults.Stuck schedule → IsMissed program config faults.Stuck
+  missed-stuck count w leads =
+      let h = w.is_outcome in
+      record {
+        schedule = schedule;
+        leads = leads;
+        more = [];
+        ending = w.outcome.ending;
+        closed = h.closed;
+        replays = subst (λ ts. Replays program ts config w.outcome.ending h.closed) (sym (append-nil schedule)) h.replays;
+        cut = ⊎_elim
+            (λ stuck. absurd (none-some Stuck (sym w.none ∙ ap (goal_in faults.Stuck w.outcome.alarm) stuck)))
+            (λ cut. cut)
+            (follows-stuck program leads.log leads.run config same count leads.bad w.outcome.ending h.closed (subst (λ ts. Replays program ts config w.outcome.ending h.closed) (sym leads.by) h.replays));
+      }
+
+  pub missed-refusal : ((t : ℕ) → t < program.bounds.threads → Lacks program config Refusing (schedule ++ record { 0 = t } ∷ [])) → LeadsTo program.bounds (all_scripts program) Refusing schedule → IsMissed program config Refusing
+  missed-refusal lacks leads =
+      let t = leads.bad.some.0 in
+      let w = lacks t leads.bad.some.1 in
+      record {
+        schedule = schedule;
+        leads = leads;
+        more = record { 0 = t } ∷ [];
+        ending = w.outcome.ending;
+        closed = w.is_outcome.closed;
+        replays = w.is_outcome.replays;
+        cut = ⊎_elim
+            (λ refused. absurd (false≢true (sym (not_refused w.outcome.alarm w.outcome.ending w.none) ∙ refused)))
+            (λ cut. cut)
+            (follows-refused program leads.log leads.run config same (record { 0 = t }) leads.bad.some.2 w.outcome.ending w.is_outcome.closed (subst (λ ts. Replays program (ts ++ record { 0 = t } ∷ []) config w.outcome.ending w.is_outcome.closed) (sym leads.by) w.is_outcome.replays));
+      }
+
+-- what follows where nothing was found
+pub where_none : {X E : Type 0} (result : Result (Option X) E) {P Q : Type 0} → (P → Q) → IfOk result (λ found. IfNone found P) → IfOk result (λ found. IfNone found Q)
+where_none (Ok None) step given = step given
+where_none (Ok (Some x)) step given = tt
+where_none (Err e) step given = tt
+
+-- ---- of an option
+
+pub at_is_none : {X P : Type 0} (found : Option X) → IsFalse (is_some found) → IfNone found P → P
+at_is_none None is given = given
+at_is_none (Some y) is given = absurd (false≢true (sym is))
+
+pub IfSome-mapped : {X Y : Type 0} (f : X → Y) (P : Y → Type 0) (o : Option X) → IfSome (option_map f o) P → IfSome o (λ x. P (f x))
+IfSome-mapped f P None h = tt
+IfSome-mapped f P (Some x) h = h
+
+pub of_mapped : {X Y : Type 0} (f : X → Y) (P : Type 0) (o : Option X) → IsTrue (is_some (option_map f o)) → IfSome o (λ x. P) → P
+of_mapped f P None none h = absurd (false≢true none)
+of_mapped f P (Some x) some h = h
+
+-- ---- the schedules to alarms
+
+OnShown-map : (finding : Finding) {P Q : Type 0} → (P → Q) → OnShown finding (λ w. P) → OnShown finding (λ w. Q)
+OnShown-map Open f p = tt
+OnShown-map Never f p = tt
+OnShown-map (Shown witness) f p = f p
+
+some-mapped : {X Y : Type 0} (f : X → Y) (o : Option X) → IsTrue (is_some o) → IsTrue (is_some (option_map f o))
+some-mapped f None some = some
+some-mapped f (Some x) some = refl
+
+pub alarms-told : (program : Program) (config : Config) → config.bounds ≡ program.bounds → (first : Bool) (alarm : Finding) (shown : Schedules) →
+    LeadToCycles program.bounds (all_scripts program) first shown → OnShown alarm (λ w. IsTrue (is_some shown.alarm)) → AreAlarms program config first alarm (alarms_of shown)
+alarms-told program config same first alarm shown cycles from = record {
+  each = λ k d l.
+      let leads = cycles.lead k d l in
+      record {
+        leads = leads;
+        replayed = λ ending closed r. follows-cycle program leads.log leads.run config same ending closed leads.bad (subst (λ ts. Replays program ts config ending closed) (sym leads.by) r);
+      };
+  few = cycles.few;
+  none = cycles.none;
+  some = λ all. OnShown-map alarm (λ there. cycles.some all (some-mapped (λ v. v.items) shown.alarm there)) from;
+}
+
+-- where nothing was tried
+pub no-alarms : (program : Program) (config : Config) (first : Bool) (alarm : Finding) (alarms : List (Vec ThreadId)) → alarm ≡ Open → alarms ≡ [] → AreAlarms program config first alarm (map (λ v. v.items) alarms)
+no-alarms program config first alarm alarms unknown none =
+    subst (λ (f : Finding). AreAlarms program config first f (map (λ v. v.items) alarms)) (sym unknown)
+    (subst (λ (l : List (Vec ThreadId)). AreAlarms program config first Open (map (λ v. v.items) l)) (sym none)
+    (record { each = λ k d l. absurd (omega (arith, l)); few = omega arith; none = λ only. refl; some = λ all. tt }))

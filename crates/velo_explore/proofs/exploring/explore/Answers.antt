@@ -1,0 +1,66 @@
+use Rattle.velo_search.specs.declared.fault.Fault.{Fault}
+use Rattle.velo_search.specs.declared.fault.Fault.TheVariants.{Cycle, Stuck, Refusing}
+use Rattle.velo_search.specs.Trail.{LeadsTo}
+use Rattle.velo_explore.specs.declared.finding.Findings.{Findings}
+use Rattle.velo_explore.specs.Bodies.{all_scripts}
+use Rattle.velo_explore.specs.Goals.{finding_of}
+use Rattle.velo_explore.specs.Told.{IsLeftOpen, IsTold, OnOpen}
+use Rattle.velo_explore.proofs.OnShown.{IfSome-mapped, alarms-told, no-alarms}
+use Rattle.velo_explore.proofs.OnTold.{each_fault, open-told, ruled-out}
+use Rattle.velo_explore.proofs.exploring.explore.Goals as goal
+
+pub tell-requires-clause-ruled_out : goal.tell-requires-clause-ruled_out
+tell-requires-clause-ruled_out g c = λ ruled.
+    let x = c.in_ok-searched.searched in
+    let w = ruled-out x.whole x.found.alarm c.rules_out-no_alarm.result c.rules_out-no_alarm.ensures ruled in
+    c.in_ok-searched.ensures.never w.0 Cycle w.1
+
+pub tell-requires-2-clause-ruled_out : goal.tell-requires-2-clause-ruled_out
+tell-requires-2-clause-ruled_out g c = λ ruled.
+    let x = c.in_ok-searched.searched in
+    let w = ruled-out x.whole x.found.stuck c.rules_out-no_deadlock.result c.rules_out-no_deadlock.ensures ruled in
+    c.in_ok-searched.ensures.never w.0 Stuck w.1
+
+pub tell-requires-3-clause-ruled_out : goal.tell-requires-3-clause-ruled_out
+tell-requires-3-clause-ruled_out g c = λ ruled.
+    let x = c.in_ok-searched.searched in
+    let w = ruled-out x.whole x.found.refused c.rules_out-no_refusal.result c.rules_out-no_refusal.ensures ruled in
+    c.in_ok-searched.ensures.never w.0 Refusing w.1
+
+pub tell-requires-clause-leads : goal.tell-requires-clause-leads
+tell-requires-clause-leads g c =
+    IfSome-mapped (λ v. v.items) (LeadsTo c.args.workload.now.bounds (all_scripts c.args.workload.now) Cycle) c.in_ok-searched.searched.schedules.alarm (c.in_ok-searched.ensures.leads Cycle)
+
+pub tell-requires-2-clause-leads : goal.tell-requires-2-clause-leads
+tell-requires-2-clause-leads g c =
+    IfSome-mapped (λ v. v.items) (LeadsTo c.args.workload.now.bounds (all_scripts c.args.workload.now) Stuck) c.in_ok-searched.searched.schedules.stuck (c.in_ok-searched.ensures.leads Stuck)
+
+pub tell-requires-3-clause-leads : goal.tell-requires-3-clause-leads
+tell-requires-3-clause-leads g c =
+    IfSome-mapped (λ v. v.items) (LeadsTo c.args.workload.now.bounds (all_scripts c.args.workload.now) Refusing) c.in_ok-searched.searched.schedules.refused (c.in_ok-searched.ensures.leads Refusing)
+
+pub returns-clause-told : goal.returns-clause-told
+returns-clause-told g c =
+    let found : Findings = record { alarm = c.in_ok-alarm.alarm; stuck = c.in_ok-stuck.stuck; refused = c.in_ok-refused.refused } in
+    each_fault (λ (f : Fault). IsTold c.args.workload.now c.args.config f (finding_of found f)) c.in_ok-alarm.ensures.told c.in_ok-stuck.ensures.told c.in_ok-refused.ensures.told
+
+pub returns-clause-left_open : goal.returns-clause-left_open
+returns-clause-left_open g c =
+    let found : Findings = record { alarm = c.in_ok-alarm.alarm; stuck = c.in_ok-stuck.stuck; refused = c.in_ok-refused.refused } in
+    let x = c.in_ok-searched.searched in
+    let says = c.in_ok-searched.ensures in
+    each_fault (λ (f : Fault). OnOpen (finding_of found f) (IsLeftOpen c.args.workload.now c.args.config c.args.most_states c.args.first x.states f))
+    (open-told c.args.workload.now c.args.config c.args.most_states c.args.first x.states Cycle x.whole x.found.alarm c.rules_out-no_alarm.result x.schedules.alarm c.in_ok-alarm.alarm
+    c.rules_out-no_alarm.ensures (λ part. says.cut part Cycle) (says.found Cycle) (λ whole. says.each whole Cycle) (λ all. says.each_all all Cycle) c.in_ok-alarm.ensures.missed)
+    (open-told c.args.workload.now c.args.config c.args.most_states c.args.first x.states Stuck x.whole x.found.stuck c.rules_out-no_deadlock.result x.schedules.stuck c.in_ok-stuck.stuck
+    c.rules_out-no_deadlock.ensures (λ part. says.cut part Stuck) (says.found Stuck) (λ whole. says.each whole Stuck) (λ all. says.each_all all Stuck) c.in_ok-stuck.ensures.missed)
+    (open-told c.args.workload.now c.args.config c.args.most_states c.args.first x.states Refusing x.whole x.found.refused c.rules_out-no_refusal.result x.schedules.refused c.in_ok-refused.refused
+    c.rules_out-no_refusal.ensures (λ part. says.cut part Refusing) (says.found Refusing) (λ whole. says.each whole Refusing) (λ all. says.each_all all Refusing) c.in_ok-refused.ensures.missed)
+
+pub returns-clause-alarms : goal.returns-clause-alarms
+returns-clause-alarms g c =
+    alarms-told c.args.workload.now c.args.config c.requires.bounds c.args.first c.in_ok-alarm.alarm c.in_ok-searched.searched.schedules c.in_ok-searched.ensures.alarms c.in_ok-alarm.ensures.from
+
+pub returns-then-events-from-clause-alarms : goal.returns-then-events-from-clause-alarms
+returns-then-events-from-clause-alarms g c =
+    no-alarms c.args.workload.now c.args.config c.args.first c.untried.result.findings.alarm c.untried.result.alarms.items (c.untried.ensures.findings Cycle) c.untried.ensures.alarms

@@ -1,6 +1,0 @@
-use Rattle.velo_heap.specs.Contents.{bounds_of}
-use Rattle.velo_explore.specs.Trail.{SettlesBy}
-use Rattle.velo_explore.proofs.settling.settle.Given as goal
-
-abbrev pub invariant-loop-round : goal.invariant-loop-round
-invariant-loop-round l = SettlesBy (bounds_of l.fn.state.heap) l.fn.scripts l.fn.trail l.fn.state l.trail l.state

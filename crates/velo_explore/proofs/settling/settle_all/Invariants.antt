@@ -1,6 +1,0 @@
-use Rattle.velo_heap.specs.Contents.{bounds_of}
-use Rattle.velo_explore.specs.Trail.{SettlesBy}
-use Rattle.velo_explore.proofs.settling.settle_all.Given as goal
-
-abbrev pub invariant-loop-thread : goal.invariant-loop-thread
-invariant-loop-thread l = SettlesBy (bounds_of l.fn.state.heap) l.fn.scripts l.fn.trail l.fn.state l.trail l.state

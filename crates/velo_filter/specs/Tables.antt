@@ -1,0 +1,11 @@
+-- What the tables leave out.
+use Rattle.std.specs.Prelude.{ℕ, Bool, false, List, slice_index_or}
+use Rattle.velo_filter.specs.Left.{Left, is_listed}
+use Rattle.velo_filter.specs.declared.left.LeftOut.{LeftOut}
+
+-- the number is marked
+abbrev pub marked : List Bool → ℕ → Bool
+marked marks n = slice_index_or marks n false
+
+abbrev pub left_of : LeftOut → Left
+left_of tables = record { labels = λ l. is_listed tables.labels.keys l; locks = marked tables.locks.items; variables = marked tables.variables.items }

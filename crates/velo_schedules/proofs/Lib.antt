@@ -1,9 +1,0 @@
-pub mod OnReplays
-pub mod OnEndings
-pub mod OnBodyScripts
-pub mod OnPlainLogs
-pub mod OnTold
-pub mod OnCounting
-pub mod OnFollowed
-pub mod OnShown
-pub mod OnFindings

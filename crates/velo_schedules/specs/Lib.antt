@@ -1,4 +1,0 @@
-pub mod Logs
-pub mod Bodies
-pub mod Goals
-pub mod Told

@@ -1,0 +1,14 @@
+use Rattle.std.proofs.Common.{◌≡◌, [], ◌∷◌, ◌++◌, sym, subst, rules}
+use Rattle.std.specs.Prelude.{Contains}
+use Rattle.std.proofs.lemmas.List.Elements.{Contains-push}
+use Rattle.velo_search.proofs.level.Level.keep.Goals as goal
+
+pub returns-clause-there : goal.returns-clause-there
+returns-clause-there c =
+    let old = c.args.self.now.states.items in
+    let items : c.note.new.self.states.items ≡ old ++ c.args.state ∷ [] = search rules in
+    record {
+      member = c.args.state;
+      there = subst (λ xs. Contains xs c.args.state) (sym items) (Contains-push old c.args.state);
+      logs = λ log stands. stands;
+    }

@@ -1,0 +1,24 @@
+use Rattle.std.proofs.Common.{◌≡◌, ℕ, ◌+◌, ◌*◌, ◌≤◌, false, length}
+use Rattle.std.specs.Prelude.{All}
+use Rattle.velo_search.specs.Faults.{Fault}
+use Rattle.velo_search.specs.Search.{IsClean, IsTrueOf, has_fault}
+use Rattle.velo_search.specs.Trail.{AreShown, IsNoted, IsReachedBy}
+use Rattle.velo_search.proofs.searching.next_level.Given as goal
+
+abbrev pub invariant-loop-state : goal.invariant-loop-state
+invariant-loop-state l = record {
+  true_of : IsTrueOf l.fn.bounds l.fn.scripts l.found;
+  more : (fault : Fault) → has_fault l.found fault ≡ false → has_fault l.fn.before fault ≡ false;
+  others : All (IsReachedBy l.fn.bounds l.fn.scripts l.trail.steps.items) l.next.states.items;
+  left : All (IsReachedBy l.fn.bounds l.fn.scripts l.trail.steps.items) l.level.states.items;
+  shown : AreShown l.fn.bounds l.fn.scripts l.fn.first l.found l.trail;
+  leads : (n : ℕ) (fault : Fault) → has_fault l.found fault ≡ false → All (IsClean l.fn.bounds l.fn.scripts n fault) l.next.states.items →
+      All (IsClean l.fn.bounds l.fn.scripts (n + 1) fault) l.level.states.items → All (IsClean l.fn.bounds l.fn.scripts (n + 1) fault) l.fn.level.states.items;
+  noted : All (IsNoted l.trail) l.next.states.items;
+  noted_left : All (IsNoted l.trail) l.level.states.items;
+  count : l.states + length l.level.states.items ≡ length l.fn.level.states.items;
+  few : length l.next.states.items ≤ l.states * l.fn.bounds.threads;
+}
+
+abbrev pub decreases-loop-state : goal.decreases-loop-state
+decreases-loop-state l = length l.level.states.items

@@ -1,0 +1,14 @@
+pub mod Groups
+pub mod Summary
+pub mod Marks
+pub mod Kept
+pub mod States
+pub mod Plain
+pub mod Runs
+pub mod Faults
+pub mod Free
+pub mod Notes
+pub mod Steps
+pub mod Search
+pub mod Told
+pub mod Trail

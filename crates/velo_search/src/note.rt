@@ -1,0 +1,31 @@
+ghost use Rattle.std.specs.Prelude.{◌≡◌, false};
+
+use crate::held::Held;
+use crate::rivals::{are_rivals, are_twins};
+use velo_events::Kind;
+
+/// An operation of a thread that may hinder those of others, and how the thread has the locks before it.
+#[derive(Debug, Drop)]
+pub struct Note {
+    pub thread: usize,
+    pub kind: Kind,
+    pub held: Held,
+}
+
+impl Note {
+    ghost use Rattle.velo_search.specs.Notes.{DoesNotHinder};
+
+    /// Whether it hinders an operation of another thread that has the locks so: it is a rival and no lock keeps the threads
+    /// apart, or it is a twin.
+    pub fn hinders(&self, kind: Kind, held: &Held) -> bool
+        ensures { result ≡ false → DoesNotHinder held.now.locks.items kind self.now }
+    {
+        if are_twins(kind, self.kind) {
+            return true;
+        }
+        if !are_rivals(kind, self.kind) {
+            return false;
+        }
+        !held.excludes(&self.held)
+    }
+}

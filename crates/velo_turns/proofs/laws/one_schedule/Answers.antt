@@ -1,5 +1,0 @@
-use Rattle.velo_turns.proofs.OnTexts.{one_of_text}
-use Rattle.velo_turns.proofs.laws.one_schedule.Goals as goal
-
-pub returns : goal.returns
-returns c = one_of_text

@@ -1,5 +1,0 @@
-use Rattle.velo_turns.proofs.OnShort.{short_reads_back}
-use Rattle.velo_turns.proofs.laws.reads_back.Goals as goal
-
-pub returns : goal.returns
-returns c = short_reads_back
