@@ -1,3 +1,5 @@
+ghost use Rattle.std.specs.Prelude.{IsTrue};
+
 use velo_events::ThreadId;
 
 /// Decides when live threads go on.
@@ -13,7 +15,9 @@ pub trait Gate {
 pub struct OpenGate;
 
 impl Gate for OpenGate {
-    fn pass(&self, _thread: ThreadId, _step: u64) -> bool {
+    fn pass(&self, _thread: ThreadId, _step: u64) -> bool
+        ensures { IsTrue result }
+    {
         true
     }
 }
