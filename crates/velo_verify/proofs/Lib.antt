@@ -1,1 +1,1 @@
-pub mod OnReports
+pub mod OnVerifying
