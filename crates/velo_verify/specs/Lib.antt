@@ -1,2 +1,2 @@
 pub mod Verifying
-pub mod Command
+pub mod Commands

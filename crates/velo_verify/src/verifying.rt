@@ -5,7 +5,7 @@ ghost use Rattle.velo_delivery.specs.Reading.{reading};
 ghost use Rattle.velo_delivery.specs.Writing.{writing};
 ghost use Rattle.velo_fate.specs.Format.{LacksAt, Reads};
 ghost use Rattle.velo_verify.specs.Verifying.{ClaimIn, NoClaimIn, VerifiesInput, report_file};
-ghost use Rattle.velo_verify.specs.Command.{DoesVerify, VerifiesLog};
+ghost use Rattle.velo_verify.specs.Commands.{DoesVerify, VerifiesLog};
 
 use crate::told::tell;
 use std::alloc::Global;
