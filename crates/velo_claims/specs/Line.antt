@@ -39,7 +39,8 @@ verdict_of line =
 
 -- a thread, which is not looked at, or the verdict
 abbrev pub thread_or_verdict : List ℕ → Option Part
-thread_or_verdict line = by_word (after_word (codes "thread ") line) (λ rest. Some Threads) (verdict_of line)
+thread_or_verdict line =
+    by_word (after_word (codes "thread ") line) (λ rest. Some Threads) (verdict_of line)
 
 -- ---- words of the contracts within the crate
 

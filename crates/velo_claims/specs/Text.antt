@@ -12,7 +12,8 @@ use Rattle.velo_claims.specs.declared.fault.ReportFault.TheVariants.{BadLine, En
 use Rattle.velo_claims.specs.declared.limits.TheConstants.{MAX_REPORT_BYTES}
 use Rattle.velo_claims.specs.Line.{number_after, numbers_onto, thread_or_verdict, words}
 
--- how many events the log has, an alarm or none, and the numbers of the certificate, line after line
+-- how many events the log has, an alarm or none, and the numbers of the certificate, line after
+-- line
 pub record Claimed : Type 0 where
   pub events : ℕ
   pub alarm : Option ClaimedAlarm

@@ -53,7 +53,11 @@ impl Model for Claim {
 
     ghost Value = { Claimed };
 
-    ghost view = { λ c. record { events = c.events; alarm = c.alarm; certificate = c.certificate.items } };
+    ghost view = { λ c. record {
+      events = c.events;
+      alarm = c.alarm;
+      certificate = c.certificate.items;
+    } };
 }
 
 /// Whether a report may end before this.
@@ -85,7 +89,8 @@ impl Claim {
 
     /// Takes in how many events there are.
     fn take_events(&mut self, line: &[u8]) -> Option<Part>
-        ensures { option_map (λ part. (part, self.new)) result ≡ step part.Events self.old line.now }
+        ensures { option_map (λ part. (part, self.new)) result
+            ≡ step part.Events self.old line.now }
     {
         self.events = number_after(line, b"events ")?;
         Some(Part::Threads)
@@ -172,8 +177,8 @@ impl Claim {
     /// order or the cycle may be missing.
     ///
     /// # Errors
-    /// `TooManyBytes`, and else `BadLine` for the first line that is not what comes at its place, and
-    /// else `EndsEarly`. `Memory` if an allocation failed.
+    /// `TooManyBytes`, and else `BadLine` for the first line that is not what comes at its place,
+    /// and else `EndsEarly`. `Memory` if an allocation failed.
     pub fn parse(alloc: Global, bytes: &[u8]) -> Result<Claim, ReportFault>
         ensures { ReadsAs bytes.now result }
     {
@@ -202,8 +207,8 @@ impl Claim {
         self.alarm
     }
 
-    /// The positions of a serial order, or with an alarm the transactions of a cycle. Empty where the
-    /// report has no certificate.
+    /// The positions of a serial order, or with an alarm the transactions of a cycle. Empty where
+    /// the report has no certificate.
     pub fn certificate(&self) -> &[usize]
         ensures { result.now ≡ self.now.certificate }
     {

@@ -32,7 +32,8 @@ fn verdict_of(line: &[u8]) -> Option<Part>
     }
 }
 
-/// What comes after a thread, which is not looked at, or the verdict on a line, if it has one of them.
+/// What comes after a thread, which is not looked at, or the verdict on a line, if it has one of
+/// them.
 pub fn thread_or_verdict(line: &[u8]) -> Option<Part>
     ensures { result ≡ thread_or_verdict line.now }
 {

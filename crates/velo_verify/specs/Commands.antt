@@ -22,8 +22,8 @@ VerifiesLog claim options store stdout f =
     ⊎ ((read : Reading) × store.disk.gives options.input.now read
     × VerifiesInput claim read stdout f × store.is_kept)
 
--- REPORT is read first. Where it is not read or claims nothing, nothing is printed. No file is opened
--- to be written.
+-- REPORT is read first. Where it is not read or claims nothing, nothing is printed. No file is
+-- opened to be written.
 abbrev pub DoesVerify : VerifyOptions → Store → Writing → Fate → Type 0
 DoesVerify options store stdout f =
     (LacksAt report_file store.disk options.report.now f × WritesNowhere store stdout)

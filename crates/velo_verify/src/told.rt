@@ -49,7 +49,8 @@ fn put_outcome(buffer: &mut [u8], outcome: Outcome) -> usize
 
 /// Writes the line of an outcome.
 fn write_outcome<O: Sink>(outcome: Outcome, out: &mut O) -> Result<(), WriteFault>
-    ensures { Delivers (writing O.contents O.failures out.old out.new) (outcome_line outcome) result }
+    ensures { Delivers (writing O.contents O.failures out.old out.new)
+        (outcome_line outcome) result }
 {
     let mut buffer = [0u8; LINE_ROOM];
     let end = put_outcome(&mut buffer, outcome);

@@ -85,8 +85,8 @@ fn verify_claim<F: Files, O: Sink>(
     }
 }
 
-/// Judges by its certificate what the report that was asked for claims of the log. The report is read
-/// first.
+/// Judges by its certificate what the report that was asked for claims of the log. The report is
+/// read first.
 pub fn verify_file<F: Files, O: Sink>(
     alloc: Global,
     options: &VerifyOptions,
