@@ -1,7 +1,7 @@
 use Rattle.std.proofs.Common.{inl, inr, refl}
 use Rattle.velo_inputs.proofs.OnSiting.{sites_found, sites_lacking, sites_unread}
-use Rattle.velo_log_commands.proofs.explaining.CommandByNames.do_by.Goals as goal
-use Rattle.velo_log_commands.proofs.explaining.CommandByNames.do_by.Goals.{in-Ok-sites_in, in-Err-sites_in}
+use Rattle.velo_log_commands.proofs.explaining.CommandExplainOptionsByNames.do_by.Goals as goal
+use Rattle.velo_log_commands.proofs.explaining.CommandExplainOptionsByNames.do_by.Goals.{in-Ok-sites_in, in-Err-sites_in}
 
 pub returns-in-Err : goal.returns-in-Err
 returns-in-Err g c = inl (sites_unread (g.F.Files.disk c.args.files.now) c.args.self.now.options.now.sites c.in-Err.fate c.in-Err.ensures.unread, (refl, (refl, refl)))
