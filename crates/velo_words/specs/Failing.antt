@@ -27,10 +27,10 @@ reason_of Full = codes "no room is left"
 reason_of Other = codes "the system refused it"
 
 -- "velodrome: PATH: cannot open LOG: there is no such file"
-unfoldable pub failure_words : List ℕ → List ℕ → Role → Reason → List ℕ
-failure_words path verb role reason =
-    joined (codes "velodrome: " ∷ path ∷ codes ": cannot " ∷ verb ∷ codes " " ∷ word_of role
-    ∷ codes ": " ∷ reason_of reason ∷ codes "\n" ∷ [])
+unfoldable pub failure_text : List ℕ → List ℕ → List ℕ → List ℕ → List ℕ
+failure_text path verb word reason =
+    joined (codes "velodrome: " ∷ path ∷ codes ": cannot " ∷ verb ∷ codes " " ∷ word
+    ∷ codes ": " ∷ reason ∷ codes "\n" ∷ [])
 
 -- the files say that the file of this role failed, which is at this path, for this reason
 abbrev pub IsFailure : (List ℕ → Reason → Type 0) → Request → Role → List ℕ → Reason → Type 0
@@ -46,4 +46,4 @@ pub record SaysFailure (failed : List ℕ → Reason → Type 0) (request : Requ
   pub path : List ℕ
   pub reason : Reason
   pub is_failure : IsFailure failed request role path reason
-  pub said : words ≡ failure_words path verb role reason
+  pub said : words ≡ failure_text path verb (word_of role) (reason_of reason)

@@ -1,6 +1,7 @@
 //! Which file could not be opened, read or written, in words.
-ghost use Rattle.std.specs.Prelude.{◌≡◌, ⊤, ℕ, List, IfOk, IfSome, option_map};
-ghost use Rattle.velo_words.specs.Failing.{IsFailure, SaysFailure, failure_words, reason_of, verb_of};
+ghost use Rattle.std.specs.Prelude.{◌≡◌, ◌++◌, ⊤, ℕ, List, IfOk, IfSome, OnOk, option_map};
+ghost use Rattle.velo_words.specs.Failing.{IsFailure, SaysFailure, failure_text, reason_of, verb_of};
+ghost use Rattle.velo_words.specs.Roles.{word_of};
 ghost use Rattle.velo_words.specs.declared.failing.Reason.{Reason as ReasonOf};
 
 use crate::roles::{ROLES, Role, asks_for_words, path_of, word_of};
@@ -96,32 +97,40 @@ fn failed_of<'a, F: Recall>(request: &Request<'a>, files: &F) -> Option<Failed<'
     None
 }
 
-/// What is said of a file that failed.
-///
-/// # Errors
-/// `Memory` if an allocation failed.
-#[tactic(auto, unfolding(crate::specs::Failing::failure_words))]
-fn failure_words(
-    alloc: Global,
+/// Adds what is said of a file, by what was to be done, its word and the reason.
+#[tactic(auto, unfolding(crate::specs::Failing::failure_text))]
+fn add_failure(
+    page: &mut Page,
     path: &str,
     verb: &str,
-    role: Role,
-    reason: Reason,
-) -> Result<Page, Memory>
-    ensures { IfOk result (λ page. page ≡ failure_words path.now verb.now role reason) }
+    word: &str,
+    reason: &str,
+) -> Result<(), Memory>
+    ensures { OnOk result (page.new
+        ≡ page.old ++ failure_text path.now verb.now word.now reason.now) }
 {
-    let mut page = Page::new(alloc);
     page.add(&[
         Piece::Text("velodrome: "),
         Piece::Text(path),
         Piece::Text(": cannot "),
         Piece::Text(verb),
         Piece::Text(" "),
-        Piece::Text(word_of(role)),
+        Piece::Text(word),
         Piece::Text(": "),
-        Piece::Text(reason_of(reason)),
+        Piece::Text(reason),
         Piece::Text("\n"),
-    ])?;
+    ])
+}
+
+/// What is said of a file that failed.
+fn failure_words(alloc: Global, verb: &str, failed: &Failed) -> Result<Page, Memory>
+    ensures { IfOk result (λ page. page ≡ failure_text failed.now.path.now verb.now
+        (word_of failed.now.role) (reason_of failed.now.reason)) }
+{
+    let mut page = Page::new(alloc);
+    let word = word_of(failed.role);
+    let reason = reason_of(failed.reason);
+    add_failure(&mut page, failed.path, verb, word, reason)?;
     Ok(page)
 }
 
@@ -140,5 +149,5 @@ pub fn words_of_failure<F: Recall>(
     }
     let verb = verb_of(fate)?;
     let failed = failed_of(request, files)?;
-    failure_words(alloc, failed.path, verb, failed.role, failed.reason).ok()
+    failure_words(alloc, verb, &failed).ok()
 }

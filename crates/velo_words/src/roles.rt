@@ -1,5 +1,5 @@
 //! The files of a request, by what each is for.
-ghost use Rattle.std.specs.Prelude.{◌≡◌, None, option_map};
+ghost use Rattle.std.specs.Prelude.{◌≡◌, option_map};
 ghost use Rattle.velo_words.specs.Roles.{asks_for_words, known_of, log_path_of, map_of, names_of, path_of, picture_of, saved_log_of, saved_names_of, sites_of, turns_of, word_of, work_path_of};
 
 use velo_request::{Request, ScheduleSource};

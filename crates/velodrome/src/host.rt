@@ -17,6 +17,15 @@ enum Opened {
     StandardInput(Stdin),
 }
 
+impl Read for Opened {
+    fn read(&mut self, piece: &mut [u8]) -> io::Result<usize> {
+        match self {
+            Opened::File(file) => file.read(piece),
+            Opened::StandardInput(input) => input.read(piece),
+        }
+    }
+}
+
 /// What is read, and the notes of what fails.
 #[derive(Drop)]
 pub struct HostInput<'a> {
@@ -26,10 +35,7 @@ pub struct HostInput<'a> {
 
 impl Read for HostInput<'_> {
     fn read(&mut self, piece: &mut [u8]) -> io::Result<usize> {
-        let answer = match &mut self.opened {
-            Opened::File(file) => file.read(piece),
-            Opened::StandardInput(input) => input.read(piece),
-        };
+        let answer = self.opened.read(piece);
         if let Err(error) = &answer {
             self.notes.fail_read(error.kind());
         }

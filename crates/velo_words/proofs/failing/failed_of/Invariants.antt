@@ -1,4 +1,4 @@
-use Rattle.std.proofs.Common.{⊤}
+use Rattle.std.specs.Prelude.{⊤}
 use Rattle.velo_words.proofs.failing.failed_of.Given as goal
 
 abbrev pub invariant-loop-role : goal.invariant-loop-role
