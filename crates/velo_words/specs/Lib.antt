@@ -1,8 +1,10 @@
+pub mod Beside
 pub mod Events
-pub mod Lines
 pub mod Header
 pub mod Line
+pub mod Lines
 pub mod Log
-pub mod Saying
+pub mod Place
 pub mod Refused
+pub mod Saying
 pub mod Work

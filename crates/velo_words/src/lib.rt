@@ -1,11 +1,13 @@
 //! What is wrong, in words: with path, line, the text there and the reason.
 #![tactic(auto)]
 
+mod beside;
 mod events;
 mod header;
 mod line;
 mod lines;
 mod log;
+mod place;
 mod refused;
 mod saying;
 mod work;
