@@ -1,5 +1,7 @@
 pub mod Beside
 pub mod Events
+pub mod Faults
+pub mod Given
 pub mod Header
 pub mod Line
 pub mod Lines
@@ -7,4 +9,5 @@ pub mod Log
 pub mod Place
 pub mod Refused
 pub mod Saying
+pub mod Schedule
 pub mod Work

@@ -3,6 +3,8 @@
 
 mod beside;
 mod events;
+mod faults;
+mod given;
 mod header;
 mod line;
 mod lines;
@@ -10,6 +12,7 @@ mod log;
 mod place;
 mod refused;
 mod saying;
+mod schedule;
 mod work;
 
 pub use header::{HeaderFault, header_fault_of};

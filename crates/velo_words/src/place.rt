@@ -35,8 +35,8 @@ fn add_line_words(
     bytes: &[u8],
     complaint: Complaint,
 ) -> Result<(), Memory>
-    ensures { OnOk result (page.new ≡ page.old ++ line_words path.now bytes.now complaint.line
-        complaint.reason.now complaint.help.now) }
+    ensures { OnOk result (page.new ≡ page.old ++ line_words path.now bytes.now complaint.entry.line
+        complaint.entry.reason.now complaint.entry.help.now) }
 {
     add_line(page, path, complaint.line)?;
     add_text(page, complaint.reason)?;
@@ -54,8 +54,8 @@ fn add_place(
     bytes: &[u8],
     complaint: Complaint,
 ) -> Result<(), Memory>
-    ensures { OnOk result (page.new ≡ page.old ++ place_words path.now bytes.now complaint.line
-        complaint.reason.now complaint.help.now) }
+    ensures { OnOk result (page.new ≡ page.old ++ place_words path.now bytes.now complaint.entry.line
+        complaint.entry.reason.now complaint.entry.help.now) }
 {
     if complaint.line == 0 {
         return add_whole(page, path, complaint.reason, complaint.help);
@@ -73,8 +73,8 @@ pub(crate) fn place_words(
     bytes: &[u8],
     complaint: Complaint,
 ) -> Result<Page, Memory>
-    ensures { IfOk result (λ page. page ≡ place_words path.now bytes.now complaint.line
-        complaint.reason.now complaint.help.now) }
+    ensures { IfOk result (λ page. page ≡ place_words path.now bytes.now complaint.entry.line
+        complaint.entry.reason.now complaint.entry.help.now) }
 {
     let mut page = Page::new(alloc);
     add_place(&mut page, alloc, path, bytes, complaint)?;
