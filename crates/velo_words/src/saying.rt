@@ -95,9 +95,7 @@ fn words_of_schedule<F: Files>(alloc: Global, source: ScheduleSource, files: &F)
     ensures { IfSome result (λ page. SaysSchedule (F.disk files.now) source.entry page) }
 {
     match source {
-        ScheduleSource::Text(text) => {
-            numbers_words(alloc, "--schedule", text.as_bytes()).ok()
-        }
+        ScheduleSource::Text(text) => { numbers_words(alloc, "--schedule", text.as_bytes()).ok() }
         ScheduleSource::Turns(text) => turns_words(alloc, "--turns", text.as_bytes()).ok(),
         ScheduleSource::File(path) => words_of_turns_file(alloc, path, files),
     }

@@ -9,9 +9,21 @@ const LINES: &[(&str, bool, &str)] = &[
     ("velodrome check a.log", true, "velodrome check --why a.log"),
     ("velodrome check a.log", false, "velodrome check a.log"),
     ("velodrome check", true, "velodrome check --why"),
-    ("velodrome carry a --log b", true, "velodrome carry --why a --log b"),
-    ("velodrome replay -- --w", true, "velodrome replay --why -- --w"),
-    ("velodrome run a.work --why", true, "velodrome run a.work --why"),
+    (
+        "velodrome carry a --log b",
+        true,
+        "velodrome carry --why a --log b",
+    ),
+    (
+        "velodrome replay -- --w",
+        true,
+        "velodrome replay --why -- --w",
+    ),
+    (
+        "velodrome run a.work --why",
+        true,
+        "velodrome run a.work --why",
+    ),
     ("velodrome explain a.log", true, "velodrome explain a.log"),
     ("velodrome help check", true, "velodrome help check"),
 ];
@@ -31,7 +43,11 @@ fn are_passed(alloc: Global, line: &str, is_terminal: bool, passed: &str) -> Opt
 #[test]
 fn why_is_on_on_a_terminal(rt: HostRuntime) -> Result<(), Fail> {
     for (line, is_terminal, passed) in LINES {
-        assert_eq!(rt; are_passed(rt.alloc(), line, *is_terminal, passed), Some(true), "{line}");
+        assert_eq!(rt;
+            are_passed(rt.alloc(), line, *is_terminal, passed),
+            Some(true),
+            "{line}"
+        );
     }
     Ok(())
 }
