@@ -70,9 +70,7 @@ pub fn asks_for_words(request: &Request) -> bool
         Request::Carry(options) => options.why,
         Request::Run(options) => options.why,
         Request::Replay(options) => options.run.why,
-        Request::Explain(_) | Request::Explore(_) | Request::Watch(_) => true,
-        Request::WatchEndless(_) | Request::Audit(_) => true,
-        Request::Thin(_) | Request::Predict(_) => true,
+        _ => true,
     }
 }
 
@@ -133,7 +131,7 @@ fn log_path_of<'a>(request: &Request<'a>) -> Option<&'a str>
         Request::Audit(options) => Some(options.input),
         Request::Thin(options) => Some(options.input),
         Request::Predict(options) => Some(options.input),
-        Request::Replay(_) | Request::Run(_) | Request::Explore(_) => None,
+        _ => None,
     }
 }
 
