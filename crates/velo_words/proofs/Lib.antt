@@ -2,3 +2,4 @@ mod OnEvents
 mod OnLines
 mod OnPages
 mod OnSaying
+mod OnWords

@@ -1,8 +1,15 @@
+pub mod Beside
 pub mod Events
-pub mod Lines
+pub mod Failing
+pub mod Faults
+pub mod Given
 pub mod Header
 pub mod Line
+pub mod Lines
 pub mod Log
-pub mod Saying
+pub mod Place
 pub mod Refused
+pub mod Roles
+pub mod Saying
+pub mod Schedule
 pub mod Work

@@ -1,5 +1,5 @@
 -- What a command says of its end, before its last line.
-use Rattle.std.specs.Prelude.{◌≡◌, ◌⊎◌, ℕ, List, ◌++◌, Option, Some, None, IfSome, if◌then◌else◌}
+use Rattle.std.specs.Prelude.{◌≡◌, ◌⊎◌, ℕ, List, ◌++◌, codes, Option, Some, None, IfSome, if◌then◌else◌}
 use Rattle.velo_delivery.specs.Disk.{Disk}
 use Rattle.velo_delivery.specs.Writing.{Writing}
 use Rattle.velo_events.specs.declared.config.Bounds.{Bounds}
@@ -10,15 +10,26 @@ use Rattle.velo_fate.specs.Format.{Reads, bytes_up_to}
 use Rattle.velo_fate.specs.declared.fate.Fate.{Fate}
 use Rattle.velo_fate.specs.declared.fate.Fate.TheVariants as fate
 use Rattle.velo_fate.specs.declared.fault.CheckFault.TheVariants as check_fault
-use Rattle.velo_logtext.specs.declared.fault.LogFault.{LogFault}
+use Rattle.velo_names.specs.declared.fault.NamesFault.TheVariants as names_fault
 use Rattle.velo_request.specs.declared.request.Request.{Request}
 use Rattle.velo_request.specs.declared.request.Request.TheVariants.{Audit, Carry, Check, Explain, Explore, Predict, Replay, Run, Thin, Verify, Watch}
-use Rattle.velo_workload.specs.declared.fault.WorkFault.{WorkFault}
+use Rattle.velo_request.specs.declared.request.ScheduleSource.{ScheduleSource}
+use Rattle.velo_request.specs.declared.request.ScheduleSource.TheVariants as source
+use Rattle.velo_schedule_text.specs.declared.limits.TheConstants.{MAX_SCHEDULE_BYTES}
+use Rattle.velo_schedule_text.specs.declared.schedule.ScheduleFault.TheVariants as schedule_fault
+use Rattle.velo_sites.specs.declared.fault.SitesFault.TheVariants as sites_fault
+use Rattle.velo_suppressions.specs.declared.fault.ListFault.TheVariants as list_fault
 use Rattle.velo_workload.specs.declared.fault.WorkFault.TheVariants as work_fault
+use Rattle.velo_words.specs.declared.failing.Reason.{Reason}
 use Rattle.velo_words.specs.Events.{HasEvent}
-use Rattle.velo_words.specs.Log.{log_words}
+use Rattle.velo_words.specs.Failing.{SaysFailure}
+use Rattle.velo_words.specs.Faults.{fault_words}
+use Rattle.velo_words.specs.Beside.{other_sites_words}
+use Rattle.velo_words.specs.Given.{list_of, names_of, schedule_of, sites_of}
+use Rattle.velo_words.specs.Schedule.{numbers_words, schedule_words, turns_words}
+use Rattle.velo_words.specs.declared.faults.FileFault.{FileFault}
+use Rattle.velo_words.specs.declared.faults.FileFault.TheVariants as file
 use Rattle.velo_words.specs.Refused.{refused_words, wrong_value_words}
-use Rattle.velo_words.specs.Work.{work_words}
 
 -- the path of the log whose faults are said in words, if the request has one. A log that is watched
 -- without an end can be longer than others may be: its limits are other ones
@@ -40,20 +51,22 @@ work_of (Run options) = if options.why then Some options.input.now else None
 work_of (Replay options) = if options.run.why then Some options.run.input.now else None
 work_of _ = None
 
--- what is said of a fault of the log at a path: its words, by bytes that the file gave when it was
+-- what is said of a fault of the file at a path: its words, by bytes that the file gave when it was
 -- read once more, all of them or more than so many
-pub record SaysLog (disk : Disk) (path : List ℕ) (fault : LogFault) (words : List ℕ) : Type 0 where
+pub record SaysFault (disk : Disk) (path : List ℕ) (fault : FileFault) (words : List ℕ) : Type 0 where
   pub most : ℕ
   pub bytes : List ℕ
   pub read : Reads (bytes_up_to most) disk path bytes
-  pub said : words ≡ log_words path bytes fault
+  pub said : words ≡ fault_words path bytes fault
 
--- the same of a workload
-pub record SaysWork (disk : Disk) (path : List ℕ) (fault : WorkFault) (words : List ℕ) : Type 0 where
-  pub most : ℕ
-  pub bytes : List ℕ
-  pub read : Reads (bytes_up_to most) disk path bytes
-  pub said : words ≡ work_words path bytes fault
+-- what is said of a text that is no schedule, by the option that has it, or by the bytes that its
+-- file gave
+abbrev pub SaysSchedule : Disk → ScheduleSource → List ℕ → Type 0
+SaysSchedule disk (source.Text text) words = words ≡ numbers_words (codes "--schedule") text.now
+SaysSchedule disk (source.Turns text) words = words ≡ turns_words (codes "--turns") text.now
+SaysSchedule disk (source.File path) words =
+    (bytes : List ℕ) × Reads (bytes_up_to MAX_SCHEDULE_BYTES) disk path.now bytes
+    × (words ≡ schedule_words path.now bytes)
 
 -- by the header, the events before it and the event: that it is refused, or else reads a wrong value
 abbrev pub event_words : List ℕ → Option Refusal → Bounds → List Event → Event → List ℕ
@@ -80,20 +93,34 @@ pub record SaysEvent (disk : Disk) (path : List ℕ) (refusal : Option Refusal) 
 -- what is said of a fate
 abbrev pub IsSaid : Disk → Request → Fate → List ℕ → Type 0
 IsSaid disk request (fate.Check (check_fault.Log fault)) words =
-    IfSome (log_of request) (λ path. SaysLog disk path fault words)
+    IfSome (log_of request) (λ path. SaysFault disk path (file.Log fault) words)
 IsSaid disk request (fate.Check (check_fault.Refused p refusal)) words =
     IfSome (log_of request) (λ path. SaysEvent disk path (Some refusal) p words)
 IsSaid disk request (fate.Check (check_fault.WrongValue p)) words =
     IfSome (log_of request) (λ path. SaysEvent disk path None p words)
 IsSaid disk request (fate.Work work_fault.Memory) words = ⊥
 IsSaid disk request (fate.Work fault) words =
-    IfSome (work_of request) (λ path. SaysWork disk path fault words)
+    IfSome (work_of request) (λ path. SaysFault disk path (file.Work fault) words)
+IsSaid disk request (fate.Schedule schedule_fault.Bad) words =
+    IfSome (schedule_of request) (λ source. SaysSchedule disk source words)
+IsSaid disk request (fate.Names names_fault.Memory) words = ⊥
+IsSaid disk request (fate.Names fault) words =
+    IfSome (names_of request) (λ path. SaysFault disk path (file.Names fault) words)
+IsSaid disk request (fate.Sites sites_fault.Memory) words = ⊥
+IsSaid disk request (fate.Sites fault) words =
+    IfSome (sites_of request) (λ path. SaysFault disk path (file.Sites fault) words)
+IsSaid disk request fate.OtherSites words =
+    IfSome (sites_of request) (λ path. words ≡ other_sites_words path)
+IsSaid disk request (fate.List list_fault.Memory) words = ⊥
+IsSaid disk request (fate.List fault) words =
+    IfSome (list_of request) (λ path. SaysFault disk path (file.List fault) words)
 IsSaid disk request f words = ⊥
 
--- The program ends by its fate: with its line and its status; or what is said of the fate goes out
--- before the line, and this is the status, or one of the two breaks off, and the status is 5.
-abbrev pub EndsInWords : Disk → Request → Fate → Writing → ℕ → Type 0
-EndsInWords disk request f stderr result =
+-- The program ends by its fate: with its line and its status; or what is said of the fate, or of the
+-- file that failed, goes out before the line, and this is the status, or one of the two breaks off,
+-- and the status is 5.
+abbrev pub EndsInWords : Disk → (List ℕ → Reason → Type 0) → Request → Fate → Writing → ℕ → Type 0
+EndsInWords disk failed request f stderr result =
     Ends f stderr result
-    ⊎ ((words : List ℕ) × IsSaid disk request f words
+    ⊎ ((words : List ℕ) × (IsSaid disk request f words ⊎ SaysFailure failed request f words)
     × Closes (status_of f) (words ++ line_of f) stderr result)

@@ -1,7 +1,6 @@
 -- What is said of a text that is no workload.
 use Rattle.std.specs.Prelude.{ℕ, ◌==◌, List, [], ◌∷◌, codes, if◌then◌else◌}
-use Rattle.velo_explain.specs.Pieces.{joined}
-use Rattle.velo_words.specs.Lines.{line_at, of_file, of_line, shown_line}
+use Rattle.velo_words.specs.Place.{place_words}
 use Rattle.velo_workload.specs.declared.fault.WorkFault.{WorkFault}
 use Rattle.velo_workload.specs.declared.fault.WorkFault.TheVariants.{BadLine, Memory, TooMany, Twice, Unknown, Unmatched}
 
@@ -14,23 +13,19 @@ work_line (Unmatched n) = n
 work_line (TooMany n) = n
 work_line Memory = 0
 
+abbrev pub line_reason : WorkFault → List ℕ
+line_reason (BadLine n) = codes "this is no statement, or none for this place"
+line_reason (Unknown n) = codes "the variable, lock or thread is not declared"
+line_reason (Twice n) = codes "the variable, lock or thread is declared already"
+line_reason (Unmatched n) = codes "a repeat has no done, or a done no repeat"
+line_reason (TooMany n) = codes "one too many of its kind, or the body of the thread costs too much"
+line_reason Memory = []
+
 abbrev pub work_reason : WorkFault → List ℕ
-work_reason (BadLine n) = codes "this is no statement, or none for this place"
-work_reason (Unknown n) = codes "the variable, lock or thread is not declared"
-work_reason (Twice n) = codes "the variable, lock or thread is declared already"
-work_reason (Unmatched n) = codes "a repeat has no done, or a done no repeat"
-work_reason (TooMany n) = codes "one too many of its kind, or the body of the thread costs too much"
-work_reason Memory = []
-
-unfoldable pub whole_words : List ℕ → List ℕ
-whole_words path = joined (of_file path ∷ codes "this is no text of UTF-8, has no thread, or is too long\n" ∷ [])
-
-unfoldable pub work_line_words : List ℕ → List ℕ → ℕ → List ℕ → List ℕ
-work_line_words path bytes n reason =
-    joined (of_line path n ∷ reason ∷ codes "\n" ∷ shown_line (line_at n bytes) ∷ [])
+work_reason fault =
+    if work_line fault == 0 then codes "this is no text of UTF-8, has no thread, or is too long"
+    else line_reason fault
 
 -- by the path and the bytes of the text
 abbrev pub work_words : List ℕ → List ℕ → WorkFault → List ℕ
-work_words path bytes fault =
-    if work_line fault == 0 then whole_words path
-    else work_line_words path bytes (work_line fault) (work_reason fault)
+work_words path bytes fault = place_words path bytes (work_line fault) (work_reason fault) []

@@ -1,24 +1,33 @@
 //! What a command says of its end, before its last line.
-ghost use Rattle.std.specs.Prelude.{◌≡◌, ◌≤◌, ◌++◌, IfOk, IfSome, None, Some, if◌then◌else◌, length, option_map};
+ghost use Rattle.std.specs.Prelude.{◌≡◌, ◌≤◌, ◌++◌, ◌⊎◌, IfOk, IfSome, None, Some, if◌then◌else◌, length, option_map};
+ghost use Rattle.velo_request.specs.declared.request.ScheduleSource.TheVariants.{File as FileOf};
 ghost use Rattle.velo_delivery.specs.Writing.{writing};
 ghost use Rattle.velo_events.specs.declared.limits.TheConstants.{MAX_EVENTS};
 ghost use Rattle.velo_fate.specs.Fate.{Closes, line_of, status_of};
-ghost use Rattle.velo_words.specs.Saying.{EndsInWords, IsSaid, IsTextAt, SaysEvent, SaysLog, SaysWork, event_words, log_of, work_of};
+ghost use Rattle.velo_words.specs.Beside.{other_sites_words};
+ghost use Rattle.velo_words.specs.Failing.{SaysFailure};
+ghost use Rattle.velo_words.specs.Saying.{EndsInWords, IsSaid, IsTextAt, SaysEvent, SaysFault, SaysSchedule, event_words, log_of, work_of};
 
+use crate::beside::other_sites_words;
 use crate::events::events_up_to;
-use crate::log::log_words;
+use crate::failing::{Recall, words_of_failure};
+use crate::faults::{FileFault, fault_words, most_bytes_for, most_up_to};
+use crate::given::{list_of, names_of, schedule_of, sites_of};
 use crate::refused::{refused_words, wrong_value_words};
-use crate::work::work_words;
+use crate::schedule::{numbers_words, schedule_words, turns_words};
 use std::alloc::Global;
 use velo_bytes::{Bytes, Sink, WriteFault, write_all};
 use velo_delivery::Files;
 use velo_events::{Bounds, Event, Memory, Refusal};
 use velo_explain::Page;
 use velo_fate::{CheckFault, Fate, end_with, read_file};
-use velo_logtext::LogFault;
-use velo_request::Request;
+use velo_names::NamesFault;
 use velo_request::status::FAILED;
-use velo_workload::{MAX_WORKLOAD_BYTES, WorkFault};
+use velo_request::{Request, ScheduleSource};
+use velo_schedule_text::{MAX_SCHEDULE_BYTES, ScheduleFault};
+use velo_sites::SitesFault;
+use velo_suppressions::ListFault;
+use velo_workload::WorkFault;
 
 /// The path where words are asked for.
 fn if_asked(why: bool, path: &str) -> Option<&str>
@@ -57,51 +66,49 @@ fn work_of<'a>(request: &Request<'a>) -> Option<&'a str>
     }
 }
 
-/// The most bytes that are read to say what is wrong with a line: as many as the lines up to it can
-/// have, and some more.
-fn most_up_to(line: usize) -> usize {
-    line.saturating_mul(65).saturating_add(128)
-}
-
-/// The last line that is read to say what a fault is.
-fn last_line_of(fault: LogFault) -> usize {
-    match fault {
-        LogFault::BadLine(n) | LogFault::Truncated(n) => n,
-        _ => 1,
-    }
-}
-
-/// What is said of a fault of the log at a path, whose bytes are read again. Only what is known to be
-/// a file is opened, as another thing could keep its reader waiting.
-fn words_of_log<F: Files>(alloc: Global, path: &str, fault: LogFault, files: &F) -> Option<Page>
-    ensures { IfSome result (SaysLog (F.disk files.now) path.now fault) }
+/// What is said of a fault of the file at a path, whose bytes are read again. Only what is known to
+/// be a file is opened, as another thing could keep its reader waiting.
+fn words_of_file<F: Files>(alloc: Global, path: &str, fault: FileFault, files: &F) -> Option<Page>
+    ensures { IfSome result (SaysFault (F.disk files.now) path.now fault) }
 {
     if !files.are_one(path, path) {
         return None;
     }
-    match read_file(alloc, path, most_up_to(last_line_of(fault)), files) {
-        Ok(bytes) => match log_words(alloc, path, &bytes, fault) {
-            Ok(page) => Some(page),
-            Err(_) => None,
-        },
+    match read_file(alloc, path, most_bytes_for(fault), files) {
+        Ok(bytes) => fault_words(alloc, path, &bytes, fault).ok(),
         Err(_) => None,
     }
 }
 
-/// What is said of a fault of the workload at a path, whose bytes are read again.
-fn words_of_work<F: Files>(alloc: Global, path: &str, fault: WorkFault, files: &F) -> Option<Page>
-    ensures { IfSome result (SaysWork (F.disk files.now) path.now fault) }
+/// What is said of the file at a path that says no turns, by its bytes, which are read again.
+fn words_of_turns_file<F: Files>(alloc: Global, path: &str, files: &F) -> Option<Page>
+    ensures { IfSome result (λ page. SaysSchedule (F.disk files.now) (FileOf path.entry) page) }
 {
     if !files.are_one(path, path) {
         return None;
     }
-    match read_file(alloc, path, MAX_WORKLOAD_BYTES, files) {
-        Ok(bytes) => match work_words(alloc, path, &bytes, fault) {
-            Ok(page) => Some(page),
-            Err(_) => None,
-        },
+    match read_file(alloc, path, MAX_SCHEDULE_BYTES, files) {
+        Ok(bytes) => schedule_words(alloc, path, &bytes).ok(),
         Err(_) => None,
     }
+}
+
+/// What is said of a text that is no schedule.
+fn words_of_schedule<F: Files>(alloc: Global, source: ScheduleSource, files: &F) -> Option<Page>
+    ensures { IfSome result (λ page. SaysSchedule (F.disk files.now) source.entry page) }
+{
+    match source {
+        ScheduleSource::Text(text) => { numbers_words(alloc, "--schedule", text.as_bytes()).ok() }
+        ScheduleSource::Turns(text) => turns_words(alloc, "--turns", text.as_bytes()).ok(),
+        ScheduleSource::File(path) => words_of_turns_file(alloc, path, files),
+    }
+}
+
+/// What is said of sites that are not those of the log, by the path of their file.
+fn words_of_other_sites(alloc: Global, path: &str) -> Option<Page>
+    ensures { IfSome result (λ page. page ≡ other_sites_words path.now) }
+{
+    other_sites_words(alloc, path).ok()
 }
 
 /// What is said of an event that is refused, or else reads a wrong value.
@@ -165,7 +172,7 @@ fn words_of<F: Files>(alloc: Global, request: &Request, fate: Fate, files: &F) -
 {
     match fate {
         Fate::Check(CheckFault::Log(fault)) => {
-            words_of_log(alloc, log_of(request)?, fault, files)
+            words_of_file(alloc, log_of(request)?, FileFault::Log(fault), files)
         }
         Fate::Check(CheckFault::Refused { position, refusal }) => {
             words_of_event(alloc, log_of(request)?, position, Some(refusal), files)
@@ -174,8 +181,42 @@ fn words_of<F: Files>(alloc: Global, request: &Request, fate: Fate, files: &F) -
             words_of_event(alloc, log_of(request)?, position, None, files)
         }
         Fate::Work(WorkFault::Memory) => None,
-        Fate::Work(fault) => words_of_work(alloc, work_of(request)?, fault, files),
+        Fate::Work(fault) => {
+            words_of_file(alloc, work_of(request)?, FileFault::Work(fault), files)
+        }
+        Fate::Schedule(ScheduleFault::Bad) => {
+            words_of_schedule(alloc, schedule_of(request)?, files)
+        }
+        Fate::Names(NamesFault::Memory) => None,
+        Fate::Names(fault) => {
+            words_of_file(alloc, names_of(request)?, FileFault::Names(fault), files)
+        }
+        Fate::Sites(SitesFault::Memory) => None,
+        Fate::Sites(fault) => {
+            words_of_file(alloc, sites_of(request)?, FileFault::Sites(fault), files)
+        }
+        Fate::OtherSites => words_of_other_sites(alloc, sites_of(request)?),
+        Fate::List(ListFault::Memory) => None,
+        Fate::List(fault) => {
+            words_of_file(alloc, list_of(request)?, FileFault::List(fault), files)
+        }
         _ => None,
+    }
+}
+
+/// What is said of a file that failed, or else of what a file says.
+fn said_of<F: Files + Recall>(
+    alloc: Global,
+    request: &Request,
+    fate: Fate,
+    files: &F,
+) -> Option<Page>
+    ensures { IfSome result (λ page. IsSaid (F.disk files.now) request.now fate page
+        ⊎ SaysFailure (F.failed files.now) request.now fate page) }
+{
+    match words_of_failure(alloc, request, fate, files) {
+        Some(page) => Some(page),
+        None => words_of(alloc, request, fate, files),
     }
 }
 
@@ -193,17 +234,17 @@ fn end_after<E: Sink>(words: &[u8], fate: &Fate, err: &mut E) -> u8
 /// Reports how a run ended, in words before the line where the request asks for them and they can be
 /// had, and returns the status to end with: that of `end_line`, or [`FAILED`] where what is to be
 /// written could not be written.
-pub fn end_in_words<F: Files, E: Sink>(
+pub fn end_in_words<F: Files + Recall, E: Sink>(
     alloc: Global,
     request: &Request,
     fate: &Fate,
     files: &F,
     err: &mut E,
 ) -> u8
-    ensures { EndsInWords (F.disk files.now) request.now fate.now
+    ensures { EndsInWords (F.disk files.now) (F.failed files.now) request.now fate.now
         (writing E.contents E.failures err.old err.new) result }
 {
-    match words_of(alloc, request, *fate, files) {
+    match said_of(alloc, request, *fate, files) {
         Some(page) => end_after(page.as_slice(), fate, err),
         None => end_with(fate, err),
     }

@@ -2,14 +2,18 @@
 #![tactic(auto)]
 
 mod host;
+mod notes;
 mod progress;
+mod why;
 
 use host::HostFiles;
+use notes::Notes;
 use progress::{ProgressLine, is_terminal};
 use std::io::ErrorKind;
 use std::process::ExitCode;
 use velo_bytes::WriterSink;
 use velo_cli::{end_without_words, run};
+use why::with_why;
 
 /// The words of the command line.
 fn words_of(rt: &HostRuntime) -> Result<Vec<String>, ErrorKind> {
@@ -23,21 +27,27 @@ fn words_of(rt: &HostRuntime) -> Result<Vec<String>, ErrorKind> {
 }
 
 fn main(rt: HostRuntime) -> ExitCode {
+    let notes = Notes::new();
     let mut out = WriterSink::new(rt.stdout());
     let mut err = WriterSink::new(rt.stderr());
     let told = WriterSink::new(rt.stderr());
-    let mut progress = ProgressLine::new(&rt, rt.alloc(), told, is_terminal(&rt));
-    let status = match words_of(&rt) {
-        Ok(words) => run(
+    let is_terminal = is_terminal(&rt);
+    let mut progress = ProgressLine::new(&rt, rt.alloc(), told, is_terminal);
+    let words = match words_of(&rt) {
+        Ok(words) => words,
+        Err(kind) => return ExitCode::from(end_without_words(kind, &mut err)),
+    };
+    let status = match with_why(rt.alloc(), &words, is_terminal) {
+        Ok(passed) => run(
             &rt,
             rt.alloc(),
-            words.as_slice(),
-            &mut HostFiles::new(&rt),
+            passed.as_slice(),
+            &mut HostFiles::new(&rt, &notes),
             &mut out,
             &mut err,
             &mut progress,
         ),
-        Err(kind) => end_without_words(kind, &mut err),
+        Err(_) => end_without_words(ErrorKind::OutOfMemory, &mut err),
     };
     ExitCode::from(status)
 }
