@@ -1,3 +1,4 @@
+//! How a run ends.
 use velo_events::{Refusal, ThreadId};
 
 /// How a run ends.

@@ -1,3 +1,4 @@
+//! What decides when live threads go on.
 ghost use Rattle.std.specs.Prelude.{IsTrue};
 
 use velo_events::ThreadId;
