@@ -2,6 +2,8 @@ pub mod OnRounds
 pub mod OnTold
 pub mod OnWitness
 pub mod OnAnswers
+pub mod OnPieces
+pub mod OnCuts
 pub mod OnAudit
 pub mod OnUnique
 pub mod OnCount

@@ -3,6 +3,9 @@
 #![tactic(auto)]
 
 mod count;
+mod cut;
+mod piece;
+mod pieces;
 mod round;
 mod rounds;
 mod told;

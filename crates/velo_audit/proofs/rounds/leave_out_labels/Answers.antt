@@ -4,7 +4,7 @@ use Rattle.velo_traces.specs.declared.block.Block.{Block}
 use Rattle.velo_filter.specs.Left.{with_labels}
 use Rattle.velo_filter.specs.Tables.{left_of}
 use Rattle.velo_filter.proofs.OnTables.{with_labels-nil, with_labels-push}
-use Rattle.velo_audit.proofs.rounds.leave_out_all.Goals as goal
+use Rattle.velo_audit.proofs.rounds.leave_out_labels.Goals as goal
 
 pub loop-block-init : goal.loop-block-init
 loop-block-init c = record { left = with_labels-nil (left_of c.args.left.now) }

@@ -3,7 +3,7 @@ use Rattle.velo_events.specs.WellFormed.{IsWellFormed}
 use Rattle.velo_filter.specs.Tables.{left_of}
 use Rattle.velo_audit.proofs.OnAnswers.{length-rest, length-places, RoundTells-check, IsRoundFault-check, if_ok, if_err}
 use Rattle.velo_filter.proofs.OnTurns.{IsWellFormed-rest}
-use Rattle.velo_audit.proofs.round.round.Goals as goal
+use Rattle.velo_audit.proofs.round.whole_round.Goals as goal
 
 pub thin-requires-clause-can_come_about : goal.thin-requires-clause-can_come_about
 thin-requires-clause-can_come_about c = record { bounds = c.args.config.now.bounds; well_formed = c.requires.well_formed }
