@@ -1,11 +1,13 @@
 -- Cuts: at the start, behind a round, and behind a piece.
 use Rattle.std.proofs.Common.{◌≡◌, ℕ, zero, suc, ◌+◌, ◌<◌, ◌≤◌, Bool, false, true, not, List, [], ◌∷◌, ◌++◌, length, map, take, drop, get_or, replicate, Option, Some, None, refl, sym, ap, ◌∙◌, subst, arith, ⊎_elim, append_assoc, append-nil, length-append}
-use Rattle.std.specs.Prelude.{All, Contains, IsTrue, IsFalse, slice_get, slice_index, ◌||◌, ◌&&◌}
-use Rattle.std.proofs.lemmas.Bool.{cases_Bool, both_ways, false_from_ne_true}
+use Rattle.std.specs.Prelude.{All, Contains, IsTrue, IsFalse, slice_get, slice_index, filter_map, ◌||◌, ◌&&◌, ◌==◌}
+use Rattle.std.proofs.lemmas.Bool.{cases_Bool, cases_lt, both_ways, false_from_ne_true, or_left, or_right, eq-eqb}
 use Rattle.std.proofs.lemmas.List.{take-append-drop, get_or_append_left, get_or-append-add, length-replicate}
-use Rattle.std.proofs.lemmas.Option.{slice_get-get_or, none-some}
+use Rattle.std.proofs.lemmas.Option.{slice_get-get_or, none-some, same_Some}
 use Rattle.velo_events.specs.declared.config.Bounds.{Bounds}
 use Rattle.velo_events.specs.declared.event.Event.{Event}
+use Rattle.velo_events.specs.declared.event.Label.{Label}
+use Rattle.velo_events.specs.declared.event.Kind.TheVariants.{Begin}
 use Rattle.velo_events.specs.Event.{is_begin}
 use Rattle.velo_events.specs.Block.{any_below, passes_at}
 use Rattle.velo_events.specs.Graph.{HasCycle}
@@ -93,7 +95,7 @@ module _ (left : Left) (labels : List ℕ) (log : List Event) (n : ℕ) (most : 
       (cases_Bool (stays left log m))
 
   first_of_rest-same : first_of_rest left' log n ≡ first_of_rest left log n
-  first_of_rest-same = ap (λ xs. Rattle.std.specs.Prelude.filter_map (slice_get log) xs) (staying-same n (omega arith))
+  first_of_rest-same = ap (λ xs. filter_map (slice_get log) xs) (staying-same n (omega arith))
 
   AreMarks-same_labels : (rows : List ℕ) → AreMarks left log n rows → AreMarks left' log n rows
   AreMarks-same_labels rows w = record {
@@ -130,14 +132,28 @@ module _ (left : Left) (log : List Event) (cut : Cut) (w : IsCut left log cut) (
 
 -- ---- labels that are begun, one position more
 
-pub AreBegun-more : (begun begun' : Left) (log : List Event) (n : ℕ) → AreBegun begun log n → ((l : ℕ) → IsTrue (begun.labels l) → IsTrue (begun'.labels l))
-    → ((e : Event) (l : ℕ) → slice_get log n ≡ Some e → label_begun e.kind ≡ Some l → IsTrue (begun'.labels l)) → AreBegun begun' log (n + 1)
-AreBegun-more begun begun' log n w keeps last = record {
+AreBegun-more : (begun begun' : Left) (log : List Event) (n : ℕ) → n < length log → AreBegun begun log n → ((l : ℕ) → IsTrue (begun.labels l) → IsTrue (begun'.labels l))
+    → ((l : ℕ) → label_begun (get_or log n past).kind ≡ Some l → IsTrue (begun'.labels l)) → AreBegun begun' log (n + 1)
+AreBegun-more begun begun' log n within w keeps last = record {
   each = λ b e l below here label. ⊎_elim
       (λ before. keeps l (w.each b e l before here label))
-      (λ at. let same : b ≡ n = omega (arith, below, at) in last e l (ap (slice_get log) (sym same) ∙ here) label)
-      (Rattle.std.proofs.lemmas.Bool.cases_lt b n);
+      (λ at.
+      let same : b ≡ n = omega (arith, below, at) in
+      let event = same_Some e (get_or log n past) (sym here ∙ (ap (slice_get log) same ∙ slice_get-get_or log n past within)) in
+      last l (ap (λ (f : Event). label_begun f.kind) (sym event) ∙ label))
+      (cases_lt b n);
 }
+
+pub AreBegun-none : (begun : Left) (log : List Event) (n : ℕ) → n < length log → AreBegun begun log n → label_begun (get_or log n past).kind ≡ None → AreBegun begun log (n + 1)
+AreBegun-none begun log n within w none = AreBegun-more begun begun log n within w (λ l h. h) (λ l label. absurd (none-some l (sym none ∙ label)))
+
+pub AreBegun-label : (begun begun' : Left) (log : List Event) (n : ℕ) → n < length log → AreBegun begun log n → (l : Label) → (get_or log n past).kind ≡ Begin l → begun' ≡ with_labels begun (l.0 ∷ []) → AreBegun begun' log (n + 1)
+unfolding is_listed
+AreBegun-label begun begun' log n within w l is more = AreBegun-more begun begun' log n within w
+    (λ k h. ap (λ (x : Left). x.labels k) more ∙ or_left (begun.labels k) _ h)
+    (λ k label.
+    let same : l.0 ≡ k = same_Some l.0 k (sym (ap label_begun is) ∙ label) in
+    ap (λ (x : Left). x.labels k) more ∙ or_right (begun.labels k) _ (or_left (k == l.0) _ (eq-eqb k l.0 (sym same))))
 
 -- ---- pieces
 
@@ -222,8 +238,8 @@ module _ (left : Left) (log : List Event) (cut : Cut) (w : IsCut left log cut) (
   no_cycle h = subst (λ es. ¬ HasCycle es) (sym v.goes.events_are) (no_cycle-behind prologue before events quiet w.quiet w.no_cycle (subst (λ es. ¬ HasCycle es) v.goes.trace_is h))
 
   -- the last one has no cycle
-  pub RoundTells-none : end ≡ length log → ¬ HasCycle trace → RoundTells false log left None
-  RoundTells-none last h = subst (λ es. ¬ HasCycle es) (ap (first_of_rest left log) last ∙ first_of_rest-all left log) (no_cycle h)
+  pub RoundTells-none : (asked : Bool) → end ≡ length log → ¬ HasCycle trace → RoundTells asked log left None
+  RoundTells-none asked last h = subst (λ es. ¬ HasCycle es) (ap (first_of_rest left log) last ∙ first_of_rest-all left log) (no_cycle h)
 
   -- another has none, and leaves no block open
   pub IsCut-moved : (bounds : Bounds) → IsWellFormed bounds trace → ¬ HasCycle trace → NoBlockOpen trace → (cut' : Cut) → cut'.place ≡ end → cut'.marks.items ≡ marks → HasNoBegin cut'.prologue.events → AreBegun (left_of cut'.begun) log end → IsCut left log cut'
@@ -274,9 +290,9 @@ module _ (left : Left) (log : List Event) (cut : Cut) (w : IsCut left log cut) (
           omega (arith, a, b, c, g, h, l)
 
   -- an alarm of it is that of the round
-  pub RoundTells-some : (told : Told) → CheckTells false trace places (Some told) → RoundTells false log left (Some told)
-  RoundTells-some told h = RoundTells-check false log left (rest_of left log) (places_of left log) refl refl (Some told)
-      (subst (λ es. CheckTells false es (places_of left log) (Some told)) rest
-      (IsToldOf-piece prologue before events (drop (rank (stays left log) end) (rest_of left log)) quiet none w.quiet w.no_cycle v.goes.blanks v.goes.own (places_of left log) same_place told
-      (subst (λ es. CheckTells false es (v.goes.blanks ++ v.goes.own) (Some told)) v.goes.trace_is
-      (subst (λ xs. CheckTells false trace xs (Some told)) v.goes.places_are h))))
+  pub RoundTells-some : (asked : Bool) (told : Told) → CheckTells asked trace places (Some told) → RoundTells asked log left (Some told)
+  RoundTells-some asked told h = RoundTells-check asked log left (rest_of left log) (places_of left log) refl refl (Some told)
+      (subst (λ es. CheckTells asked es (places_of left log) (Some told)) rest
+      (IsToldOf-piece asked prologue before events (drop (rank (stays left log) end) (rest_of left log)) quiet none w.quiet w.no_cycle v.goes.blanks v.goes.own (places_of left log) same_place told
+      (subst (λ es. CheckTells asked es (v.goes.blanks ++ v.goes.own) (Some told)) v.goes.trace_is
+      (subst (λ xs. CheckTells asked trace xs (Some told)) v.goes.places_are h))))

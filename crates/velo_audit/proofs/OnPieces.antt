@@ -4,7 +4,7 @@ use Rattle.std.proofs.Common.{◌≡◌, ℕ, zero, suc, ◌+◌, ◌-◌, ◌<�
 use Rattle.std.specs.Prelude.{Contains, IsTrue, slice_get, slice_index, slice_index_or, ◌==◌}
 use Rattle.std.specs.Option.{option_map_or}
 use Rattle.std.proofs.lemmas.Bool.{cases_lt, eq-eqb, false≢true}
-use Rattle.std.proofs.lemmas.List.{take-append-le, take-append-drop, get_or_append_left, get_or-append-add, map-id, length-drop}
+use Rattle.std.proofs.lemmas.List.{take-append-le, take-append-drop, get_or_append_left, get_or-append-add, map-id, length-map, get_or-map}
 use Rattle.std.proofs.lemmas.Simd.{map-map}
 use Rattle.velo_events.specs.declared.event.Event.{Event}
 use Rattle.velo_events.specs.Event.{thread_of, is_by, is_begin}
@@ -29,11 +29,13 @@ use Rattle.velo_laws.proofs.OnCutCycles.{HasCycle-behind, HasCycle-apart, IsClos
 use Rattle.velo_laws.proofs.OnCutReads.{owner-behind, slice_get-behind}
 use Rattle.velo_audit.specs.Rounds.{told_of, is_some_blamed}
 use Rattle.velo_audit.specs.Tells.{Tells}
-use Rattle.velo_audit.specs.Witness.{block_as_read, WitnessTells}
+use Rattle.velo_explain.specs.Evidence.{no_block, IsEvidence, HaveReasons, HasBlame}
+use Rattle.velo_audit.specs.Witness.{block_as_read, IsEvidenceOf, WitnessTells}
 use Rattle.velo_audit.specs.Audit.{RoundTells, IsToldOf}
 use Rattle.velo_audit.specs.declared.told.Told.{Told}
 use Rattle.velo_audit.proofs.OnRounds.{blamed-begins}
-use Rattle.velo_audit.proofs.OnAnswers.{RoundTells-check, map_same}
+use Rattle.velo_audit.proofs.OnAnswers.{map_same}
+use Rattle.velo_audit.proofs.OnPieceWitness.{shifted_block, inside', is_evidence, reasons, spans-read, edges-read, blames-read}
 
 -- ---- the verdict without a cycle
 
@@ -61,11 +63,6 @@ told_of-within n [] o l within b w = first w.0 w.1 w.2
     first zero k is = omega (arith, l, is)
     first (suc k) m is = absurd (omega (arith, m))
 told_of-within n (x ∷ xs) o l within b w = within b w
-
--- without a witness asked for there is none, whatever trace it is of
-no_witness : (trace trace' : List Event) (places places' : List ℕ) (alarm alarm' : Alarm) (witness : Option Evidence) → WitnessTells false trace places alarm witness → WitnessTells false trace' places' alarm' witness
-no_witness trace trace' places places' alarm alarm' None h = h
-no_witness trace trace' places places' alarm alarm' (Some evidence) h = absurd (false≢true h.0)
 
 -- ---- an alarm
 
@@ -172,7 +169,7 @@ module _ (prologue before events more : List Event) (quiet : IsQuiet prologue) (
       blocks = ap (map (block_at rest)) (sym begins');
     }
 
-    module _ (blanks own_places all : List ℕ) (same_place : (k : ℕ) → k < length events → slice_index (blanks ++ own_places) (length prologue + k) ≡ slice_index all (length before + k)) (told : Told) (tells : Tells false piece (blanks ++ own_places) alarm told) where
+    module _ (asked : Bool) (blanks own_places all : List ℕ) (same_place : (k : ℕ) → k < length events → slice_index (blanks ++ own_places) (length prologue + k) ≡ slice_index all (length before + k)) (told : Told) (tells : Tells asked piece (blanks ++ own_places) alarm told) where
       block-piece : ℕ → Block
       block-piece b = block_as_read (slice_index (blanks ++ own_places)) (block_at piece b)
 
@@ -198,22 +195,78 @@ module _ (prologue before events more : List Event) (quiet : IsQuiet prologue) (
           ∙ (ap (map block-rest) (sym (told_of-later (length before) own o))
           ∙ ap (λ bs. map block-rest (told_of bs (length before + o))) (sym begins'))))))))
 
-      tells' : Tells false rest all alarm' told
+      -- ---- the witness
+
+      same_blamed : alarm'.blamed.items ≡ map (shifted_block (length prologue) (length before)) alarm.blamed.items
+      unfolding own
+      same_blamed =
+          map-map (block_at rest) (λ b. length before + b) own
+          ∙ (map_same _ _ own (λ b w. shifted_at b (own-within b w))
+          ∙ (sym (map-map (λ b. shifted_block (length prologue) (length before) (block_at piece b)) (λ b. length prologue + b) own)
+          ∙ (sym (map-map (shifted_block (length prologue) (length before)) (block_at piece) (later_by (length prologue) own))
+          ∙ ap (map (shifted_block (length prologue) (length before))) (sym (is.blocks ∙ ap (map (block_at piece)) blamed.1)))))
+        where
+          shifted_at : (b : ℕ) → b < length events → block_at rest (length before + b) ≡ shifted_block (length prologue) (length before) (block_at piece (length prologue + b))
+          shifted_at b l =
+              ap (λ (x : Option Event). record { first = length before + b; label = option_map_or (λ (e : Event). label_of e.kind) x (record { 0 = 0 }) }) (sym (same_event b l))
+              ∙ ap (λ (f : ℕ). record { first = f; label = option_map_or (λ (e : Event). label_of e.kind) (slice_get piece (length prologue + b)) (record { 0 = 0 }) }) (let e : length before + b ≡ length before + (length prologue + b - length prologue) = omega arith in e)
+
+      late_blocks : (i : ℕ) → i < length alarm.blamed.items → length prologue ≤ (slice_index_or alarm.blamed.items i no_block).first
+      unfolding own
+      late_blocks i l =
+          let k : i < length (later_by (length prologue) own) = omega (arith, l, ap length blamed.1, length-map alarm.blamed.items (λ (x : Block). x.first)) in
+          let j : i < length own = omega (arith, k, length-map own (λ b. length prologue + b)) in
+          let f = sym (get_or-map (λ (x : Block). x.first) alarm.blamed.items i no_block 0 l) in
+          let g = ap (λ bs. slice_index_or bs i 0) blamed.1 in
+          let h = get_or-map (λ b. length prologue + b) own i 0 0 j in
+          omega (arith, f, g, h)
+
+      have_reasons : (inside : Evidence) → HaveReasons piece alarm.position alarm.blamed.items inside → (j : ℕ) → j < length alarm.blamed.items → HasBlame inside.blames.items (slice_index_or alarm.blamed.items j no_block)
+      have_reasons inside r j l =
+          let among : Contains (begins_of alarm.blamed.items) (slice_index_or alarm.blamed.items j no_block).first =
+          (j, (let long = length-map alarm.blamed.items (λ (x : Block). x.first) in omega (arith, l, long)), get_or-map (λ (x : Block). x.first) alarm.blamed.items j no_block _ l) in
+          let to_blame = (is.blamed.which (slice_index_or alarm.blamed.items j no_block).first).0 among in
+          r.each j l to_blame.0 to_blame.1
+
+      owner_piece : owner piece (length prologue + q) ≡ length prologue + o
+      unfolding o
+      owner_piece = owner-behind prologue events quiet q
+
+      evidence' : (evidence : Evidence) → IsEvidenceOf piece (blanks ++ own_places) alarm evidence → IsEvidenceOf rest all alarm' evidence
+      evidence' evidence w =
+          let e = subst (λ p. IsEvidence piece p alarm.blamed.items w.inside) (sym there) w.is_evidence in
+          let have = have_reasons w.inside w.reasons in
+          record {
+            inside = inside' prologue before events more quiet quiet' q o closing.in_trace owner_piece own_rest alarm.blamed.items alarm'.blamed.items same_blamed late_blocks w.inside e have;
+            is_evidence = is_evidence prologue before events more quiet quiet' q o closing.in_trace owner_piece own_rest alarm.blamed.items alarm'.blamed.items same_blamed late_blocks w.inside e have;
+            reasons = reasons prologue before events more quiet quiet' q o closing.in_trace owner_piece own_rest alarm.blamed.items alarm'.blamed.items same_blamed late_blocks w.inside e have;
+            reads = record {
+              spans = w.reads.spans ∙ spans-read prologue before events more quiet quiet' q o closing.in_trace owner_piece own_rest alarm.blamed.items alarm'.blamed.items same_blamed late_blocks w.inside e have (slice_index (blanks ++ own_places)) (slice_index all) same_place;
+              edges = w.reads.edges ∙ edges-read prologue before events more quiet quiet' q o closing.in_trace owner_piece own_rest alarm.blamed.items alarm'.blamed.items same_blamed late_blocks w.inside e have (slice_index (blanks ++ own_places)) (slice_index all) same_place;
+              blames = w.reads.blames ∙ blames-read prologue before events more quiet quiet' q o closing.in_trace owner_piece own_rest alarm.blamed.items alarm'.blamed.items same_blamed late_blocks w.inside e have (slice_index (blanks ++ own_places)) (slice_index all) same_place;
+            };
+          }
+
+      witness' : (witness : Option Evidence) → WitnessTells asked piece (blanks ++ own_places) alarm witness → WitnessTells asked rest all alarm' witness
+      witness' None h = h
+      witness' (Some evidence) h = (h.0, evidence' evidence h.1)
+
+      tells' : Tells asked rest all alarm' told
       unfolding block-rest own
       tells' = record {
         closing = tells.closing ∙ (ap (slice_index (blanks ++ own_places)) (sym there) ∙ same_place q closing.in_trace);
         transaction = tells.transaction ∙ (ap (slice_index (blanks ++ own_places)) own_piece ∙ same_place o o-within);
         blocks = blocks;
         to_blame = tells.to_blame ∙ (ap is_some_blamed blamed.1 ∙ (some_blamed-later (length prologue) own ∙ (sym (some_blamed-later (length before) own) ∙ ap is_some_blamed (sym begins'))));
-        witness = no_witness piece rest (blanks ++ own_places) all alarm alarm' told.witness tells.witness;
+        witness = witness' told.witness tells.witness;
       }
 
 -- What is told of a piece is told of what is left
-pub IsToldOf-piece : (prologue before events more : List Event) → IsQuiet prologue → ¬ HasCycle prologue → IsQuiet before → ¬ HasCycle before
+pub IsToldOf-piece : (asked : Bool) (prologue before events more : List Event) → IsQuiet prologue → ¬ HasCycle prologue → IsQuiet before → ¬ HasCycle before
     → (blanks own all : List ℕ) → ((k : ℕ) → k < length events → slice_index (blanks ++ own) (length prologue + k) ≡ slice_index all (length before + k))
-    → (told : Told) → IsToldOf false (prologue ++ events) (blanks ++ own) told → IsToldOf false ((before ++ events) ++ more) all told
-IsToldOf-piece prologue before events more quiet none quiet' none' blanks own all same_place told w = record {
+    → (told : Told) → IsToldOf asked (prologue ++ events) (blanks ++ own) told → IsToldOf asked ((before ++ events) ++ more) all told
+IsToldOf-piece asked prologue before events more quiet none quiet' none' blanks own all same_place told w = record {
   alarm = alarm' prologue before events more quiet none quiet' none' w.alarm w.is_alarm;
   is_alarm = is_alarm' prologue before events more quiet none quiet' none' w.alarm w.is_alarm;
-  tells = tells' prologue before events more quiet none quiet' none' w.alarm w.is_alarm blanks own all same_place told w.tells;
+  tells = tells' prologue before events more quiet none quiet' none' w.alarm w.is_alarm asked blanks own all same_place told w.tells;
 }

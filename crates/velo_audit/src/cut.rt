@@ -63,7 +63,7 @@ impl Cut {
     }
 }
 
-/// The labels that are begun before a place, and those between it and a later one.
+/// Adds the labels that are begun from a place to a later one to those begun before it.
 pub fn add_begun(
     begun: &mut LeftOut,
     events: &[Event],
@@ -76,9 +76,20 @@ pub fn add_begun(
     ensures { OnOk result (AreBegun (left_of begun.new) events.now to) }
 {
     for position in from..to {
-        if let Kind::Begin(label) = events[position].kind {
-            begun.leave_out_label(label)?;
-        }
+        add_label(begun, events, position)?;
     }
+    Ok(())
+}
+
+/// Adds the label that is begun at the position, if one is.
+fn add_label(begun: &mut LeftOut, events: &[Event], position: usize) -> Result<(), Memory>
+    requires within { position < length events.now }
+    requires begun { AreBegun (left_of begun.old) events.now position }
+    ensures { OnOk result (AreBegun (left_of begun.new) events.now (position + 1)) }
+{
+    let Kind::Begin(label) = events[position].kind else {
+        return Ok(());
+    };
+    begun.leave_out_label(label)?;
     Ok(())
 }

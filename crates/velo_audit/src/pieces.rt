@@ -43,12 +43,13 @@ pub fn by_pieces(
     log: &Trace,
     left: &LeftOut,
     cut: &mut Cut,
+    asked: bool,
 ) -> Result<Verdict, AuditFault>
     requires goes_on { config.now.stop ≡ false }
     requires short { length log.now.events ≤ config.now.events }
     requires well_formed { IsWellFormed config.now.bounds log.now.events }
     requires cut { IsCut (left_of left.now) log.now.events cut.old }
-    ensures verdict { IfOk result (IsVerdict log.now.events (left_of left.now)) }
+    ensures verdict { IfOk result (IsVerdict asked log.now.events (left_of left.now)) }
     ensures cut { OnOk result (IsCut (left_of left.now) log.now.events cut.new) }
     ensures fault { IfErr result (λ fault. fault ≡ out_of_memory) }
     ensures memory { OnErr result GrowthRefused }
@@ -56,7 +57,7 @@ pub fn by_pieces(
     let mut count = first_count(config);
     while cut.place < log.len() {
         let piece = next_piece(alloc, log, left, cut, count)?;
-        if let Some(verdict) = judged(alloc, config, log, left, cut, piece)? {
+        if let Some(verdict) = judged(alloc, config, log, left, cut, asked, piece)? {
             return Ok(verdict);
         }
         count = count.saturating_mul(2);
@@ -67,8 +68,10 @@ pub fn by_pieces(
 /// How many events the first piece has: so many that to begin it costs no more than to judge it.
 fn first_count(config: &Config) -> usize {
     let bounds = config.bounds;
-    let cells = usize::from(bounds.threads) * usize::from(bounds.locks) + usize::from(bounds.variables);
-    FEW_EVENTS + cells
+    let shares = usize::from(bounds.threads) * usize::from(bounds.locks);
+    FEW_EVENTS
+        .saturating_add(usize::from(bounds.variables))
+        .saturating_add(shares)
 }
 
 /// Judges the piece. Without a verdict the cut has moved to its end.
@@ -78,12 +81,13 @@ fn judged(
     log: &Trace,
     left: &LeftOut,
     cut: &mut Cut,
+    asked: bool,
     piece: Piece,
 ) -> Result<Option<Verdict>, AuditFault>
     requires goes_on { config.now.stop ≡ false }
     requires cut { IsCut (left_of left.now) log.now.events cut.old }
     requires piece { IsPiece (left_of left.now) log.now.events cut.old piece }
-    ensures judges { IfOk result (Judges log.now.events (left_of left.now) cut.old.place cut.new) }
+    ensures judges { IfOk result (Judges asked log.now.events (left_of left.now) cut.old.place cut.new) }
     ensures fault { IfErr result (λ fault. fault ≡ out_of_memory) }
     ensures memory { OnErr result GrowthRefused }
 {
@@ -95,7 +99,7 @@ fn judged(
     } = piece;
     match replayed(alloc, config, trace) {
         Ok(closed) => {
-            let judged = judged_by(alloc, log, cut, &closed, &places, marks, end);
+            let judged = judged_by(alloc, log, cut, asked, &closed, &places, marks, end);
             drop(closed);
             judged
         }
@@ -109,6 +113,7 @@ fn judged_by(
     alloc: Global,
     log: &Trace,
     cut: &mut Cut,
+    asked: bool,
     closed: &Closed,
     places: &[u32],
     marks: Vec<u64>,
@@ -118,11 +123,11 @@ fn judged_by(
         × EndsAt left log.now.events cut.old end marks.items closed.now.log places.now }
     ensures judges { IfOk result (λ judged. (left : Left) → IsCut left log.now.events cut.old
         → EndsAt left log.now.events cut.old end marks.items closed.now.log places.now
-        → Judges log.now.events left cut.old.place cut.new judged) }
+        → Judges asked log.now.events left cut.old.place cut.new judged) }
     ensures fault { IfErr result (λ fault. fault ≡ out_of_memory) }
     ensures memory { OnErr result GrowthRefused }
 {
-    if let Some(told) = told_in(alloc, false, closed, places)? {
+    if let Some(told) = told_in(alloc, asked, closed, places)? {
         return Ok(Some(Verdict::Told(told)));
     }
     if end == log.len() {

@@ -47,7 +47,7 @@ impl From<Memory> for AuditFault {
 }
 
 /// Checks the rest of a log that can happen, within its limits, from the cut on. The configuration has to go on after an alarm.
-/// With a witness, or where a piece of the rest cannot be judged by itself, the whole rest is checked.
+/// Where a piece of the rest cannot be judged by itself, the whole rest is checked.
 ///
 /// # Errors
 /// `GraphFull` where the graph of the rest needs more nodes than there may be, `Memory` where a growth was refused.
@@ -67,10 +67,7 @@ pub fn round(
     ensures cut { OnOk result (IsCut (left_of left.now) log.now.events cut.new) }
     ensures fault { IfErr result (IsRoundFault config.now log.now.events (left_of left.now)) }
 {
-    if asked {
-        return whole_round(alloc, config, log, left, asked);
-    }
-    match by_pieces(alloc, config, log, left, cut)? {
+    match by_pieces(alloc, config, log, left, cut, asked)? {
         Verdict::Told(told) => Ok(Some(told)),
         Verdict::NoCycle => Ok(None),
         Verdict::Unknown => whole_round(alloc, config, log, left, asked),
