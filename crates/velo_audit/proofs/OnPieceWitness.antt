@@ -2,7 +2,7 @@
 use Rattle.std.proofs.Common.{◌≡◌, ℕ, zero, suc, ◌+◌, ◌-◌, ◌<◌, ◌≤◌, Bool, List, [], ◌∷◌, ◌++◌, length, map, take, get_or, Option, Some, None, refl, sym, ap, ◌∙◌, subst, arith, length-append}
 use Rattle.std.specs.Prelude.{Contains, IsTrue, slice_get, slice_index, slice_index_or}
 use Rattle.std.specs.Option.{option_map_or}
-use Rattle.std.proofs.lemmas.List.{length-map, length-take, get_or-map, take-append-le}
+use Rattle.std.proofs.lemmas.List.{length-map, length-take, get_or-map, get_or_default, take-append-le}
 use Rattle.std.proofs.lemmas.Simd.{map-map}
 use Rattle.velo_events.specs.declared.event.Event.{Event}
 use Rattle.velo_events.specs.Block.{owner}
@@ -13,10 +13,11 @@ use Rattle.velo_traces.specs.declared.block.Block.{Block}
 use Rattle.velo_traces.specs.Blocks.{block_at, label_of}
 use Rattle.velo_blame.specs.Blamed.{begins_of}
 use Rattle.velo_certify.specs.Shortest.{IsCycleAt, IsShortestCycleAt}
-use Rattle.velo_certify.specs.Edges.{edge_at}
+use Rattle.velo_certify.specs.Edges.{ShowEdges, edge_at}
+use Rattle.velo_certify.specs.Witness.{IsWitness}
 use Rattle.velo_certify.specs.declared.edges.EdgeEvents.{EdgeEvents}
 use Rattle.velo_explain.specs.Evidence.{no_block, blame_at, IsBlame, HasBlame, IsEvidence, HaveReasons}
-use Rattle.velo_explain.specs.Spans.{span_at}
+use Rattle.velo_explain.specs.Spans.{AreSpans, span_at}
 use Rattle.velo_explain.specs.declared.spans.Span.{Span}
 use Rattle.velo_explain.specs.declared.evidence.Blame.{Blame}
 use Rattle.velo_explain.specs.declared.evidence.Evidence.{Evidence}
@@ -127,7 +128,7 @@ module _ (prologue before events more : List Event) (quiet : IsQuiet prologue) (
       }
 
       IsBlame-late : (b : Blame) → IsBlame piece (n + q) blamed b → n ≤ b.block.first
-      IsBlame-late b h = subst (λ (x : Block). n ≤ x.first) (Rattle.std.proofs.lemmas.List.get_or_default blamed h.among.0 no_block b.block h.among.1 ∙ h.among.2) (late_blocks h.among.0 h.among.1)
+      IsBlame-late b h = subst (λ (x : Block). n ≤ x.first) (get_or_default blamed h.among.0 no_block b.block h.among.1 ∙ h.among.2) (late_blocks h.among.0 h.among.1)
 
       IsBlame-shifted : (b : Blame) → IsBlame piece (n + q) blamed b → IsBlame rest (m + q) blamed' (shifted_blame n m b)
       IsBlame-shifted b h = record {
@@ -136,7 +137,7 @@ module _ (prologue before events more : List Event) (quiet : IsQuiet prologue) (
           let l = h.among.1 in omega (arith, l, ap length same, length-map blamed (shifted_block n m)),
           ap (λ bs. slice_index_or bs h.among.0 (shifted_block n m b.block)) same ∙ (get_or-map (shifted_block n m) blamed h.among.0 b.block (shifted_block n m b.block) h.among.1 ∙ ap (shifted_block n m) h.among.2),
         );
-        witness = subst (λ p. Rattle.velo_certify.specs.Witness.IsWitness rest (shifted n m b.block.first) p (shifted n m b.witness)) (let e : shifted n m (n + q) ≡ m + q = omega arith in e)
+        witness = subst (λ p. IsWitness rest (shifted n m b.block.first) p (shifted n m b.witness)) (let e : shifted n m (n + q) ≡ m + q = omega arith in e)
             (IsWitness-moved prologue before events more b.block.first (n + q) b.witness (IsBlame-late b h) h.witness);
       }
 
@@ -149,9 +150,9 @@ module _ (prologue before events more : List Event) (quiet : IsQuiet prologue) (
 
         abbrev pub inside' : Evidence
         inside' = record inside {
-          spans = record inside.spans { items = map (shifted_span n m) inside.spans.items };
-          edges = record inside.edges { items = map (shifted_edge n m) inside.edges.items };
-          blames = record inside.blames { items = blames' };
+          spans = record inside.spans { items = map (shifted_span n m) inside.spans.items; ok = (inside.spans.ok.0 ∙ sym (length-map inside.spans.items (shifted_span n m)), inside.spans.ok.1) };
+          edges = record inside.edges { items = map (shifted_edge n m) inside.edges.items; ok = (inside.edges.ok.0 ∙ sym (length-map inside.edges.items (shifted_edge n m)), inside.edges.ok.1) };
+          blames = record inside.blames { items = blames'; ok = (inside.blames.ok.0 ∙ sym (length-map blames (shifted_blame n m)), inside.blames.ok.1) };
         }
 
         cyc : IsCycle (Edge (prologue ++ upto)) e.cycle
@@ -164,10 +165,10 @@ module _ (prologue before events more : List Event) (quiet : IsQuiet prologue) (
         is_evidence = record {
           cycle = map (shifted n m) e.cycle;
           shortest = IsShortestCycleAt-shifted e.cycle e.shortest;
-          spans = subst (λ es. Rattle.velo_explain.specs.Spans.AreSpans es (map (shifted n m) e.cycle) inside'.spans.items) (sym there_is)
-              (spans-shifted prologue before upto quiet quiet' e.cycle cyc first_late inside.spans.items (subst (λ es. Rattle.velo_explain.specs.Spans.AreSpans es e.cycle inside.spans.items) here_is e.spans));
-          edges = subst (λ es. Rattle.velo_certify.specs.Edges.ShowEdges es (map (shifted n m) e.cycle) inside'.edges.items) (sym there_is)
-              (edges-shifted prologue before upto quiet quiet' e.cycle cyc first_late inside.edges.items (subst (λ es. Rattle.velo_certify.specs.Edges.ShowEdges es e.cycle inside.edges.items) here_is e.edges));
+          spans = subst (λ es. AreSpans es (map (shifted n m) e.cycle) inside'.spans.items) (sym there_is)
+              (spans-shifted prologue before upto quiet quiet' e.cycle cyc first_late inside.spans.items (subst (λ es. AreSpans es e.cycle inside.spans.items) here_is e.spans));
+          edges = subst (λ es. ShowEdges es (map (shifted n m) e.cycle) inside'.edges.items) (sym there_is)
+              (edges-shifted prologue before upto quiet quiet' e.cycle cyc first_late inside.edges.items (subst (λ es. ShowEdges es e.cycle inside.edges.items) here_is e.edges));
           blames = record {
             few = let f = e.blames.few in omega (arith, f, as_many, length-map blames (shifted_blame n m));
             sound = λ i l.
@@ -192,7 +193,7 @@ module _ (prologue before events more : List Event) (quiet : IsQuiet prologue) (
           pub spans-read : map (span_as_read place) inside.spans.items ≡ map (span_as_read place') inside'.spans.items
           spans-read = map_alike (span_as_read place) (λ s. span_as_read place' (shifted_span n m s)) (record { first = 0; last = 0 }) inside.spans.items
               (λ i l.
-              let w = subst (λ es. Rattle.velo_explain.specs.Spans.AreSpans es e.cycle inside.spans.items) here_is e.spans in
+              let w = subst (λ es. AreSpans es e.cycle inside.spans.items) here_is e.spans in
               let k : i < length e.cycle = let c = w.count in omega (arith, l, c) in
               let s = span_at inside.spans.items i in
               let is = w.each i k in
@@ -206,7 +207,7 @@ module _ (prologue before events more : List Event) (quiet : IsQuiet prologue) (
           pub edges-read : map (edge_as_read place) inside.edges.items ≡ map (edge_as_read place') inside'.edges.items
           edges-read = map_alike (edge_as_read place) (λ s. edge_as_read place' (shifted_edge n m s)) (record { from = 0; to = 0 }) inside.edges.items
               (λ i l.
-              let w = subst (λ es. Rattle.velo_certify.specs.Edges.ShowEdges es e.cycle inside.edges.items) here_is e.edges in
+              let w = subst (λ es. ShowEdges es e.cycle inside.edges.items) here_is e.edges in
               let k : i < length e.cycle = let c = w.count in omega (arith, l, c) in
               let s = edge_at inside.edges.items i in
               let is = w.each i k in

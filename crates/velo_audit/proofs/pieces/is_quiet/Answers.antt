@@ -14,7 +14,7 @@ loop-thread-preserved c = record {
 }
 
 pub returns : goal.returns
-returns c yes =
+returns c h =
     let heap = c.heap-heap.ensures in
     let well = subst (λ (b : Bounds). IsWellFormed b c.args.closed.now.log) heap.bounds heap.stands.well_formed in
     let at : c.loop-thread.thread ≡ c.args.closed.now.config.bounds.threads = omega (arith, c.loop-thread.auto.thread-end, c.loop-thread-test.false, ap (λ (b : Bounds). b.threads) c.bounds-thread-end.ensures) in

@@ -1,0 +1,1 @@
+use Rattle.velo_audit.proofs.pieces.judged_by.Goals as goal

@@ -1,0 +1,1 @@
+use Rattle.velo_audit.proofs.rounds.leave_out_all.Goals as goal
