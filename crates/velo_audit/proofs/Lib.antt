@@ -8,6 +8,7 @@ pub mod OnPieces
 pub mod OnCuts
 pub mod OnVerdicts
 pub mod OnAudit
+pub mod OnClean
 pub mod OnUnique
 pub mod OnCount
 pub mod OnFewNodes

@@ -4,6 +4,7 @@
 
 mod count;
 mod cut;
+mod of_closed;
 mod piece;
 mod pieces;
 mod round;
@@ -12,6 +13,7 @@ mod told;
 mod witness;
 
 pub use count::count_atomic;
+pub use of_closed::audit_closed;
 pub use round::AuditFault;
 pub use rounds::audit;
 pub use told::Told;
