@@ -2,9 +2,9 @@
 //! out that the one before reported.
 #![tactic(auto)]
 
+mod checked;
 mod count;
 mod cut;
-mod of_closed;
 mod piece;
 mod pieces;
 mod round;
@@ -12,8 +12,8 @@ mod rounds;
 mod told;
 mod witness;
 
+pub use checked::audit_checked;
 pub use count::count_atomic;
-pub use of_closed::audit_closed;
 pub use round::AuditFault;
 pub use rounds::audit;
 pub use told::Told;
