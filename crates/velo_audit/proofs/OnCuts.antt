@@ -4,14 +4,12 @@ use Rattle.std.specs.Prelude.{All, Contains, IsTrue, IsFalse, slice_get, slice_i
 use Rattle.std.proofs.lemmas.Bool.{cases_Bool, cases_lt, both_ways, false_from_ne_true, or_left, or_right, eq-eqb}
 use Rattle.std.proofs.lemmas.List.{take-append-drop, get_or_append_left, get_or-append-add, length-replicate}
 use Rattle.std.proofs.lemmas.Option.{slice_get-get_or, none-some, same_Some}
-use Rattle.velo_events.specs.declared.config.Bounds.{Bounds}
 use Rattle.velo_events.specs.declared.event.Event.{Event}
 use Rattle.velo_events.specs.declared.event.Label.{Label}
 use Rattle.velo_events.specs.declared.event.Kind.TheVariants.{Begin}
 use Rattle.velo_events.specs.Event.{is_begin}
 use Rattle.velo_events.specs.Block.{any_below, passes_at}
 use Rattle.velo_events.specs.Graph.{HasCycle}
-use Rattle.velo_events.specs.WellFormed.{IsWellFormed}
 use Rattle.velo_events.proofs.OnBlocks.{any_below-same}
 use Rattle.velo_events.proofs.OnOwners.{passes_at-within}
 use Rattle.velo_events.proofs.OnScans.{event_at, passes_at-is}
@@ -27,9 +25,8 @@ use Rattle.velo_filter.proofs.OnRanks.{rank, staying, staying-stays, staying-goe
 use Rattle.velo_filter.proofs.OnStacks.{IsStack-stack}
 use Rattle.velo_filter.proofs.OnTables.{is_listed-nil}
 use Rattle.velo_filter.proofs.OnThinned.{AreMarks-start, first_places-stays, first_of_rest-stays, first_places-goes, first_of_rest-goes, first_of_rest-all}
-use Rattle.velo_laws.specs.Cut.{IsQuiet, NoBlockOpen}
+use Rattle.velo_laws.specs.Cut.{IsQuiet}
 use Rattle.velo_laws.specs.Restart.{HasNoBegin}
-use Rattle.velo_laws.proofs.OnCut.{IsQuiet-from}
 use Rattle.velo_laws.proofs.OnRestart.{prologue_law}
 use Rattle.velo_audit.specs.Audit.{CheckTells, RoundTells}
 use Rattle.velo_audit.specs.Cut.{AreBegun, IsCut, GoesTo, EndsAt}
@@ -242,11 +239,11 @@ module _ (left : Left) (log : List Event) (cut : Cut) (w : IsCut left log cut) (
   RoundTells-none asked last h = subst (λ es. ¬ HasCycle es) (ap (first_of_rest left log) last ∙ first_of_rest-all left log) (no_cycle h)
 
   -- another has none, and leaves no block open
-  pub IsCut-moved : (bounds : Bounds) → IsWellFormed bounds trace → ¬ HasCycle trace → NoBlockOpen trace → (cut' : Cut) → cut'.place ≡ end → cut'.marks.items ≡ marks → HasNoBegin cut'.prologue.events → AreBegun (left_of cut'.begun) log end → IsCut left log cut'
-  IsCut-moved bounds well h ended cut' at same no_begin begun = record {
+  pub IsCut-moved : ¬ HasCycle trace → IsQuiet trace → (cut' : Cut) → cut'.place ≡ end → cut'.marks.items ≡ marks → HasNoBegin cut'.prologue.events → AreBegun (left_of cut'.begun) log end → IsCut left log cut'
+  IsCut-moved h ended cut' at same no_begin begun = record {
     within = let m = v.within in omega (arith, at, m);
     quiet = subst (λ n. IsQuiet (first_of_rest left log n)) (sym at) (subst IsQuiet (sym v.goes.events_are)
-        (quiet-behind prologue before events quiet w.quiet (subst IsQuiet v.goes.trace_is (IsQuiet-from bounds trace well ended))));
+        (quiet-behind prologue before events quiet w.quiet (subst IsQuiet v.goes.trace_is ended)));
     no_cycle = subst (λ n. ¬ HasCycle (first_of_rest left log n)) (sym at) (no_cycle h);
     as_many = ap length same ∙ v.as_many;
     marks = subst (λ n. AreMarks left log n cut'.marks.items) (sym at) (subst (AreMarks left log end) (sym same) v.marks_are);

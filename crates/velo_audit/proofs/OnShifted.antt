@@ -213,7 +213,7 @@ module _ (prologue before events more : List Event) where
         (
           omega (arith, l, less),
           ap (λ x. both_conflict x (slice_get all (shifted N M j))) (sym (moved i l within.0))
-          ∙ (ap (both_conflict (slice_get (prologue ++ events) i)) (sym (moved j (omega (arith, l, less)) within.1)) ∙ c.1),
+              ∙ (ap (both_conflict (slice_get (prologue ++ events) i)) (sym (moved j (omega (arith, l, less)) within.1)) ∙ c.1),
         ),
       )
 

@@ -2,16 +2,14 @@
 use Rattle.std.proofs.Common.{◌≡◌, ℕ, ◌<◌, ◌≤◌, Bool, List, length, Option, Some, None, refl, sym, ap, ◌∙◌, subst, arith}
 use Rattle.std.specs.Prelude.{not}
 use Rattle.std.proofs.lemmas.Option.{none-some, same_Some}
-use Rattle.velo_events.specs.declared.config.Bounds.{Bounds}
 use Rattle.velo_events.specs.declared.event.Event.{Event}
 use Rattle.velo_events.specs.Graph.{HasCycle}
-use Rattle.velo_events.specs.WellFormed.{IsWellFormed}
 use Rattle.velo_filter.specs.Left.{Left}
 use Rattle.velo_filter.specs.Marks.{AreMarks}
 use Rattle.velo_filter.specs.Tables.{left_of}
 use Rattle.velo_filter.specs.Thinned.{first_of_rest}
 use Rattle.velo_filter.proofs.OnThinned.{first_of_rest-all}
-use Rattle.velo_laws.specs.Cut.{NoBlockOpen}
+use Rattle.velo_laws.specs.Cut.{IsQuiet}
 use Rattle.velo_laws.specs.Restart.{HasNoBegin}
 use Rattle.velo_audit.specs.Audit.{CheckTells, RoundTells}
 use Rattle.velo_audit.specs.Cut.{AreBegun, IsCut, GoesTo, EndsAt}
@@ -47,9 +45,9 @@ module _ (asked : Bool) (log : List Event) (left : Left) (cut : Cut) (end : ℕ)
   pub Judges-unknown : Judges asked log left cut.place cut (Some verdict.Unknown)
   Judges-unknown = Judges-verdict asked log left cut.place cut verdict.Unknown is tt
 
-  pub Judges-moved : (o : Option Told) → o ≡ None → CheckTells asked trace places o → (bounds : Bounds) → IsWellFormed bounds trace → NoBlockOpen trace → (cut' : Cut) → cut'.place ≡ end → cut'.marks.items ≡ marks → HasNoBegin cut'.prologue.events → AreBegun (left_of cut'.begun) log end → Judges asked log left cut.place cut' None
-  Judges-moved o none h bounds well quiet cut' at same no_begin begun = record {
-    is_cut = IsCut-moved left log cut is end marks trace places ends bounds well (subst (CheckTells asked trace places) none h) quiet cut' at same no_begin begun;
+  pub Judges-moved : (o : Option Told) → o ≡ None → CheckTells asked trace places o → IsQuiet trace → (cut' : Cut) → cut'.place ≡ end → cut'.marks.items ≡ marks → HasNoBegin cut'.prologue.events → AreBegun (left_of cut'.begun) log end → Judges asked log left cut.place cut' None
+  Judges-moved o none h quiet cut' at same no_begin begun = record {
+    is_cut = IsCut-moved left log cut is end marks trace places ends (subst (CheckTells asked trace places) none h) quiet cut' at same no_begin begun;
     verdict = λ v some. absurd (none-some v some);
     moved = λ here. let l = ends.later in omega (arith, l, at);
   }

@@ -3,7 +3,7 @@ ghost use Rattle.std.specs.Prelude.{◌≡◌, ◌≤◌, false, length, IfOk, I
 ghost use Rattle.velo_events.specs.Refusals.{GrowthRefused};
 ghost use Rattle.velo_events.specs.WellFormed.{IsWellFormed};
 ghost use Rattle.velo_filter.specs.Tables.{left_of};
-ghost use Rattle.velo_laws.specs.Cut.{NoBlockOpen};
+ghost use Rattle.velo_laws.specs.Cut.{IsQuiet};
 ghost use Rattle.velo_filter.specs.Left.{Left};
 ghost use Rattle.velo_laws.specs.Restart.{HasNoBegin};
 ghost use Rattle.velo_audit.specs.Audit.{out_of_memory};
@@ -119,7 +119,7 @@ fn judged_by(
     marks: Vec<u64>,
     end: usize,
 ) -> Result<Option<Verdict>, AuditFault>
-    requires piece { (left : Left) × IsCut left log.now.events cut.old
+    requires { (left : Left) × IsCut left log.now.events cut.old
         × EndsAt left log.now.events cut.old end marks.items closed.now.log places.now }
     ensures judges { IfOk result (λ judged. (left : Left) → IsCut left log.now.events cut.old
         → EndsAt left log.now.events cut.old end marks.items closed.now.log places.now
@@ -153,7 +153,7 @@ fn move_to(
     requires within { end ≤ length log.now.events }
     requires begun { AreBegun (left_of cut.old.begun) log.now.events cut.old.place }
     ensures place { OnOk result (cut.new.place ≡ end) }
-    ensures marks { OnOk result (cut.new.marks ≡ marks) }
+    ensures marks { OnOk result (cut.new.marks.items ≡ marks.items) }
     ensures no_begin { OnOk result (HasNoBegin cut.new.prologue.events) }
     ensures begun { OnOk result (AreBegun (left_of cut.new.begun) log.now.events end) }
 {
@@ -167,7 +167,7 @@ fn move_to(
 
 /// Whether no block is open at the end.
 fn is_quiet(closed: &Closed) -> bool
-    ensures { IsTrue result → NoBlockOpen closed.now.log }
+    ensures { IsTrue result → IsQuiet closed.now.log }
 {
     let heap = closed.heap();
     for thread in 0..closed.bounds().threads {
