@@ -1,5 +1,9 @@
+use Rattle.std.proofs.Common.{◌≡◌, Result, Ok, Err, sym, subst}
+use Rattle.std.specs.Prelude.{IfErr, IsErrAnd}
 use Rattle.velo_filter.specs.Tables.{left_of}
-use Rattle.velo_audit.proofs.OnAudit.{StandsAt-start, StandsAt-push, audit-smaller, audit-rounds, audit-left, audit-only, audit-found, audit-few, audit-serializable}
+use Rattle.velo_audit.specs.Audit.{IsAuditFault}
+use Rattle.velo_audit.specs.declared.round.AuditFault.{AuditFault}
+use Rattle.velo_audit.proofs.OnAudit.{StandsAt-start, StandsAt-push, audit-fault, audit-smaller, audit-rounds, audit-left, audit-only, audit-found, audit-few, audit-serializable}
 use Rattle.velo_audit.proofs.rounds.audit.Goals as goal
 
 pub loop-cut-init : goal.loop-cut-init
@@ -34,3 +38,11 @@ returns-clause-serializable c = audit-serializable c.args.asked c.args.log.now.e
 
 pub returns-clause-witnessed : goal.returns-clause-witnessed
 returns-clause-witnessed c = c.loop-cut.invariant.stands.witnessed
+
+handed_on : {X : Type 0} (result : Result X AuditFault) (r : AuditFault) (P : AuditFault → Type 0) → IsErrAnd result (λ f. f ≡ r) → P r → IfErr result P
+handed_on (Ok x) r P same holds = tt
+handed_on (Err f) r P same holds = subst P (sym same) holds
+
+pub returns-in_err-told-clause-fault : goal.returns-in_err-told-clause-fault
+returns-in_err-told-clause-fault c = handed_on c.from_residual-in_err-told.result c.in_err-told.field-0.0 (IsAuditFault c.args.config.now c.args.log.now.events (left_of c.args.left.now)) c.from_residual-in_err-told.ensures.1
+    (audit-fault c.args.asked c.args.config.now c.args.log.now.events (left_of c.args.left.now) c.loop-cut.rounds.items (left_of c.loop-cut.left) c.loop-cut.invariant.stands c.in_err-told.field-0.0 c.in_err-told.ensures.fault)
