@@ -1,9 +1,10 @@
 //! `velodrome audit`.
-ghost use Rattle.std.specs.Prelude.{◌≡◌, ◌≤◌, All, false, length, map, IfErr, IfOk, OnOk};
+ghost use Rattle.std.specs.Prelude.{◌≡◌, ◌≤◌, All, false, length, map, IfErr, IfOk, OnOk, IsTrue};
 ghost use Rattle.velo_events.specs.declared.event.Label.{Label as LabelOf};
 ghost use Rattle.velo_events.specs.declared.event.LockId.{LockId as LockOf};
 ghost use Rattle.velo_events.specs.declared.event.VarId.{VarId as VariableOf};
 ghost use Rattle.velo_events.specs.declared.limits.TheConstants.{MAX_EVENTS};
+ghost use Rattle.velo_events.specs.Graph.{HasCycle};
 ghost use Rattle.velo_events.specs.WellFormed.{IsWellFormed};
 ghost use Rattle.velo_filter.specs.Left.{with_labels};
 ghost use Rattle.velo_filter.specs.Tables.{left_of};
@@ -18,7 +19,7 @@ ghost use Rattle.velo_delivery.specs.Writing.{writing};
 
 use crate::command::Command;
 use std::alloc::Global;
-use velo_audit::{AuditFault, Told, audit, count_atomic};
+use velo_audit::{AuditFault, Told, audit_checked, count_atomic};
 use velo_audit_text::{Asked, audit_text};
 use velo_bytes::{Sink, Source};
 use velo_delivery::{Files, Operand};
@@ -88,6 +89,16 @@ pub fn config_of_rounds(closed: &Closed, limits: Limits) -> Config
     }
 }
 
+/// Whether the log has no cycle.
+pub fn is_clean(closed: &Closed) -> bool
+    ensures { IsTrue result → ¬ HasCycle closed.now.log }
+{
+    match closed.alarm() {
+        None => true,
+        Some(_) => false,
+    }
+}
+
 /// Whether a round found a label.
 fn is_found(rounds: &[Told]) -> bool
     ensures { result ≡ is_found rounds.now }
@@ -126,7 +137,7 @@ fn tell_rounds<O: Sink>(
     }
 }
 
-/// The rounds of a log of which so much is left out at first.
+/// The rounds of a log of which so much is left out at first, and which is clean or not.
 ///
 /// # Errors
 /// `Check` with the refusal where the graph of a round is full, `Memory` if an allocation failed.
@@ -134,6 +145,7 @@ pub fn rounds_of(
     alloc: Global,
     config: &Config,
     log: &Trace,
+    clean: bool,
     asked: &Asked,
     witness: bool,
     left: &mut LeftOut,
@@ -141,6 +153,7 @@ pub fn rounds_of(
     requires goes_on { config.now.stop ≡ false }
     requires short { length log.now.events ≤ config.now.events }
     requires well_formed { IsWellFormed config.now.bounds log.now.events }
+    requires clean { IsTrue clean → ¬ HasCycle log.now.events }
     requires left { left_of left.old ≡ left_at_first asked.now }
     ensures rounds { IfOk result (λ rounds.
         AreRoundsOf witness log.now.events (left_at_first asked.now) rounds.items) }
@@ -149,7 +162,7 @@ pub fn rounds_of(
     ensures fault { IfErr result (λ fate.
         LacksRounds asked.now config.now.nodes config.now.bounds log.now.events fate) }
 {
-    match audit(alloc, config, log, left, witness) {
+    match audit_checked(alloc, config, log, clean, left, witness) {
         Ok(rounds) => Ok(rounds),
         Err(AuditFault::Memory) => Err(Fate::Memory),
         Err(AuditFault::GraphFull { position }) => Err(Fate::Check(CheckFault::Refused {
@@ -176,7 +189,7 @@ fn audit_rest<O: Sink>(
 {
     let config = config_of_rounds(closed, options.limits);
     let log = closed.log();
-    match rounds_of(alloc, &config, log, asked, options.witness, left) {
+    match rounds_of(alloc, &config, log, is_clean(closed), asked, options.witness, left) {
         Ok(rounds) => {
             let fate = tell_rounds(alloc, log, names, asked, &rounds, left, out);
             drop(rounds);
