@@ -13,12 +13,13 @@ ghost use Rattle.velo_log_commands.specs.Watching.{check_fault_by, CanWatch, Fol
 ghost use Rattle.velo_report.specs.declared.names.Names.{Names as Shown};
 ghost use Rattle.velo_watch.specs.UnderWay.{IsFaultOfOpening, IsUnderWay, read_failures, write_failures};
 
-use crate::check::{fate_of, fault_of, finish};
-use crate::naming::{ByNames, do_by_names, shown_by};
+use crate::check::{fate_of, finish};
+use crate::command::Command;
 use std::alloc::Global;
 use velo_bytes::{Sink, Source};
 use velo_delivery::{Files, Operand};
 use velo_fate::{CheckFault, Fate, Verdict, open_input};
+use velo_inputs::{ByNames, do_by_names, fault_of, shown_by};
 use velo_report::Names;
 use velo_request::WatchOptions;
 use velo_watch::{Watch, WatchFault};
@@ -266,8 +267,8 @@ impl AskedWatch for WatchOptions<'_> {
     }
 }
 
-impl ByNames for WatchOptions<'_> {
-    ghost does = { λ options names. WatchesBy names (terms_of_watch options) };
+impl ByNames for Command<'_, WatchOptions<'_>> {
+    ghost does = { λ command names. WatchesBy names (terms_of_watch command.options.now) };
 
     fn do_by<F: Files, O: Sink>(
         &self,
@@ -276,8 +277,8 @@ impl ByNames for WatchOptions<'_> {
         files: &mut F,
         out: &mut O,
     ) -> Fate {
-        let shown = shown_by(self.names, names);
-        watch_named(alloc, self, &shown, files, out)
+        let shown = shown_by(self.options.names, names);
+        watch_named(alloc, self.options, &shown, files, out)
     }
 }
 
@@ -291,5 +292,5 @@ pub fn watch_file<F: Files, O: Sink>(
     ensures { DoesWatch options.now (store F.disk files.old files.new)
         (writing O.contents O.failures out.old out.new) result }
 {
-    do_by_names(alloc, options, options.names, files, out)
+    do_by_names(alloc, &Command { options }, options.names, files, out)
 }

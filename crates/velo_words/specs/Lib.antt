@@ -1,8 +1,10 @@
 pub mod Events
-pub mod Lines
+pub mod Failing
 pub mod Header
 pub mod Line
+pub mod Lines
 pub mod Log
-pub mod Saying
 pub mod Refused
+pub mod Roles
+pub mod Saying
 pub mod Work

@@ -15,7 +15,9 @@ use Rattle.velo_request.specs.declared.request.Request.{Request}
 use Rattle.velo_request.specs.declared.request.Request.TheVariants.{Audit, Carry, Check, Explain, Explore, Predict, Replay, Run, Thin, Watch}
 use Rattle.velo_workload.specs.declared.fault.WorkFault.{WorkFault}
 use Rattle.velo_workload.specs.declared.fault.WorkFault.TheVariants as work_fault
+use Rattle.velo_words.specs.declared.failing.Reason.{Reason}
 use Rattle.velo_words.specs.Events.{HasEvent}
+use Rattle.velo_words.specs.Failing.{SaysFailure}
 use Rattle.velo_words.specs.Log.{log_words}
 use Rattle.velo_words.specs.Refused.{refused_words, wrong_value_words}
 use Rattle.velo_words.specs.Work.{work_words}
@@ -89,10 +91,11 @@ IsSaid disk request (fate.Work fault) words =
     IfSome (work_of request) (λ path. SaysWork disk path fault words)
 IsSaid disk request f words = ⊥
 
--- The program ends by its fate: with its line and its status; or what is said of the fate goes out
--- before the line, and this is the status, or one of the two breaks off, and the status is 5.
-abbrev pub EndsInWords : Disk → Request → Fate → Writing → ℕ → Type 0
-EndsInWords disk request f stderr result =
+-- The program ends by its fate: with its line and its status; or what is said of the fate, or of the
+-- file that failed, goes out before the line, and this is the status, or one of the two breaks off,
+-- and the status is 5.
+abbrev pub EndsInWords : Disk → (List ℕ → Reason → Type 0) → Request → Fate → Writing → ℕ → Type 0
+EndsInWords disk failed request f stderr result =
     Ends f stderr result
-    ⊎ ((words : List ℕ) × IsSaid disk request f words
+    ⊎ ((words : List ℕ) × (IsSaid disk request f words ⊎ SaysFailure failed request f words)
     × Closes (status_of f) (words ++ line_of f) stderr result)

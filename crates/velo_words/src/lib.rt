@@ -2,13 +2,16 @@
 #![tactic(auto)]
 
 mod events;
+mod failing;
 mod header;
 mod line;
 mod lines;
 mod log;
 mod refused;
+mod roles;
 mod saying;
 mod work;
 
+pub use failing::{Reason, Recall};
 pub use header::{HeaderFault, header_fault_of};
 pub use saying::end_in_words;
