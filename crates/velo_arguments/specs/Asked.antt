@@ -152,6 +152,9 @@ IsAudit rows options =
     × IsPath (codes "names") rows options.names
     × AreLeftOut rows options.known options.ignored_locks.now options.ignored_variables.now
     × IsFlag (one_of (codes "no-witness") rows) (not options.witness)
+    × IsFlag (one_of (codes "counts") rows) options.counts
+    × IsFlag (one_of (codes "by-count") rows) options.by_count
+    × IsFlag (one_of (codes "innermost") rows) options.innermost
     × AreLimits rows options.limits
 
 abbrev pub IsThinning : List Row → ThinOptions → Type 0

@@ -12,4 +12,16 @@ pub loop-at-init : goal.loop-at-init
 loop-at-init c = record { blocks = count_below-zero _; blamed = count_below-zero _; innermost = count_below-zero _ }
 
 pub counted-requires-clause-blocks : goal.counted-requires-clause-blocks
-counted-requires-clause-blocks c = ?
+counted-requires-clause-blocks c = omega (arith, count_below-le c.loop-at.at (is_block_of c.loop-at.events c.args.label.0))
+
+pub counted-requires-clause-blamed : goal.counted-requires-clause-blamed
+counted-requires-clause-blamed c = ?
+
+pub counted-requires-clause-innermost : goal.counted-requires-clause-innermost
+counted-requires-clause-innermost c = ?
+
+pub loop-at-preserved : goal.loop-at-preserved
+loop-at-preserved c = ?
+
+pub returns : goal.returns
+returns c = ?
