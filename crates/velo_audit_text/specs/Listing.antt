@@ -11,7 +11,7 @@ use Rattle.velo_audit_text.specs.declared.entries.Entry.{Entry}
 use Rattle.velo_audit_text.specs.declared.entries.Listing.{Listing}
 use Rattle.velo_audit_text.specs.Words.{asked_text, not_atomic_text, mark_text, count_text}
 use Rattle.velo_audit_text.specs.Text.{optional_witness_text}
-use Rattle.velo_audit_text.specs.Entries.{AreEntries, AreListed, found_from}
+use Rattle.velo_audit_text.specs.Entries.{IsListed}
 
 -- "  3 of 12 blocks"
 unfoldable pub tally_text : Tally → List ℕ
@@ -35,10 +35,14 @@ abbrev pub end_text : NameLists → List Event → List Told → Entry → Optio
 end_text names log rounds entry None = round_text names log (slice_get rounds entry.round)
 end_text names log rounds entry (Some next) = round_text_if names log rounds entry (not (next.round == entry.round))
 
--- its label, its counts, and what the round tells
+-- its label, its counts, and what the round tells, by the next entry
+abbrev pub entry_text_by : NameLists → List Event → List Told → Bool → Entry → Option Entry → List ℕ
+entry_text_by names log rounds counts entry next =
+    not_atomic_text names entry.label.0 ++ (tally_text_if counts entry.tally ++ end_text names log rounds entry next)
+
+-- the same of the k-th of some entries
 abbrev pub entry_text : NameLists → List Event → List Told → Bool → List Entry → ℕ → Entry → List ℕ
-entry_text names log rounds counts entries k entry =
-    not_atomic_text names entry.label.0 ++ (tally_text_if counts entry.tally ++ end_text names log rounds entry (slice_get entries (k + 1)))
+entry_text names log rounds counts entries k entry = entry_text_by names log rounds counts entry (slice_get entries (k + 1))
 
 -- "  and 40 labels around these"
 unfoldable pub outer_text : ℕ → List ℕ
@@ -57,8 +61,7 @@ listing_text names log asked rounds listing listed outer atomic =
 
 -- this is the text where so many labels are atomic; the blocks are counted in `first`, what is left at first of the log
 pub record IsListingText (names : NameLists) (log : List Event) (asked : Asked) (listing : Listing) (first : List Event) (rounds : List Told) (atomic : ℕ) (page : List ℕ) : Type 0 where
-  pub entries : List Entry
-  pub are_entries : AreEntries first (found_from 0 rounds) entries
   pub listed : List Entry
-  pub are_listed : AreListed listing entries listed
-  pub text : page ≡ listing_text names log asked rounds listing listed (length entries - length listed) atomic
+  pub others : ℕ
+  pub is_listed : IsListed first listing rounds listed others
+  pub text : page ≡ listing_text names log asked rounds listing listed others atomic

@@ -5,7 +5,7 @@ ghost use Rattle.velo_explain.specs.Text.{numbered};
 ghost use Rattle.velo_filter.specs.Thinned.{CanComeAbout};
 ghost use Rattle.velo_audit.specs.Audit.{TellsTruly};
 ghost use Rattle.velo_tally.specs.Marks.{AreMarks};
-ghost use Rattle.velo_audit_text.specs.Listing.{IsListingText, end_text, entry_text, outer_text, outer_text_if, round_text, tally_text, tally_text_if};
+ghost use Rattle.velo_audit_text.specs.Listing.{IsListingText, end_text, entry_text, entry_text_by, outer_text, outer_text_if, round_text, tally_text, tally_text_if};
 ghost use Rattle.velo_audit_text.specs.Witness.{FewAreOpen};
 
 use crate::entries::{Entry, Listing, listed_of};
@@ -72,12 +72,12 @@ fn add_end(
     events: &[Event],
     rounds: &[Told],
     entry: Entry,
-    next: Option<&Entry>,
+    next: Option<Entry>,
 ) -> Result<(), Memory>
     requires truly { All (TellsTruly events.now) rounds.now }
     requires few { length events.now ≤ MAX_EVENTS }
     requires open { FewAreOpen events.now }
-    ensures { OnOk result (page.new ≡ page.old ++ end_text names.now events.now rounds.now entry (option_copied next)) }
+    ensures { OnOk result (page.new ≡ page.old ++ end_text names.now events.now rounds.now entry next) }
 {
     match next {
         Some(next) if next.round == entry.round => Ok(()),
@@ -93,20 +93,18 @@ fn add_entry(
     events: &[Event],
     rounds: &[Told],
     counts: bool,
-    entries: &[Entry],
-    k: usize,
+    entry: Entry,
+    next: Option<Entry>,
 ) -> Result<(), Memory>
-    requires place { k < length entries.now }
     requires truly { All (TellsTruly events.now) rounds.now }
     requires few { length events.now ≤ MAX_EVENTS }
     requires open { FewAreOpen events.now }
     ensures { OnOk result (page.new ≡ page.old
-        ++ entry_text names.now events.now rounds.now counts entries.now k (get_or entries.now k none)) }
+        ++ entry_text_by names.now events.now rounds.now counts entry next) }
 {
-    let entry = entries[k];
     add_not_atomic(page, names, entry.label.0)?;
     add_tally_if(page, counts, entry.tally)?;
-    add_end(page, names, alloc, events, rounds, entry, entries.get(k + 1))
+    add_end(page, names, alloc, events, rounds, entry, next)
 }
 
 /// Adds the entries.
@@ -126,7 +124,8 @@ fn add_entries(
         ++ numbered (entry_text names.now events.now rounds.now counts entries.now) 0 entries.now) }
 {
     for k in 0..entries.len() {
-        add_entry(page, names, alloc, events, rounds, counts, entries, k)?;
+        let next = entries.get(k + 1).copied();
+        add_entry(page, names, alloc, events, rounds, counts, entries[k], next)?;
     }
     Ok(())
 }

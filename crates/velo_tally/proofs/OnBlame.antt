@@ -94,7 +94,6 @@ module _ (log : List Event) (t p b : ℕ) (e : Event) (here : slice_get log p �
 
   -- ---- and the other way round: the first event of the thread behind the other one is where the chain comes back
 
-  comes_back : IsTrue (passes_at log (is_by t) b) → (x : ℕ) (between : List ℕ) → IsFalse (passes_at log (is_by t) x) → Reaches (ConflictsInOrder log) b x → Path (ConflictsInOrder log) x between p → IsBroken log t (p + 1) b
   back_at : IsTrue (passes_at log (is_by t) b) → (x c : ℕ) → IsFalse (passes_at log (is_by t) x) → Reaches (ConflictsInOrder log) b x → ConflictsInOrder log x c → c < p + 1 → IsTrue (passes_at log (is_by t) c) → IsBroken log t (p + 1) b
   back_at begun x c other from link low own_c =
       let places = conflict_at-within log x c link.1 in
@@ -114,6 +113,8 @@ module _ (log : List Event) (t p b : ℕ) (e : Event) (here : slice_get log p �
           before = record { own = begun; from = from };
         };
       }
+
+  comes_back : IsTrue (passes_at log (is_by t) b) → (x : ℕ) (between : List ℕ) → IsFalse (passes_at log (is_by t) x) → Reaches (ConflictsInOrder log) b x → Path (ConflictsInOrder log) x between p → IsBroken log t (p + 1) b
   comes_back begun x [] other from link = back_at begun x p other from link (omega arith) (passes_at-is log (is_by t) p e here ∙ eq-eqb (thread_of e) t own)
   comes_back begun x (c ∷ cs) other from path =
       let later = HappensBefore-lt log c p (cs, path.1) in

@@ -101,6 +101,13 @@ module _ (these : List ℕ) (bound count : ℕ) (rise : (j k : ℕ) → j < k �
         record { place = w.place; within = omega (arith, inside, long_before); there = get_or-take (count - 1) these w.place 0 inside ∙ w.there }),
   )
 
+-- the same with what is the same as the second
+pub either-same : {X A B C : Type 0} → X ↔ (A ⊎ B) → B ↔ C → X ↔ (A ⊎ C)
+either-same is same = (
+  (λ x. ⊎_elim (λ a. inl a) (λ b. inr (same.0 b)) (is.0 x)),
+  (λ w. is.1 (⊎_elim (λ a. inl a) (λ c. inr (same.1 c)) w)),
+)
+
 -- ---- what is open, by the events so far
 
 module _ (log : List Event) (t n b : ℕ) (upto : n ≤ length log) where

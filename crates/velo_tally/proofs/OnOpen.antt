@@ -1,6 +1,6 @@
 -- The open blocks of a thread, one event after another.
 use Rattle.std.proofs.Common.{◌≡◌, ℕ, ◌+◌, ◌-◌, ◌<◌, ◌≤◌, List, [], ◌∷◌, ◌++◌, length, take, get_or, Some, refl, sym, ap, ◌∙◌, subst, arith, ⊎_elim}
-use Rattle.std.specs.Prelude.{◌⊎◌, slice_get, slice_index, IsTrue, IsFalse}
+use Rattle.std.specs.Prelude.{◌⊎◌, slice_get, slice_index, IsTrue, IsFalse, OnOk, Result, Ok, Err}
 use Rattle.std.proofs.lemmas.Bool.{cases_lt, and_from, and_left, and_right}
 use Rattle.std.proofs.lemmas.List.{length_push, get_or_append_left, get_or_push, get_or-take, length-take-le}
 use Rattle.velo_events.specs.declared.event.Event.{Event}
@@ -10,6 +10,10 @@ use Rattle.velo_events.specs.Event.{thread_of, is_by, is_begin, is_end, is_begin
 use Rattle.velo_events.specs.Scan.{begins, ends, IsOpenAt}
 use Rattle.velo_events.proofs.OnScans.{begins-other, begins-more, ends-other, ends-more, begin_by-no_end_by, end_by-no_begin_by, other_kind, IsOpenAt-less, IsOpenAt-more, IsOpenAt-begin, IsOpenAt-no_begin}
 use Rattle.velo_tally.specs.Open.{AreOpen, IsListedAt}
+
+pub on_ok : {A E : Type 0} {P Q : Type 0} (r : Result A E) → (P → Q) → OnOk r P → OnOk r Q
+on_ok (Ok x) f h = f h
+on_ok (Err e) f h = tt
 
 -- before the first event none is open
 pub AreOpen-start : (log : List Event) (t : ℕ) → AreOpen log t 0 []

@@ -1,9 +1,10 @@
 -- Counts of positions, one after another.
-use Rattle.std.proofs.Common.{◌≡◌, ℕ, zero, suc, ◌+◌, ◌<◌, ◌≤◌, Bool, true, false, cond, not, List, [], ◌∷◌, length, filter, refl, sym, ap, ◌∙◌, subst, arith, ⊎_elim, add-one}
+use Rattle.std.proofs.Common.{◌≡◌, ℕ, zero, suc, ◌+◌, ◌<◌, ◌≤◌, Bool, true, false, cond, not, List, [], ◌∷◌, length, filter, get_or, Some, refl, sym, ap, ◌∙◌, subst, arith, ⊎_elim, add-one}
 use Rattle.std.specs.Prelude.{◌↔◌, ◌&&◌, if◌then◌else◌, Contains, IsTrue, IsFalse}
 use Rattle.std.specs.List.{range_with_len}
 use Rattle.std.proofs.lemmas.Bool.{cases_Bool, and_parts, and_from, not-true, not_from_false, false_from_ne_true, both_ways}
 use Rattle.std.proofs.lemmas.List.Kept.{IsStrictlyIncreasing-filter}
+use Rattle.std.proofs.lemmas.Option.{same_Some, slice_get-get_or}
 use Rattle.velo_events.specs.declared.event.Event.{Event}
 use Rattle.velo_events.specs.Block.{positions}
 use Rattle.velo_events.proofs.OnOwners.{passes_at-within}
@@ -76,6 +77,13 @@ IsCountOf-test log test P n count all is within same = record {
   once = IsStrictlyIncreasing-filter test (positions log) (positions-increase log);
   count = is ∙ (count_below-range test n ∙ ap (λ k. length (filter test (range_with_len 0 k))) all);
 }
+
+-- what is read at a place is the mark there
+pub mark-is : (marks : List Bool) (at : ℕ) (read : Bool) → at < length marks → read ≡ get_or marks at read → mark_at marks at ≡ read
+mark-is marks at read within is = same_Some (mark_at marks at) read (sym (slice_get-get_or marks at false within) ∙ (slice_get-get_or marks at read within ∙ ap Some (sym is)))
+
+pub both-are : {a b x y : Bool} → a ≡ x → b ≡ y → (a && b) ≡ (x && y)
+both-are {a} {b} {x} {y} is also = ap (λ k. k && b) is ∙ ap (λ k. x && k) also
 
 -- ---- the three tests
 

@@ -36,11 +36,12 @@ fn below(these: &[usize], bound: usize) -> usize
 }
 
 /// Marks these positions.
-fn mark(marks: &mut [bool], these: &[usize])
-    requires { (j : ℕ) → j < length these.now → slice_index these.now j < length marks.old }
-    ensures size { length marks.new ≡ length marks.old }
-    ensures marked { (b : ℕ) → IsTrue (mark_at marks.new b)
-        ↔ (IsTrue (mark_at marks.old b) ⊎ IsListedAt these.now b) }
+fn mark(marks: &mut Vec<bool>, these: &[usize])
+    requires { (j : ℕ) → j < length these.now
+        → slice_index these.now j < length marks.old.items }
+    ensures size { length marks.new.items ≡ length marks.old.items }
+    ensures marked { (b : ℕ) → IsTrue (mark_at marks.new.items b)
+        ↔ (IsTrue (mark_at marks.old.items b) ⊎ IsListedAt these.now b) }
 {
     for k in 0..these.len() {
         marks[these[k]] = true;

@@ -14,8 +14,8 @@ loop-k-preserved c =
     let within = c.requires c.loop-k.k c.loop-k-test.true in
     record {
       size = length-set _ _ _ ∙ c.loop-k.invariant.size;
-      marked = mark-next c.args.marks.now c.loop-k.marks c.args.these.now c.loop-k.k (omega (arith, within, c.loop-k.invariant.size)) c.loop-k.invariant.marked;
+      marked = mark-next c.args.marks.now.items c.loop-k.marks.items c.args.these.now c.loop-k.k (omega (arith, within, c.loop-k.invariant.size)) c.loop-k.invariant.marked;
     }
 
 pub returns-clause-marked : goal.returns-clause-marked
-returns-clause-marked c = λ b. subst (λ n. IsTrue (mark_at c.loop-k.marks b) ↔ (IsTrue (mark_at c.args.marks.now b) ⊎ IsAmong c.args.these.now n b)) (let all : c.loop-k.k ≡ length c.args.these.now = omega arith in all) (c.loop-k.invariant.marked b)
+returns-clause-marked c = λ b. subst (λ n. IsTrue (mark_at c.loop-k.marks.items b) ↔ (IsTrue (mark_at c.args.marks.now.items b) ⊎ IsAmong c.args.these.now n b)) (let all : c.loop-k.k ≡ length c.args.these.now = omega arith in all) (c.loop-k.invariant.marked b)

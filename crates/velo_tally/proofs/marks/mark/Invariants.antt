@@ -6,6 +6,6 @@ use Rattle.velo_tally.proofs.marks.mark.Given as goal
 
 abbrev pub invariant-loop-k : goal.invariant-loop-k
 invariant-loop-k l = record {
-  size : length l.marks ≡ length l.initial.marks;
-  marked : (b : ℕ) → IsTrue (mark_at l.marks b) ↔ (IsTrue (mark_at l.initial.marks b) ⊎ IsAmong l.these l.k b);
+  size : length l.marks.items ≡ length l.initial.marks.items;
+  marked : (b : ℕ) → IsTrue (mark_at l.marks.items b) ↔ (IsTrue (mark_at l.initial.marks.items b) ⊎ IsAmong l.these l.k b);
 }

@@ -12,7 +12,17 @@ pub step-requires-clause-others : goal.step-requires-clause-others
 step-requires-clause-others c = let events = c.args.events.now in subst (λ s. AllHavePlaces s events (length events)) (sym c.loop-at.invariant.others) c.requires.others
 
 pub loop-at-init : goal.loop-at-init
-loop-at-init c = ?
+loop-at-init c =
+    let events = c.args.events.now in let t = c.args.thread.0 in
+    record {
+      known = c.clear.ensures.known;
+      others = c.clear.ensures.others;
+      stands = record {
+        reaches = c.clear.ensures.start events t;
+        are_open = subst (AreOpen events t 0) (sym c.clear-2.ensures.items) (AreOpen-start events t);
+        are_marks = c.requires.marks;
+      };
+    }
 
 pub returns-clause-marks : goal.returns-clause-marks
 returns-clause-marks c = let events = c.args.events.now in AreMarksSoFar-thread events c.args.thread.0 c.loop-at.at c.loop-at.marks (let all : c.loop-at.at ≡ length events = omega arith in all) c.loop-at.invariant.stands.are_marks
