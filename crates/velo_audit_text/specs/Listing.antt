@@ -1,5 +1,5 @@
 -- What an audit prints where it lists its labels as was asked for.
-use Rattle.std.specs.Prelude.{◌≡◌, ℕ, ◌+◌, ◌-◌, ◌==◌, not, Bool, true, false, List, [], ◌∷◌, ◌++◌, length, slice_get, Option, Some, None, codes, decimal}
+use Rattle.std.specs.Prelude.{◌≡◌, ℕ, ◌+◌, ◌==◌, if◌then◌else◌, Bool, true, false, List, [], ◌∷◌, ◌++◌, length, slice_get, Option, Some, None, codes, decimal}
 use Rattle.velo_events.specs.declared.event.Event.{Event}
 use Rattle.velo_names.specs.Names.{NameLists}
 use Rattle.velo_explain.specs.Pieces.{joined}
@@ -26,14 +26,15 @@ abbrev pub round_text : NameLists → List Event → Option Told → List ℕ
 round_text names log None = []
 round_text names log (Some told) = mark_text told.to_blame ++ optional_witness_text names log told.closing told.witness
 
-abbrev pub round_text_if : NameLists → List Event → List Told → Entry → Bool → List ℕ
-round_text_if names log rounds entry true = round_text names log (slice_get rounds entry.round)
-round_text_if names log rounds entry false = []
+-- the next entry is of its round too
+abbrev pub is_followed : Entry → Option Entry → Bool
+is_followed entry None = false
+is_followed entry (Some next) = next.round == entry.round
 
--- the same, unless the next entry is of this round too
+-- what its round tells, unless the next entry is of this round too
 abbrev pub end_text : NameLists → List Event → List Told → Entry → Option Entry → List ℕ
-end_text names log rounds entry None = round_text names log (slice_get rounds entry.round)
-end_text names log rounds entry (Some next) = round_text_if names log rounds entry (not (next.round == entry.round))
+end_text names log rounds entry next =
+    if is_followed entry next then [] else round_text names log (slice_get rounds entry.round)
 
 -- its label, its counts, and what the round tells, by the next entry
 abbrev pub entry_text_by : NameLists → List Event → List Told → Bool → Entry → Option Entry → List ℕ

@@ -5,7 +5,7 @@ ghost use Rattle.velo_explain.specs.Text.{numbered};
 ghost use Rattle.velo_filter.specs.Thinned.{CanComeAbout};
 ghost use Rattle.velo_audit.specs.Audit.{TellsTruly};
 ghost use Rattle.velo_tally.specs.Marks.{AreMarks};
-ghost use Rattle.velo_audit_text.specs.Listing.{IsListingText, end_text, entry_text, entry_text_by, outer_text, outer_text_if, round_text, tally_text, tally_text_if};
+ghost use Rattle.velo_audit_text.specs.Listing.{IsListingText, end_text, entry_text, entry_text_by, is_followed, outer_text, outer_text_if, round_text, tally_text, tally_text_if};
 ghost use Rattle.velo_audit_text.specs.Witness.{FewAreOpen};
 
 use crate::entries::{Entry, Listing, listed_of};
@@ -64,6 +64,16 @@ fn add_round(
     add_witness_if_any(page, names, alloc, events, told.closing, &told.witness)
 }
 
+/// Whether the next entry is of its round too.
+fn is_followed(entry: Entry, next: Option<Entry>) -> bool
+    ensures { result ≡ is_followed entry next }
+{
+    match next {
+        Some(next) => next.round == entry.round,
+        None => false,
+    }
+}
+
 /// Adds it, unless the next entry is of this round too.
 fn add_end(
     page: &mut Page,
@@ -79,10 +89,10 @@ fn add_end(
     requires open { FewAreOpen events.now }
     ensures { OnOk result (page.new ≡ page.old ++ end_text names.now events.now rounds.now entry next) }
 {
-    match next {
-        Some(next) if next.round == entry.round => Ok(()),
-        _ => add_round(page, names, alloc, events, rounds, entry.round),
+    if is_followed(entry, next) {
+        return Ok(());
     }
+    add_round(page, names, alloc, events, rounds, entry.round)
 }
 
 /// Adds an entry.

@@ -218,7 +218,7 @@ module _ (log : List Event) (t p : ℕ) (e : Event) (here : slice_get log p ≡ 
     around = λ b. (
       (λ m. ⊎_elim
           (λ was. let w = (before.around b).0 was in record { at = w.at; inner = w.inner; passed = passed-next w.at w.passed; later = w.later; is_open = w.is_open; there = w.there })
-          (λ now. let w = around-here b now in record { at = p; inner = w.0; passed = inr (of_thread, omega arith); later = w.1; is_open = w.2.0; there = w.2.1 })
+          (λ now. let w = around-here b now in record { at = p; inner = w.0; passed = inr (of_thread, omega arith); later = w.1; is_open = w.2; there = w.3 })
           ((around b).0 m)),
       (λ w. (around b).1 (⊎_elim
           (λ was. inl ((before.around b).1 (record { at = w.at; inner = w.inner; passed = was; later = w.later; is_open = w.is_open; there = w.there })))

@@ -82,8 +82,8 @@ IsCountOf-test log test P n count all is within same = record {
 pub mark-is : (marks : List Bool) (at : ℕ) (read : Bool) → at < length marks → read ≡ get_or marks at read → mark_at marks at ≡ read
 mark-is marks at read within is = same_Some (mark_at marks at) read (sym (slice_get-get_or marks at false within) ∙ (slice_get-get_or marks at read within ∙ ap Some (sym is)))
 
-pub both-are : {a b x y : Bool} → a ≡ x → b ≡ y → (a && b) ≡ (x && y)
-both-are {a} {b} {x} {y} is also = ap (λ k. k && b) is ∙ ap (λ k. x && k) also
+pub both-are : (a b x y : Bool) → a ≡ x → b ≡ y → (a && b) ≡ (x && y)
+both-are a b x y is also = ap (λ k. k && b) is ∙ ap (λ k. x && k) also
 
 -- ---- the three tests
 

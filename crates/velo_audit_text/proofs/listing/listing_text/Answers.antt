@@ -10,3 +10,11 @@ add_entries-requires-clause-truly c = subst (λ es. All (TellsTruly es) c.args.r
 
 pub add_entries-requires-clause-open : goal.add_entries-requires-clause-open
 add_entries-requires-clause-open c = subst FewAreOpen (sym c.as_slice.ensures) (FewAreOpen-from c.args.log.now.events c.requires.can_come_about)
+
+pub returns : goal.returns
+returns c = record {
+  listed = c.in_ok-listed.listed.entries.items;
+  others = c.in_ok-listed.listed.others;
+  is_listed = c.in_ok-listed.ensures;
+  text = ?;
+}

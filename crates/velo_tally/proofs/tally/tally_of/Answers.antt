@@ -5,11 +5,20 @@ use Rattle.velo_events.proofs.OnScans.{passes_at-is}
 use Rattle.velo_traces.proofs.Past.{past}
 use Rattle.velo_tally.specs.Marks.{AreMarks}
 use Rattle.velo_tally.specs.Tally.{IsTally, begins_label, is_block_of}
-use Rattle.velo_tally.proofs.OnTally.{count_below-zero, counted-next, is_blamed_of, is_innermost_of, IsTally-counted, mark-is, both-are}
+use Rattle.velo_tally.proofs.OnTally.{count_below-zero, count_below-le, counted-next, is_blamed_of, is_innermost_of, IsTally-counted, mark-is, both-are}
 use Rattle.velo_tally.proofs.tally.tally_of.Goals as goal
 
 pub loop-at-init : goal.loop-at-init
 loop-at-init c = record { blocks = count_below-zero _; blamed = count_below-zero _; innermost = count_below-zero _ }
+
+pub counted-tally-requires-clause-blocks : goal.counted-tally-requires-clause-blocks
+counted-tally-requires-clause-blocks c = omega (arith, count_below-le c.loop-at.at (is_block_of c.as_slice-events.result.now c.args.label.0))
+
+pub counted-tally-requires-clause-blamed : goal.counted-tally-requires-clause-blamed
+counted-tally-requires-clause-blamed c = omega (arith, count_below-le c.loop-at.at (is_blamed_of c.as_slice-events.result.now c.args.marks.now c.args.label.0))
+
+pub counted-tally-requires-clause-innermost : goal.counted-tally-requires-clause-innermost
+counted-tally-requires-clause-innermost c = omega (arith, count_below-le c.loop-at.at (is_innermost_of c.as_slice-events.result.now c.args.marks.now c.args.label.0))
 
 pub loop-at-preserved : goal.loop-at-preserved
 loop-at-preserved c =
@@ -22,8 +31,8 @@ loop-at-preserved c =
     let around = mark-is marks.around.items at c.index-in-loop-at.result.now (omega (arith, c.requires.as_many_around, log_long, c.loop-at-test.true)) c.index-in-loop-at.ensures in
     record {
       blocks = counted-next at (is_block_of events l) _ _ _ block c.loop-at.invariant.blocks c.counted-tally.ensures.blocks;
-      blamed = counted-next at (is_blamed_of events marks l) _ _ _ (both-are block blamed) c.loop-at.invariant.blamed c.counted-tally.ensures.blamed;
-      innermost = counted-next at (is_innermost_of events marks l) _ _ _ (both-are block (both-are blamed (ap not around))) c.loop-at.invariant.innermost c.counted-tally.ensures.innermost;
+      blamed = counted-next at (is_blamed_of events marks l) _ _ _ (both-are _ _ _ _ block blamed) c.loop-at.invariant.blamed c.counted-tally.ensures.blamed;
+      innermost = counted-next at (is_innermost_of events marks l) _ _ _ (both-are _ _ _ _ block (both-are _ _ _ _ blamed (ap not around))) c.loop-at.invariant.innermost c.counted-tally.ensures.innermost;
     }
 
 pub returns : goal.returns
