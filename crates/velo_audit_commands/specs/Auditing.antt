@@ -102,7 +102,7 @@ pub record TellsRounds (names : NameLists) (asked : Asked) (options : AuditOptio
   pub are_rounds : AreRoundsOf options.witness log (left_at_first asked) rounds
   pub page : List ℕ
   pub is_text :
-    IsAuditText names log asked (listing_of options) rounds (atomic_of log asked rounds) page
+      IsAuditText names log asked (listing_of options) rounds (atomic_of log asked rounds) page
   pub said : answer ≡ printing page (Finished Done (is_found rounds))
 
 -- A round needs more nodes than there may be: the event at this position of the log as read finds

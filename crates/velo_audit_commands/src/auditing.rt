@@ -22,8 +22,8 @@ use velo_audit_text::{Asked, Listing, audit_text, listing_text};
 use velo_bytes::{Sink, Source};
 use velo_delivery::{Files, Operand};
 use velo_events::{Bounds, Config, Label, LockId, Memory, Refusal, VarId};
-use velo_fate::{CheckFault, Fate, open_input};
 use velo_explain::Page;
+use velo_fate::{CheckFault, Fate, open_input};
 use velo_filter::{LeftOut, thin};
 use velo_inputs::{AskedWords, ByAsked, ByNames, do_by_asked, do_by_names, do_input, print};
 use velo_names::Names;
@@ -134,7 +134,15 @@ fn listed(
     let first = thin(alloc, log, &left)?;
     let marks = marks_of(alloc, bounds, &first.trace)?;
     listing_text(
-        alloc, names, log, asked, listing, &first.trace, &marks, rounds, atomic,
+        alloc,
+        names,
+        log,
+        asked,
+        listing,
+        &first.trace,
+        &marks,
+        rounds,
+        atomic,
     )
 }
 

@@ -187,7 +187,15 @@ pub fn listing_text(
     let listed = listed_of(alloc, listing, rounds, first, marks)?;
     let mut page = Page::new(alloc);
     add_asked(&mut page, names, asked)?;
-    add_entries(&mut page, names, alloc, log.as_slice(), rounds, listing.counts, &listed.entries)?;
+    add_entries(
+        &mut page,
+        names,
+        alloc,
+        log.as_slice(),
+        rounds,
+        listing.counts,
+        &listed.entries,
+    )?;
     add_outer_if(&mut page, listing.innermost, listed.others)?;
     add_counts(&mut page, atomic, rounds.len() + 1)?;
     Ok(page)

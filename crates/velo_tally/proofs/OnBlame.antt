@@ -1,6 +1,6 @@
 -- A block is to blame at a position of its thread exactly where it begins below the bound there.
-use Rattle.std.proofs.Common.{◌≡◌, ℕ, zero, suc, ◌+◌, ◌<◌, ◌≤◌, Bool, not, List, [], ◌∷◌, ◌++◌, length, take, drop, Some, refl, sym, ap, ◌∙◌, subst, arith, ⊎_elim, inl, inr}
-use Rattle.std.specs.Prelude.{◌⊎◌, ◌↔◌, ◌&&◌, slice_get, IsTrue, IsFalse, Contains}
+use Rattle.std.proofs.Common.{◌≡◌, ℕ, zero, suc, ◌+◌, ◌<◌, ◌≤◌, Bool, not, List, [], ◌∷◌, ◌++◌, length, take, drop, Some, refl, sym, ap, ◌∙◌, subst, arith, ⊎_elim, inr}
+use Rattle.std.specs.Prelude.{◌↔◌, slice_get, IsTrue, IsFalse, Contains}
 use Rattle.std.specs.Option.{option_map_or}
 use Rattle.std.proofs.lemmas.Bool.{cases_lt, cases_Bool, and_parts, and_from, not-true, not_from_false, eq-eqb, eqb-true, both_ways}
 use Rattle.std.proofs.lemmas.List.{take-append-drop, length-take-le}
@@ -9,19 +9,19 @@ use Rattle.velo_events.specs.declared.event.Event.{Event}
 use Rattle.velo_events.specs.Event.{thread_of, is_by}
 use Rattle.velo_events.specs.Block.{passes_at, is_open_at, open_blocks}
 use Rattle.velo_events.specs.Conflict.{conflict}
-use Rattle.velo_events.specs.Graph.{Path, Leads, Reaches, both_conflict, conflict_at, ConflictsInOrder, HappensBefore}
+use Rattle.velo_events.specs.Graph.{Path, Reaches, both_conflict, conflict_at, ConflictsInOrder, HappensBefore}
 use Rattle.velo_events.specs.Reordering.{IsSelfSerializable}
-use Rattle.velo_events.proofs.OnTraces.{slice_get-take, passes_at-append}
+use Rattle.velo_events.proofs.OnTraces.{passes_at-append}
 use Rattle.velo_events.proofs.OnScans.{event_at, passes_at-event, passes_at-is}
-use Rattle.velo_events.proofs.OnGraphs.{Reaches-trans, Leads-trans}
+use Rattle.velo_events.proofs.OnGraphs.{Reaches-trans}
 use Rattle.velo_events.proofs.OnReorderings.{conflict_at-within}
-use Rattle.velo_events.proofs.OnOwners.{is_open_at-thread, is_open_at-within}
+use Rattle.velo_events.proofs.OnOwners.{is_open_at-thread}
 use Rattle.velo_events.proofs.OnUnfinished.{Contains-open_blocks}
-use Rattle.velo_events.proofs.OnHappening.{HappensBefore-lt, IsFrom-append, IsFrom-before, IsFrom-same_thread, IsFrom-le, IsFrom-next, ConflictsInOrder-append, ConflictsInOrder-before, ConflictsInOrder-same_thread, Path-before}
+use Rattle.velo_events.proofs.OnHappening.{HappensBefore-lt, IsFrom-append, IsFrom-before, IsFrom-same_thread, IsFrom-le, IsFrom-next, ConflictsInOrder-append, ConflictsInOrder-before}
 use Rattle.velo_events.proofs.OnBlame.{IsInterrupted, blame_law}
 use Rattle.velo_blame.specs.Blamed.{thread_at}
-use Rattle.velo_blame.specs.Known.{IsKnown, IsEndOf, IsOwnBefore, is_by_others}
-use Rattle.velo_tally.specs.Blame.{IsToBlameAt, IsOpenAfter}
+use Rattle.velo_blame.specs.Known.{IsEndOf, is_by_others}
+use Rattle.velo_tally.specs.Blame.{IsToBlameAt}
 use Rattle.velo_tally.specs.Reach.{IsBroken}
 
 module _ (log : List Event) (t p b : ℕ) (e : Event) (here : slice_get log p ≡ Some e) (own : thread_of e ≡ t) where
@@ -81,7 +81,7 @@ module _ (log : List Event) (t p b : ℕ) (e : Event) (here : slice_get log p �
       let from : Reaches (ConflictsInOrder past) b w.known.place = Reaches-trans (ConflictsInOrder past) b k w.known.place (IsFrom-same_thread past t b k upto begun own_k) (from_past k w.known.place low w.known.before.from) in
       let link : ConflictsInOrder log w.known.place w.place = (w.known.below, conflict-linked w.known.place w.place f.0 w.event f.1 w.here parts.0) in
       let back : Reaches (ConflictsInOrder past) w.known.place p = Reaches-trans (ConflictsInOrder past) w.known.place w.place p (inr ([], link_past w.known.place w.place w.before link))
-          (IsFrom-same_thread past t w.place p (omega (arith, w.before)) (sym (by_past (is_by t) w.place w.before) ∙ (passes_at-is log (is_by t) w.place w.event w.here ∙ eq-eqb (thread_of w.event) t w.own)) own_last) in
+      (IsFrom-same_thread past t w.place p (omega (arith, w.before)) (sym (by_past (is_by t) w.place w.before) ∙ (passes_at-is log (is_by t) w.place w.event w.here ∙ eq-eqb (thread_of w.event) t w.own)) own_last) in
       record {
         through = w.known.place;
         of_another = other;

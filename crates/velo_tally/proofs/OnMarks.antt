@@ -1,6 +1,6 @@
 -- The marks that a pass over a log makes.
-use Rattle.std.proofs.Common.{◌≡◌, ◌≢◌, ℕ, ◌+◌, ◌-◌, ◌<◌, ◌≤◌, Bool, true, false, List, [], ◌∷◌, length, take, drop, get_or, set, replicate, Some, refl, sym, ap, ◌∙◌, subst, arith, ⊎_elim, inl, inr}
-use Rattle.std.specs.Prelude.{◌⊎◌, ◌↔◌, ◌==◌, slice_get, slice_index, slice_index_or, IsTrue, IsFalse, Contains}
+use Rattle.std.proofs.Common.{◌≡◌, ◌≢◌, ℕ, ◌+◌, ◌-◌, ◌<◌, ◌≤◌, Bool, true, false, List, length, take, drop, set, replicate, Some, refl, sym, ap, ◌∙◌, subst, arith, ⊎_elim, inl, inr}
+use Rattle.std.specs.Prelude.{◌⊎◌, ◌↔◌, ◌==◌, slice_get, slice_index, IsTrue, IsFalse, Contains}
 use Rattle.std.specs.Option.{option_map_or}
 use Rattle.std.proofs.lemmas.Bool.{cases_lt, cases_Bool, both_ways, eq-eqb, eqb-true}
 use Rattle.std.proofs.lemmas.List.{get_or-set_same, get_or-set_other, get_or-take, length-take-le, take-append-drop, length-replicate, get_or-replicate, get_or_past}
@@ -19,10 +19,10 @@ use Rattle.velo_events.proofs.OnUnfinished.{Contains-open_blocks}
 use Rattle.velo_blame.specs.Blamed.{thread_at}
 use Rattle.velo_blame.specs.Known.{IsEndOf}
 use Rattle.velo_tally.specs.declared.marks.Marks.{Marks}
-use Rattle.velo_tally.specs.Blame.{IsToBlameAt, IsOpenAfter, IsToBlame, IsAround}
+use Rattle.velo_tally.specs.Blame.{IsToBlameAt, IsOpenAfter}
 use Rattle.velo_tally.specs.Reach.{IsBroken}
 use Rattle.velo_tally.specs.Open.{AreOpen, IsAmong, IsListedAt}
-use Rattle.velo_tally.specs.Marks.{mark_at, AreMarks, IsPassed, IsToBlameSoFar, IsAroundSoFar, AreMarksSoFar, IsBelow, IsBeforeOneBelow, CountsBelow}
+use Rattle.velo_tally.specs.Marks.{mark_at, AreMarks, IsPassed, AreMarksSoFar, IsBelow, IsBeforeOneBelow, CountsBelow}
 use Rattle.velo_tally.proofs.OnBlame.{IsToBlameAt-below}
 
 -- ---- one mark
@@ -50,8 +50,8 @@ mark-next first marks these k within before b = ⊎_elim here elsewhere (cases_B
           (λ m. ⊎_elim (λ old. inl old) (λ w. inr (record { place = w.place; within = omega (arith, w.within); there = w.there })) ((before b).0 (sym is ∙ m))),
           (λ w. is ∙ (before b).1 (⊎_elim (λ old. inl old)
               (λ v. ⊎_elim (λ l. inr (record { place = v.place; within = l; there = v.there }))
-                  (λ g. let last : v.place ≡ k = omega (arith, g, v.within) in absurd (other (sym v.there ∙ ap (slice_index these) last)))
-                  (cases_lt v.place k)) w)),
+              (λ g. let last : v.place ≡ k = omega (arith, g, v.within) in absurd (other (sym v.there ∙ ap (slice_index these) last)))
+              (cases_lt v.place k)) w)),
         )
 
 -- ---- the numbers below a bound
@@ -129,11 +129,13 @@ module _ (log : List Event) (t n b : ℕ) (upto : n ≤ length log) where
   pub is_open-by : IsTrue (is_open_at (take n log) t b (length (take n log))) → (b < n) × IsOpenAt log t b n
   is_open-by opened =
       let low : b < n = omega (arith, is_open_at-within (take n log) t b (length (take n log)) opened, length-take-le n log upto) in
-      let w = IsOpenAt-from (take n log) t b n (subst (λ k. IsTrue (is_open_at (take n log) t b k)) (length-take-le n log upto) opened) in
-      (low, record {
-        begun = passes-take (is_begin_by t) b low ∙ w.begun;
-        unbalanced = λ k l m same. w.unbalanced k l m (omega (arith, same, begins-take (k + 1) (omega (arith, m)), ends-take (k + 1) (omega (arith, m)), begins-take b (omega (arith, low)), ends-take b (omega (arith, low))));
-      })
+      let w = IsOpenAt-from (take n log) t b n (subst (λ k. IsTrue (is_open_at (take n log) t b k)) (length-take-le n log upto) opened) in (
+        low,
+        record {
+          begun = passes-take (is_begin_by t) b low ∙ w.begun;
+          unbalanced = λ k l m same. w.unbalanced k l m (omega (arith, same, begins-take (k + 1) (omega (arith, m)), ends-take (k + 1) (omega (arith, m)), begins-take b (omega (arith, low)), ends-take b (omega (arith, low))));
+        },
+      )
 
 -- ---- what is to blame at a position
 
@@ -169,9 +171,12 @@ module _ (log : List Event) (t p : ℕ) (e : Event) (here : slice_get log p ≡ 
   pub around-here : (b : ℕ) → IsBeforeOneBelow these bound b → (inner : ℕ) × (b < inner) × IsOpenAfter log p b × IsToBlameAt log p inner
   around-here b w =
       let next = slice_index these (w.place + 1) in
-      let up = are.rise w.place (w.place + 1) (omega arith) w.within in
-      (next, omega (arith, up, w.there), is_open-after b (record { place = w.place; within = omega (arith, w.within); there = w.there }),
-      (decides next (record { place = w.place + 1; within = w.within; there = refl })).0 w.low)
+      let up = are.rise w.place (w.place + 1) (omega arith) w.within in (
+        next,
+        omega (arith, up, w.there),
+        is_open-after b (record { place = w.place; within = omega (arith, w.within); there = w.there }),
+        (decides next (record { place = w.place + 1; within = w.within; there = refl })).0 w.low,
+      )
 
   pub around-back : (b inner : ℕ) → b < inner → IsOpenAfter log p b → IsToBlameAt log p inner → IsBeforeOneBelow these bound b
   around-back b inner later is_open there =
@@ -179,15 +184,15 @@ module _ (log : List Event) (t p : ℕ) (e : Event) (here : slice_get log p ≡ 
       let at = listed inner there.is_open in
       let low = (decides inner at).1 there in
       let order : outer.place < at.place = ⊎_elim (λ l. l)
-          (λ g. ⊎_elim
-          (λ under. let down = are.rise at.place outer.place under outer.within in absurd (omega (arith, down, later, outer.there, at.there)))
-          (λ same. let one : at.place ≡ outer.place = omega (arith, g, same) in let both = ap (slice_index these) one in absurd (omega (arith, both, later, outer.there, at.there)))
-          (cases_lt at.place outer.place))
-          (cases_lt outer.place at.place) in
+      (λ g. ⊎_elim
+      (λ under. let down = are.rise at.place outer.place under outer.within in absurd (omega (arith, down, later, outer.there, at.there)))
+      (λ same. let one : at.place ≡ outer.place = omega (arith, g, same) in let both = ap (slice_index these) one in absurd (omega (arith, both, later, outer.there, at.there)))
+      (cases_lt at.place outer.place))
+      (cases_lt outer.place at.place) in
       let next : slice_index these (outer.place + 1) < bound = ⊎_elim
-          (λ under. let up = are.rise (outer.place + 1) at.place under at.within in omega (arith, up, low, at.there))
-          (λ g. let one : outer.place + 1 ≡ at.place = omega (arith, g, order) in let both = ap (slice_index these) one in omega (arith, both, low, at.there))
-          (cases_lt (outer.place + 1) at.place) in
+      (λ under. let up = are.rise (outer.place + 1) at.place under at.within in omega (arith, up, low, at.there))
+      (λ g. let one : outer.place + 1 ≡ at.place = omega (arith, g, order) in let both = ap (slice_index these) one in omega (arith, both, low, at.there))
+      (cases_lt (outer.place + 1) at.place) in
       record { place = outer.place; within = omega (arith, order, at.within); there = outer.there; low = next }
 
   -- ---- so with the marks that are made here

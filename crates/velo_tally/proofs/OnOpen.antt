@@ -1,14 +1,12 @@
 -- The open blocks of a thread, one event after another.
-use Rattle.std.proofs.Common.{◌≡◌, ℕ, ◌+◌, ◌-◌, ◌<◌, ◌≤◌, List, [], ◌∷◌, ◌++◌, length, take, get_or, Some, refl, sym, ap, ◌∙◌, subst, arith, ⊎_elim}
-use Rattle.std.specs.Prelude.{◌⊎◌, slice_get, slice_index, IsTrue, IsFalse, OnOk, Result, Ok, Err}
-use Rattle.std.proofs.lemmas.Bool.{cases_lt, and_from, and_left, and_right}
+use Rattle.std.proofs.Common.{◌≡◌, ℕ, ◌+◌, ◌-◌, ◌<◌, List, [], ◌∷◌, ◌++◌, length, take, Some, refl, sym, ◌∙◌, subst, arith, ⊎_elim}
+use Rattle.std.specs.Prelude.{slice_get, slice_index, IsTrue, IsFalse, OnOk, Result, Ok, Err}
+use Rattle.std.proofs.lemmas.Bool.{cases_lt}
 use Rattle.std.proofs.lemmas.List.{length_push, get_or_append_left, get_or_push, get_or-take, length-take-le}
 use Rattle.velo_events.specs.declared.event.Event.{Event}
-use Rattle.velo_events.specs.declared.event.Label.{Label}
-use Rattle.velo_events.specs.declared.event.Kind.TheVariants.{Begin, End}
-use Rattle.velo_events.specs.Event.{thread_of, is_by, is_begin, is_end, is_begin_by, is_end_by}
+use Rattle.velo_events.specs.Event.{is_begin_by, is_end_by}
 use Rattle.velo_events.specs.Scan.{begins, ends, IsOpenAt}
-use Rattle.velo_events.proofs.OnScans.{begins-other, begins-more, ends-other, ends-more, begin_by-no_end_by, end_by-no_begin_by, other_kind, IsOpenAt-less, IsOpenAt-more, IsOpenAt-begin, IsOpenAt-no_begin}
+use Rattle.velo_events.proofs.OnScans.{begins-other, begins-more, ends-other, ends-more, begin_by-no_end_by, end_by-no_begin_by, IsOpenAt-less, IsOpenAt-more, IsOpenAt-begin, IsOpenAt-no_begin}
 use Rattle.velo_tally.specs.Open.{AreOpen, IsListedAt}
 
 pub on_ok : {A E : Type 0} {P Q : Type 0} (r : Result A E) → (P → Q) → OnOk r P → OnOk r Q
@@ -55,14 +53,14 @@ module _ (log : List Event) (t n : ℕ) (e : Event) (here : slice_get log n ≡ 
         (cases_lt j (length these));
     are = λ j l. ⊎_elim
         (λ old. subst (λ b. IsOpenAt log t b (n + 1)) (sym (at_old j old))
-            (let c = were.counts j old in IsOpenAt-more log t (slice_index these j) n (were.are j old) (λ same. omega (arith, same, c, old, more, less))))
+        (let c = were.counts j old in IsOpenAt-more log t (slice_index these j) n (were.are j old) (λ same. omega (arith, same, c, old, more, less))))
         (λ last. subst (λ b. IsOpenAt log t b (n + 1)) (sym (at_last j (omega (arith, last, l, long)))) (IsOpenAt-begin log t n e here begun))
         (cases_lt j (length these));
     counts = λ j l. ⊎_elim
         (λ old. subst (λ b. begins log t (n + 1) + ends log t b + j ≡ ends log t (n + 1) + begins log t b + length (these ++ n ∷ [])) (sym (at_old j old))
-            (let c = were.counts j old in omega (arith, c, more, less, long)))
+        (let c = were.counts j old in omega (arith, c, more, less, long)))
         (λ last. subst (λ b. begins log t (n + 1) + ends log t b + j ≡ ends log t (n + 1) + begins log t b + length (these ++ n ∷ [])) (sym (at_last j (omega (arith, last, l, long))))
-            (omega (arith, more, less, long, last, l)))
+        (omega (arith, more, less, long, last, l)))
         (cases_lt j (length these));
     rise = λ j k l m. ⊎_elim
         (λ old. let up = were.rise j k l old in omega (arith, up, at_old j (omega (arith, l, old)), at_old k old))
@@ -109,12 +107,12 @@ module _ (log : List Event) (t n : ℕ) (e : Event) (here : slice_get log n ≡ 
         let w = was_open no_begin b low opened in
         let c = were.counts w.place w.within in
         let early : w.place < length these - 1 = ⊎_elim (λ l. l)
-            (λ g.
-            let last : w.place + 1 ≡ length these = omega (arith, g, w.within) in
-            let closed : begins log t (n + 1) + ends log t (slice_index these w.place) ≡ ends log t (n + 1) + begins log t (slice_index these w.place) = omega (arith, c, last, more, less) in
-            let under = were.earlier w.place w.within in
-            absurd (opened.unbalanced n (omega (arith, under, w.there)) (omega arith) (subst (λ k. begins log t (n + 1) + ends log t k ≡ ends log t (n + 1) + begins log t k) w.there closed)))
-            (cases_lt w.place (length these - 1)) in
+        (λ g.
+        let last : w.place + 1 ≡ length these = omega (arith, g, w.within) in
+        let closed : begins log t (n + 1) + ends log t (slice_index these w.place) ≡ ends log t (n + 1) + begins log t (slice_index these w.place) = omega (arith, c, last, more, less) in
+        let under = were.earlier w.place w.within in
+        absurd (opened.unbalanced n (omega (arith, under, w.there)) (omega arith) (subst (λ k. begins log t (n + 1) + ends log t k ≡ ends log t (n + 1) + begins log t k) w.there closed)))
+        (cases_lt w.place (length these - 1)) in
         record { place = w.place; within = omega (arith, early, long); there = at_old w.place early ∙ w.there };
   }
     where

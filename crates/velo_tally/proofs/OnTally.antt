@@ -1,6 +1,6 @@
 -- Counts of positions, one after another.
-use Rattle.std.proofs.Common.{◌≡◌, ℕ, zero, suc, ◌+◌, ◌<◌, ◌≤◌, Bool, true, false, cond, not, List, [], ◌∷◌, length, filter, get_or, Some, refl, sym, ap, ◌∙◌, subst, arith, ⊎_elim, add-one}
-use Rattle.std.specs.Prelude.{◌↔◌, ◌&&◌, if◌then◌else◌, Contains, IsTrue, IsFalse}
+use Rattle.std.proofs.Common.{◌≡◌, ℕ, zero, suc, ◌+◌, ◌<◌, ◌≤◌, Bool, true, false, cond, not, List, [], ◌∷◌, length, filter, get_or, Some, refl, sym, ap, ◌∙◌, arith, ⊎_elim, add-one}
+use Rattle.std.specs.Prelude.{◌↔◌, ◌&&◌, if◌then◌else◌, IsTrue}
 use Rattle.std.specs.List.{range_with_len}
 use Rattle.std.proofs.lemmas.Bool.{cases_Bool, and_parts, and_from, not-true, not_from_false, false_from_ne_true, both_ways}
 use Rattle.std.proofs.lemmas.List.Kept.{IsStrictlyIncreasing-filter}
@@ -11,7 +11,6 @@ use Rattle.velo_events.proofs.OnOwners.{passes_at-within}
 use Rattle.velo_events.proofs.OnPositions.{Contains-filter, Contains-positions, positions-increase}
 use Rattle.velo_tally.specs.declared.marks.Marks.{Marks}
 use Rattle.velo_tally.specs.declared.tally.Tally.{Tally}
-use Rattle.velo_tally.specs.Blame.{IsToBlame, IsAround}
 use Rattle.velo_tally.specs.Marks.{AreMarks, mark_at}
 use Rattle.velo_tally.specs.Tally.{IsCountOf, IsTally, begins_label, is_block_of, IsBlamedBlockOf, IsInnermostBlockOf, count_below}
 

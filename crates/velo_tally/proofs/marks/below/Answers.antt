@@ -1,4 +1,4 @@
-use Rattle.std.proofs.Common.{◌≡◌, length, arith}
+use Rattle.std.proofs.Common.{length, arith}
 use Rattle.velo_tally.proofs.OnMarks.{CountsBelow-at, CountsBelow-all}
 use Rattle.velo_tally.proofs.marks.below.Goals as goal
 

@@ -1,5 +1,5 @@
-use Rattle.std.proofs.Common.{◌≡◌, length, refl, ◌∙◌, arith, ⊎_elim, inl, inr, subst}
-use Rattle.std.specs.Prelude.{◌⊎◌, ◌↔◌, IsTrue, slice_index}
+use Rattle.std.proofs.Common.{◌≡◌, length, refl, ◌∙◌, arith, ⊎_elim, inl, subst}
+use Rattle.std.specs.Prelude.{◌⊎◌, ◌↔◌, IsTrue}
 use Rattle.std.proofs.lemmas.List.{length-set}
 use Rattle.velo_tally.specs.Marks.{mark_at}
 use Rattle.velo_tally.specs.Open.{IsAmong}

@@ -1,4 +1,4 @@
-use Rattle.std.proofs.Common.{◌≡◌, length, sym, ◌∙◌, subst, arith}
+use Rattle.std.proofs.Common.{◌≡◌, length, sym, subst, arith}
 use Rattle.velo_conflicts.specs.Places.{AllHavePlaces}
 use Rattle.velo_tally.specs.Open.{AreOpen}
 use Rattle.velo_tally.proofs.OnOpen.{AreOpen-start}

@@ -1,4 +1,4 @@
-use Rattle.std.proofs.Common.{◌≡◌, length}
+use Rattle.std.proofs.Common.{length}
 use Rattle.velo_conflicts.specs.Places.{sizes, AllHavePlaces}
 use Rattle.velo_tally.specs.Marks.{AreMarksSoFar}
 use Rattle.velo_tally.proofs.marks.marks_of.Given as goal

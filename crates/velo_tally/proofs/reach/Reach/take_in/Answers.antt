@@ -1,4 +1,4 @@
-use Rattle.std.proofs.Common.{◌+◌, max, sym, ◌∙◌, subst}
+use Rattle.std.proofs.Common.{◌+◌, sym, ◌∙◌, subst}
 use Rattle.velo_tally.specs.Reach.{ReachesUpTo}
 use Rattle.velo_tally.proofs.OnReach.{ReachesUpTo-own, ReachesUpTo-other}
 use Rattle.velo_tally.proofs.reach.Reach.take_in.Goals as goal
