@@ -308,7 +308,7 @@ audit_asks : (options : AuditOptions) → options.input.now ≡ codes "a" → op
 unfolding asked_by walked
 audit_asks options log names known locks variables witness counts by_count innermost events nodes = (
   refl,
-  (ap Some (sym log), ap (option_map (λ path. path.now)) (sym names), (sym known, sym locks, sym variables), search rules, search rules, search rules, search rules, search rules),
+  (ap Some (sym log), ap (option_map (λ path. path.now)) (sym names), (sym known, sym locks, sym variables), search rules, record { counts = search rules; by_count = search rules; innermost = search rules }, search rules),
 )
 
 -- ---- wrong words, and words that ask for help

@@ -117,6 +117,18 @@ fn add_entry(
     add_end(page, names, alloc, events, rounds, entry, next)
 }
 
+/// The entry after one.
+fn next_of(entries: &[Entry], k: usize) -> Option<Entry>
+    requires { k < length entries.now }
+    ensures { result ≡ slice_get entries.now (k + 1) }
+{
+    if k + 1 < entries.len() {
+        Some(entries[k + 1])
+    } else {
+        None
+    }
+}
+
 /// Adds the entries.
 fn add_entries(
     page: &mut Page,
@@ -134,7 +146,7 @@ fn add_entries(
         ++ numbered (entry_text names.now events.now rounds.now counts entries.now) 0 entries.now) }
 {
     for k in 0..entries.len() {
-        let next = entries.get(k + 1).copied();
+        let next = next_of(entries, k);
         add_entry(page, names, alloc, events, rounds, counts, entries[k], next)?;
     }
     Ok(())

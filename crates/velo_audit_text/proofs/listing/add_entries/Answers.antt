@@ -1,5 +1,5 @@
 use Rattle.std.proofs.Common.{◌≡◌, ◌+◌, ◌++◌, ◌∷◌, [], ℕ, List, take, get_or, length, ap, ◌∙◌, append_assoc, arith}
-use Rattle.std.specs.Prelude.{Option, slice_get}
+use Rattle.std.specs.Prelude.{Option}
 use Rattle.std.proofs.lemmas.List.{take_more, length-take-le}
 use Rattle.velo_explain.specs.Text.{numbered}
 use Rattle.velo_audit_text.specs.declared.entries.Entry.{Entry}
@@ -15,9 +15,8 @@ loop-k-preserved c =
     let xs = c.args.entries.now in let k = c.loop-k.k in let item = get_or xs k none in
     let text = entry_text c.args.names.now c.args.events.now c.args.rounds.now c.args.counts xs in
     let more : take (k + 1) xs ≡ take k xs ++ item ∷ [] = take_more xs k none c.loop-k-test.true in
-    let next : c.copied-next.result ≡ slice_get xs (k + 1) = c.copied-next.ensures ∙ c.get.ensures.lookup in
     c.in_ok-add_entry.ensures
-    ∙ ap (λ (o : Option Entry). c.loop-k.page ++ entry_text_by c.args.names.now c.args.events.now c.args.rounds.now c.args.counts item o) next
+    ∙ ap (λ (o : Option Entry). c.loop-k.page ++ entry_text_by c.args.names.now c.args.events.now c.args.rounds.now c.args.counts item o) c.next_of-next.ensures
     ∙ ap (λ (t : List ℕ). t ++ text k item) c.loop-k.invariant
     ∙ append_assoc c.args.page.now (numbered text 0 (take k xs)) (text k item)
     ∙ ap (λ (t : List ℕ). c.args.page.now ++ t) (numbered-more text xs k item more (length-take-le k xs (omega (arith, c.loop-k-test.true))))
