@@ -258,9 +258,12 @@ an_audit rows word has =
         ignored_locks = the_words (codes "ignore-lock") rows;
         ignored_variables = the_words (codes "ignore-variable") rows;
         witness = not (is_true (one_of (codes "no-witness") rows));
+        counts = is_true (one_of (codes "counts") rows);
+        by_count = is_true (one_of (codes "by-count") rows);
+        innermost = is_true (one_of (codes "innermost") rows);
         limits = limits.0;
       },
-      (word.1, path_of (first_of (codes "names") rows), left_out rows, is_flag_turned (one_of (codes "no-witness") rows), limits.1),
+      (word.1, path_of (first_of (codes "names") rows), left_out rows, is_flag_turned (one_of (codes "no-witness") rows), record { counts = is_flag (one_of (codes "counts") rows); by_count = is_flag (one_of (codes "by-count") rows); innermost = is_flag (one_of (codes "innermost") rows) }, limits.1),
     )
 
 a_thinning : (rows : List Row) → HasWord (codes "LOG") rows → HasWord (codes "log") rows → (options : ThinOptions) × IsThinning rows options

@@ -309,7 +309,7 @@ predict_asks options log names known locks variables values tries seed out event
 
 -- a log that is audited, without two locks; the limits are the greatest ones by default
 abbrev audit_words : List Text
-audit_words = codes "velodrome" ∷ codes "audit" ∷ codes "a" ∷ codes "--ignore-lock" ∷ codes "3" ∷ codes "--no-witness" ∷ codes "--ignore-lock=m" ∷ codes "--not-atomic" ∷ codes "l" ∷ []
+audit_words = codes "velodrome" ∷ codes "audit" ∷ codes "a" ∷ codes "--ignore-lock" ∷ codes "3" ∷ codes "--no-witness" ∷ codes "--ignore-lock=m" ∷ codes "--innermost" ∷ codes "--not-atomic" ∷ codes "l" ∷ []
 
 audit_is_right : faults_of audit_words ≡ []
 unfolding faults_of walk_fault walked defaults_fault
@@ -317,11 +317,11 @@ audit_is_right = refl
 
 audit_asks : (options : AuditOptions) → options.input.now ≡ codes "a" → options.names ≡ None → option_map (λ path. path.now) options.known ≡ Some (codes "l")
     → map (λ w. w.now) options.ignored_locks.now ≡ codes "3" ∷ codes "m" ∷ [] → map (λ w. w.now) options.ignored_variables.now ≡ [] → options.witness ≡ false
-    → options.limits.events ≡ 16777216 → options.limits.nodes ≡ 4096 → AsksFor (asked_by audit_words) (Audit options)
+    → options.counts ≡ false → options.by_count ≡ false → options.innermost ≡ true → options.limits.events ≡ 16777216 → options.limits.nodes ≡ 4096 → AsksFor (asked_by audit_words) (Audit options)
 unfolding asked_by walked
-audit_asks options log names known locks variables witness events nodes = (
+audit_asks options log names known locks variables witness counts by_count innermost events nodes = (
   refl,
-  (ap Some (sym log), ap (option_map (λ path. path.now)) (sym names), (sym known, sym locks, sym variables), search rules, search rules),
+  (ap Some (sym log), ap (option_map (λ path. path.now)) (sym names), (sym known, sym locks, sym variables), search rules, record { counts = search rules; by_count = search rules; innermost = search rules }, search rules),
 )
 
 -- ---- wrong words, and words that ask for help

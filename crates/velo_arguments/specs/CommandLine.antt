@@ -128,7 +128,9 @@ watch = subcommand (codes "watch")
 
 abbrev pub audit : Shape
 audit =
-    subcommand (codes "audit") (word (codes "LOG") ∷ flag (codes "no-witness") ∷ label_options)
+    subcommand (codes "audit")
+    (word (codes "LOG") ∷ flag (codes "no-witness") ∷ flag (codes "counts")
+    ∷ flag (codes "by-count") ∷ flag (codes "innermost") ∷ label_options)
 
 abbrev pub thin : Shape
 thin = subcommand (codes "thin")

@@ -323,6 +323,13 @@ It prints 'left out label L', 'left out lock N', 'left out variable N' for what 
 'not atomic L' for each label found, and after the labels of a round its witness, unless --no-witness
 is given; then 'atomic N labels' and 'rounds R'. With --names each number has its name after it.
 
+--counts prints '  B of N blocks' after each label: of its N blocks, B are to blame somewhere in the log,
+not only at an alarm. --by-count prints the labels with the greatest B first. --innermost leaves out a
+label if each of its blocks to blame has another one inside it, and prints how many were left out:
+'  and N labels around these'. A function that calls one that is not atomic is not atomic either, so
+begin with the innermost ones. With these options a witness comes after the labels of its round that
+are next to one another, and may come again.
+
 --not-atomic reads the known labels, one a line: a number, a name, or a line that an audit printed. So
 the output of one audit can be the list of the next. If number and name of such a line no longer belong
 together, it means the labels of the name. Other lines of an audit, empty lines, and comments that

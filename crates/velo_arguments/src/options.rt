@@ -225,6 +225,24 @@ pub const NO_WITNESS: Argument<'static> = Argument {
     help: "Print no witnesses",
 };
 
+pub const COUNTS: Argument<'static> = Argument {
+    name: "counts",
+    takes: Takes::Nothing,
+    help: "Print after each label how many of its blocks are to blame",
+};
+
+pub const BY_COUNT: Argument<'static> = Argument {
+    name: "by-count",
+    takes: Takes::Nothing,
+    help: "Print the labels with the most blocks to blame first",
+};
+
+pub const INNERMOST: Argument<'static> = Argument {
+    name: "innermost",
+    takes: Takes::Nothing,
+    help: "Print only labels with a block to blame that has no other one inside it",
+};
+
 const EVENTS_HELP: &str = "The most events that the log may have, 1 to 16777216";
 
 const NODES_HELP: &str = "The most transactions that the graph may hold at once, 1 to 4096";

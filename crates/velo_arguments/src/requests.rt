@@ -258,6 +258,9 @@ fn audit_options<'a>(found: &'a ArgMatches) -> Option<AuditOptions<'a>>
         ignored_locks: left.locks,
         ignored_variables: left.variables,
         witness: !found.get_flag("no-witness"),
+        counts: found.get_flag("counts"),
+        by_count: found.get_flag("by-count"),
+        innermost: found.get_flag("innermost"),
         limits: limits_of(found)?,
     })
 }

@@ -6,29 +6,30 @@ ghost use Rattle.velo_events.specs.declared.event.VarId.{VarId as VariableOf};
 ghost use Rattle.velo_events.specs.declared.limits.TheConstants.{MAX_EVENTS};
 ghost use Rattle.velo_events.specs.Graph.{HasCycle};
 ghost use Rattle.velo_events.specs.WellFormed.{IsWellFormed};
-ghost use Rattle.velo_filter.specs.Left.{with_labels};
+ghost use Rattle.velo_filter.specs.Left.{rest_of, with_labels};
 ghost use Rattle.velo_filter.specs.Tables.{left_of};
-ghost use Rattle.velo_filter.specs.Thinned.{CanComeAbout};
 ghost use Rattle.velo_audit.specs.Audit.{TellsTruly};
-ghost use Rattle.velo_audit_commands.specs.Auditing.{AreRoundsOf, Audits, AuditsInput, LacksRounds, audited, is_found, left_at_first, left_at_last, with_locks, with_variables};
+ghost use Rattle.velo_audit_commands.specs.Auditing.{AreRoundsOf, Audits, AuditsInput, IsAuditText, LacksRounds, PrintsRounds, is_found, left_at_first, left_at_last, listing_of, with_locks, with_variables};
+ghost use Rattle.velo_audit_text.specs.Listing.{IsListingText};
 ghost use Rattle.velo_delivery.specs.Disk.{store};
 ghost use Rattle.velo_audit_commands.specs.Commands.{AuditsLog, AuditsNamed, DoesAudit};
 ghost use Rattle.velo_delivery.specs.Reading.{reading};
-ghost use Rattle.velo_inputs.specs.Sending.{PrintsOrLacks};
 ghost use Rattle.velo_delivery.specs.Writing.{writing};
 
 use crate::command::Command;
 use std::alloc::Global;
 use velo_audit::{AuditFault, Told, audit_checked, count_atomic};
-use velo_audit_text::{Asked, audit_text};
+use velo_audit_text::{Asked, Listing, audit_text, listing_text};
 use velo_bytes::{Sink, Source};
 use velo_delivery::{Files, Operand};
-use velo_events::{Config, Label, LockId, Memory, Refusal, VarId};
+use velo_events::{Bounds, Config, Label, LockId, Memory, Refusal, VarId};
+use velo_explain::Page;
 use velo_fate::{CheckFault, Fate, open_input};
-use velo_filter::LeftOut;
+use velo_filter::{LeftOut, thin};
 use velo_inputs::{AskedWords, ByAsked, ByNames, do_by_asked, do_by_names, do_input, print};
 use velo_names::Names;
 use velo_request::{AuditOptions, Limits};
+use velo_tally::marks_of;
 use velo_traces::Trace;
 use velo_world::Closed;
 
@@ -109,29 +110,101 @@ fn is_found(rounds: &[Told]) -> bool
     }
 }
 
-/// Prints the text of the rounds, as a whole.
-fn tell_rounds<O: Sink>(
+/// How the labels are to be listed, if this was asked for.
+fn listing_of(options: &AuditOptions) -> Option<Listing>
+    ensures { result ≡ listing_of options.now }
+{
+    if !(options.counts || options.by_count || options.innermost) {
+        return None;
+    }
+    Some(Listing {
+        counts: options.counts,
+        by_count: options.by_count,
+        innermost: options.innermost,
+    })
+}
+
+/// The text of the rounds where their labels are listed as was asked for.
+fn listed(
     alloc: Global,
+    bounds: Bounds,
     log: &Trace,
     names: &Names,
     asked: &Asked,
+    listing: Listing,
+    rounds: &[Told],
+    atomic: usize,
+) -> Result<Page, Memory>
+    requires few { length log.now.events ≤ MAX_EVENTS }
+    requires well_formed { IsWellFormed bounds log.now.events }
+    requires truly { All (TellsTruly log.now.events) rounds.now }
+    ensures { IfOk result (λ page. IsListingText names.now log.now.events asked.now listing
+        (rest_of (left_at_first asked.now) log.now.events) rounds.now atomic page) }
+{
+    let left = left_out(alloc, asked)?;
+    let first = thin(alloc, log, &left)?;
+    let marks = marks_of(alloc, bounds, &first.trace)?;
+    listing_text(
+        alloc,
+        names,
+        log,
+        asked,
+        listing,
+        &first.trace,
+        &marks,
+        rounds,
+        atomic,
+    )
+}
+
+/// The text of the rounds.
+fn text_of(
+    alloc: Global,
+    bounds: Bounds,
+    log: &Trace,
+    names: &Names,
+    asked: &Asked,
+    listing: Option<Listing>,
+    rounds: &[Told],
+    atomic: usize,
+) -> Result<Page, Memory>
+    requires few { length log.now.events ≤ MAX_EVENTS }
+    requires well_formed { IsWellFormed bounds log.now.events }
+    requires truly { All (TellsTruly log.now.events) rounds.now }
+    ensures { IfOk result (λ page.
+        IsAuditText names.now log.now.events asked.now listing rounds.now atomic page) }
+{
+    match listing {
+        None => audit_text(alloc, names, log, asked, rounds, atomic),
+        Some(listing) => listed(alloc, bounds, log, names, asked, listing, rounds, atomic),
+    }
+}
+
+/// Prints the text of the rounds, as a whole.
+fn tell_rounds<O: Sink>(
+    alloc: Global,
+    bounds: Bounds,
+    log: &Trace,
+    names: &Names,
+    asked: &Asked,
+    listing: Option<Listing>,
     rounds: &[Told],
     left: &LeftOut,
     out: &mut O,
 ) -> Fate
     requires few { length log.now.events ≤ MAX_EVENTS }
-    requires can_come_about { CanComeAbout log.now.events }
+    requires well_formed { IsWellFormed bounds log.now.events }
     requires truly { All (TellsTruly log.now.events) rounds.now }
     requires left { left_of left.now
         ≡ left_at_last log.now.events (left_at_first asked.now) rounds.now }
-    ensures { PrintsOrLacks (audited names.now log.now.events asked.now rounds.now)
+    ensures { PrintsRounds names.now log.now.events asked.now listing rounds.now
         (writing O.contents O.failures out.old out.new) result }
 {
     let atomic = match count_atomic(alloc, log, left) {
         Ok(atomic) => atomic,
         Err(Memory) => return Fate::Memory,
     };
-    match audit_text(alloc, names, log, asked, rounds, atomic) {
+    match text_of(alloc, bounds, log, names, asked, listing, rounds, atomic) {
         Ok(text) => print(text.as_slice(), is_found(rounds), out),
         Err(Memory) => Fate::Memory,
     }
@@ -191,7 +264,11 @@ fn audit_rest<O: Sink>(
     let log = closed.log();
     match rounds_of(alloc, &config, log, is_clean(closed), asked, options.witness, left) {
         Ok(rounds) => {
-            let fate = tell_rounds(alloc, log, names, asked, &rounds, left, out);
+            let listing = listing_of(options);
+            let bounds = config.bounds;
+            let fate = tell_rounds(
+                alloc, bounds, log, names, asked, listing, &rounds, left, out,
+            );
             drop(rounds);
             fate
         }

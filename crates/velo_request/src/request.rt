@@ -237,6 +237,12 @@ pub struct AuditOptions<'a> {
     pub ignored_variables: &'a [&'a str],
     /// Whether the witness of each round is printed.
     pub witness: bool,
+    /// Whether each label comes with how many of its blocks are to blame.
+    pub counts: bool,
+    /// Whether the labels with the most blocks to blame come first.
+    pub by_count: bool,
+    /// Whether a label is left out if each of its blocks to blame has another one inside it.
+    pub innermost: bool,
     /// The limits within which the log is checked.
     pub limits: Limits,
 }

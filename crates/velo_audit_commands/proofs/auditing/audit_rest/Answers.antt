@@ -1,14 +1,17 @@
-use Rattle.std.proofs.Common.{refl, subst, sym, List}
+use Rattle.std.proofs.Common.{Option, refl, subst, sym, List}
+use Rattle.velo_audit_text.specs.declared.entries.Listing.{Listing}
 use Rattle.velo_events.specs.declared.event.Event.{Event}
 use Rattle.velo_events.specs.Graph.{HasCycle}
 use Rattle.velo_delivery.specs.Writing.{writing}
+use Rattle.velo_audit_commands.specs.Auditing.{PrintsRounds}
 use Rattle.velo_audit_commands.proofs.OnAuditing.{lacks_same, rounds_lacking, rounds_printed}
 use Rattle.velo_audit_commands.proofs.auditing.audit_rest.Goals as goal
 
 pub returns-in-Ok : goal.returns-in-Ok
 returns-in-Ok g c =
     rounds_printed c.args.names.now c.args.asked.now c.args.options.now c.args.closed.now.config.bounds c.args.closed.now.log _ c.in-Ok.rounds.items _ c.log-log.ensures.events c.deref.ensures.value
-    c.in-Ok.ensures.rounds (writing g.O.Sink.contents g.O.Sink.failures c.args.out.now c.tell_rounds-fate.new.out) c.tell_rounds-fate.result c.tell_rounds-fate.ensures
+    c.in-Ok.ensures.rounds (writing g.O.Sink.contents g.O.Sink.failures c.args.out.now c.tell_rounds-fate.new.out) c.tell_rounds-fate.result
+    (subst (λ (l : Option Listing). PrintsRounds c.args.names.now _ c.args.asked.now l _ _ _) c.listing_of-listing.ensures c.tell_rounds-fate.ensures)
 
 pub returns-in-Err : goal.returns-in-Err
 returns-in-Err g c =
