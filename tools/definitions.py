@@ -58,7 +58,9 @@ PARTS = [
         "velo_races": "Races*"}),
     ("What the program does", {
         "velo_commands": "Program* Causes",
-        "velo_log_commands": "Commands* Check Explaining Carrying Predicting",
+        "velo_inputs": "Before* Input",
+        "velo_log_commands": "Commands* Check Explaining Carrying",
+        "velo_audit_commands": "Commands* Predicting",
         "velo_workload_commands": "Commands* Scheduling Playing ByChance Exploring*",
         "velo_fate": "Verdict Format Delivery Barred Fate Failures Causes",
         "velo_delivery": "Disk Reading Writing Answers",

@@ -42,23 +42,25 @@ use Rattle.velo_workload.specs.declared.fault.WorkFault.TheVariants as work_faul
 use Rattle.velo_world.specs.World.{WorldState}
 use Rattle.velo_commands.specs.Causes.{AnswersWithCause}
 use Rattle.velo_fate.specs.Causes.{CheckByGrowth, ComesByRefusal, EndsByRefusal, Growths, GrowthsAndStarts, ListByGrowth, NamesByGrowth, Needs, ScheduleByGrowth, SitesByGrowth}
-use Rattle.velo_log_commands.specs.Auditing.{IsAuditAnswer}
+use Rattle.velo_audit_commands.specs.Auditing.{IsAuditAnswer}
 use Rattle.velo_log_commands.specs.Carrying.{IsCarryAnswer, IsPut}
-use Rattle.velo_log_commands.specs.Check.{IsCheckAnswer, IsFaultOfInput}
+use Rattle.velo_log_commands.specs.Check.{IsCheckAnswer}
+use Rattle.velo_inputs.specs.Input.{IsFaultOfInput}
 use Rattle.velo_fate.specs.Delivery.{Answer, DeliversBy, FailsSaving, IsDelivered, IsDeliveredInTurn, IsPrinted, LacksMemory, silent}
 use Rattle.velo_delivery.specs.Disk.{Disk, Store, behind}
 use Rattle.velo_fate.specs.declared.files.Beside.{Beside}
 use Rattle.velo_fate.specs.Barred.{IsBarred, IsBarredApart, IsBarredRun, names_beside}
 use Rattle.velo_log_commands.specs.Explaining.{IsExplanation}
 use Rattle.velo_workload_commands.specs.Exploring.{IsExploreAnswer}
-use Rattle.velo_log_commands.specs.declared.asking.AskedWords.{AskedWords}
-use Rattle.velo_log_commands.specs.Commands.{AuditsLog, DoesAsked, PredictsLog, audit_words, predict_words}
-use Rattle.velo_log_commands.specs.Ignoring.{AsksInVain, MeanNothing}
+use Rattle.velo_inputs.specs.declared.asking.AskedWords.{AskedWords}
+use Rattle.velo_audit_commands.specs.Commands.{AuditsLog, PredictsLog, audit_words, predict_words}
+use Rattle.velo_inputs.specs.Before.{DoesAsked}
+use Rattle.velo_inputs.specs.Ignoring.{AsksInVain, MeanNothing}
 use Rattle.velo_fate.specs.Format.{SaysNone}
-use Rattle.velo_log_commands.specs.Listing.{HaveFaultOfList, LacksLabels, list_file}
-use Rattle.velo_log_commands.specs.Predicting.{IsPredictAnswer}
-use Rattle.velo_log_commands.specs.Naming.{HaveFaultOfNames, LacksNames, names_file}
-use Rattle.velo_log_commands.specs.Siting.{HaveFaultOfSites, LacksSites, sites_file}
+use Rattle.velo_inputs.specs.Listing.{HaveFaultOfList, LacksLabels, list_file}
+use Rattle.velo_audit_commands.specs.Predicting.{IsPredictAnswer}
+use Rattle.velo_inputs.specs.Naming.{HaveFaultOfNames, LacksNames, names_file}
+use Rattle.velo_inputs.specs.Siting.{HaveFaultOfSites, LacksSites, sites_file}
 use Rattle.velo_workload_commands.specs.Playing.{ByThreads, ByTurns, IsPlayAnswer, IsRunOf, IsSaidOfRun, IsUnread, Play}
 use Rattle.velo_commands.specs.Program.{Does}
 use Rattle.velo_workload_commands.specs.Commands.{DoesPlay}

@@ -1,13 +1,14 @@
 -- What the program does: the table of its commands. Read this page first.
 --
--- What a command does is one definition, whose lines are its steps: that of a command on a recorded
--- log is in `Commands` of `velo_log_commands`, that of a command on a workload in `Commands` of
--- `velo_workload_commands`. The store is the files that the command finds and leaves, stdout is
--- standard output before and after, and f is the command's fate.
+-- What a command does is one definition, whose lines are its steps, in `Commands` of its crate:
+-- `velo_log_commands`, `velo_audit_commands` or `velo_workload_commands`. The store is the files that
+-- the command finds and leaves, stdout is standard output before and after, and f is the command's
+-- fate.
 use Rattle.velo_delivery.specs.Disk.{Store}
 use Rattle.velo_delivery.specs.Writing.{Writing}
 use Rattle.velo_fate.specs.declared.fate.Fate.{Fate}
-use Rattle.velo_log_commands.specs.Commands.{DoesAudit, DoesCarry, DoesCheck, DoesExplain, DoesPredict, DoesThin, DoesWatch, DoesWatchEndless}
+use Rattle.velo_audit_commands.specs.Commands.{DoesAudit, DoesPredict}
+use Rattle.velo_log_commands.specs.Commands.{DoesCarry, DoesCheck, DoesExplain, DoesThin, DoesWatch, DoesWatchEndless}
 use Rattle.velo_request.specs.declared.request.Request.{Request}
 use Rattle.velo_request.specs.declared.request.Request.TheVariants.{Audit, Carry, Check, Explain, Explore, Predict, Replay, Run, Thin, Watch, WatchEndless}
 use Rattle.velo_workload_commands.specs.Commands.{DoesExplore, DoesReplay, DoesRun}

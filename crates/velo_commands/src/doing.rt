@@ -7,12 +7,12 @@ ghost use Rattle.velo_delivery.specs.Writing.{writing};
 use std::alloc::Global;
 use std::sync::Wait;
 use std::thread::Threads;
+use velo_audit_commands::{audit_file, predict_file};
 use velo_bytes::Sink;
 use velo_delivery::Files;
 use velo_fate::Fate;
 use velo_log_commands::{
-    audit_file, carry_file, check_file, explain_file, predict_file, thin_file, watch_endless_file,
-    watch_file,
+    carry_file, check_file, explain_file, thin_file, watch_endless_file, watch_file,
 };
 use velo_request::Request;
 use velo_workload_commands::{ExploreProgress, explore_file, replay_file, run_file};

@@ -9,7 +9,8 @@ pub use velo_explore::{Progress, Quiet};
 pub use velo_fate::{
     CheckFault, Fate, Verdict, end_line, end_with, order_or_cycle_of, write_output,
 };
-pub use velo_log_commands::{CarryFault, carry_run, check_run, config_of, do_log};
+pub use velo_inputs::{config_of, do_log};
+pub use velo_log_commands::{CarryFault, carry_run, check_run};
 pub use velo_request::{
     AuditOptions, CarryOptions, CheckOptions, DEFAULT_SEED, DEFAULT_TRIES, ExplainOptions,
     ExploreOptions, Ignorable, Limits, MAX_RUNS, MAX_STATES, MAX_TRIES, PredictOptions, RandomRuns,

@@ -19,11 +19,12 @@ use Rattle.velo_fate.specs.declared.fate.Fate.TheVariants as fate
 use Rattle.velo_fate.specs.Delivery.{Answer, IsDelivered, IsPrinted, LacksMemory, Saves, printing, silent}
 use Rattle.velo_delivery.specs.Disk.{Store}
 use Rattle.velo_delivery.specs.Reading.{Reading}
-use Rattle.velo_log_commands.specs.Check.{ComesAbout}
+use Rattle.velo_inputs.specs.Input.{ComesAbout}
 use Rattle.velo_log_commands.specs.Explaining.{ExplainsAlarm, ExplainsVerdict, counted, explained}
 use Rattle.velo_fate.specs.Failures.{failures_told}
 use Rattle.velo_delivery.specs.Writing.{Writing, WritesNothing}
-use Rattle.velo_log_commands.specs.Steps.{DeliversOrLacks, Explains, ExplainsIfOf, ExplainsInput, PrintsOrLacks}
+use Rattle.velo_inputs.specs.Sending.{DeliversOrLacks, PrintsOrLacks}
+use Rattle.velo_log_commands.specs.Steps.{Explains, ExplainsIfOf, ExplainsInput}
 use Rattle.velo_fate.specs.Saving.{IsSaved}
 use Rattle.velo_fate.proofs.OnDelivery.{delivered_reads, printed_put, same_fate}
 use Rattle.velo_certify.proofs.OnClosing.{no_cycle_before}

@@ -30,7 +30,8 @@ use Rattle.velo_fate.specs.declared.verdict.Verdict.{Verdict}
 use Rattle.velo_fate.specs.declared.fate.Fate.TheVariants.{Check, Finished}
 use Rattle.velo_request.specs.declared.request.WatchOptions.{WatchOptions}
 use Rattle.velo_fate.specs.Delivery.{printing, silent}
-use Rattle.velo_log_commands.specs.Check.{IsInput, fate_of}
+use Rattle.velo_inputs.specs.Input.{IsInput}
+use Rattle.velo_log_commands.specs.Check.{fate_of}
 use Rattle.velo_fate.specs.Verdict.{is_alarm}
 use Rattle.velo_fate.specs.Failures.{failures_told}
 use Rattle.velo_report.specs.declared.names.Names.{Names}

@@ -10,7 +10,7 @@ use Rattle.velo_log_commands.specs.declared.carrying.CarryFault.TheVariants.{Log
 use Rattle.velo_fate.specs.declared.fault.CheckFault.TheVariants as check_fault
 use Rattle.velo_fate.specs.declared.fate.Fate.{Fate}
 use Rattle.velo_fate.specs.declared.fate.Fate.TheVariants.{Check, Finished, WriteFailed}
-use Rattle.velo_log_commands.specs.Check.{IsFaultOfLogText, IsInput}
+use Rattle.velo_inputs.specs.Input.{IsFaultOfLogText, IsInput}
 use Rattle.velo_fate.specs.Delivery.{Answer, IsTaken, silent}
 use Rattle.velo_delivery.specs.Writing.{Writing}
 

@@ -16,8 +16,8 @@ use Rattle.velo_explain.specs.Places.{sited_explanation_text}
 use Rattle.velo_explain.specs.Text.{clean_text, named_explanation_text}
 use Rattle.velo_worker.specs.declared.ending.Ending.TheVariants.{Done}
 use Rattle.velo_fate.specs.declared.fate.Fate.TheVariants.{Finished, OtherSites}
-use Rattle.velo_log_commands.specs.Check.{ComesAbout, IsUnchecked}
-use Rattle.velo_log_commands.specs.Siting.{AreOfLog}
+use Rattle.velo_inputs.specs.Input.{ComesAbout, IsUnchecked}
+use Rattle.velo_inputs.specs.Siting.{AreOfLog}
 use Rattle.velo_fate.specs.Delivery.{Answer, LacksMemory, printing, silent}
 
 -- ---- the words of a verdict

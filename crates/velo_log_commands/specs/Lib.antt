@@ -1,15 +1,8 @@
-pub mod Auditing
 pub mod Carrying
 pub mod Check
 pub mod Commands
 pub mod Endless
 pub mod Explaining
-pub mod Faults
-pub mod Ignoring
-pub mod Listing
-pub mod Naming
-pub mod Predicting
-pub mod Siting
 pub mod Steps
 pub mod Thinning
 pub mod Watching

@@ -15,10 +15,10 @@ use Rattle.velo_fate.specs.declared.fate.Fate.{Fate}
 use Rattle.velo_fate.specs.declared.fate.Fate.TheVariants.{CannotOpen, Memory, OtherSites}
 use Rattle.velo_log_commands.specs.Carrying.{Carries}
 use Rattle.velo_fate.specs.Verdict.{IsOutput, IsVerdict}
-use Rattle.velo_fate.specs.Delivery.{Answer, IsDelivered, IsPrinted, LacksMemory}
+use Rattle.velo_fate.specs.Delivery.{Answer, IsDelivered, LacksMemory}
 use Rattle.velo_delivery.specs.Disk.{IsWritten, Store}
 use Rattle.velo_log_commands.specs.Explaining.{ExplainsVerdict, IsExplanation}
-use Rattle.velo_log_commands.specs.Siting.{AreOfLog}
+use Rattle.velo_inputs.specs.Siting.{AreOfLog}
 use Rattle.velo_fate.specs.Failures.{FailuresAsTold}
 use Rattle.velo_delivery.specs.Reading.{Reading}
 use Rattle.velo_delivery.specs.Writing.{BreaksOff, Writes, WritesNothing, Writing}
@@ -43,16 +43,6 @@ Shows names certificate w stdout result =
     ShowsLog names certificate w.config.bounds.threads w.log stdout result
 
 -- ---- an explanation
-
--- this answer was delivered, or printed; or an allocation failed, and nothing was written
-abbrev pub DeliversOrLacks : Answer → Store → Option (Bor (List ℕ)) → Writing → Fate → Type 0
-DeliversOrLacks answer store target stdout f =
-    IsDelivered store target stdout answer f
-    ⊎ (GrowthRefused × (f ≡ Memory) × store.is_kept × WritesNothing stdout)
-
-abbrev pub PrintsOrLacks : Answer → Writing → Fate → Type 0
-PrintsOrLacks answer stdout f =
-    IsPrinted stdout answer f ⊎ (GrowthRefused × (f ≡ Memory) × WritesNothing stdout)
 
 -- what was made of a verdict was delivered: its explanation, or that memory was wanting
 abbrev pub Explains : NameLists → Option Table → List Event → Store → Option (Bor (List ℕ)) → Writing

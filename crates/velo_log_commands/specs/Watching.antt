@@ -30,10 +30,10 @@ use Rattle.velo_fate.specs.declared.fate.Fate.{Fate}
 use Rattle.velo_fate.specs.declared.fate.Fate.TheVariants.{Check, Finished, WriteFailed}
 use Rattle.velo_request.specs.declared.request.Limits.{Limits}
 use Rattle.velo_request.specs.declared.request.WatchOptions.{WatchOptions}
-use Rattle.velo_log_commands.specs.Check.{IsFaultOfLogText, IsFaultOfTextUpTo, IsInput}
+use Rattle.velo_inputs.specs.Input.{IsFaultOfLogText, IsFaultOfTextUpTo, IsInput}
 use Rattle.velo_fate.specs.Verdict.{IsOutput, IsVerdict, is_alarm}
 use Rattle.velo_fate.specs.Delivery.{Answer, IsPrinted, printing, silent}
-use Rattle.velo_log_commands.specs.Faults.{check_fault_of}
+use Rattle.velo_inputs.specs.Faults.{check_fault_of}
 use Rattle.velo_delivery.specs.Writing.{BreaksOff, Writes, Writing}
 
 -- ---- what is asked of a watch, and what bounds it

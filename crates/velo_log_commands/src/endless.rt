@@ -10,13 +10,13 @@ ghost use Rattle.velo_log_commands.specs.Commands.{DoesWatchEndless, WatchesBy};
 ghost use Rattle.velo_log_commands.specs.Steps.{ShowsLog};
 ghost use Rattle.velo_log_commands.specs.Endless.{CanWatchOn, terms_of_endless};
 
-use crate::naming::{ByNames, do_by_names, shown_by};
 use crate::watching::{AskedWatch, watch_named};
 use std::alloc::Global;
 use velo_bytes::{Sink, Source, WriteFault};
 use velo_delivery::Files;
 use velo_endless::EndlessWatch;
 use velo_fate::{CheckFault, Fate, Verdict};
+use velo_inputs::{ByNames, do_by_names, shown_by};
 use velo_report::Names;
 use velo_request::EndlessOptions;
 use velo_watch::WatchFault;

@@ -3,68 +3,30 @@ ghost use Rattle.std.specs.Prelude.{◌≡◌, ◌≤◌, false, Some, IfOk, IsT
 ghost use Rattle.velo_events.specs.Graph.{HasCycle};
 ghost use Rattle.velo_events.specs.declared.limits.TheConstants.{MAX_EVENTS};
 ghost use Rattle.velo_explain.specs.Evidence.{IsEvidenceAt};
-ghost use Rattle.velo_worker.specs.declared.ending.Ending.TheVariants.{Done};
-ghost use Rattle.velo_fate.specs.Delivery.{IsPrinted, printing};
 ghost use Rattle.velo_log_commands.specs.Explaining.{counted, explained, words_of};
 ghost use Rattle.velo_log_commands.specs.Commands.{DoesExplain, ExplainsBy, ExplainsLog};
-ghost use Rattle.velo_log_commands.specs.Siting.{AreOfLog};
+ghost use Rattle.velo_inputs.specs.Siting.{AreOfLog};
 ghost use Rattle.velo_delivery.specs.Reading.{reading};
 ghost use Rattle.velo_delivery.specs.Disk.{store};
 ghost use Rattle.velo_delivery.specs.Writing.{writing};
-ghost use Rattle.velo_fate.specs.declared.fate.Fate.TheVariants.{Finished};
-ghost use Rattle.velo_log_commands.specs.Steps.{DeliversOrLacks, Explains, ExplainsIfOf, ExplainsInput, PrintsOrLacks};
-ghost use Rattle.velo_fate.specs.Saving.{IsSaved};
+ghost use Rattle.velo_inputs.specs.Sending.{DeliversOrLacks, PrintsOrLacks};
+ghost use Rattle.velo_log_commands.specs.Steps.{Explains, ExplainsIfOf, ExplainsInput};
 
-use crate::check::do_input;
-use crate::naming::{ByNames, do_by_names, read_given};
-use crate::siting::sites_in;
 use std::alloc::Global;
-use velo_bytes::{Sink, Source, WriteFault, write_all};
+use velo_bytes::{Sink, Source};
 use velo_certify::CertFault;
-use velo_delivery::{Files, Operand, Save, save_all};
+use velo_delivery::{Files, Operand};
 use velo_events::{MAX_EVENTS, MAX_NODES, Memory};
 use velo_explain::{
     Evidence, Page, evidence_of, explain_clean, explain_named, explain_sited, picture_named,
 };
-use velo_fate::{Fate, Saved, fate_of_failure, open_input};
+use velo_fate::{Fate, open_input};
+use velo_inputs::{ByNames, do_by_names, do_input, print, read_given, save_text, sites_in};
 use velo_names::Names;
 use velo_request::ExplainOptions;
 use velo_sites::{MAX_SITES_BYTES, Sites};
 use velo_traces::Trace;
-use velo_worker::Ending;
 use velo_world::Closed;
-
-/// Saves a text at a path.
-///
-/// # Errors
-/// `CannotOpen` where no file opens there; `WriteFailed` where it failed, after a beginning.
-pub fn save_text<F: Files>(text: &[u8], path: &str, files: &mut F) -> Result<(), Fate>
-    ensures { IsSaved (store F.disk files.old files.new) (Some path.entry) text.now result }
-{
-    let saves = [Save {
-        operand: Operand::Out,
-        path: Some(path),
-        text: Saved::Bytes(text),
-    }];
-    match save_all(&saves, files) {
-        Ok(()) => Ok(()),
-        Err(failure) => Err(fate_of_failure(failure)),
-    }
-}
-
-/// Prints the words of a verdict.
-pub fn print<O: Sink>(words: &[u8], alarm: bool, out: &mut O) -> Fate
-    ensures { IsPrinted (writing O.contents O.failures out.old out.new)
-        (printing words.now (Finished Done alarm)) result }
-{
-    match write_all(out, words) {
-        Ok(()) => Fate::Finished {
-            ending: Ending::Done,
-            alarm,
-        },
-        Err(WriteFault) => Fate::WriteFailed,
-    }
-}
 
 /// What an explanation calls things by, and where the events happened.
 #[derive(Clone, Copy)]

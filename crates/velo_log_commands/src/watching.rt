@@ -13,12 +13,12 @@ ghost use Rattle.velo_log_commands.specs.Watching.{check_fault_by, CanWatch, Fol
 ghost use Rattle.velo_report.specs.declared.names.Names.{Names as Shown};
 ghost use Rattle.velo_watch.specs.UnderWay.{IsFaultOfOpening, IsUnderWay, read_failures, write_failures};
 
-use crate::check::{fate_of, fault_of, finish};
-use crate::naming::{ByNames, do_by_names, shown_by};
+use crate::check::{fate_of, finish};
 use std::alloc::Global;
 use velo_bytes::{Sink, Source};
 use velo_delivery::{Files, Operand};
 use velo_fate::{CheckFault, Fate, Verdict, open_input};
+use velo_inputs::{ByNames, do_by_names, fault_of, shown_by};
 use velo_report::Names;
 use velo_request::WatchOptions;
 use velo_watch::{Watch, WatchFault};

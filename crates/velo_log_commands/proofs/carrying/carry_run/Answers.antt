@@ -4,7 +4,7 @@ use Rattle.velo_fate.specs.declared.fault.CheckFault.TheVariants.{Log}
 use Rattle.velo_fate.specs.declared.fate.Fate.TheVariants.{Check}
 use Rattle.velo_log_commands.specs.Carrying.{carried}
 use Rattle.velo_fate.specs.Delivery.{silent}
-use Rattle.velo_log_commands.proofs.OnChecks.{input_found, read_failed}
+use Rattle.velo_inputs.proofs.OnInputs.{input_found, read_failed}
 use Rattle.velo_log_commands.proofs.carrying.carry_run.Goals as goal
 
 pub returns-in-Err-clause-answer : goal.returns-in-Err-clause-answer

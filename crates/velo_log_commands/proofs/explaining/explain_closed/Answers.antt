@@ -6,7 +6,7 @@ use Rattle.velo_fate.specs.Delivery.{silent}
 use Rattle.velo_delivery.specs.Disk.{store}
 use Rattle.velo_log_commands.specs.Explaining.{counted, explained}
 use Rattle.velo_delivery.specs.Writing.{writing}
-use Rattle.velo_log_commands.specs.Steps.{PrintsOrLacks}
+use Rattle.velo_inputs.specs.Sending.{PrintsOrLacks}
 use Rattle.velo_log_commands.proofs.OnExplaining.{explains_by, explains_clean, of_evidence}
 use Rattle.velo_certify.proofs.OnClosing.{closing_cycle}
 use Rattle.velo_log_commands.proofs.explaining.explain_closed.Goals as goal

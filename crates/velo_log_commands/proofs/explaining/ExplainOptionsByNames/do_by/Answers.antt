@@ -1,5 +1,5 @@
 use Rattle.std.proofs.Common.{inl, inr, refl}
-use Rattle.velo_log_commands.proofs.OnSiting.{sites_found, sites_lacking, sites_unread}
+use Rattle.velo_inputs.proofs.OnSiting.{sites_found, sites_lacking, sites_unread}
 use Rattle.velo_log_commands.proofs.explaining.ExplainOptionsByNames.do_by.Goals as goal
 use Rattle.velo_log_commands.proofs.explaining.ExplainOptionsByNames.do_by.Goals.{in-Ok-sites_in, in-Err-sites_in}
 

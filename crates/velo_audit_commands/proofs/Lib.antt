@@ -1,0 +1,2 @@
+mod OnAuditing
+mod OnPredicting

@@ -1,0 +1,171 @@
+-- What an audit leaves out, and what becomes of its answer.
+use Rattle.std.proofs.Common.{◌≡◌, ◌∙◌, ◌++◌, ◌∷◌, [], Bool, true, false, List, ap, inl, inr, map, refl, subst, sym}
+use Rattle.std.specs.Prelude.{◌||◌, ◌==◌, ◌⊎◌, ◌+◌, ◌≤◌, ℕ, All, None, Option, length}
+use Rattle.velo_events.specs.declared.config.Bounds.{Bounds}
+use Rattle.velo_events.specs.declared.config.Config.{Config}
+use Rattle.velo_events.specs.declared.event.Event.{Event}
+use Rattle.velo_events.specs.declared.event.Label.{Label}
+use Rattle.velo_events.specs.declared.event.LockId.{LockId}
+use Rattle.velo_events.specs.declared.event.VarId.{VarId}
+use Rattle.velo_events.specs.declared.refusal.Refusal.TheVariants.{GraphFull}
+use Rattle.velo_events.specs.Reordering.{IsSerializable}
+use Rattle.velo_names.specs.Names.{NameLists}
+use Rattle.velo_filter.specs.Left.{Left, is_listed, nothing, rest_of, with_labels, with_lock, with_variable}
+use Rattle.velo_filter.proofs.OnTables.{is_listed-append, is_listed-nil, left_same}
+use Rattle.velo_audit.specs.Audit.{AreWitnessed, IsFullAfter, TellsTruly}
+use Rattle.velo_audit.specs.Rounds.{AreFound, AreTheOnlyRounds, Rounds, atomic_labels, labels_found}
+use Rattle.velo_audit.specs.Tells.{told_as}
+use Rattle.velo_audit.specs.declared.told.Told.{Told}
+use Rattle.velo_audit_text.specs.declared.words.Asked.{Asked}
+use Rattle.velo_audit_text.specs.Text.{audit_text}
+use Rattle.velo_worker.specs.declared.ending.Ending.TheVariants.{Done}
+use Rattle.velo_fate.specs.declared.fault.CheckFault.TheVariants as check_fault
+use Rattle.velo_fate.specs.declared.fate.Fate.{Fate}
+use Rattle.velo_fate.specs.declared.fate.Fate.TheVariants as fate
+use Rattle.velo_request.specs.declared.request.AuditOptions.{AuditOptions}
+use Rattle.velo_audit_commands.specs.Auditing.{AreRoundsOf, Audits, AuditsEvents, HasFullGraph, IsAuditAnswer, LacksRounds, audited, is_found, left_at_first, left_at_last, with_locks, with_variables}
+use Rattle.velo_fate.specs.Delivery.{Answer, IsDelivered, IsPrinted, LacksMemory, printing, silent}
+use Rattle.velo_delivery.specs.Disk.{Store}
+use Rattle.velo_fate.specs.Failures.{failures_told}
+use Rattle.velo_inputs.specs.Sending.{PrintsOrLacks}
+use Rattle.velo_delivery.specs.Writing.{Writing, WritesNothing}
+use Rattle.velo_fate.proofs.OnDelivery.{put_of, same_fate}
+
+-- ---- locks and variables one after another
+
+is_listed-one : (x n : ℕ) → is_listed (x ∷ []) n ≡ (n == x)
+unfolding is_listed
+is_listed-one x n = elim (n == x) as (λ b. (b || false) ≡ b) [ true ↦ refl | false ↦ refl ]
+
+none_more : (b : Bool) (n : ℕ) → b ≡ (b || is_listed [] n)
+none_more b n = sym (ap (λ c. b || c) (is_listed-nil n) ∙ elim b as (λ b. (b || false) ≡ b) [ true ↦ refl | false ↦ refl ])
+
+one_more : (b : Bool) (xs : List ℕ) (x n : ℕ) → ((b || is_listed xs n) || (n == x)) ≡ (b || is_listed (xs ++ x ∷ []) n)
+one_more b xs x n =
+    elim b as (λ b. ((b || is_listed xs n) || (n == x)) ≡ (b || (is_listed xs n || (n == x)))) [ true ↦ refl | false ↦ refl ]
+    ∙ ap (λ c. b || c) (ap (λ c. is_listed xs n || c) (sym (is_listed-one x n)) ∙ sym (is_listed-append xs (x ∷ []) n))
+
+pub with_locks-nil : (left : Left) → left ≡ with_locks left []
+with_locks-nil left = left_same left (with_locks left []) (λ l. refl) (λ m. none_more (left.locks m) m) (λ x. refl)
+
+pub with_locks-push : (left : Left) (xs : List ℕ) (n : ℕ) → with_lock (with_locks left xs) n ≡ with_locks left (xs ++ n ∷ [])
+with_locks-push left xs n = left_same (with_lock (with_locks left xs) n) (with_locks left (xs ++ n ∷ [])) (λ l. refl) (λ m. one_more (left.locks m) xs n m) (λ x. refl)
+
+pub with_variables-nil : (left : Left) → left ≡ with_variables left []
+with_variables-nil left = left_same left (with_variables left []) (λ l. refl) (λ m. refl) (λ x. none_more (left.variables x) x)
+
+pub with_variables-push : (left : Left) (xs : List ℕ) (n : ℕ) → with_variable (with_variables left xs) n ≡ with_variables left (xs ++ n ∷ [])
+with_variables-push left xs n = left_same (with_variable (with_variables left xs) n) (with_variables left (xs ++ n ∷ [])) (λ l. refl) (λ m. refl) (λ x. one_more (left.variables x) xs n x)
+
+-- all that was asked for
+pub asked_left : (asked : Asked) (a b c d : Left) → a ≡ nothing → b ≡ with_labels a (map (λ (l : Label). l.0) asked.labels.now) → c ≡ with_locks b (map (λ (m : LockId). m.0) asked.locks.now)
+    → d ≡ with_variables c (map (λ (x : VarId). x.0) asked.variables.now) → d ≡ left_at_first asked
+asked_left asked a b c d start labels locks variables =
+    variables
+    ∙ ap (λ (x : Left). with_variables x (map (λ (x : VarId). x.0) asked.variables.now)) (locks
+    ∙ ap (λ (x : Left). with_locks x (map (λ (m : LockId). m.0) asked.locks.now)) (labels
+    ∙ ap (λ (x : Left). with_labels x (map (λ (l : Label). l.0) asked.labels.now)) start))
+
+-- ---- the text
+
+pub told_put : (names : NameLists) (log : List Event) (asked : Asked) (rounds : List Told) (left : Left) (words : List ℕ) (atomic : ℕ) (alarm : Bool)
+    → words ≡ audit_text names log asked rounds atomic → atomic ≡ atomic_labels left log → left ≡ left_at_last log (left_at_first asked) rounds → alarm ≡ is_found rounds
+    → (stdout : Writing) (f : Fate) → IsPrinted stdout (printing words (fate.Finished Done alarm)) f → IsPrinted stdout (audited names log asked rounds) f
+told_put names log asked rounds left words atomic alarm is count behind found stdout f told =
+    subst (λ (b : Bool). IsPrinted stdout (printing whole (fate.Finished Done b)) f) found
+    (subst (λ (t : List ℕ). IsPrinted stdout (printing t (fate.Finished Done alarm)) f)
+    (is ∙ ap (audit_text names log asked rounds) (count ∙ ap (λ (l : Left). atomic_labels l log) behind)) told)
+  where
+    whole : List ℕ
+    whole = audit_text names log asked rounds (atomic_labels (left_at_last log (left_at_first asked) rounds) log)
+
+-- ---- the rounds
+
+-- what an audit of the log from this start answers
+pub are_rounds_of : (witness : Bool) (log : List Event) (first start behind : Left) (rounds : List Told) → start ≡ first
+    → Rounds log start (map told_as rounds) → AreTheOnlyRounds log start (map told_as rounds) → All (TellsTruly log) rounds → AreWitnessed witness log start rounds
+    → AreFound log start (labels_found log (map told_as rounds)) → behind ≡ with_labels start (labels_found log (map told_as rounds)) → length rounds + atomic_labels behind log ≤ atomic_labels start log
+    → IsSerializable (rest_of behind log) → AreRoundsOf witness log first rounds
+are_rounds_of witness log first start behind rounds begins each only truly witnessed found left few serializable =
+    subst (λ (x : Left). AreRoundsOf witness log x rounds) begins made
+  where
+    made : AreRoundsOf witness log start rounds
+    made =
+        record {
+          each = each;
+          only = only;
+          truly = truly;
+          witnessed = witnessed;
+          found = found;
+          few = subst (λ (x : Left). length rounds + atomic_labels x log ≤ atomic_labels start log) left few;
+          serializable = subst (λ (x : Left). IsSerializable (rest_of x log)) left serializable;
+        }
+
+pub left_from : (log : List Event) (first start behind : Left) (rounds : List Told) → start ≡ first → behind ≡ with_labels start (labels_found log (map told_as rounds)) → behind ≡ left_at_last log first rounds
+left_from log first start behind rounds begins left = left ∙ ap (λ (x : Left). with_labels x (labels_found log (map told_as rounds))) begins
+
+-- they are printed, or memory was wanting
+pub rounds_printed : (names : NameLists) (asked : Asked) (options : AuditOptions) (bounds : Bounds) (log events : List Event) (rounds told : List Told) → events ≡ log → told ≡ rounds
+    → AreRoundsOf options.witness events (left_at_first asked) rounds → (stdout : Writing) (f : Fate) → PrintsOrLacks (audited names events asked told) stdout f
+    → Audits names asked options bounds log stdout f
+rounds_printed names asked options bounds log events rounds told same as_told are stdout f (inl put) = (
+  audited names events asked told,
+  inl (inl (record { rounds = rounds; are_rounds = subst (λ (l : List Event). AreRoundsOf options.witness l (left_at_first asked) rounds) same are; said = ap (λ (l : List Event). audited names l asked told) same ∙ ap (audited names log asked) as_told })),
+  put,
+)
+rounds_printed names asked options bounds log events rounds told same as_told are stdout f (inr lacks) =
+    (silent fate.Memory, inr (lacks.0, refl), subst (λ (g : Fate). IsPrinted stdout (silent fate.Memory) g) (sym lacks.1) (refl, lacks.2))
+
+-- the graph is full in a round
+pub full_said : (asked : Asked) (config : Config) (log : List Event) (start : Left) (position : ℕ) → start ≡ left_at_first asked → IsFullAfter config log start position
+    → HasFullGraph asked config.nodes config.bounds log (silent (fate.Check (check_fault.Refused position GraphFull)))
+full_said asked config log start position begins full =
+    record {
+      config = config;
+      its_bounds = refl;
+      its_nodes = refl;
+      position = position;
+      is_full = subst (λ (x : Left). IsFullAfter config log x position) begins full;
+      said = refl;
+    }
+
+-- no rounds of these events are none of the log that they are
+pub lacks_same : (asked : Asked) (nodes limit : ℕ) (bounds own : Bounds) (log events : List Event) (f : Fate) → events ≡ log → own ≡ bounds → nodes ≡ limit → LacksRounds asked nodes own events f
+    → LacksRounds asked limit bounds log f
+lacks_same asked nodes limit bounds own log events f same its_bounds its_nodes lacks =
+    subst (λ (l : List Event). LacksRounds asked limit bounds l f) same
+    (subst (λ (b : Bounds). LacksRounds asked limit b events f) its_bounds (subst (λ (n : ℕ). LacksRounds asked n own events f) its_nodes lacks))
+
+-- and then nothing is printed
+pub rounds_lacking : (names : NameLists) (asked : Asked) (options : AuditOptions) (bounds : Bounds) (log : List Event) (stdout : Writing) (f : Fate) → WritesNothing stdout
+    → LacksRounds asked options.limits.nodes bounds log f → Audits names asked options bounds log stdout f
+rounds_lacking names asked options bounds log stdout f nothing (inl full) = (silent f, inl (inr full), subst (λ (g : Fate). IsPrinted stdout (silent g) g) (sym (ap (λ (a : Answer). a.fate) full.said)) (refl, nothing))
+rounds_lacking names asked options bounds log stdout f nothing (inr lacks) = (silent f, inr lacks, subst (λ (g : Fate). IsPrinted stdout (silent g) g) (sym (ap (λ (a : Answer). a.fate) lacks.1)) (refl, nothing))
+
+-- ---- the answer
+
+module _ (names : NameLists) (asked : Asked) (options : AuditOptions) (stdout : Writing) where
+  -- an audit has nothing to be saved
+  pub audit_put : (store : Store) (read : Option (List ℕ)) (answer : Answer) → IsAuditAnswer names asked options read answer → store.is_kept → (f : Fate) → IsPrinted stdout answer f
+      → IsDelivered store None stdout answer f
+  audit_put store read answer (inl is) kept f told = by_verdict is.verdict
+    where
+      by_verdict : AuditsEvents names asked options is.bounds is.log answer → IsDelivered store None stdout answer f
+      by_verdict (inl tells) = put_of store None stdout answer _ _ kept tells.said (λ e. cc) f told
+      by_verdict (inr full) = put_of store None stdout answer _ _ kept full.said (λ e. cc) f told
+  audit_put store read answer (inr (inl is)) kept f told = put_of store None stdout answer _ _ kept is.2 (λ e. cc) f told
+  audit_put store read answer (inr (inr lacks)) kept f told = put_of store None stdout answer _ _ kept lacks.1 (λ e. cc) f told
+
+  printed_reads : (answer : Answer) (n : ℕ) → failures_told answer.fate n ≡ n → (f : Fate) → IsPrinted stdout answer f → failures_told f n ≡ n
+  printed_reads answer n none fate.WriteFailed put = refl
+  printed_reads answer n none f put = ap (λ (f : Fate). failures_told f n) put.0 ∙ none
+
+  -- no audit is told as a failed read
+  pub audits_reads : (bounds : Bounds) (log : List Event) (answer : Answer) (n : ℕ) → AuditsEvents names asked options bounds log answer ⊎ LacksMemory answer → (f : Fate) → IsPrinted stdout answer f
+      → failures_told f n ≡ n
+  audits_reads bounds log answer n is f told = printed_reads answer n (by_fate is) f told
+    where
+      by_fate : AuditsEvents names asked options bounds log answer ⊎ LacksMemory answer → failures_told answer.fate n ≡ n
+      by_fate (inl (inl tells)) = same_fate answer _ n tells.said refl
+      by_fate (inl (inr full)) = same_fate answer _ n full.said refl
+      by_fate (inr lacks) = same_fate answer _ n lacks.1 refl

@@ -1,0 +1,142 @@
+-- What an audit has to say, by the bytes of its input and by the definitions.
+use Rattle.std.specs.Prelude.{◌≡◌, ◌⊎◌, ◌||◌, ◌+◌, ◌≤◌, ℕ, Bool, true, false, All, List, [], ◌∷◌, length, map, Option}
+use Rattle.velo_events.specs.declared.config.Bounds.{Bounds}
+use Rattle.velo_events.specs.declared.config.Config.{Config}
+use Rattle.velo_events.specs.declared.event.Event.{Event}
+use Rattle.velo_events.specs.declared.event.Label.{Label}
+use Rattle.velo_events.specs.declared.event.LockId.{LockId}
+use Rattle.velo_events.specs.declared.event.VarId.{VarId}
+use Rattle.velo_events.specs.declared.refusal.Refusal.TheVariants.{GraphFull}
+use Rattle.velo_events.specs.Reordering.{IsSerializable}
+use Rattle.velo_names.specs.Names.{NameLists}
+use Rattle.velo_filter.specs.Left.{Left, is_listed, rest_of, with_labels}
+use Rattle.velo_audit.specs.declared.told.Told.{Told}
+use Rattle.velo_audit.specs.Audit.{AreWitnessed, IsFullAfter, TellsTruly}
+use Rattle.velo_audit.specs.Rounds.{AreFound, AreTheOnlyRounds, Rounds, atomic_labels, labels_found}
+use Rattle.velo_audit.specs.Tells.{told_as}
+use Rattle.velo_audit_text.specs.declared.words.Asked.{Asked}
+use Rattle.velo_audit_text.specs.Text.{audit_text}
+use Rattle.velo_worker.specs.declared.ending.Ending.TheVariants.{Done}
+use Rattle.velo_fate.specs.declared.fault.CheckFault.TheVariants.{Refused}
+use Rattle.velo_fate.specs.declared.fate.Fate.{Fate}
+use Rattle.velo_fate.specs.declared.fate.Fate.TheVariants.{Check, Finished}
+use Rattle.velo_request.specs.declared.request.AuditOptions.{AuditOptions}
+use Rattle.velo_inputs.specs.Input.{ComesAbout, IsUnchecked}
+use Rattle.velo_fate.specs.Delivery.{Answer, IsPrinted, LacksMemory, printing, silent}
+use Rattle.velo_fate.specs.Failures.{FailuresAsTold}
+use Rattle.velo_delivery.specs.Reading.{Reading}
+use Rattle.velo_delivery.specs.Writing.{Writing}
+
+-- ---- what is left out
+
+-- at first: the labels, the locks and the variables that were asked for
+abbrev pub left_at_first : Asked → Left
+left_at_first asked =
+    record {
+      labels = is_listed (map (λ (l : Label). l.0) asked.labels.now);
+      locks = is_listed (map (λ (m : LockId). m.0) asked.locks.now);
+      variables = is_listed (map (λ (x : VarId). x.0) asked.variables.now);
+    }
+
+-- and after the rounds: the labels that they found, too
+abbrev pub left_at_last : List Event → Left → List Told → Left
+left_at_last log left rounds = with_labels left (labels_found log (map told_as rounds))
+
+-- ---- the rounds
+
+-- These are the rounds of the log: each is that of the first alarm of what was left, and there are
+-- no others; what each reports as blamed is so in the log as read; each label found begins a block
+-- of it and was not left out; they are few; and what is left at last is serializable.
+pub record AreRoundsOf (witness : Bool) (log : List Event) (left : Left) (rounds : List Told)
+    : Type 0 where
+  pub each : Rounds log left (map told_as rounds)
+  pub only : AreTheOnlyRounds log left (map told_as rounds)
+  pub truly : All (TellsTruly log) rounds
+  pub witnessed : AreWitnessed witness log left rounds
+  pub found : AreFound log left (labels_found log (map told_as rounds))
+  pub few : length rounds + atomic_labels (left_at_last log left rounds) log
+      ≤ atomic_labels left log
+  pub serializable : IsSerializable (rest_of (left_at_last log left rounds) log)
+
+-- ---- what is said of them
+
+-- a round with an alarm found a label
+abbrev pub is_found : List Told → Bool
+is_found [] = false
+is_found (told ∷ rounds) = true
+
+-- the text of the rounds by these names; the labels of the log that are neither found nor left out
+-- are counted
+abbrev pub audited : NameLists → List Event → Asked → List Told → Answer
+audited names log asked rounds =
+    printing
+    (audit_text names log asked rounds
+    (atomic_labels (left_at_last log (left_at_first asked) rounds) log))
+    (Finished Done (is_found rounds))
+
+-- its rounds are printed
+pub record TellsRounds (names : NameLists) (asked : Asked) (witness : Bool) (log : List Event)
+    (answer : Answer) : Type 0 where
+  pub rounds : List Told
+  pub are_rounds : AreRoundsOf witness log (left_at_first asked) rounds
+  pub said : answer ≡ audited names log asked rounds
+
+-- A round needs more nodes than there may be: the event at this position of the log as read finds
+-- none. Nothing is printed, not even of the rounds before it.
+pub record HasFullGraph (asked : Asked) (nodes : ℕ) (bounds : Bounds) (log : List Event)
+    (answer : Answer) : Type 0 where
+  pub config : Config
+  pub its_bounds : config.bounds ≡ bounds
+  pub its_nodes : config.nodes ≡ nodes
+  pub position : ℕ
+  pub is_full : IsFullAfter config log (left_at_first asked) position
+  pub said : answer ≡ silent (Check (Refused position GraphFull))
+
+abbrev pub AuditsEvents : NameLists → Asked → AuditOptions → Bounds → List Event → Answer → Type 0
+AuditsEvents names asked options bounds log answer =
+    TellsRounds names asked options.witness log answer
+    ⊎ HasFullGraph asked options.limits.nodes bounds log answer
+
+-- ---- the answer
+
+-- what is said of the log of the input
+pub record IsAudited (names : NameLists) (asked : Asked) (options : AuditOptions)
+    (read : Option (List ℕ)) (answer : Answer) : Type 0 where
+  pub bounds : Bounds
+  pub log : List Event
+  pub comes_about : ComesAbout options.limits.events read bounds log
+  pub verdict : AuditsEvents names asked options bounds log answer
+
+-- What an audit has to say: the rounds in words; or nothing, for a reason.
+abbrev pub IsAuditAnswer : NameLists → Asked → AuditOptions → Option (List ℕ) → Answer → Type 0
+IsAuditAnswer names asked options read answer =
+    IsAudited names asked options read answer
+    ⊎ (IsUnchecked options.limits.events options.limits.nodes read answer ⊎ LacksMemory answer)
+
+-- ---- on the way. Contracts within the crate cite these words
+
+-- why there are no rounds: the graph is full in one of them, or an allocation failed
+abbrev pub LacksRounds : Asked → ℕ → Bounds → List Event → Fate → Type 0
+LacksRounds asked nodes bounds log f =
+    HasFullGraph asked nodes bounds log (silent f) ⊎ LacksMemory (silent f)
+
+-- these locks, these variables are left out as well
+abbrev pub with_locks : Left → List ℕ → Left
+with_locks left locks = record left { locks = λ m. left.locks m || is_listed locks m }
+
+abbrev pub with_variables : Left → List ℕ → Left
+with_variables left variables =
+    record left { variables = λ x. left.variables x || is_listed variables x }
+
+-- what was made of a log was printed: its audit, or that memory was wanting
+abbrev pub Audits : NameLists → Asked → AuditOptions → Bounds → List Event → Writing → Fate → Type 0
+Audits names asked options bounds log stdout f =
+    (answer : Answer) × (AuditsEvents names asked options bounds log answer ⊎ LacksMemory answer)
+    × IsPrinted stdout answer f
+
+-- what was made of an input was printed
+abbrev pub AuditsInput : NameLists → Asked → AuditOptions → Reading → Writing → Fate → Type 0
+AuditsInput names asked options read stdout f =
+    FailuresAsTold read f
+    × ((answer : Answer) × IsAuditAnswer names asked options read.bytes answer
+    × IsPrinted stdout answer f)

@@ -1,0 +1,84 @@
+-- What audit and predict do: one definition a command, whose lines are its steps.
+--
+-- The store is the files that the command finds and leaves, stdout is standard output before and
+-- after, and f is the command's fate. Each command names in parentheses the page that says what it
+-- answers to the bytes of its input.
+use Rattle.std.specs.Prelude.{◌⊎◌, None}
+use Rattle.velo_names.specs.Names.{NameLists}
+use Rattle.velo_audit_text.specs.declared.words.Asked.{Asked}
+use Rattle.velo_fate.specs.declared.fate.Fate.{Fate}
+use Rattle.velo_request.specs.declared.request.AuditOptions.{AuditOptions}
+use Rattle.velo_request.specs.declared.request.PredictOptions.{PredictOptions}
+use Rattle.velo_delivery.specs.declared.failure.Operand.TheVariants.{Log}
+use Rattle.velo_inputs.specs.declared.asking.AskedWords.{AskedWords}
+use Rattle.velo_audit_commands.specs.Auditing.{IsAuditAnswer}
+use Rattle.velo_fate.specs.Delivery.{Answer, IsDelivered}
+use Rattle.velo_fate.specs.Barred.{DoesNotRead}
+use Rattle.velo_delivery.specs.Disk.{Store}
+use Rattle.velo_audit_commands.specs.Predicting.{IsPredictAnswer}
+use Rattle.velo_fate.specs.Failures.{FailuresAsTold}
+use Rattle.velo_delivery.specs.Reading.{Reading}
+use Rattle.velo_delivery.specs.Writing.{Writing}
+use Rattle.velo_inputs.specs.Before.{DoesAsked, DoesByNames}
+
+-- ---- velodrome audit LOG [--names FILE] [--not-atomic FILE] [--ignore-lock N].. [--ignore-variable N]..
+-- ---- [--no-witness] [--events N] [--nodes N]
+
+-- LOG is read whole and judged as by a check, and then audited, where this is left out. The text of
+-- the rounds goes to standard output, by these names; or nothing, for a reason (`Auditing`).
+abbrev pub AuditsLog : NameLists → Asked → AuditOptions → Store → Writing → Fate → Type 0
+AuditsLog names asked options store stdout f =
+    DoesNotRead store Log options.input.now None stdout f
+    ⊎ ((read : Reading) × (answer : Answer)
+    × store.disk.gives options.input.now read × FailuresAsTold read f
+    × IsAuditAnswer names asked options read.bytes answer
+    × IsDelivered store None stdout answer f)
+
+-- what it is asked to leave out
+abbrev pub audit_words : AuditOptions → AskedWords
+audit_words options =
+    record {
+      known = options.known;
+      locks = options.ignored_locks;
+      variables = options.ignored_variables;
+    }
+
+abbrev pub AuditsNamed : NameLists → AuditOptions → Store → Writing → Fate → Type 0
+AuditsNamed names options store stdout f =
+    DoesAsked (λ asked. AuditsLog names asked options) names (audit_words options) store stdout f
+
+abbrev pub DoesAudit : AuditOptions → Store → Writing → Fate → Type 0
+DoesAudit options store stdout f =
+    DoesByNames (λ names. AuditsNamed names options) options.names store stdout f
+
+-- ---- velodrome predict LOG [--names FILE] [--not-atomic FILE] [--ignore-lock N].. [--ignore-variable N]..
+-- ---- [--values] [--tries N] [--seed S] [--log OUT] [--events N] [--nodes N]
+
+-- LOG is read whole and judged as by a check. Where this is left out it is audited, and then searched
+-- for what other runs can show. The trace of the first prediction is saved at OUT, if there is one,
+-- and then the text goes to standard output, by these names; or nothing, for a reason
+-- (`Predicting`). Where nothing is predicted OUT is untouched.
+abbrev pub PredictsLog : NameLists → Asked → PredictOptions → Store → Writing → Fate → Type 0
+PredictsLog names asked options store stdout f =
+    DoesNotRead store Log options.input.now options.target stdout f
+    ⊎ ((read : Reading) × (answer : Answer)
+    × store.disk.gives options.input.now read × FailuresAsTold read f
+    × IsPredictAnswer names asked options read.bytes answer
+    × IsDelivered store options.target stdout answer f)
+
+-- what it is asked to leave out
+abbrev pub predict_words : PredictOptions → AskedWords
+predict_words options =
+    record {
+      known = options.known;
+      locks = options.ignored_locks;
+      variables = options.ignored_variables;
+    }
+
+abbrev pub PredictsNamed : NameLists → PredictOptions → Store → Writing → Fate → Type 0
+PredictsNamed names options store stdout f =
+    DoesAsked (λ asked. PredictsLog names asked options) names (predict_words options) store stdout f
+
+abbrev pub DoesPredict : PredictOptions → Store → Writing → Fate → Type 0
+DoesPredict options store stdout f =
+    DoesByNames (λ names. PredictsNamed names options) options.names store stdout f

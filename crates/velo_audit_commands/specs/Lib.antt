@@ -1,0 +1,3 @@
+pub mod Auditing
+pub mod Commands
+pub mod Predicting

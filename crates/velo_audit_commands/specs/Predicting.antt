@@ -1,0 +1,117 @@
+-- What a search for predictions has to say, by the bytes of its input and by the definitions.
+use Rattle.std.specs.Prelude.{◌≡◌, ◌⊎◌, ℕ, Bool, true, false, All, List, [], ◌∷◌, Option, Some, None, option_map}
+use Rattle.std.specs.Borrow.{Bor}
+use Rattle.velo_events.specs.declared.config.Bounds.{Bounds}
+use Rattle.velo_events.specs.declared.event.Event.{Event}
+use Rattle.velo_logtext.specs.Text.{log_text}
+use Rattle.velo_names.specs.Names.{NameLists}
+use Rattle.velo_filter.specs.Left.{Left}
+use Rattle.velo_audit.specs.declared.told.Told.{Told}
+use Rattle.velo_audit_text.specs.declared.words.Asked.{Asked}
+use Rattle.velo_delays.specs.declared.judged.Found.{Found}
+use Rattle.velo_delays.specs.declared.stuck.Deadlock.{Deadlock}
+use Rattle.velo_delays.specs.Anew.{IsAnew}
+use Rattle.velo_delays.specs.Deadlock.{IsDeadlockIn}
+use Rattle.velo_delays.specs.Found.{IsFoundIn}
+use Rattle.velo_predict_text.specs.Text.{is_something_told, predictions_text}
+use Rattle.velo_worker.specs.declared.ending.Ending.TheVariants.{Done}
+use Rattle.velo_fate.specs.declared.fate.Fate.{Fate}
+use Rattle.velo_fate.specs.declared.fate.Fate.TheVariants.{Finished}
+use Rattle.velo_fate.specs.Delivery.{Answer, IsDelivered, LacksMemory}
+use Rattle.velo_fate.specs.Failures.{FailuresAsTold}
+use Rattle.velo_delivery.specs.Disk.{Store}
+use Rattle.velo_delivery.specs.Reading.{Reading}
+use Rattle.velo_delivery.specs.Writing.{Writing}
+use Rattle.velo_request.specs.declared.request.PredictOptions.{PredictOptions}
+use Rattle.velo_audit_commands.specs.declared.predicting.Findings.{Findings}
+use Rattle.velo_audit_commands.specs.Auditing.{AreRoundsOf, HasFullGraph, left_at_first, left_at_last}
+use Rattle.velo_inputs.specs.Input.{ComesAbout, IsUnchecked}
+
+-- ---- what is looked for
+
+-- The log that is searched: as read, where its values are those of the program; and else with values
+-- by which two reads have the same one where they read from the same write.
+abbrev pub IsSearched : Bool → List Event → List Event → Type 0
+IsSearched true log searched = searched ≡ log
+IsSearched false log searched = IsAnew log searched
+
+-- What the search found are predictions of this log without what is left out. The trace of each is
+-- foretold, and the reads told are those that have another value than in the log. That there are no
+-- others is not claimed.
+pub record ArePredictionsOf (values : Bool) (bounds : Bounds) (log : List Event) (left : Left)
+    (findings : Findings) : Type 0 where
+  pub searched : List Event
+  pub is_searched : IsSearched values log searched
+  -- The blocks of some more labels dissolved (`IsFound`): the trace has a cycle, and the blocks told
+  -- are those to blame at its first alarm.
+  pub labels : All (IsFoundIn bounds searched left) findings.labels.items
+  -- After the trace threads wait in a circle (`IsDeadlock`), to do the events that are told.
+  pub deadlocks : All (IsDeadlockIn bounds searched left) findings.deadlocks.items
+
+-- ---- what is said of it
+
+-- the trace that is told first, if there is one
+abbrev pub first_trace : List Found → List Deadlock → Option (List Event)
+first_trace (found ∷ founds) deadlocks = Some found.trace.events
+first_trace [] (deadlock ∷ deadlocks) = Some deadlock.trace.events
+first_trace [] [] = None
+
+-- this trace is to be saved as a log, and the rounds of the log itself and the predictions are to be
+-- printed; it is an alarm where something is told
+abbrev pub predicted : NameLists → Bounds → List Event → Asked → List Told → Findings → Answer
+predicted names bounds log asked rounds findings =
+    record {
+      saved = option_map (log_text bounds) (first_trace findings.labels.items findings.deadlocks.items);
+      printed = Some (predictions_text names log asked rounds findings.labels.items
+          findings.deadlocks.items findings.tries);
+      fate = Finished Done (is_something_told rounds findings.labels.items findings.deadlocks.items);
+    }
+
+-- The rounds of the log are told, as by an audit with witnesses. Their labels are left out, and then
+-- predictions are told. Of the number of tries nothing is claimed.
+pub record TellsPredictions (names : NameLists) (asked : Asked) (values : Bool) (bounds : Bounds)
+    (log : List Event) (answer : Answer) : Type 0 where
+  pub rounds : List Told
+  pub are_rounds : AreRoundsOf true log (left_at_first asked) rounds
+  pub findings : Findings
+  pub are_predictions : ArePredictionsOf values bounds log
+      (left_at_last log (left_at_first asked) rounds) findings
+  pub said : answer ≡ predicted names bounds log asked rounds findings
+
+abbrev pub PredictsEvents : NameLists → Asked → PredictOptions → Bounds → List Event → Answer → Type 0
+PredictsEvents names asked options bounds log answer =
+    TellsPredictions names asked options.values bounds log answer
+    ⊎ HasFullGraph asked options.limits.nodes bounds log answer
+
+-- ---- the answer
+
+-- what is said of the log of the input
+pub record IsPredicted (names : NameLists) (asked : Asked) (options : PredictOptions)
+    (read : Option (List ℕ)) (answer : Answer) : Type 0 where
+  pub bounds : Bounds
+  pub log : List Event
+  pub comes_about : ComesAbout options.limits.events read bounds log
+  pub verdict : PredictsEvents names asked options bounds log answer
+
+-- What a search for predictions has to say: what the log shows and foretells, in words; or nothing,
+-- for a reason.
+abbrev pub IsPredictAnswer : NameLists → Asked → PredictOptions → Option (List ℕ) → Answer → Type 0
+IsPredictAnswer names asked options read answer =
+    IsPredicted names asked options read answer
+    ⊎ (IsUnchecked options.limits.events options.limits.nodes read answer ⊎ LacksMemory answer)
+
+-- ---- on the way. Contracts within the crate cite these words
+
+-- what was made of a log was delivered: what it shows and foretells, or that memory was wanting
+abbrev pub Predicts : NameLists → Asked → PredictOptions → Bounds → List Event → Store → Writing → Fate
+    → Type 0
+Predicts names asked options bounds log store stdout f =
+    (answer : Answer) × (PredictsEvents names asked options bounds log answer ⊎ LacksMemory answer)
+    × IsDelivered store options.target stdout answer f
+
+-- what was made of an input was delivered
+abbrev pub PredictsInput : NameLists → Asked → PredictOptions → Store → Reading → Writing → Fate → Type 0
+PredictsInput names asked options store read stdout f =
+    FailuresAsTold read f
+    × ((answer : Answer) × IsPredictAnswer names asked options read.bytes answer
+    × IsDelivered store options.target stdout answer f)

@@ -1,0 +1,297 @@
+//! `velodrome audit`.
+ghost use Rattle.std.specs.Prelude.{◌≡◌, ◌≤◌, All, false, length, map, IfErr, IfOk, OnOk};
+ghost use Rattle.velo_events.specs.declared.event.Label.{Label as LabelOf};
+ghost use Rattle.velo_events.specs.declared.event.LockId.{LockId as LockOf};
+ghost use Rattle.velo_events.specs.declared.event.VarId.{VarId as VariableOf};
+ghost use Rattle.velo_events.specs.declared.limits.TheConstants.{MAX_EVENTS};
+ghost use Rattle.velo_events.specs.WellFormed.{IsWellFormed};
+ghost use Rattle.velo_filter.specs.Left.{with_labels};
+ghost use Rattle.velo_filter.specs.Tables.{left_of};
+ghost use Rattle.velo_filter.specs.Thinned.{CanComeAbout};
+ghost use Rattle.velo_audit.specs.Audit.{TellsTruly};
+ghost use Rattle.velo_audit_commands.specs.Auditing.{AreRoundsOf, Audits, AuditsInput, LacksRounds, audited, is_found, left_at_first, left_at_last, with_locks, with_variables};
+ghost use Rattle.velo_delivery.specs.Disk.{store};
+ghost use Rattle.velo_audit_commands.specs.Commands.{AuditsLog, AuditsNamed, DoesAudit};
+ghost use Rattle.velo_delivery.specs.Reading.{reading};
+ghost use Rattle.velo_inputs.specs.Sending.{PrintsOrLacks};
+ghost use Rattle.velo_delivery.specs.Writing.{writing};
+
+use std::alloc::Global;
+use velo_audit::{AuditFault, Told, audit, count_atomic};
+use velo_audit_text::{Asked, audit_text};
+use velo_bytes::{Sink, Source};
+use velo_delivery::{Files, Operand};
+use velo_events::{Config, Label, LockId, Memory, Refusal, VarId};
+use velo_fate::{CheckFault, Fate, open_input};
+use velo_filter::LeftOut;
+use velo_inputs::{AskedWords, ByAsked, ByNames, do_by_asked, do_by_names, do_input, print};
+use velo_names::Names;
+use velo_request::{AuditOptions, Limits};
+use velo_traces::Trace;
+use velo_world::Closed;
+
+/// Leaves out the labels.
+fn leave_out_labels(left: &mut LeftOut, labels: &[Label]) -> Result<(), Memory>
+    ensures { OnOk result (left_of left.new
+        ≡ with_labels (left_of left.old) (map (λ (l : LabelOf). l.0) labels.now)) }
+{
+    for label in labels {
+        left.leave_out_label(*label)?;
+    }
+    Ok(())
+}
+
+/// Leaves out the locks.
+fn leave_out_locks(left: &mut LeftOut, locks: &[LockId]) -> Result<(), Memory>
+    ensures { OnOk result (left_of left.new
+        ≡ with_locks (left_of left.old) (map (λ (m : LockOf). m.0) locks.now)) }
+{
+    for lock in locks {
+        left.leave_out_lock(*lock)?;
+    }
+    Ok(())
+}
+
+/// Leaves out the variables.
+fn leave_out_variables(left: &mut LeftOut, variables: &[VarId]) -> Result<(), Memory>
+    ensures { OnOk result (left_of left.new
+        ≡ with_variables (left_of left.old) (map (λ (x : VariableOf). x.0) variables.now)) }
+{
+    for variable in variables {
+        left.leave_out_variable(*variable)?;
+    }
+    Ok(())
+}
+
+/// What was asked for, left out.
+pub fn left_out(alloc: Global, asked: &Asked) -> Result<LeftOut, Memory>
+    ensures { IfOk result (λ left. left_of left ≡ left_at_first asked.now) }
+{
+    let mut left = LeftOut::new(alloc);
+    leave_out_labels(&mut left, asked.labels)?;
+    leave_out_locks(&mut left, asked.locks)?;
+    leave_out_variables(&mut left, asked.variables)?;
+    Ok(left)
+}
+
+/// The configuration of the rounds: that of the log, within the limits.
+pub fn config_of_rounds(closed: &Closed, limits: Limits) -> Config
+    ensures bounds { result.bounds ≡ closed.now.config.bounds }
+    ensures events { result.events ≡ limits.events }
+    ensures nodes { result.nodes ≡ limits.nodes }
+    ensures goes_on { result.stop ≡ false }
+{
+    match Config::new(0, closed.bounds(), limits.events, limits.nodes, false) {
+        Ok(config) => config,
+        Err(_) => unreachable!(),
+    }
+}
+
+/// Whether a round found a label.
+fn is_found(rounds: &[Told]) -> bool
+    ensures { result ≡ is_found rounds.now }
+{
+    match rounds.first() {
+        None => false,
+        Some(_) => true,
+    }
+}
+
+/// Prints the text of the rounds, as a whole.
+fn tell_rounds<O: Sink>(
+    alloc: Global,
+    log: &Trace,
+    names: &Names,
+    asked: &Asked,
+    rounds: &[Told],
+    left: &LeftOut,
+    out: &mut O,
+) -> Fate
+    requires few { length log.now.events ≤ MAX_EVENTS }
+    requires can_come_about { CanComeAbout log.now.events }
+    requires truly { All (TellsTruly log.now.events) rounds.now }
+    requires left { left_of left.now
+        ≡ left_at_last log.now.events (left_at_first asked.now) rounds.now }
+    ensures { PrintsOrLacks (audited names.now log.now.events asked.now rounds.now)
+        (writing O.contents O.failures out.old out.new) result }
+{
+    let atomic = match count_atomic(alloc, log, left) {
+        Ok(atomic) => atomic,
+        Err(Memory) => return Fate::Memory,
+    };
+    match audit_text(alloc, names, log, asked, rounds, atomic) {
+        Ok(text) => print(text.as_slice(), is_found(rounds), out),
+        Err(Memory) => Fate::Memory,
+    }
+}
+
+/// The rounds of a log of which so much is left out at first.
+///
+/// # Errors
+/// `Check` with the refusal where the graph of a round is full, `Memory` if an allocation failed.
+pub fn rounds_of(
+    alloc: Global,
+    config: &Config,
+    log: &Trace,
+    asked: &Asked,
+    witness: bool,
+    left: &mut LeftOut,
+) -> Result<Vec<Told>, Fate>
+    requires goes_on { config.now.stop ≡ false }
+    requires short { length log.now.events ≤ config.now.events }
+    requires well_formed { IsWellFormed config.now.bounds log.now.events }
+    requires left { left_of left.old ≡ left_at_first asked.now }
+    ensures rounds { IfOk result (λ rounds.
+        AreRoundsOf witness log.now.events (left_at_first asked.now) rounds.items) }
+    ensures left { IfOk result (λ rounds. left_of left.new
+        ≡ left_at_last log.now.events (left_at_first asked.now) rounds.items) }
+    ensures fault { IfErr result (λ fate.
+        LacksRounds asked.now config.now.nodes config.now.bounds log.now.events fate) }
+{
+    match audit(alloc, config, log, left, witness) {
+        Ok(rounds) => Ok(rounds),
+        Err(AuditFault::Memory) => Err(Fate::Memory),
+        Err(AuditFault::GraphFull { position }) => Err(Fate::Check(CheckFault::Refused {
+            position,
+            refusal: Refusal::GraphFull,
+        })),
+    }
+}
+
+/// Audits the log of a closed world, of which so much is left out at first.
+fn audit_rest<O: Sink>(
+    alloc: Global,
+    closed: &Closed,
+    names: &Names,
+    asked: &Asked,
+    options: &AuditOptions,
+    left: &mut LeftOut,
+    out: &mut O,
+) -> Fate
+    requires short { length closed.now.log ≤ options.now.limits.events }
+    requires left { left_of left.old ≡ left_at_first asked.now }
+    ensures { Audits names.now asked.now options.now closed.now.config.bounds closed.now.log
+        (writing O.contents O.failures out.old out.new) result }
+{
+    let config = config_of_rounds(closed, options.limits);
+    let log = closed.log();
+    match rounds_of(alloc, &config, log, asked, options.witness, left) {
+        Ok(rounds) => {
+            let fate = tell_rounds(alloc, log, names, asked, &rounds, left, out);
+            drop(rounds);
+            fate
+        }
+        Err(fate) => fate,
+    }
+}
+
+/// Audits the log of a closed world.
+fn audit_closed<O: Sink>(
+    alloc: Global,
+    closed: &Closed,
+    names: &Names,
+    asked: &Asked,
+    options: &AuditOptions,
+    out: &mut O,
+) -> Fate
+    requires short { length closed.now.log ≤ options.now.limits.events }
+    ensures { Audits names.now asked.now options.now closed.now.config.bounds closed.now.log
+        (writing O.contents O.failures out.old out.new) result }
+{
+    match left_out(alloc, asked) {
+        Ok(mut left) => {
+            let fate = audit_rest(alloc, closed, names, asked, options, &mut left, out);
+            drop(left);
+            fate
+        }
+        Err(Memory) => Fate::Memory,
+    }
+}
+
+/// Reads a whole log, does its events, and audits it.
+fn audit_log<I: Source, O: Sink>(
+    alloc: Global,
+    options: &AuditOptions,
+    names: &Names,
+    asked: &Asked,
+    source: &mut I,
+    out: &mut O,
+) -> Fate
+    ensures { AuditsInput names.now asked.now options.now
+        (reading I.remaining I.failures source.old source.new)
+        (writing O.contents O.failures out.old out.new) result }
+{
+    match do_input(alloc, source, options.limits.events, options.limits.nodes) {
+        Ok(closed) => {
+            let fate = audit_closed(alloc, &closed, names, asked, options, out);
+            drop(closed);
+            fate
+        }
+        Err(fault) => Fate::Check(fault),
+    }
+}
+
+/// Audits the log that was asked for, and reports it by the names.
+fn audit_input<F: Files, O: Sink>(
+    alloc: Global,
+    options: &AuditOptions,
+    names: &Names,
+    asked: &Asked,
+    files: &F,
+    out: &mut O,
+) -> Fate
+    ensures { AuditsLog names.now asked.now options.now (store F.disk files.now files.now)
+        (writing O.contents O.failures out.old out.new) result }
+{
+    match open_input(files, Operand::Log, options.input, None) {
+        Ok(mut log) => audit_log(alloc, options, names, asked, &mut log, out),
+        Err(fate) => fate,
+    }
+}
+
+impl ByAsked for AuditOptions<'_> {
+    ghost does = { λ options names asked. AuditsLog names asked options };
+
+    fn do_asked<F: Files, O: Sink>(
+        &self,
+        alloc: Global,
+        names: &Names,
+        asked: &Asked,
+        files: &mut F,
+        out: &mut O,
+    ) -> Fate {
+        audit_input(alloc, self, names, asked, files, out)
+    }
+}
+
+impl ByNames for AuditOptions<'_> {
+    ghost does = { λ options names. AuditsNamed names options };
+
+    fn do_by<F: Files, O: Sink>(
+        &self,
+        alloc: Global,
+        names: &Names,
+        files: &mut F,
+        out: &mut O,
+    ) -> Fate {
+        let words = AskedWords {
+            known: self.known,
+            locks: self.ignored_locks,
+            variables: self.ignored_variables,
+        };
+        do_by_asked(alloc, self, names, &words, files, out)
+    }
+}
+
+/// Audits the log that was asked for. The names are read first.
+pub fn audit_file<F: Files, O: Sink>(
+    alloc: Global,
+    options: &AuditOptions,
+    files: &mut F,
+    out: &mut O,
+) -> Fate
+    ensures { DoesAudit options.now (store F.disk files.old files.new)
+        (writing O.contents O.failures out.old out.new) result }
+{
+    do_by_names(alloc, options, options.names, files, out)
+}

@@ -1,0 +1,8 @@
+//! What audit and predict do, whatever their files and their output are.
+#![tactic(auto)]
+
+mod auditing;
+mod predicting;
+
+pub use auditing::audit_file;
+pub use predicting::predict_file;

@@ -1,0 +1,5 @@
+mod OnIgnoring
+pub mod OnInputs
+mod OnListing
+mod OnNaming
+pub mod OnSiting

@@ -1,0 +1,71 @@
+-- What is to be ignored, one word after another.
+use Rattle.std.proofs.Common.{◌≡◌, ◌≢◌, ◌∙◌, ◌++◌, ◌∷◌, ◌<◌, ◌≤◌, [], List, ap, append-nil, append_assoc, arith, drop, drop-cons, get_or, length, refl, suc, sym, zero}
+use Rattle.std.specs.Prelude.{ℕ, ◌+◌, None, Option, Some, option_map}
+use Rattle.std.specs.Borrow.{Bor}
+use Rattle.velo_names.specs.Names.{NameLists}
+use Rattle.velo_request.specs.declared.request.Ignorable.{Ignorable}
+use Rattle.velo_fate.specs.declared.fate.Fate.{Fate}
+use Rattle.velo_fate.specs.declared.fate.Fate.TheVariants as fate
+use Rattle.velo_inputs.specs.Ignoring.{MeanNothing, MeansNone, before_others, ids_by, ids_meant}
+
+-- ---- whether a word added ids
+
+pub no_more : (xs ys : List ℕ) → length (xs ++ ys) ≡ length xs → ys ≡ []
+no_more [] [] same = refl
+no_more [] (y ∷ ys) same = absurd (omega (arith, same))
+no_more (x ∷ xs) ys same = no_more xs ys (omega (arith, same))
+
+pub some_more : (xs ys : List ℕ) → length (xs ++ ys) ≢ length xs → ys ≢ []
+some_more xs ys more none = more (ap (λ (zs : List ℕ). length (xs ++ zs)) none ∙ ap length (append-nil xs))
+
+-- ---- the words
+
+-- what the rest means, behind the ids so far
+abbrev pub behind : List ℕ → Option (List ℕ) → Option (List ℕ)
+behind ids rest = option_map (λ more. ids ++ more) rest
+
+pub one_more : (ids these : List ℕ) (rest : Option (List ℕ)) → these ≢ [] → behind ids (before_others these rest) ≡ behind (ids ++ these) rest
+one_more ids [] rest some = absurd (some refl)
+one_more ids (x ∷ xs) None some = refl
+one_more ids (x ∷ xs) (Some more) some = ap Some (sym (append_assoc ids (x ∷ xs) more))
+
+pub in_vain : (ids these : List ℕ) (rest : Option (List ℕ)) → these ≡ [] → behind ids (before_others these rest) ≡ None
+in_vain ids these rest none = ap (λ (xs : List ℕ). behind ids (before_others xs rest)) none
+
+-- before the first word
+pub words_start : (ids : List ℕ) (whole : Option (List ℕ)) → ids ≡ [] → whole ≡ behind ids whole
+words_start ids None none = refl
+words_start ids (Some more) none = ap Some (sym (ap (λ (xs : List ℕ). xs ++ more) none))
+
+none_left : (xs : List (Bor (List ℕ))) (i : ℕ) → length xs ≤ i → drop i xs ≡ []
+none_left [] zero h = refl
+none_left [] (suc i) h = refl
+none_left (x ∷ xs) zero h = absurd (omega (arith, h))
+none_left (x ∷ xs) (suc i) h = none_left xs i (omega (arith, h))
+
+module _ (names : NameLists) (what : Ignorable) (words : List (Bor (List ℕ))) (i : ℕ) (d : Bor (List ℕ)) (ids : List ℕ) where
+  abbrev whole : Option (List ℕ)
+  whole = ids_by names what words
+
+  abbrev these : List ℕ
+  these = ids_meant names what (get_or words i d).now
+
+  abbrev others : Option (List ℕ)
+  others = ids_by names what (drop (i + 1) words)
+
+  next : i < length words → ids_by names what (drop i words) ≡ before_others these others
+  next more =
+      let on : suc i ≡ i + 1 = omega arith in
+      ap (ids_by names what) (drop-cons words i d more ∙ ap (λ n. get_or words i d ∷ drop n words) on)
+
+  pub word_added : (new : List ℕ) → i < length words → whole ≡ behind ids (ids_by names what (drop i words)) → new ≡ ids ++ these → these ≢ [] → whole ≡ behind new others
+  word_added new more so is some = so ∙ (ap (behind ids) (next more) ∙ (one_more ids these others some ∙ ap (λ (xs : List ℕ). behind xs others) (sym is)))
+
+  pub word_in_vain : (f : Fate) → i < length words → whole ≡ behind ids (ids_by names what (drop i words)) → MeansNone names what (get_or words i d).now f → MeanNothing names what words f
+  word_in_vain (fate.Ignored it) more so is = (is.0, so ∙ (ap (behind ids) (next more) ∙ in_vain ids these others is.1))
+  word_in_vain fate.Memory more so is = is
+  word_in_vain f more so is = absurd is
+
+pub words_end : (names : NameLists) (what : Ignorable) (words : List (Bor (List ℕ))) (i : ℕ) (ids : List ℕ) → length words ≤ i → ids_by names what words ≡ behind ids (ids_by names what (drop i words))
+    → ids_by names what words ≡ Some ids
+words_end names what words i ids none so = so ∙ (ap (λ ws. behind ids (ids_by names what ws)) (none_left words i none) ∙ ap Some (append-nil ids))

@@ -1,0 +1,19 @@
+-- What became of an answer that may lack memory: a word of the contracts of steps on the way.
+use Rattle.std.specs.Borrow.{Bor}
+use Rattle.std.specs.Prelude.{◌≡◌, ◌⊎◌, ℕ, List, Option}
+use Rattle.velo_events.specs.Refusals.{GrowthRefused}
+use Rattle.velo_fate.specs.declared.fate.Fate.{Fate}
+use Rattle.velo_fate.specs.declared.fate.Fate.TheVariants.{Memory}
+use Rattle.velo_fate.specs.Delivery.{Answer, IsDelivered, IsPrinted}
+use Rattle.velo_delivery.specs.Disk.{Store}
+use Rattle.velo_delivery.specs.Writing.{WritesNothing, Writing}
+
+-- this answer was delivered, or printed; or an allocation failed, and nothing was written
+abbrev pub DeliversOrLacks : Answer → Store → Option (Bor (List ℕ)) → Writing → Fate → Type 0
+DeliversOrLacks answer store target stdout f =
+    IsDelivered store target stdout answer f
+    ⊎ (GrowthRefused × (f ≡ Memory) × store.is_kept × WritesNothing stdout)
+
+abbrev pub PrintsOrLacks : Answer → Writing → Fate → Type 0
+PrintsOrLacks answer stdout f =
+    IsPrinted stdout answer f ⊎ (GrowthRefused × (f ≡ Memory) × WritesNothing stdout)

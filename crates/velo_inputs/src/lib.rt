@@ -1,0 +1,18 @@
+//! What a command on a recorded log reads and means beside its log, and what all of them share.
+#![tactic(auto)]
+
+mod asking;
+mod ignoring;
+mod listing;
+mod naming;
+mod replaying;
+mod sending;
+mod siting;
+
+pub use asking::{AskedWords, ByAsked, do_by_asked};
+pub use ignoring::{ignored_locks, ignored_variables};
+pub use listing::labels_of;
+pub use naming::{ByNames, do_by_names, read_given, shown_by};
+pub use replaying::{config_of, do_input, do_log, fault_of};
+pub use sending::{print, save_text};
+pub use siting::sites_in;
