@@ -1,5 +1,5 @@
 //! What the columns of a drawing say, and how much room it needs.
-ghost use Rattle.std.specs.Prelude.{◌≡◌, ◌≤◌, length, fold, IfOk};
+ghost use Rattle.std.specs.Prelude.{◌≡◌, ◌≤◌, ◌<◌, length, fold, IfOk};
 ghost use Rattle.velo_explain.specs.Lanes.{operation_text, AreBelow};
 ghost use Rattle.velo_picture.specs.Grid.{heading_of, room_for_thread, room_for_event, room_of};
 

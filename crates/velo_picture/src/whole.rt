@@ -1,7 +1,7 @@
 //! An alarm as a drawing.
 ghost use Rattle.std.specs.Prelude.{◌≡◌, ◌≤◌, ◌++◌, length, IfOk, OnOk};
 ghost use Rattle.velo_events.specs.declared.limits.TheConstants.{MAX_EVENTS};
-ghost use Rattle.velo_explain.specs.Evidence.{AreEdgesWithin, IsEvidenceAt, IsWithin};
+ghost use Rattle.velo_explain.specs.Evidence.{AreEdgesWithin, IsWithin};
 ghost use Rattle.velo_explain.specs.Lanes.{AreBelow};
 ghost use Rattle.velo_picture.specs.Drawing.{size_text, blame_note, note_text, start_text, ground_text, signs_text, text_by_grid, drawing_text};
 
@@ -17,7 +17,6 @@ use velo_events::{Event, Memory};
 use velo_explain::{Blame, Evidence, Page, Piece, add_heading};
 use velo_names::Names;
 use velo_sites::Sites;
-use velo_traces::Trace;
 
 /// Adds the size of a drawing.
 #[tactic(auto, unfolding(crate::specs::Drawing::size_text))]
@@ -164,25 +163,24 @@ fn drawn(
 /// at the pointer stands all of it, with the place in the source, if the sites give it. The log has a
 /// header, so position P is on line P + 2.
 ///
-/// The evidence has to be as `evidence_of` gives it for the trace and the position, and the trace has
-/// at most [`MAX_EVENTS`](velo_events::MAX_EVENTS) events.
+/// The position, and those of the evidence, have to be of events that are there, of which there are
+/// at most [`MAX_EVENTS`](velo_events::MAX_EVENTS).
 ///
 /// # Errors
 /// `Memory` if an allocation failed.
 pub fn drawing(
     alloc: Global,
-    trace: &Trace,
-    position: usize,
-    evidence: &Evidence,
     names: &Names,
     sites: &Option<Sites>,
+    events: &[Event],
+    position: usize,
+    evidence: &Evidence,
 ) -> Result<Page, Memory>
-    requires few { length trace.now.events ≤ MAX_EVENTS }
-    requires evidence { IsEvidenceAt trace.now.events position evidence.now }
+    requires few { length events.now ≤ MAX_EVENTS }
+    requires within { IsWithin (length events.now) position evidence.now }
     ensures { IfOk result (λ page.
-        page ≡ drawing_text names.now sites.now trace.now.events position evidence.now) }
+        page ≡ drawing_text names.now sites.now events.now position evidence.now) }
 {
-    let events = trace.as_slice();
     let legend = Legend { names, sites };
     let layout = Layout::of_alarm(alloc, names, events, position, evidence)?;
     let page = drawn(alloc, &legend, events, position, evidence, &layout);
