@@ -1,9 +1,9 @@
 -- How many rows and columns there are.
-use Rattle.std.proofs.Common.{◌≡◌, ℕ, zero, suc, ◌+◌, ◌*◌, ◌≤◌, Bool, true, false, List, [], ◌∷◌, ◌++◌, length, nat_eq, if◌then◌else◌, arith}
+use Rattle.std.proofs.Common.{◌≡◌, ℕ, zero, suc, ◌+◌, ◌*◌, ◌≤◌, Bool, true, false, List, [], ◌∷◌, ◌++◌, length, map, nat_eq, if◌then◌else◌, arith}
 use Rattle.std.specs.List.{list_any}
 use Rattle.std.proofs.lemmas.List.{length_push}
 use Rattle.velo_events.specs.declared.event.Event.{Event}
-use Rattle.velo_explain.specs.Lanes.{among_below, lanes_of}
+use Rattle.velo_explain.specs.Lanes.{actor_at, among_below, lanes_of}
 
 module _ (numbers : List ℕ) where
   step : (n : ℕ) (t : Bool) → length (among_below n numbers) ≤ n → length (if t then among_below n numbers ++ n ∷ [] else among_below n numbers) ≤ suc n
@@ -17,4 +17,4 @@ module _ (numbers : List ℕ) where
 
 pub length-lanes_of : (trace : List Event) (rows : List ℕ) → length (lanes_of trace rows) ≤ 256
 unfolding lanes_of
-length-lanes_of trace rows = length-among_below _ 256
+length-lanes_of trace rows = length-among_below (map (actor_at trace) rows) 256

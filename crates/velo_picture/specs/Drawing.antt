@@ -38,13 +38,17 @@ name_over_text names grid t =
 
 -- ---- the line of a row
 
--- a broken line over the row, where lines before it are not shown
-unfoldable pub gap_text : Grid → ℕ → ℕ → List ℕ
+-- a broken line at this height, up to the right side
+unfoldable pub broken_text : ℕ → ℕ → List ℕ
+broken_text y right = joined (
+    codes "<path class=\"gap\" d=\"M" ∷ decimal COLUMNS ∷ codes " " ∷ decimal y
+    ∷ codes "H" ∷ decimal right ∷ codes "\"/>\n" ∷ [])
+
+-- over the row, where lines before it are not shown
+abbrev pub gap_text : Grid → ℕ → ℕ → List ℕ
 gap_text grid k p =
     if nat_eq (lines_before grid.rows k) 0 then []
-    else joined (
-    codes "<path class=\"gap\" d=\"M" ∷ decimal COLUMNS ∷ codes " " ∷ decimal (top_of grid p)
-    ∷ codes "H" ∷ decimal (whole_width grid) ∷ codes "\"/>\n" ∷ [])
+    else broken_text (top_of grid p) (whole_width grid)
 
 abbrev pub line_text : Grid → ℕ → ℕ → List ℕ
 line_text grid k p =

@@ -69,7 +69,6 @@ fn order_of(layout: &Layout, from: ThreadId, to: ThreadId) -> u64
 }
 
 /// Adds the line of an arrow, from one height to another.
-#[tactic(auto, unfolding(crate::specs::Drawing::curve_text))]
 fn add_curve(
     page: &mut Page,
     layout: &Layout,

@@ -1,5 +1,5 @@
 //! Where things are in a drawing.
-ghost use Rattle.std.specs.Prelude.{◌≡◌, ◌≤◌, ◌<◌, ◌+◌, ◌^◌, length, IfOk};
+ghost use Rattle.std.specs.Prelude.{◌≡◌, ◌≤◌, ◌<◌, ◌+◌, ◌^◌, min, length, IfOk};
 ghost use Rattle.velo_events.specs.declared.limits.TheConstants.{MAX_EVENTS};
 ghost use Rattle.velo_explain.specs.Lanes.{AreBelow};
 ghost use Rattle.velo_picture.specs.Grid.{grid_of, count_below, inset_of, texts_of, width_of, columns_of, left_of, top_of, whole_width, whole_height, left_side, right_side};
@@ -50,6 +50,14 @@ fn count_below(numbers: &[usize], number: usize) -> usize
     count
 }
 
+/// For how many blocks to blame a column has stripes.
+fn stripes_of(blames: usize) -> usize
+    ensures stripes { result ≡ min blames MOST_STRIPES }
+    ensures most { result ≤ MOST_STRIPES }
+{
+    blames.min(MOST_STRIPES)
+}
+
 impl Layout {
     /// That of an alarm at a position, by its evidence.
     pub(crate) fn of_alarm(
@@ -68,7 +76,7 @@ impl Layout {
         let rows = mentioned_in_order(alloc, events.len(), position, evidence)?;
         let columns = lanes_of(alloc, events, &rows)?;
         let room = room_of(alloc, names, events, &rows, &columns)?;
-        let stripes = evidence.blames.len().min(MOST_STRIPES);
+        let stripes = stripes_of(evidence.blames.len());
         Ok(Layout {
             rows,
             columns,
@@ -136,6 +144,7 @@ impl Layout {
     }
 
     /// The left side of the column of a thread.
+    #[tactic(auto, unfolding(crate::specs::Grid::left_of))]
     pub(crate) fn left_of(&self, thread: ThreadId) -> u64
         ensures left { result ≡ left_of self.now thread.0 }
         ensures least { COLUMNS ≤ result }
@@ -145,6 +154,7 @@ impl Layout {
     }
 
     /// The upper side of the row of a position.
+    #[tactic(auto, unfolding(crate::specs::Grid::top_of))]
     pub(crate) fn top_of(&self, position: usize) -> u64
         ensures top { result ≡ top_of self.now position }
         ensures least { HEAD ≤ result }
@@ -154,6 +164,7 @@ impl Layout {
     }
 
     /// How wide the drawing is.
+    #[tactic(auto, unfolding(crate::specs::Grid::whole_width))]
     pub(crate) fn whole_width(&self) -> u64
         ensures { result ≡ whole_width self.now }
     {
@@ -161,6 +172,7 @@ impl Layout {
     }
 
     /// How high it is.
+    #[tactic(auto, unfolding(crate::specs::Grid::whole_height))]
     pub(crate) fn whole_height(&self) -> u64
         ensures height { result ≡ whole_height self.now }
         ensures least { FOOT ≤ result }

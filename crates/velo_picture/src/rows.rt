@@ -4,7 +4,7 @@ ghost use Rattle.std.specs.List.{flat_map};
 ghost use Rattle.velo_events.specs.declared.limits.TheConstants.{MAX_EVENTS};
 ghost use Rattle.velo_explain.specs.Lanes.{AreBelow};
 ghost use Rattle.velo_explain.specs.Pieces.{numbered};
-ghost use Rattle.velo_picture.specs.Drawing.{titled, name_over_text, gap_text, line_text, is_on_cycle, frame_text, place_text, place_in, hint_text, operation_row_text, row_text};
+ghost use Rattle.velo_picture.specs.Drawing.{titled, name_over_text, broken_text, gap_text, line_text, is_on_cycle, frame_text, place_text, place_in, hint_text, operation_row_text, row_text};
 
 use crate::layout::Layout;
 use crate::rooms::{heading_of, operation_of};
@@ -69,8 +69,23 @@ pub(crate) fn add_names_over(
     Ok(())
 }
 
+/// Adds a broken line.
+#[tactic(auto, unfolding(crate::specs::Drawing::broken_text))]
+fn add_broken(page: &mut Page, y: u64, right: u64) -> Result<(), Memory>
+    ensures { OnOk result (page.new ≡ page.old ++ broken_text y right) }
+{
+    page.add(&[
+        Piece::Text("<path class=\"gap\" d=\"M"),
+        Piece::Number(COLUMNS),
+        Piece::Text(" "),
+        Piece::Number(y),
+        Piece::Text("H"),
+        Piece::Number(right),
+        Piece::Text("\"/>\n"),
+    ])
+}
+
 /// Adds a broken line over a row, where lines before it are not shown.
-#[tactic(auto, unfolding(crate::specs::Drawing::gap_text))]
 fn add_gap(page: &mut Page, layout: &Layout, k: usize, position: usize) -> Result<(), Memory>
     requires place { k < length layout.now.rows }
     requires few { AreBelow MAX_EVENTS layout.now.rows }
@@ -79,15 +94,7 @@ fn add_gap(page: &mut Page, layout: &Layout, k: usize, position: usize) -> Resul
     if lines_before(layout.rows(), k) == 0 {
         return Ok(());
     }
-    page.add(&[
-        Piece::Text("<path class=\"gap\" d=\"M"),
-        Piece::Number(COLUMNS),
-        Piece::Text(" "),
-        Piece::Number(layout.top_of(position)),
-        Piece::Text("H"),
-        Piece::Number(layout.whole_width()),
-        Piece::Text("\"/>\n"),
-    ])
+    add_broken(page, layout.top_of(position), layout.whole_width())
 }
 
 /// Adds the number of the line of a row.

@@ -19,7 +19,6 @@ use velo_names::Names;
 use velo_sites::Sites;
 
 /// Adds the size of a drawing.
-#[tactic(auto, unfolding(crate::specs::Drawing::size_text))]
 fn add_size(page: &mut Page, layout: &Layout) -> Result<(), Memory>
     ensures { OnOk result (page.new ≡ page.old ++ size_text layout.now) }
 {
