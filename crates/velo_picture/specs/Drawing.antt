@@ -1,6 +1,6 @@
 -- An alarm as a drawing: a column for each thread and a row for each event, blocks as bars, and an
 -- arrow for each edge of the cycle. It is an SVG file that needs nothing beside it.
-use Rattle.std.specs.Prelude.{ℕ, ◌+◌, ◌-◌, ◌*◌, ◌==◌, ◌||◌, nat_eq, Bool, if◌then◌else◌, min, List, [], ◌∷◌, ◌++◌, length, codes, decimal, Option, Some, None}
+use Rattle.std.specs.Prelude.{ℕ, ◌+◌, ◌-◌, ◌*◌, ◌/◌, ◌==◌, ◌||◌, nat_eq, Bool, if◌then◌else◌, min, List, [], ◌∷◌, ◌++◌, length, codes, decimal, Option, Some, None}
 use Rattle.std.specs.List.{flat_map, list_any}
 use Rattle.velo_events.specs.declared.event.Event.{Event}
 use Rattle.velo_certify.specs.declared.edges.EdgeEvents.{EdgeEvents}
@@ -14,7 +14,7 @@ use Rattle.velo_explain.specs.Fitting.{shortened}
 use Rattle.velo_explain.specs.Lanes.{actor_at, lines_before, operation_text}
 use Rattle.velo_explain.specs.Pieces.{event_text, joined, line_of, name_about, name_text, numbered}
 use Rattle.velo_explain.specs.Text.{heading_text, next_number}
-use Rattle.velo_picture.specs.declared.sizes.TheConstants.{BASELINE, EDGE, ENTRY, EXIT, FRAME, HEADING, LABEL_END, MOST_STRIPES, NOTE, NUMBERS, ROW, STRIPE, STROKE, COLUMNS}
+use Rattle.velo_picture.specs.declared.sizes.TheConstants.{BASELINE, EDGE, ENTRY, EXIT, FRAME, HEADING, LABEL_END, MOST_STRIPES, NOTE, NUMBERS, ROW, STRIPE, STROKE, COLUMNS, TAG, TAG_HEIGHT, TAG_OVER}
 use Rattle.velo_picture.specs.Grid.{Grid, bend_from, bend_to, end_of, grid_of, heading_of, inset_of, left_of, left_side, order_of, start_of, texts_of, top_of, whole_height, whole_width, width_of}
 use Rattle.velo_picture.specs.Shapes.{rect_text, text_text}
 use Rattle.velo_picture.specs.Style.{style_text}
@@ -57,12 +57,16 @@ line_text grid k p =
 
 -- ---- transactions and blocks to blame, as bars
 
--- from its first row to its last, with its number
+-- from its first row to its last
 abbrev pub bar_text : List Event → Grid → ℕ → Span → List ℕ
 bar_text trace grid k span =
     rect_text (codes "block") (left_of grid (actor_at trace span.first)) (top_of grid span.first + EDGE)
     (width_of grid) ((top_of grid span.last + ROW) - (top_of grid span.first + 2 * EDGE))
-    ++ text_text (codes "number") (left_of grid (actor_at trace span.first) + (width_of grid - LABEL_END))
+
+-- its number, in its first row
+abbrev pub number_text : List Event → Grid → ℕ → Span → List ℕ
+number_text trace grid k span =
+    text_text (codes "number") (left_of grid (actor_at trace span.first) + (width_of grid - LABEL_END))
     (top_of grid span.first + BASELINE) (codes "T" ++ decimal (k + 1))
 
 -- from its first row to that of position p
@@ -127,13 +131,19 @@ curve_text grid t u y z = joined (
 unfoldable pub order_text : ℕ → ℕ → List ℕ
 order_text count k = joined (codes "T" ∷ decimal (k + 1) ∷ codes " -> T" ∷ decimal (next_number count k) ∷ [])
 
--- from its first event to its second, numbered where it starts
-abbrev pub arrow_text : List Event → Grid → ℕ → ℕ → EdgeEvents → List ℕ
-arrow_text trace grid count k edge =
+-- from its first event to its second
+abbrev pub arrow_text : List Event → Grid → ℕ → EdgeEvents → List ℕ
+arrow_text trace grid k edge =
     curve_text grid (actor_at trace edge.from) (actor_at trace edge.to)
     (top_of grid edge.from + EXIT) (top_of grid edge.to + ENTRY)
+
+-- its number, where it starts
+abbrev pub tag_text : List Event → Grid → ℕ → ℕ → EdgeEvents → List ℕ
+tag_text trace grid count k edge =
+    rect_text (codes "tag") (order_of grid (actor_at trace edge.from) (actor_at trace edge.to) - TAG / 2)
+    (top_of grid edge.from + EXIT - TAG_OVER) TAG TAG_HEIGHT
     ++ text_text (codes "order") (order_of grid (actor_at trace edge.from) (actor_at trace edge.to))
-    (top_of grid edge.from + BASELINE - FRAME) (order_text count k)
+    (top_of grid edge.from + EXIT + FRAME) (order_text count k)
 
 -- ---- what the signs mean
 
@@ -164,8 +174,10 @@ ground_text trace p evidence grid =
 abbrev pub signs_text : NameLists → Option Table → List Event → Evidence → Grid → List ℕ
 signs_text names sites trace evidence grid =
     flat_map (row_text names sites trace evidence.edges.items grid) grid.rows
-    ++ (numbered (arrow_text trace grid (length evidence.edges.items)) 0 evidence.edges.items
-    ++ (note_text grid evidence.blames.items ++ codes "</svg>\n"))
+    ++ (numbered (number_text trace grid) 0 evidence.spans.items
+    ++ (numbered (arrow_text trace grid) 0 evidence.edges.items
+    ++ (numbered (tag_text trace grid (length evidence.edges.items)) 0 evidence.edges.items
+    ++ (note_text grid evidence.blames.items ++ codes "</svg>\n"))))
 
 abbrev pub text_by_grid : NameLists → Option Table → List Event → ℕ → Evidence → Grid → List ℕ
 text_by_grid names sites trace p evidence grid =

@@ -12,22 +12,22 @@ style_text = joined (
     codes ".line { fill: #656d76; text-anchor: end; }\n" ∷
     codes ".note { fill: #656d76; }\n" ∷
     codes ".number { fill: #0550ae; font-weight: bold; text-anchor: end; }\n" ∷
-    codes ".order { fill: #6639ba; font-weight: bold; text-anchor: middle; stroke: #ffffff; stroke-width: 3; paint-order: stroke; }\n" ∷
+    codes ".order { fill: #6639ba; font-weight: bold; text-anchor: middle; }\n" ∷
     codes ".block { fill: #ddf4ff; stroke: #54aeff; }\n" ∷
     codes ".blame { fill: #cf222e; }\n" ∷
-    codes ".cycle { fill: #ffffff; stroke: #6639ba; stroke-width: 1.5; }\n" ∷
+    codes ".cycle, .tag { fill: #ffffff; stroke: #6639ba; }\n" ∷
     codes ".arrow { fill: none; stroke: #6639ba; stroke-width: 2; }\n" ∷
     codes ".head { fill: #6639ba; }\n" ∷
     codes ".gap { stroke: #d0d7de; stroke-dasharray: 6 6; }\n" ∷
     codes "@media (prefers-color-scheme: dark) {\n" ∷
     codes "text { fill: #e6edf3; }\n" ∷
-    codes ".page, .cycle { fill: #0d1117; }\n" ∷
+    codes ".page, .cycle, .tag { fill: #0d1117; }\n" ∷
     codes ".line, .note { fill: #8b949e; }\n" ∷
     codes ".number { fill: #79c0ff; }\n" ∷
-    codes ".order { fill: #d2a8ff; stroke: #0d1117; }\n" ∷
+    codes ".order { fill: #d2a8ff; }\n" ∷
     codes ".block { fill: #0c2d4d; stroke: #1f6feb; }\n" ∷
     codes ".blame { fill: #ff7b72; }\n" ∷
-    codes ".cycle, .arrow { stroke: #d2a8ff; }\n" ∷
+    codes ".cycle, .tag, .arrow { stroke: #d2a8ff; }\n" ∷
     codes ".head { fill: #d2a8ff; }\n" ∷
     codes ".gap { stroke: #30363d; }\n" ∷
     codes "}\n" ∷

@@ -1,13 +1,14 @@
 //! The edges of a cycle as arrows.
-ghost use Rattle.std.specs.Prelude.{◌≡◌, ◌≤◌, ◌<◌, ◌++◌, length, IfOk, OnOk};
+ghost use Rattle.std.specs.Prelude.{◌≡◌, ◌≤◌, ◌<◌, ◌-◌, ◌++◌, length, IfOk, OnOk};
 ghost use Rattle.velo_explain.specs.Evidence.{AreEdgesWithin};
 ghost use Rattle.velo_explain.specs.Pieces.{numbered};
+ghost use Rattle.velo_picture.specs.declared.sizes.TheConstants.{COLUMNS, ORDER};
 ghost use Rattle.velo_picture.specs.Grid.{start_of, end_of, bend_from, bend_to, order_of};
-ghost use Rattle.velo_picture.specs.Drawing.{curve_text, order_text, arrow_text};
+ghost use Rattle.velo_picture.specs.Drawing.{curve_text, order_text, arrow_text, tag_text};
 
 use crate::layout::Layout;
-use crate::shapes::add_text;
-use crate::sizes::{BASELINE, BEND, ENTRY, EXIT, FRAME, ORDER};
+use crate::shapes::{add_rect, add_text};
+use crate::sizes::{BEND, ENTRY, EXIT, FRAME, ORDER, TAG, TAG_HEIGHT, TAG_OVER};
 use std::alloc::Global;
 use velo_certify::EdgeEvents;
 use velo_events::{Event, Memory, ThreadId};
@@ -59,7 +60,8 @@ fn bend_to(layout: &Layout, from: ThreadId, to: ThreadId) -> u64
 
 /// Where the middle of its number is.
 fn order_of(layout: &Layout, from: ThreadId, to: ThreadId) -> u64
-    ensures { result ≡ order_of layout.now from.0 to.0 }
+    ensures order { result ≡ order_of layout.now from.0 to.0 }
+    ensures least { COLUMNS - ORDER ≤ result }
 {
     if from.0 <= to.0 {
         layout.left_of(from) + (layout.width() + ORDER)
@@ -116,8 +118,44 @@ fn order_page(alloc: Global, count: usize, k: usize) -> Result<Page, Memory>
     Ok(page)
 }
 
-/// Adds the arrow of an edge, numbered where it starts.
+/// Adds the arrow of an edge.
 fn add_arrow(
+    page: &mut Page,
+    events: &[Event],
+    layout: &Layout,
+    k: usize,
+    edge: EdgeEvents,
+) -> Result<(), Memory>
+    requires from { edge.from < length events.now }
+    requires to { edge.to < length events.now }
+    ensures { OnOk result (page.new ≡ page.old ++ arrow_text events.now layout.now k edge) }
+{
+    let from = events[edge.from].thread;
+    let to = events[edge.to].thread;
+    let start = layout.top_of(edge.from) + EXIT;
+    let end = layout.top_of(edge.to) + ENTRY;
+    add_curve(page, layout, from, to, start, end)
+}
+
+/// Adds the arrows of the edges.
+pub(crate) fn add_arrows(
+    page: &mut Page,
+    events: &[Event],
+    layout: &Layout,
+    edges: &[EdgeEvents],
+) -> Result<(), Memory>
+    requires { AreEdgesWithin (length events.now) edges.now }
+    ensures { OnOk result (page.new
+        ≡ page.old ++ numbered (arrow_text events.now layout.now) 0 edges.now) }
+{
+    for k in 0..edges.len() {
+        add_arrow(page, events, layout, k, edges[k])?;
+    }
+    Ok(())
+}
+
+/// Adds the number of an arrow, where it starts.
+fn add_tag(
     page: &mut Page,
     alloc: Global,
     events: &[Event],
@@ -129,20 +167,17 @@ fn add_arrow(
     requires from { edge.from < length events.now }
     requires to { edge.to < length events.now }
     requires place { k < count }
-    ensures { OnOk result (page.new ≡ page.old ++ arrow_text events.now layout.now count k edge) }
+    ensures { OnOk result (page.new ≡ page.old ++ tag_text events.now layout.now count k edge) }
 {
-    let from = events[edge.from].thread;
-    let to = events[edge.to].thread;
-    let start = layout.top_of(edge.from);
-    let end = layout.top_of(edge.to);
-    add_curve(page, layout, from, to, start + EXIT, end + ENTRY)?;
+    let x = order_of(layout, events[edge.from].thread, events[edge.to].thread);
+    let y = layout.top_of(edge.from) + EXIT;
     let order = order_page(alloc, count, k)?;
-    let x = order_of(layout, from, to);
-    add_text(page, "order", x, start + BASELINE - FRAME, order.as_slice())
+    add_rect(page, "tag", x - TAG / 2, y - TAG_OVER, TAG, TAG_HEIGHT)?;
+    add_text(page, "order", x, y + FRAME, order.as_slice())
 }
 
-/// Adds the arrows of the edges.
-pub(crate) fn add_arrows(
+/// Adds the numbers of the arrows.
+pub(crate) fn add_tags(
     page: &mut Page,
     alloc: Global,
     events: &[Event],
@@ -151,10 +186,10 @@ pub(crate) fn add_arrows(
 ) -> Result<(), Memory>
     requires { AreEdgesWithin (length events.now) edges.now }
     ensures { OnOk result (page.new
-        ≡ page.old ++ numbered (arrow_text events.now layout.now (length edges.now)) 0 edges.now) }
+        ≡ page.old ++ numbered (tag_text events.now layout.now (length edges.now)) 0 edges.now) }
 {
     for k in 0..edges.len() {
-        add_arrow(page, alloc, events, layout, edges.len(), k, edges[k])?;
+        add_tag(page, alloc, events, layout, edges.len(), k, edges[k])?;
     }
     Ok(())
 }

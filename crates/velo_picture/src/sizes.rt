@@ -55,10 +55,19 @@ pub const STRIPE: u64 = 7;
 pub const STROKE: u64 = 4;
 
 /// How far below the upper side of a row an arrow leaves it.
-pub const EXIT: u64 = 19;
+pub const EXIT: u64 = 20;
 
 /// How far below it an arrow arrives.
-pub const ENTRY: u64 = 9;
+pub const ENTRY: u64 = 8;
+
+/// How wide the tag with the number of an arrow is.
+pub const TAG: u64 = 76;
+
+/// How high it is.
+pub const TAG_HEIGHT: u64 = 18;
+
+/// How far above the arrow it begins.
+pub const TAG_OVER: u64 = 9;
 
 /// How far an arrow goes straight on before it turns.
 pub const BEND: u64 = 40;

@@ -1,12 +1,12 @@
 //! An alarm as a drawing.
 ghost use Rattle.std.specs.Prelude.{◌≡◌, ◌≤◌, ◌++◌, length, IfOk, OnOk};
 ghost use Rattle.velo_events.specs.declared.limits.TheConstants.{MAX_EVENTS};
-ghost use Rattle.velo_explain.specs.Evidence.{AreEdgesWithin, IsWithin};
+ghost use Rattle.velo_explain.specs.Evidence.{AreEdgesWithin, AreSpansWithin, IsWithin};
 ghost use Rattle.velo_explain.specs.Lanes.{AreBelow};
 ghost use Rattle.velo_picture.specs.Drawing.{size_text, blame_note, note_text, start_text, ground_text, signs_text, text_by_grid, drawing_text};
 
-use crate::arrows::add_arrows;
-use crate::bars::{add_bars, add_stripes};
+use crate::arrows::{add_arrows, add_tags};
+use crate::bars::{add_bars, add_numbers, add_stripes};
 use crate::layout::Layout;
 use crate::rows::{Legend, add_lines, add_names_over, add_rows, add_title};
 use crate::shapes::add_text;
@@ -75,7 +75,7 @@ fn add_ground(
         ≡ page.old ++ ground_text events.now position evidence.now layout.now) }
 {
     add_lines(page, alloc, layout, layout.rows())?;
-    add_bars(page, alloc, events, layout, evidence.spans.as_slice())?;
+    add_bars(page, events, layout, evidence.spans.as_slice())?;
     add_stripes(page, events, position, layout, evidence.blames.as_slice())
 }
 
@@ -111,6 +111,7 @@ fn add_signs(
     layout: &Layout,
 ) -> Result<(), Memory>
     requires edges { AreEdgesWithin (length events.now) evidence.now.edges.items }
+    requires spans { AreSpansWithin (length events.now) evidence.now.spans.items }
     requires few { length events.now ≤ MAX_EVENTS }
     requires rows { AreBelow (length events.now) layout.now.rows }
     ensures { OnOk result (page.new ≡ page.old ++ signs_text legend.now.names.now legend.now.sites.now
@@ -118,7 +119,9 @@ fn add_signs(
 {
     let edges = evidence.edges.as_slice();
     add_rows(page, alloc, legend, events, edges, layout, layout.rows())?;
-    add_arrows(page, alloc, events, layout, edges)?;
+    add_numbers(page, alloc, events, layout, evidence.spans.as_slice())?;
+    add_arrows(page, events, layout, edges)?;
+    add_tags(page, alloc, events, layout, edges)?;
     add_note(page, alloc, layout, evidence.blames.as_slice())?;
     page.add_bytes(b"</svg>\n")
 }

@@ -9,7 +9,7 @@ use Rattle.velo_picture.proofs.arrows.add_arrows.Goals as goal
 pub loop-k-preserved : goal.loop-k-preserved
 loop-k-preserved c =
     let items = c.args.edges.now in let k = c.loop-k.k in let nothing : EdgeEvents = record { from = 0; to = 0 } in let item = get_or items k nothing in
-    let text = arrow_text c.args.events.now c.args.layout.now (length c.args.edges.now) in
+    let text = arrow_text c.args.events.now c.args.layout.now in
     let more : take (k + 1) items ≡ take k items ++ item ∷ [] = take_more items k nothing c.loop-k-test.true in
     c.in_ok-add_arrow.ensures
     ∙ ap (λ (t : List ℕ). t ++ text k item) c.loop-k.invariant
