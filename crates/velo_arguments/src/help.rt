@@ -188,8 +188,9 @@ Statuses, each with the lines on standard error:
   0  no alarm, or help
   2  usage; 'error: standard input can be read once'; 'error: LOG and OUT are one file', the same of
      LOG and SVG, and of OUT and SVG; the text is no log: 'log fault K', 'log fault K line N'; an event
-     cannot happen: 'refused K at P', 'wrong value at P'; the text of --names is no file of names: 'names fault K line N'; the text of
-     --sites is no file of sites, or of another log: 'sites fault K line N'
+     cannot happen: 'refused K at P', 'wrong value at P'; the text of --names is no file of names:
+     'names fault K line N'; the text of --sites is no file of sites, or of another log:
+     'sites fault K line N'
   3  an alarm: no serial reordering of the log exists
   5  memory or a device failed: 'out of memory', 'read failed', 'write failed', 'cannot open'
 
