@@ -28,10 +28,10 @@ pub const COLUMNS: u64 = 112;
 pub const NUMBERS: u64 = 80;
 
 /// How much is between two columns.
-pub const GUTTER: u64 = 88;
+pub const GUTTER: u64 = 96;
 
 /// How far from a column its arrows are numbered.
-pub const ORDER: u64 = 44;
+pub const ORDER: u64 = 48;
 
 /// How much is left of the texts of a column.
 pub const MARGIN: u64 = 14;
@@ -61,7 +61,7 @@ pub const EXIT: u64 = 20;
 pub const ENTRY: u64 = 8;
 
 /// How wide the tag with the number of an arrow is.
-pub const TAG: u64 = 76;
+pub const TAG: u64 = 84;
 
 /// How high it is.
 pub const TAG_HEIGHT: u64 = 18;
