@@ -19,10 +19,10 @@ use Rattle.velo_worker.specs.declared.ending.Ending.TheVariants as ending
 use Rattle.velo_fate.specs.declared.fate.Fate.{Fate}
 use Rattle.velo_fate.specs.declared.fate.Fate.TheVariants as fate
 use Rattle.velo_fate.specs.Delivery.{Answer, IsDelivered, IsDeliveredInTurn, IsPrinted, LacksMemory, Saves, printing, silent}
-use Rattle.velo_delivery.specs.Disk.{Store}
+use Rattle.velo_delivery.specs.Disk.{Disk, Store, store}
 use Rattle.velo_delivery.specs.Reading.{Reading}
 use Rattle.velo_inputs.specs.Input.{ComesAbout}
-use Rattle.velo_log_commands.specs.Explaining.{ExplainsAlarm, ExplainsVerdict, counted, explained}
+use Rattle.velo_log_commands.specs.Explaining.{ExplainsAlarm, ExplainsVerdict, counted, explained, saying}
 use Rattle.velo_fate.specs.Failures.{failures_told}
 use Rattle.velo_delivery.specs.Writing.{Writing, WritesNothing}
 use Rattle.velo_inputs.specs.Sending.{PrintsOrLacks}
@@ -103,6 +103,20 @@ module _ (store : Store) (options : ExplainOptions) (stdout : Writing) where
       subst (λ (f : Fate). IsDelivered store options.target stdout (silent fate.OtherSites) f) (sym other.1) (refl, other.2, other.3),
     ),
   )
+
+-- a drawing alone: nothing is saved before it
+pub drawn_alone : {F : Type 0} (disk : F → Disk) (first left : F) (path : Bor (List ℕ)) (stdout : Writing) (picture words text drawn drawing : List ℕ) (f : Fate) → words ≡ text → drawn ≡ drawing
+    → IsDelivered (store disk first left) (Some path) stdout (saying drawn words) f → IsDeliveredInTurn (store disk first left) None (Some path) drawing stdout (saying picture text) f
+drawn_alone disk first left path stdout picture words text drawn drawing f are is put =
+    inr (first, refl, subst (λ (d : List ℕ). IsDelivered (store disk first left) (Some path) stdout (saying d text) f) is (subst (λ (t : List ℕ). IsDelivered (store disk first left) (Some path) stdout (saying drawn t) f) are put))
+
+-- a picture, and then a drawing
+pub drawn_both : (store : Store) (target path : Bor (List ℕ)) (stdout : Writing) (made picture words text drawn drawing : List ℕ) (f : Fate) → made ≡ picture → words ≡ text → drawn ≡ drawing
+    → IsDeliveredInTurn store (Some target) (Some path) drawn stdout (saying made words) f → IsDeliveredInTurn store (Some target) (Some path) drawing stdout (saying picture text) f
+drawn_both store target path stdout made picture words text drawn drawing f has are is put =
+    subst (λ (p : List ℕ). IsDeliveredInTurn store (Some target) (Some path) drawing stdout (saying p text) f) has
+    (subst (λ (t : List ℕ). IsDeliveredInTurn store (Some target) (Some path) drawing stdout (saying made t) f) are
+    (subst (λ (d : List ℕ). IsDeliveredInTurn store (Some target) (Some path) d stdout (saying made words) f) is put))
 
 -- an alarm is explained by its evidence, whichever list of its events the evidence is of
 pub of_evidence : (names : NameLists) (sites : Option Table) (events log : List Event) → events ≡ log → (a : Alarm) (blamed : List Block) → blamed ≡ a.blamed.items → (evidence : Evidence)

@@ -1,7 +1,6 @@
 -- Words of the contracts within the crate: how far each step has come. What the commands do is
 -- said without them.
-use Rattle.std.specs.Borrow.{Bor}
-use Rattle.std.specs.Prelude.{◌≡◌, ◌⊎◌, ℕ, Bool, List, Option, Some, Result, Ok, Err}
+use Rattle.std.specs.Prelude.{◌≡◌, ◌⊎◌, ℕ, Bool, List, Option, Result, Ok, Err}
 use Rattle.velo_events.specs.Refusals.{GrowthRefused}
 use Rattle.velo_events.specs.declared.event.Event.{Event}
 use Rattle.velo_names.specs.Names.{NameLists}
@@ -50,13 +49,6 @@ Shows names certificate w stdout result =
 abbrev pub DrawsOrLacks : Answer → List ℕ → Store → ExplainOptions → Writing → Fate → Type 0
 DrawsOrLacks answer drawing store options stdout f =
     IsDeliveredInTurn store options.target options.drawing drawing stdout answer f
-    ⊎ (GrowthRefused × (f ≡ Memory) × store.is_kept × WritesNothing stdout)
-
--- the same at these two paths
-abbrev pub DrawsBothOrLacks : Answer → List ℕ → Store → Bor (List ℕ) → Bor (List ℕ) → Writing → Fate
-    → Type 0
-DrawsBothOrLacks answer drawing store target path stdout f =
-    IsDeliveredInTurn store (Some target) (Some path) drawing stdout answer f
     ⊎ (GrowthRefused × (f ≡ Memory) × store.is_kept × WritesNothing stdout)
 
 -- what was made of a verdict was delivered: its explanation, or that memory was wanting

@@ -7,13 +7,13 @@ ghost use Rattle.velo_log_commands.specs.Explaining.{counted, explained, saying,
 ghost use Rattle.velo_log_commands.specs.Commands.{DoesExplain, ExplainsBy, ExplainsLog};
 ghost use Rattle.velo_explain.specs.Picture.{named_picture_text};
 ghost use Rattle.velo_picture.specs.Drawing.{drawing_text};
-ghost use Rattle.velo_fate.specs.Delivery.{IsDelivered};
+ghost use Rattle.velo_fate.specs.Delivery.{IsDelivered, IsDeliveredInTurn};
 ghost use Rattle.velo_inputs.specs.Siting.{AreOfLog};
 ghost use Rattle.velo_delivery.specs.Reading.{reading};
 ghost use Rattle.velo_delivery.specs.Disk.{store};
 ghost use Rattle.velo_delivery.specs.Writing.{writing};
 ghost use Rattle.velo_inputs.specs.Sending.{DeliversOrLacks, PrintsOrLacks};
-ghost use Rattle.velo_log_commands.specs.Steps.{DrawsBothOrLacks, DrawsOrLacks, Explains, ExplainsIfOf, ExplainsInput};
+ghost use Rattle.velo_log_commands.specs.Steps.{DrawsOrLacks, Explains, ExplainsIfOf, ExplainsInput};
 
 use crate::command::Command;
 use std::alloc::Global;
@@ -109,32 +109,21 @@ fn put_picture<F: Files, O: Sink>(
     }
 }
 
-/// Saves the picture of an alarm, and then a drawing, and then prints words. The picture is made before.
+/// Saves a picture, and then a drawing, and then prints words.
 fn put_both<F: Files, O: Sink>(
-    alloc: Global,
-    log: &Trace,
-    position: usize,
-    evidence: &Evidence,
-    names: &Names,
     words: &[u8],
+    picture: &[u8],
     drawing: &[u8],
     target: &str,
     path: &str,
     files: &mut F,
     out: &mut O,
 ) -> Fate
-    requires few { length log.now.events ≤ MAX_EVENTS }
-    requires evidence { IsEvidenceAt log.now.events position evidence.now }
-    ensures { DrawsBothOrLacks
-        (saying (named_picture_text names.now log.now.events evidence.now) words.now) drawing.now
-        (store F.disk files.old files.new) target.entry path.entry
-        (writing O.contents O.failures out.old out.new) result }
+    ensures { IsDeliveredInTurn (store F.disk files.old files.new) (Some target.entry)
+        (Some path.entry) drawing.now (writing O.contents O.failures out.old out.new)
+        (saying picture.now words.now) result }
 {
-    let picture = match picture_named(alloc, log, position, evidence, names) {
-        Ok(picture) => picture,
-        Err(Memory) => return Fate::Memory,
-    };
-    match save_text(picture.as_slice(), target, files) {
+    match save_text(picture, target, files) {
         Ok(()) => put(words, drawing, path, files, out),
         Err(fate) => fate,
     }
@@ -178,11 +167,12 @@ fn explain_by<F: Files, O: Sink>(
         Err(Memory) => return Fate::Memory,
     };
     let drawn = drawn.as_slice();
-    match options.target {
-        Some(target) => put_both(
-            alloc, log, position, evidence, names, words, drawn, target, path, files, out,
-        ),
-        None => put(words, drawn, path, files, out),
+    let Some(target) = options.target else {
+        return put(words, drawn, path, files, out);
+    };
+    match picture_named(alloc, log, position, evidence, names) {
+        Ok(picture) => put_both(words, picture.as_slice(), drawn, target, path, files, out),
+        Err(Memory) => Fate::Memory,
     }
 }
 
