@@ -61,9 +61,9 @@ DoesCheck options store stdout f =
 abbrev pub drawing_of : ExplainOptions → Beside
 drawing_of options = record { operand = Svg; path = options.drawing }
 
--- LOG is read whole. If there is a cycle, its picture is saved at OUT, if that is given, and then its
--- drawing at SVG, if that is given; and then the explanation goes to standard output, all by these
--- names; or nothing, for a reason (`Explaining`). Behind a log without a cycle OUT and SVG are
+-- LOG is read whole. If there is a cycle, its picture is saved at OUT, if that is given, and then
+-- its drawing at SVG, if that is given; and then the explanation goes to standard output, all by
+-- these names; or nothing, for a reason (`Explaining`). Behind a log without a cycle OUT and SVG are
 -- untouched.
 abbrev pub ExplainsLog : NameLists → Option Table → ExplainOptions → Store → Writing → Fate → Type 0
 ExplainsLog names sites options store stdout f =

@@ -81,7 +81,8 @@ fn put<F: Files, O: Sink>(words: &[u8], text: &[u8], path: &str, files: &mut F, 
     }
 }
 
-/// Saves the picture of an alarm at the target, if there is one, and then prints words. It is made before.
+/// Saves the picture of an alarm at the target, if there is one, and then prints words. It is made
+/// before.
 fn put_picture<F: Files, O: Sink>(
     alloc: Global,
     log: &Trace,
@@ -129,8 +130,8 @@ fn put_both<F: Files, O: Sink>(
     }
 }
 
-/// Explains an alarm by its evidence and the legend: the picture and the drawing are saved, where they are asked for, and then
-/// the words are printed. All are made before.
+/// Explains an alarm by its evidence and the legend: the picture and the drawing are saved, where
+/// they are asked for, and then the words are printed. All are made before.
 fn explain_by<F: Files, O: Sink>(
     alloc: Global,
     log: &Trace,
@@ -145,7 +146,8 @@ fn explain_by<F: Files, O: Sink>(
     requires evidence { IsEvidenceAt log.now.events position evidence.now }
     ensures { DrawsOrLacks
         (explained legend.now.names.now legend.now.sites.now log.now.events position evidence.now)
-        (drawing_text legend.now.names.now legend.now.sites.now log.now.events position evidence.now)
+        (drawing_text legend.now.names.now legend.now.sites.now log.now.events position
+        evidence.now)
         (store F.disk files.old files.new) options.now
         (writing O.contents O.failures out.old out.new) result }
 {

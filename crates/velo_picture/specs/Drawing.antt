@@ -25,8 +25,8 @@ use Rattle.velo_picture.specs.Xml.{xml_text}
 -- with the size, and with what the drawing says, for those who cannot see it
 unfoldable pub size_text : Grid → List ℕ
 size_text grid = joined (
-    codes "<svg xmlns=\"http://www.w3.org/2000/svg\" role=\"img\" width=\"" ∷ decimal (whole_width grid)
-    ∷ codes "\" height=\"" ∷ decimal (whole_height grid) ∷ codes "\" viewBox=\"0 0 "
+    codes "<svg xmlns=\"http://www.w3.org/2000/svg\" role=\"img\" width=\""
+    ∷ decimal (whole_width grid) ∷ codes "\" height=\"" ∷ decimal (whole_height grid) ∷ codes "\" viewBox=\"0 0 "
     ∷ decimal (whole_width grid) ∷ codes " " ∷ decimal (whole_height grid) ∷ codes "\">\n" ∷ [])
 
 abbrev pub titled : List ℕ → List ℕ
@@ -34,7 +34,8 @@ titled text = codes "<title>" ++ (xml_text text ++ codes "</title>\n")
 
 abbrev pub name_over_text : NameLists → Grid → ℕ → List ℕ
 name_over_text names grid t =
-    text_text (codes "thread") (left_of grid t + inset_of grid) HEADING (shortened grid.room (heading_of names t))
+    text_text (codes "thread") (left_of grid t + inset_of grid) HEADING
+    (shortened grid.room (heading_of names t))
 
 -- ---- the line of a row
 
@@ -60,13 +61,14 @@ line_text grid k p =
 -- from its first row to its last
 abbrev pub bar_text : List Event → Grid → ℕ → Span → List ℕ
 bar_text trace grid k span =
-    rect_text (codes "block") (left_of grid (actor_at trace span.first)) (top_of grid span.first + EDGE)
-    (width_of grid) ((top_of grid span.last + ROW) - (top_of grid span.first + 2 * EDGE))
+    rect_text (codes "block") (left_of grid (actor_at trace span.first))
+    (top_of grid span.first + EDGE) (width_of grid) ((top_of grid span.last + ROW) - (top_of grid span.first + 2 * EDGE))
 
 -- its number, in its first row
 abbrev pub number_text : List Event → Grid → ℕ → Span → List ℕ
 number_text trace grid k span =
-    text_text (codes "number") (left_of grid (actor_at trace span.first) + (width_of grid - LABEL_END))
+    text_text (codes "number")
+    (left_of grid (actor_at trace span.first) + (width_of grid - LABEL_END))
     (top_of grid span.first + BASELINE) (codes "T" ++ decimal (k + 1))
 
 -- from its first row to that of position p
@@ -86,7 +88,8 @@ is_on_cycle edges p = list_any (λ (e : EdgeEvents). e.from == p || e.to == p) e
 abbrev pub frame_text : List Event → List EdgeEvents → Grid → ℕ → List ℕ
 frame_text trace edges grid p =
     if is_on_cycle edges p
-    then rect_text (codes "cycle") (left_side grid (actor_at trace p)) (top_of grid p + FRAME) (texts_of grid) (ROW - 2 * FRAME)
+    then rect_text (codes "cycle") (left_side grid (actor_at trace p)) (top_of grid p + FRAME)
+    (texts_of grid) (ROW - 2 * FRAME)
     else []
 
 -- ", src/bank.c:12 deposit", where the place is known
@@ -122,14 +125,16 @@ row_text names sites trace edges grid p =
 -- "<path class="arrow" marker-end="url(#head)" d="M324 127C364 127 408 145 448 145"/>"
 unfoldable pub curve_text : Grid → ℕ → ℕ → ℕ → ℕ → List ℕ
 curve_text grid t u y z = joined (
-    codes "<path class=\"arrow\" marker-end=\"url(#head)\" d=\"M" ∷ decimal (start_of grid t u) ∷ codes " " ∷ decimal y
+    codes "<path class=\"arrow\" marker-end=\"url(#head)\" d=\"M" ∷ decimal (start_of grid t u)
+    ∷ codes " " ∷ decimal y
     ∷ codes "C" ∷ decimal (bend_from grid t u) ∷ codes " " ∷ decimal y
     ∷ codes " " ∷ decimal (bend_to grid t u) ∷ codes " " ∷ decimal z
     ∷ codes " " ∷ decimal (end_of grid t u) ∷ codes " " ∷ decimal z ∷ codes "\"/>\n" ∷ [])
 
 -- "T1 -> T2"
 unfoldable pub order_text : ℕ → ℕ → List ℕ
-order_text count k = joined (codes "T" ∷ decimal (k + 1) ∷ codes " -> T" ∷ decimal (next_number count k) ∷ [])
+order_text count k = joined (
+    codes "T" ∷ decimal (k + 1) ∷ codes " -> T" ∷ decimal (next_number count k) ∷ [])
 
 -- from its first event to its second
 abbrev pub arrow_text : List Event → Grid → ℕ → EdgeEvents → List ℕ
@@ -140,7 +145,8 @@ arrow_text trace grid k edge =
 -- its number, where it starts
 abbrev pub tag_text : List Event → Grid → ℕ → ℕ → EdgeEvents → List ℕ
 tag_text trace grid count k edge =
-    rect_text (codes "tag") (order_of grid (actor_at trace edge.from) (actor_at trace edge.to) - TAG / 2)
+    rect_text (codes "tag")
+    (order_of grid (actor_at trace edge.from) (actor_at trace edge.to) - TAG / 2)
     (top_of grid edge.from + EXIT - TAG_OVER) TAG TAG_HEIGHT
     ++ text_text (codes "order") (order_of grid (actor_at trace edge.from) (actor_at trace edge.to))
     (top_of grid edge.from + EXIT + FRAME) (order_text count k)
@@ -184,7 +190,7 @@ text_by_grid names sites trace p evidence grid =
     start_text names trace p evidence grid
     ++ (ground_text trace p evidence grid ++ signs_text names sites trace evidence grid)
 
--- the drawing of an alarm at position p by its evidence, with names and with the places of its events
+-- the drawing of an alarm at position p by its evidence, with names and the places of its events
 abbrev pub drawing_text : NameLists → Option Table → List Event → ℕ → Evidence → List ℕ
 drawing_text names sites trace p evidence =
     text_by_grid names sites trace p evidence (grid_of names trace p evidence)

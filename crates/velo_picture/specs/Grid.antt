@@ -11,8 +11,8 @@ use Rattle.velo_explain.specs.Pieces.{name_text}
 use Rattle.velo_explain.specs.Places.{mentioned}
 use Rattle.velo_picture.specs.declared.sizes.TheConstants.{BEND, CHARACTER, COLUMNS, FOOT, FRAME, GUTTER, HEAD, LABEL, LEAST_ROOM, MARGIN, MOST_ROOM, MOST_STRIPES, ORDER, ROW, STRIPE}
 
--- the positions that have rows, the threads that have columns, how many characters a column has room
--- for, and how many stripes
+-- the positions that have rows, the threads that have columns, for how many characters a column has
+-- room, and for how many stripes
 pub record Grid : Type 0 where
   pub rows : List ℕ
   pub columns : List ℕ
@@ -35,7 +35,8 @@ room_for_event names trace room p =
 -- room for the longest text, within limits
 abbrev pub room_of : NameLists → List Event → List ℕ → List ℕ → ℕ
 room_of names trace rows columns =
-    min (fold (room_for_event names trace) (fold (room_for_thread names) LEAST_ROOM columns) rows) MOST_ROOM
+    min (fold (room_for_event names trace) (fold (room_for_thread names) LEAST_ROOM columns) rows)
+    MOST_ROOM
 
 -- of these positions, with so many blocks to blame
 abbrev pub grid_of_rows : NameLists → List Event → List ℕ → ℕ → Grid

@@ -32,5 +32,7 @@ style_text = joined (
     codes ".gap { stroke: #30363d; }\n" ∷
     codes "}\n" ∷
     codes "</style>\n" ∷
-    codes "<defs><marker id=\"head\" viewBox=\"0 0 8 8\" refX=\"7\" refY=\"4\" markerWidth=\"8\" markerHeight=\"8\" markerUnits=\"userSpaceOnUse\" orient=\"auto\">\n<path class=\"head\" d=\"M0 0L8 4L0 8z\"/></marker></defs>\n" ∷
+    codes "<defs>\n<marker id=\"head\" viewBox=\"0 0 8 8\" refX=\"7\" refY=\"4\"\n" ∷
+    codes " markerWidth=\"8\" markerHeight=\"8\" markerUnits=\"userSpaceOnUse\" orient=\"auto\">\n" ∷
+    codes "<path class=\"head\" d=\"M0 0L8 4L0 8z\"/>\n</marker>\n</defs>\n" ∷
     codes "<rect class=\"page\" width=\"100%\" height=\"100%\"/>\n" ∷ [])

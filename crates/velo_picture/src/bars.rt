@@ -37,7 +37,8 @@ pub(crate) fn add_bars(
     spans: &[Span],
 ) -> Result<(), Memory>
     requires { AreSpansWithin (length events.now) spans.now }
-    ensures { OnOk result (page.new ≡ page.old ++ numbered (bar_text events.now layout.now) 0 spans.now) }
+    ensures { OnOk result (page.new
+        ≡ page.old ++ numbered (bar_text events.now layout.now) 0 spans.now) }
 {
     for k in 0..spans.len() {
         add_bar(page, events, layout, k, spans[k])?;
@@ -74,7 +75,8 @@ pub(crate) fn add_numbers(
     spans: &[Span],
 ) -> Result<(), Memory>
     requires { AreSpansWithin (length events.now) spans.now }
-    ensures { OnOk result (page.new ≡ page.old ++ numbered (number_text events.now layout.now) 0 spans.now) }
+    ensures { OnOk result (page.new
+        ≡ page.old ++ numbered (number_text events.now layout.now) 0 spans.now) }
 {
     for k in 0..spans.len() {
         add_number(page, alloc, events, layout, k, spans[k])?;

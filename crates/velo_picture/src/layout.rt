@@ -31,9 +31,16 @@ impl Model for Layout {
 
     ghost Value = { Grid };
 
-    ghost view = { λ l. record { rows = l.rows.items; columns = l.columns.items; room = l.room; stripes = l.stripes } };
+    ghost view = { λ l. record {
+      rows = l.rows.items;
+      columns = l.columns.items;
+      room = l.room;
+      stripes = l.stripes;
+    } };
 
-    ghost invariant = { λ l. (length l.rows.items ≤ MAX_EVENTS) × ((length l.columns.items ≤ 256) × ((l.room ≤ MOST_ROOM) × (l.stripes ≤ MOST_STRIPES))) };
+    ghost invariant = { λ l. (length l.rows.items ≤ MAX_EVENTS)
+        × ((length l.columns.items ≤ 256)
+        × ((l.room ≤ MOST_ROOM) × (l.stripes ≤ MOST_STRIPES))) };
 }
 
 /// How many of some numbers are less than this one.

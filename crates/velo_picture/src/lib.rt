@@ -1,5 +1,5 @@
-//! An alarm as a drawing: one SVG file, with a column for each thread, a row for each event, blocks as
-//! bars and the edges of the cycle as arrows.
+//! An alarm as a drawing: one SVG file, with a column for each thread, a row for each event, blocks
+//! as bars and the edges of the cycle as arrows.
 #![tactic(auto)]
 
 mod arrows;

@@ -80,7 +80,8 @@ fn room_for_events(
     rows: &[usize],
 ) -> Result<usize, Memory>
     requires { AreBelow (length events.now) rows.now }
-    ensures { IfOk result (λ room. room ≡ fold (room_for_event names.now events.now) least rows.now) }
+    ensures { IfOk result (λ room.
+        room ≡ fold (room_for_event names.now events.now) least rows.now) }
 {
     let mut room = least;
     for position in rows {

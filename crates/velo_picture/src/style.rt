@@ -38,9 +38,11 @@ pub(crate) fn add_style(page: &mut Page) -> Result<(), Memory>
         Piece::Text(".gap { stroke: #30363d; }\n"),
         Piece::Text("}\n"),
         Piece::Text("</style>\n"),
+        Piece::Text("<defs>\n<marker id=\"head\" viewBox=\"0 0 8 8\" refX=\"7\" refY=\"4\"\n"),
         Piece::Text(
-            "<defs><marker id=\"head\" viewBox=\"0 0 8 8\" refX=\"7\" refY=\"4\" markerWidth=\"8\" markerHeight=\"8\" markerUnits=\"userSpaceOnUse\" orient=\"auto\">\n<path class=\"head\" d=\"M0 0L8 4L0 8z\"/></marker></defs>\n",
+            " markerWidth=\"8\" markerHeight=\"8\" markerUnits=\"userSpaceOnUse\" orient=\"auto\">\n",
         ),
+        Piece::Text("<path class=\"head\" d=\"M0 0L8 4L0 8z\"/>\n</marker>\n</defs>\n"),
         Piece::Text("<rect class=\"page\" width=\"100%\" height=\"100%\"/>\n"),
     ])
 }

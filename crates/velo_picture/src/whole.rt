@@ -114,8 +114,8 @@ fn add_signs(
     requires spans { AreSpansWithin (length events.now) evidence.now.spans.items }
     requires few { length events.now ≤ MAX_EVENTS }
     requires rows { AreBelow (length events.now) layout.now.rows }
-    ensures { OnOk result (page.new ≡ page.old ++ signs_text legend.now.names.now legend.now.sites.now
-        events.now evidence.now layout.now) }
+    ensures { OnOk result (page.new ≡ page.old ++ signs_text legend.now.names.now
+        legend.now.sites.now events.now evidence.now layout.now) }
 {
     let edges = evidence.edges.as_slice();
     add_rows(page, alloc, legend, events, edges, layout, layout.rows())?;
@@ -160,10 +160,10 @@ fn drawn(
 /// An alarm at the position as a drawing: one SVG file, readable on white and on black, that needs
 /// nothing beside it. It has a column for each thread that takes part and a row for each event that
 /// the explanation mentions, in the order of the log. Transactions of the cycle are bars with their
-/// numbers, blocks to blame are red stripes, and the events of the cycle are framed; an arrow for each
-/// edge goes from its first event to its second. A text that is too long for its column ends in `..`;
-/// at the pointer stands all of it, with the place in the source, if the sites give it. The log has a
-/// header, so position P is on line P + 2.
+/// numbers, blocks to blame are red stripes, and the events of the cycle are framed. An arrow for
+/// each edge goes from its first event to its second. A text that is too long for its column ends in
+/// `..`; at the pointer stands all of it, with the place in the source, if the sites give it. The log
+/// has a header, so position P is on line P + 2.
 ///
 /// The position, and those of the evidence, have to be of events that are there, of which there are
 /// at most [`MAX_EVENTS`](velo_events::MAX_EVENTS).
