@@ -15,7 +15,7 @@ use Rattle.velo_explain.specs.Lanes.{actor_at, lines_before, operation_text}
 use Rattle.velo_explain.specs.Pieces.{event_text, joined, line_of, name_about, name_text, numbered}
 use Rattle.velo_explain.specs.Text.{heading_text, next_number}
 use Rattle.velo_picture.specs.declared.sizes.TheConstants.{BASELINE, EDGE, ENTRY, EXIT, FRAME, HEADING, LABEL_END, MOST_STRIPES, NOTE, NUMBERS, ROW, STRIPE, STROKE, COLUMNS, TAG, TAG_HEIGHT, TAG_OVER}
-use Rattle.velo_picture.specs.Grid.{Grid, bend_from, bend_to, end_of, grid_of, heading_of, inset_of, left_of, left_side, order_of, start_of, texts_of, top_of, whole_height, whole_width, width_of}
+use Rattle.velo_picture.specs.Grid.{Grid, bend_from, bend_to, end_of, grid_of, heading_of, inset_of, left_of, left_side, order_of, start_of, top_of, whole_height, whole_width, width_of}
 use Rattle.velo_picture.specs.Shapes.{rect_text, text_text}
 use Rattle.velo_picture.specs.Style.{style_text}
 use Rattle.velo_picture.specs.Xml.{xml_text}
@@ -34,7 +34,7 @@ titled text = codes "<title>" ++ (xml_text text ++ codes "</title>\n")
 
 abbrev pub name_over_text : NameLists → Grid → ℕ → List ℕ
 name_over_text names grid t =
-    text_text (codes "thread") (left_of grid t + inset_of grid) HEADING
+    text_text (codes "thread") (left_of grid t + inset_of grid t) HEADING
     (shortened grid.room (heading_of names t))
 
 -- ---- the line of a row
@@ -89,7 +89,7 @@ abbrev pub frame_text : List Event → List EdgeEvents → Grid → ℕ → List
 frame_text trace edges grid p =
     if is_on_cycle edges p
     then rect_text (codes "cycle") (left_side grid (actor_at trace p)) (top_of grid p + FRAME)
-    (texts_of grid) (ROW - 2 * FRAME)
+    (width_of grid - inset_of grid (actor_at trace p)) (ROW - 2 * FRAME)
     else []
 
 -- ", src/bank.c:12 deposit", where the place is known
@@ -110,7 +110,7 @@ hint_text names sites trace p = joined (
 -- what an event at position p does
 abbrev pub operation_row_text : NameLists → Grid → Event → ℕ → List ℕ
 operation_row_text names grid e p =
-    text_text (codes "event") (left_of grid e.thread.0 + inset_of grid) (top_of grid p + BASELINE)
+    text_text (codes "event") (left_of grid e.thread.0 + inset_of grid e.thread.0) (top_of grid p + BASELINE)
     (shortened grid.room (operation_text names e.kind))
 
 -- the event at position p, in its column and row

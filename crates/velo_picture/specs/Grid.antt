@@ -1,5 +1,5 @@
 -- Where things are in a drawing, in pixels: a column for each thread, a row for each event.
-use Rattle.std.specs.Prelude.{ℕ, ◌+◌, ◌-◌, ◌*◌, nat_lt, nat_le, if◌then◌else◌, max, min, List, ◌++◌, length, fold, count_by}
+use Rattle.std.specs.Prelude.{ℕ, ◌+◌, ◌-◌, ◌*◌, nat_eq, nat_lt, nat_le, if◌then◌else◌, max, min, List, ◌++◌, length, fold, count_by}
 use Rattle.velo_events.specs.declared.event.Event.{Event}
 use Rattle.velo_certify.specs.Owners.{event_at}
 use Rattle.velo_names.specs.declared.kind.NameKind.TheVariants as of_name
@@ -12,12 +12,13 @@ use Rattle.velo_explain.specs.Places.{mentioned}
 use Rattle.velo_picture.specs.declared.sizes.TheConstants.{BEND, CHARACTER, COLUMNS, FOOT, FRAME, GUTTER, HEAD, LABEL, LEAST_ROOM, MARGIN, MOST_ROOM, MOST_STRIPES, ORDER, ROW, STRIPE}
 
 -- the positions that have rows, the threads that have columns, for how many characters a column has
--- room, and for how many stripes
+-- room, and for how many stripes; and the thread that has stripes
 pub record Grid : Type 0 where
   pub rows : List ℕ
   pub columns : List ℕ
   pub room : ℕ
   pub stripes : ℕ
+  pub closer : ℕ
 
 -- ---- the grid of an alarm
 
@@ -38,20 +39,22 @@ room_of names trace rows columns =
     min (fold (room_for_event names trace) (fold (room_for_thread names) LEAST_ROOM columns) rows)
     MOST_ROOM
 
--- of these positions, with so many blocks to blame
-abbrev pub grid_of_rows : NameLists → List Event → List ℕ → ℕ → Grid
-grid_of_rows names trace rows blames =
+-- of these positions, with so many blocks to blame in this thread
+abbrev pub grid_of_rows : NameLists → List Event → List ℕ → ℕ → ℕ → Grid
+grid_of_rows names trace rows blames t =
     record {
       rows = rows;
       columns = lanes_of trace rows;
       room = room_of names trace rows (lanes_of trace rows);
       stripes = min blames MOST_STRIPES;
+      closer = t;
     }
 
 -- a row for each event that the explanation of an alarm at position p mentions
 abbrev pub grid_of : NameLists → List Event → ℕ → Evidence → Grid
 grid_of names trace p evidence =
     grid_of_rows names trace (shown_of trace (mentioned p evidence)) (length evidence.blames.items)
+    (event_at trace p).thread.0
 
 -- ---- columns and rows
 
@@ -59,16 +62,17 @@ grid_of names trace p evidence =
 abbrev pub count_below : ℕ → List ℕ → ℕ
 count_below n numbers = count_by (λ m. nat_lt m n) numbers
 
--- where the text begins in a column: behind a margin and the stripes
-abbrev pub inset_of : Grid → ℕ
-inset_of grid = MARGIN + STRIPE * grid.stripes
+-- a margin, and the stripes
+abbrev pub stripes_of : Grid → ℕ
+stripes_of grid = MARGIN + STRIPE * grid.stripes
 
--- the texts of a column
-abbrev pub texts_of : Grid → ℕ
-texts_of grid = CHARACTER * grid.room + LABEL
+-- where the text begins in the column of a thread
+abbrev pub inset_of : Grid → ℕ → ℕ
+inset_of grid t = if nat_eq t grid.closer then stripes_of grid else MARGIN
 
+-- a column: the stripes, the text, and the label of a transaction
 abbrev pub width_of : Grid → ℕ
-width_of grid = inset_of grid + texts_of grid
+width_of grid = stripes_of grid + (CHARACTER * grid.room + LABEL)
 
 -- the columns before the n-th
 abbrev pub columns_of : Grid → ℕ → ℕ
@@ -93,7 +97,7 @@ whole_height grid = HEAD + (ROW * length grid.rows + FOOT)
 -- ---- the sides of the frame of an event of a thread
 
 abbrev pub left_side : Grid → ℕ → ℕ
-left_side grid t = left_of grid t + (inset_of grid - FRAME)
+left_side grid t = left_of grid t + (inset_of grid t - FRAME)
 
 abbrev pub right_side : Grid → ℕ → ℕ
 right_side grid t = left_of grid t + (width_of grid - FRAME)

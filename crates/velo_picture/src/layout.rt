@@ -1,8 +1,8 @@
 //! Where things are in a drawing.
-ghost use Rattle.std.specs.Prelude.{◌≡◌, ◌≤◌, ◌<◌, ◌+◌, ◌^◌, min, length, IfOk};
+ghost use Rattle.std.specs.Prelude.{◌≡◌, ◌≤◌, ◌<◌, ◌+◌, ◌-◌, ◌^◌, min, length, IfOk};
 ghost use Rattle.velo_events.specs.declared.limits.TheConstants.{MAX_EVENTS};
 ghost use Rattle.velo_explain.specs.Lanes.{AreBelow};
-ghost use Rattle.velo_picture.specs.Grid.{grid_of, count_below, inset_of, texts_of, width_of, columns_of, left_of, top_of, whole_width, whole_height, left_side, right_side};
+ghost use Rattle.velo_picture.specs.Grid.{grid_of, count_below, inset_of, stripes_of, width_of, columns_of, left_of, top_of, whole_width, whole_height, left_side, right_side};
 
 use crate::rooms::room_of;
 use crate::sizes::{
@@ -21,6 +21,7 @@ pub(crate) struct Layout {
     columns: Vec<usize>,
     room: usize,
     stripes: usize,
+    closer: ThreadId,
 }
 
 impl Model for Layout {
@@ -58,7 +59,7 @@ fn count_below(numbers: &[usize], number: usize) -> usize
 }
 
 /// For how many blocks to blame a column has stripes.
-fn stripes_of(blames: usize) -> usize
+fn stripes_for(blames: usize) -> usize
     ensures stripes { result ≡ min blames MOST_STRIPES }
     ensures most { result ≤ MOST_STRIPES }
 {
@@ -75,6 +76,7 @@ impl Layout {
         evidence: &Evidence,
     ) -> Result<Layout, Memory>
         requires few { length events.now ≤ MAX_EVENTS }
+        requires within { position < length events.now }
         ensures ok { IfOk result (λ layout.
             layout ≡ grid_of names.now events.now position evidence.now) }
         ensures rows { IfOk result (λ layout. AreBelow (length events.now) layout.rows) }
@@ -83,12 +85,13 @@ impl Layout {
         let rows = mentioned_in_order(alloc, events.len(), position, evidence)?;
         let columns = lanes_of(alloc, events, &rows)?;
         let room = room_of(alloc, names, events, &rows, &columns)?;
-        let stripes = stripes_of(evidence.blames.len());
+        let stripes = stripes_for(evidence.blames.len());
         Ok(Layout {
             rows,
             columns,
             room,
             stripes,
+            closer: events[position].thread,
         })
     }
 
@@ -113,22 +116,26 @@ impl Layout {
         self.room
     }
 
-    /// Where the text begins in a column.
-    pub(crate) fn inset(&self) -> u64
-        ensures inset { result ≡ inset_of self.now }
+    /// How wide a margin and the stripes are.
+    fn stripes(&self) -> u64
+        ensures stripes { result ≡ stripes_of self.now }
         ensures least { MARGIN ≤ result }
         ensures most { result ≤ 100 }
     {
         MARGIN + STRIPE * self.stripes as u64
     }
 
-    /// How wide the texts of a column are.
-    pub(crate) fn texts(&self) -> u64
-        ensures texts { result ≡ texts_of self.now }
-        ensures least { LABEL ≤ result }
-        ensures most { result ≤ 400 }
+    /// Where the text begins in the column of a thread.
+    pub(crate) fn inset(&self, thread: ThreadId) -> u64
+        ensures inset { result ≡ inset_of self.now thread.0 }
+        ensures least { MARGIN ≤ result }
+        ensures most { result ≤ 100 }
     {
-        CHARACTER * self.room as u64 + LABEL
+        if thread.0 == self.closer.0 {
+            self.stripes()
+        } else {
+            MARGIN
+        }
     }
 
     /// How wide a column is.
@@ -137,7 +144,14 @@ impl Layout {
         ensures least { MARGIN + LABEL ≤ result }
         ensures most { result ≤ 500 }
     {
-        self.inset() + self.texts()
+        self.stripes() + (CHARACTER * self.room as u64 + LABEL)
+    }
+
+    /// How wide the frame of an event of a thread is.
+    pub(crate) fn frame(&self, thread: ThreadId) -> u64
+        ensures { result ≡ width_of self.now - inset_of self.now thread.0 }
+    {
+        self.width().saturating_sub(self.inset(thread))
     }
 
     /// The left side of a column, by the number of columns before it.
@@ -193,7 +207,7 @@ impl Layout {
         ensures least { COLUMNS ≤ result }
         ensures most { result ≤ 2000000 }
     {
-        self.left_of(thread) + (self.inset() - FRAME)
+        self.left_of(thread) + (self.inset(thread) - FRAME)
     }
 
     /// Its right side.

@@ -47,7 +47,7 @@ fn add_name_over(
     let heading = heading_of(alloc, names, thread)?;
     let mut shown = Page::new(alloc);
     add_shortened(&mut shown, layout.room(), heading.as_slice())?;
-    let x = layout.left_of(thread) + layout.inset();
+    let x = layout.left_of(thread) + layout.inset(thread);
     add_text(page, "thread", x, HEADING, shown.as_slice())
 }
 
@@ -158,9 +158,10 @@ fn add_frame(
     if !is_on_cycle(edges, position) {
         return Ok(());
     }
-    let x = layout.left_side(events[position].thread);
+    let thread = events[position].thread;
+    let x = layout.left_side(thread);
     let y = layout.top_of(position) + FRAME;
-    add_rect(page, "cycle", x, y, layout.texts(), ROW - 2 * FRAME)
+    add_rect(page, "cycle", x, y, layout.frame(thread), ROW - 2 * FRAME)
 }
 
 /// Adds where in the source an event happened, if the place is known.
@@ -218,7 +219,7 @@ fn add_operation(
     let operation = operation_of(alloc, names, event.kind)?;
     let mut shown = Page::new(alloc);
     add_shortened(&mut shown, layout.room(), operation.as_slice())?;
-    let x = layout.left_of(event.thread) + layout.inset();
+    let x = layout.left_of(event.thread) + layout.inset(event.thread);
     let y = layout.top_of(position) + BASELINE;
     add_text(page, "event", x, y, shown.as_slice())
 }

@@ -10,6 +10,6 @@ invariant_of-result c =
       subst (λ (rows : List ℕ). length rows ≤ MAX_EVENTS) (sym c.in_ok-rows.ensures.ok) (omega (arith, few, c.requires.few)),
       (
         subst (λ (columns : List ℕ). length columns ≤ 256) (sym c.in_ok-columns.ensures.ok) (length-lanes_of c.args.events.now c.deref.result.now),
-        (c.in_ok-room.ensures.most, c.stripes_of-stripes.ensures.most),
+        (c.in_ok-room.ensures.most, c.stripes_for-stripes.ensures.most),
       ),
     )
