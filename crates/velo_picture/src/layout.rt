@@ -37,6 +37,7 @@ impl Model for Layout {
       columns = l.columns.items;
       room = l.room;
       stripes = l.stripes;
+      closer = l.closer.0;
     } };
 
     ghost invariant = { λ l. (length l.rows.items ≤ MAX_EVENTS)
