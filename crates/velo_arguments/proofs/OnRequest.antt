@@ -167,10 +167,11 @@ an_explanation rows word = (
   record {
     input = a_path word.0;
     target = a_path_if (first_of (codes "dot") rows);
+    drawing = a_path_if (first_of (codes "svg") rows);
     names = a_path_if (first_of (codes "names") rows);
     sites = a_path_if (first_of (codes "sites") rows);
   },
-  (word.1, path_of (first_of (codes "dot") rows), path_of (first_of (codes "names") rows), path_of (first_of (codes "sites") rows)),
+  (word.1, path_of (first_of (codes "dot") rows), path_of (first_of (codes "svg") rows), path_of (first_of (codes "names") rows), path_of (first_of (codes "sites") rows)),
 )
 
 a_carrying : (rows : List Row) → HasWord (codes "LOG") rows → HasWord (codes "log") rows → (options : CarryOptions) × IsCarrying rows options

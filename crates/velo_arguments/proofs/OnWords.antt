@@ -151,18 +151,18 @@ replay_file_asks options path schedule says file stop log names events nodes cer
   ),
 )
 
--- a log and a picture
+-- a log, a picture and a drawing
 abbrev explain_words : List Text
-explain_words = codes "velodrome" ∷ codes "explain" ∷ codes "a" ∷ codes "--dot" ∷ codes "p" ∷ codes "--names=n" ∷ codes "--sites" ∷ codes "s" ∷ []
+explain_words = codes "velodrome" ∷ codes "explain" ∷ codes "a" ∷ codes "--dot" ∷ codes "p" ∷ codes "--svg=d" ∷ codes "--names=n" ∷ codes "--sites" ∷ codes "s" ∷ []
 
 explain_is_right : faults_of explain_words ≡ []
 unfolding faults_of walk_fault walked defaults_fault
 explain_is_right = refl
 
 explain_asks : (options : ExplainOptions) → options.input.now ≡ codes "a" → option_map (λ path. path.now) options.target ≡ Some (codes "p")
-    → option_map (λ path. path.now) options.names ≡ Some (codes "n") → option_map (λ path. path.now) options.sites ≡ Some (codes "s") → AsksFor (asked_by explain_words) (Explain options)
+    → option_map (λ path. path.now) options.drawing ≡ Some (codes "d") → option_map (λ path. path.now) options.names ≡ Some (codes "n") → option_map (λ path. path.now) options.sites ≡ Some (codes "s") → AsksFor (asked_by explain_words) (Explain options)
 unfolding asked_by walked
-explain_asks options log dot names sites = (refl, (ap Some (sym log), sym dot, sym names, sym sites))
+explain_asks options log dot svg names sites = (refl, (ap Some (sym log), sym dot, sym svg, sym names, sym sites))
 
 -- a log, and the file for it
 abbrev carry_words : List Text

@@ -90,6 +90,7 @@ abbrev pub IsExplanation : List Row → ExplainOptions → Type 0
 IsExplanation rows options =
     (first_of (codes "LOG") rows ≡ Some options.input.now)
     × IsPath (codes "dot") rows options.target
+    × IsPath (codes "svg") rows options.drawing
     × IsPath (codes "names") rows options.names
     × IsPath (codes "sites") rows options.sites
 

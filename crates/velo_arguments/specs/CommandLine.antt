@@ -111,7 +111,7 @@ run = subcommand (codes "run") (word (codes "FILE") ∷ run_options)
 
 abbrev pub explain : Shape
 explain = subcommand (codes "explain")
-    (word (codes "LOG") ∷ valued (codes "dot") ∷ valued (codes "names")
+    (word (codes "LOG") ∷ valued (codes "dot") ∷ valued (codes "svg") ∷ valued (codes "names")
     ∷ valued (codes "sites") ∷ [])
 
 abbrev pub carry : Shape

@@ -111,6 +111,12 @@ pub const DOT: Argument<'static> = Argument {
     help: "Write the cycle of an alarm to OUT, as a Graphviz picture",
 };
 
+pub const SVG: Argument<'static> = Argument {
+    name: "svg",
+    takes: Takes::Value("SVG"),
+    help: "Write the explanation of an alarm to SVG, as a drawing",
+};
+
 pub const CERTIFICATE: Argument<'static> = Argument {
     name: "certificate",
     takes: Takes::Nothing,

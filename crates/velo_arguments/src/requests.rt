@@ -123,6 +123,7 @@ fn explain_options<'a>(found: &ArgMatches<'a>) -> Option<ExplainOptions<'a>>
     Some(ExplainOptions {
         input: found.get_str("LOG")?,
         target: found.get_str("dot"),
+        drawing: found.get_str("svg"),
         names: found.get_str("names"),
         sites: found.get_str("sites"),
     })

@@ -78,6 +78,8 @@ pub struct ExplainOptions<'a> {
     pub input: &'a str,
     /// The path where the picture of the cycle is saved.
     pub target: Option<&'a str>,
+    /// The path where the drawing is saved.
+    pub drawing: Option<&'a str>,
     /// The path of the names that the words print, or `-`.
     pub names: Option<&'a str>,
     /// The path of the sites of the log's events, or `-`.
