@@ -17,8 +17,8 @@ use velo_events::Config;
 use velo_filter::LeftOut;
 use velo_traces::Trace;
 
-/// The audit of a log of which a check has said whether it is clean, that is, whether it has no cycle. A clean one has no round
-/// with an alarm, and is not checked again.
+/// The audit of a log of which a check has said whether it is clean, that is, whether it has no
+/// cycle. A clean one has no round with an alarm, and is not checked again.
 ///
 /// # Errors
 /// Those of [`audit`].
@@ -34,14 +34,25 @@ pub fn audit_checked(
     requires short { length log.now.events ≤ config.now.events }
     requires well_formed { IsWellFormed config.now.bounds log.now.events }
     requires clean { IsTrue clean → ¬ HasCycle log.now.events }
-    ensures rounds { IfOk result (λ rounds. Rounds log.now.events (left_of left.old) (map told_as rounds.items)) }
-    ensures only { IfOk result (λ rounds. AreTheOnlyRounds log.now.events (left_of left.old) (map told_as rounds.items)) }
+    ensures rounds { IfOk result (λ rounds.
+        Rounds log.now.events (left_of left.old) (map told_as rounds.items)) }
+    ensures only { IfOk result (λ rounds.
+        AreTheOnlyRounds log.now.events (left_of left.old) (map told_as rounds.items)) }
     ensures truly { IfOk result (λ rounds. All (TellsTruly log.now.events) rounds.items) }
-    ensures witnessed { IfOk result (λ rounds. AreWitnessed asked log.now.events (left_of left.old) rounds.items) }
-    ensures found { IfOk result (λ rounds. AreFound log.now.events (left_of left.old) (labels_found log.now.events (map told_as rounds.items))) }
-    ensures left { IfOk result (λ rounds. left_of left.new ≡ with_labels (left_of left.old) (labels_found log.now.events (map told_as rounds.items))) }
-    ensures few { IfOk result (λ rounds. length rounds.items + atomic_labels (left_of left.new) log.now.events ≤ atomic_labels (left_of left.old) log.now.events) }
-    ensures serializable { OnOk result (IsSerializable (rest_of (left_of left.new) log.now.events)) }
+    ensures witnessed { IfOk result (λ rounds.
+        AreWitnessed asked log.now.events (left_of left.old) rounds.items) }
+    ensures found { IfOk result (λ rounds.
+        AreFound log.now.events (left_of left.old) (labels_found log.now.events
+        (map told_as rounds.items))) }
+    ensures left { IfOk result (λ rounds.
+        left_of left.new
+        ≡ with_labels (left_of left.old) (labels_found log.now.events
+        (map told_as rounds.items))) }
+    ensures few { IfOk result (λ rounds.
+        length rounds.items + atomic_labels (left_of left.new) log.now.events
+        ≤ atomic_labels (left_of left.old) log.now.events) }
+    ensures serializable { OnOk result (
+        IsSerializable (rest_of (left_of left.new) log.now.events)) }
     ensures fault { IfErr result (IsAuditFault config.now log.now.events (left_of left.old)) }
 {
     if clean {

@@ -18,7 +18,7 @@ pub struct Cut {
     pub place: usize,
     /// For each thread, which of its blocks that are open there in the log are left out.
     pub marks: Vec<u64>,
-    /// A log without a block, after which the events of the rest that come after the cut may happen.
+    /// A log without a block, after which the events of the rest after the cut may happen.
     pub prologue: Trace,
     /// The labels that are begun before it.
     pub begun: LeftOut,
@@ -38,8 +38,8 @@ impl Cut {
         })
     }
 
-    /// Follows a round in which the labels of these blocks were left out: if one of them is begun before the cut, there is
-    /// another rest before it, and the cut goes back to the start.
+    /// Follows a round in which the labels of these blocks were left out: if one of them is begun before
+    /// the cut, there is another rest before it, and the cut goes back to the start.
     pub fn follow(&mut self, alloc: Global, blocks: &[Block]) -> Result<(), Memory>
         ensures { OnOk result ((left : Left) (log : List EventOf) → IsCut left log self.old
             → IsCut (with_labels left (map (λ (b : BlockOf). b.label.0) blocks.now)) log self.new) }
@@ -52,7 +52,8 @@ impl Cut {
 
     /// Whether a label of these blocks is begun before the cut.
     fn has_begun(&self, blocks: &[Block]) -> bool
-        ensures { IsFalse result → All (λ (b : BlockOf). IsFalse ((left_of self.now.begun).labels b.label.0)) blocks.now }
+        ensures { IsFalse result
+            → All (λ (b : BlockOf). IsFalse ((left_of self.now.begun).labels b.label.0)) blocks.now }
     {
         for block in blocks {
             if self.begun.has_label(block.label) {

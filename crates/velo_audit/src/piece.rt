@@ -27,7 +27,8 @@ pub struct Piece {
     pub end: usize,
 }
 
-/// The next piece, of so many events. It goes on until no block of the rest is open, or to the end of the log.
+/// The next piece, of so many events. It goes on until no block of the rest is open, or to the end
+/// of the log.
 pub fn next_piece(
     alloc: Global,
     log: &Trace,
@@ -58,7 +59,8 @@ fn no_piece(alloc: Global, cut: &Cut) -> Result<Piece, Memory>
     ensures end { IfOk result (λ piece. piece.end ≡ cut.now.place) }
     ensures marks { IfOk result (λ piece. piece.marks.items ≡ cut.now.marks.items) }
     ensures events { IfOk result (λ piece. piece.thinned.trace.events ≡ cut.now.prologue.events) }
-    ensures places { IfOk result (λ piece. length piece.thinned.places.items ≡ length cut.now.prologue.events) }
+    ensures places { IfOk result (λ piece.
+        length piece.thinned.places.items ≡ length cut.now.prologue.events) }
 {
     let marks = copied(alloc, &cut.marks)?;
     let thinned = as_thinned(alloc, &cut.prologue)?;
@@ -84,7 +86,8 @@ fn copied(alloc: Global, marks: &[u64]) -> Result<Vec<u64>, Memory>
 /// The events of a prologue, each at place 0.
 fn as_thinned(alloc: Global, prologue: &Trace) -> Result<Thinned, Memory>
     ensures events { IfOk result (λ thinned. thinned.trace.events ≡ prologue.now.events) }
-    ensures places { IfOk result (λ thinned. length thinned.places.items ≡ length prologue.now.events) }
+    ensures places { IfOk result (λ thinned.
+        length thinned.places.items ≡ length prologue.now.events) }
 {
     let mut thinned = Thinned {
         trace: Trace::new(alloc),
@@ -110,10 +113,13 @@ fn take_in(
     requires marks { AreMarks (left_of left.now) events.now position piece.old.marks.items }
     ensures end { OnOk result (piece.new.end ≡ position + 1) }
     ensures goes { OnOk result ((place : ℕ) (prologue : List EventOf)
-        → GoesTo (left_of left.now) events.now place position prologue piece.old.thinned.trace.events piece.old.thinned.places.items
-        → GoesTo (left_of left.now) events.now place (position + 1) prologue piece.new.thinned.trace.events piece.new.thinned.places.items) }
+        → GoesTo (left_of left.now) events.now place position prologue
+        piece.old.thinned.trace.events piece.old.thinned.places.items
+        → GoesTo (left_of left.now) events.now place (position + 1) prologue
+        piece.new.thinned.trace.events piece.new.thinned.places.items) }
     ensures many { OnOk result (length piece.new.marks.items ≡ 256) }
-    ensures marks { OnOk result (AreMarks (left_of left.now) events.now (position + 1) piece.new.marks.items) }
+    ensures marks { OnOk result (
+        AreMarks (left_of left.now) events.now (position + 1) piece.new.marks.items) }
 {
     if stays_at(&mut piece.marks, left, events, position) {
         let event = events[position];

@@ -35,8 +35,8 @@ pub enum Verdict {
     Unknown,
 }
 
-/// Judges one piece of the rest after another, from the cut on. The cut moves to the end of each piece that has no cycle and
-/// leaves no block open. Pieces become longer, so that a log of which no block is left open is soon judged to its end.
+/// Judges one piece of the rest after another, from the cut on. The cut moves to the end of each piece
+/// that has no cycle and leaves no block open. Each is twice as long, so few are without an alarm.
 pub fn by_pieces(
     alloc: Global,
     config: &Config,
@@ -87,7 +87,8 @@ fn judged(
     requires goes_on { config.now.stop ≡ false }
     requires cut { IsCut (left_of left.now) log.now.events cut.old }
     requires piece { IsPiece (left_of left.now) log.now.events cut.old piece }
-    ensures judges { IfOk result (Judges asked log.now.events (left_of left.now) cut.old.place cut.new) }
+    ensures judges { IfOk result (
+        Judges asked log.now.events (left_of left.now) cut.old.place cut.new) }
     ensures fault { IfErr result (λ fault. fault ≡ out_of_memory) }
     ensures memory { OnErr result GrowthRefused }
 {

@@ -262,7 +262,15 @@ fn audit_rest<O: Sink>(
 {
     let config = config_of_rounds(closed, options.limits);
     let log = closed.log();
-    match rounds_of(alloc, &config, log, is_clean(closed), asked, options.witness, left) {
+    match rounds_of(
+        alloc,
+        &config,
+        log,
+        is_clean(closed),
+        asked,
+        options.witness,
+        left,
+    ) {
         Ok(rounds) => {
             let listing = listing_of(options);
             let bounds = config.bounds;

@@ -256,7 +256,15 @@ fn predict_rest<F: Files, O: Sink>(
 {
     let config = config_of_rounds(closed, inquiry.options.limits);
     let log = closed.log();
-    match rounds_of(alloc, &config, log, is_clean(closed), inquiry.asked, true, left) {
+    match rounds_of(
+        alloc,
+        &config,
+        log,
+        is_clean(closed),
+        inquiry.asked,
+        true,
+        left,
+    ) {
         Ok(rounds) => {
             let fate = predict_after(alloc, &config, log, inquiry, &rounds, left, files, out);
             drop(rounds);
