@@ -9,6 +9,7 @@ complete -c velodrome -n __fish_use_subcommand -f -a watch -d 'Reads a log as it
 complete -c velodrome -n __fish_use_subcommand -f -a audit -d 'Reads a recorded log and lists the labels whose blocks are not atomic'
 complete -c velodrome -n __fish_use_subcommand -f -a thin -d 'Leaves out of a recorded log what adds nothing to its verdict'
 complete -c velodrome -n __fish_use_subcommand -f -a predict -d 'Searches a recorded log for what other runs of its program can show'
+complete -c velodrome -n __fish_use_subcommand -f -a verify -d 'Checks the certificate of a report against the log'
 complete -c velodrome -n '__fish_seen_subcommand_from check' -l names -r -d 'Read the names of threads, variables, locks and labels; - is standard input'
 complete -c velodrome -n '__fish_seen_subcommand_from check' -l why -d 'Say on standard error in words, too, what is wrong and where'
 complete -c velodrome -n '__fish_seen_subcommand_from check' -l events -x -d 'The most events that the log may have, 1 to 16777216 [default: 1048576]'
@@ -80,3 +81,4 @@ complete -c velodrome -n '__fish_seen_subcommand_from predict' -l ignore-variabl
 complete -c velodrome -n '__fish_seen_subcommand_from predict' -l events -x -d 'The most events that the log may have, 1 to 16777216 [default: 16777216]'
 complete -c velodrome -n '__fish_seen_subcommand_from predict' -l nodes -x -d 'The most transactions that the graph may hold at once, 1 to 4096 [default: 4096]'
 complete -c velodrome -n '__fish_seen_subcommand_from predict' -l help -d 'Print help'
+complete -c velodrome -n '__fish_seen_subcommand_from verify' -l help -d 'Print help'

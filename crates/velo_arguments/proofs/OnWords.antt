@@ -22,8 +22,9 @@ use Rattle.velo_request.specs.declared.request.ExploreOptions.{ExploreOptions}
 use Rattle.velo_request.specs.declared.request.ScheduleSource.TheVariants as source
 use Rattle.velo_request.specs.declared.request.TheConstants.{DEFAULT_SEED, DEFAULT_TRIES}
 use Rattle.velo_request.specs.declared.request.ThinOptions.{ThinOptions}
+use Rattle.velo_request.specs.declared.request.VerifyOptions.{VerifyOptions}
 use Rattle.velo_request.specs.declared.request.WatchOptions.{WatchOptions}
-use Rattle.velo_request.specs.declared.request.Request.TheVariants.{Audit, Carry, Check, Explain, Explore, Predict, Replay, Run, Thin, Watch, WatchEndless}
+use Rattle.velo_request.specs.declared.request.Request.TheVariants.{Audit, Carry, Check, Explain, Explore, Predict, Replay, Run, Thin, Verify, Watch, WatchEndless}
 use Rattle.velo_arguments.specs.Asked.{AreTurns, AsksFor, IsFlag, IsSchedule, WritesNumber}
 use Rattle.velo_arguments.specs.CommandLine.{asked_by, faults_of}
 use Rattle.velo_arguments.specs.Together.{given_by}
@@ -267,6 +268,18 @@ thin_asks : (options : ThinOptions) → options.input.now ≡ codes "a" → opti
 unfolding asked_by walked
 thin_asks options log out map = (refl, (ap Some (sym log), ap Some (sym out), sym map))
 
+-- a report beside its log
+abbrev verify_words : List Text
+verify_words = codes "velodrome" ∷ codes "verify" ∷ codes "a" ∷ codes "b" ∷ []
+
+verify_is_right : faults_of verify_words ≡ []
+unfolding faults_of walk_fault walked defaults_fault
+verify_is_right = refl
+
+verify_asks : (options : VerifyOptions) → options.input.now ≡ codes "a" → options.report.now ≡ codes "b" → AsksFor (asked_by verify_words) (Verify options)
+unfolding asked_by walked
+verify_asks options log report = (refl, (ap Some (sym log), ap Some (sym report)))
+
 -- a log whose predictions are searched for, with the tries, the seed and the limits that are there by default
 abbrev predict_words : List Text
 predict_words = codes "velodrome" ∷ codes "predict" ∷ codes "a" ∷ codes "--values" ∷ codes "--log" ∷ codes "o" ∷ []
@@ -348,6 +361,10 @@ too_many_runs = refl
 too_many_tries : faults_of (codes "velodrome" ∷ codes "predict" ∷ codes "a" ∷ codes "--tries=1000001" ∷ []) ≡ ValueValidation ∷ []
 unfolding faults_of walk_fault walked defaults_fault
 too_many_tries = refl
+
+no_report : faults_of (codes "velodrome" ∷ codes "verify" ∷ codes "a" ∷ []) ≡ MissingRequiredArgument ∷ []
+unfolding faults_of walk_fault walked defaults_fault
+no_report = refl
 
 no_file_for_what_is_left : faults_of (codes "velodrome" ∷ codes "thin" ∷ codes "a" ∷ []) ≡ MissingRequiredArgument ∷ []
 unfolding faults_of walk_fault walked defaults_fault

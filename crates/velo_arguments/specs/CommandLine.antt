@@ -139,6 +139,9 @@ predict = subcommand (codes "predict")
     (word (codes "LOG") ∷ valued (codes "log") ∷ flag (codes "values") ∷ tries ∷ seed
     ∷ label_options)
 
+abbrev pub verify : Shape
+verify = subcommand (codes "verify") (word (codes "LOG") ∷ word (codes "REPORT") ∷ [])
+
 -- the program before it has its subcommands
 abbrev pub bare : App
 bare = record {
@@ -155,7 +158,8 @@ command_line = record {
     subcommand_required = true;
   };
   subs =
-      check ∷ replay ∷ run ∷ explain ∷ carry ∷ explore ∷ watch ∷ audit ∷ thin ∷ predict ∷ [];
+      check ∷ replay ∷ run ∷ explain ∷ carry ∷ explore ∷ watch ∷ audit ∷ thin ∷ predict
+      ∷ verify ∷ [];
 }
 
 -- ---- what it makes of words

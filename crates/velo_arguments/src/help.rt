@@ -431,3 +431,40 @@ Statuses, each with the lines on standard error:
 
 Lists, ignored words: see 'velodrome audit --help'. Log, names, faults and refusals: see
 'velodrome check --help'.";
+
+/// After the help of `verify`.
+pub const OF_VERIFY: &str = "\
+Example, the lost update of 'velodrome check --help' in the file log:
+  velodrome check log --certificate > report
+  velodrome verify log report
+It prints 'verified alarm 4', with status 0.
+
+REPORT is what 'velodrome check --certificate' prints, with or without --names. The number of events,
+the verdict, the transaction and the certificate are read, and checked against the events of LOG alone.
+If REPORT says 'verdict clean', the serial order must have each position once, any two conflicting
+events as they are in LOG, and the events of each transaction next to one another. If it says
+'verdict alarm P', the cycle must be a shortest one of the events up to and including P that begins with
+the transaction there.
+
+It prints 'verified clean' or 'verified alarm P'; or 'not verified: ' and the first of these that
+applies: 'another number of events', 'no certificate', 'wrong order', 'wrong cycle', 'wrong transaction'.
+
+'verified clean' means that the log can be serialized, 'verified alarm P' that the events up to and
+including P cannot, for a cycle through the transaction of P. Not looked at are the threads and the
+blocks to blame, whether an earlier event closes a cycle, and whether the events of LOG can happen.
+
+REPORT is read before LOG. Only one of them can be -.
+
+Report faults, line 0 for the whole text:
+   1  bad line
+   2  ends early
+   3  too many bytes
+
+Statuses, each with the lines on standard error:
+  0  verified, or help
+  2  usage; 'error: standard input can be read once'; the text is no log: 'log fault K',
+     'log fault K line N'; the text of REPORT is no report: 'report fault K line N'
+  3  not verified
+  5  memory or a device failed: 'out of memory', 'read failed', 'write failed', 'cannot open'
+
+Log and log faults: see 'velodrome check --help'.";

@@ -51,6 +51,12 @@ pub const FILE: Argument<'static> = Argument {
     help: "The path of the workload, or - for standard input",
 };
 
+pub const REPORT: Argument<'static> = Argument {
+    name: "REPORT",
+    takes: Takes::Operand,
+    help: "The path of a report with its certificate, or - for standard input",
+};
+
 pub const SCHEDULE: Argument<'static> = Argument {
     name: "schedule",
     takes: Takes::Value("TEXT"),

@@ -105,6 +105,7 @@ fn clash_of(request: &Request, given: Given) -> Option<Clash>
         Request::Audit(options) => clash_of_three(options.input, options.names, options.known),
         Request::Thin(options) => clash_of_map(options.target, options.map),
         Request::Predict(options) => clash_of_three(options.input, options.names, options.known),
+        Request::Verify(options) => clash_of_inputs(options.input, Some(options.report)),
     }
 }
 

@@ -75,6 +75,7 @@ use Rattle.velo_log_commands.specs.Thinning.{map_of}
 use Rattle.velo_workload_commands.proofs.OnFindings.{caused}
 use Rattle.velo_commands.proofs.OnRefusals.{of_flaw, of_log, of_refused}
 use Rattle.velo_commands.proofs.OnThinning.{of_thin}
+use Rattle.velo_commands.proofs.OnVerifying.{of_verify_answer, unclaimed}
 
 -- ---- by what each command has to say
 
@@ -367,6 +368,10 @@ of_done store (request.Carry options) stdout f (inr (inl h)) = subst (ComesByRef
 of_done store (request.Carry options) stdout f (inr (inr h)) = of_put Growths h.2 h.1 f (of_carry Growths h.0.bytes h.1 tt h.5) h.7
 of_done store (request.Thin options) stdout f (inl h) = unread_apart Growths store.disk Log options.input.now (Some options.target) (map_of options) f h.0
 of_done store (request.Thin options) stdout f (inr h) = of_thin Growths options h.0.bytes store stdout f tt h.3
+of_done store (request.Verify options) stdout f (inl h) = unclaimed Growths store.disk options.report.now f h.0
+of_done store (request.Verify options) stdout f (inr (claim, read, inl h)) = unread Growths store.disk Log options.input.now None f h.0
+of_done store (request.Verify options) stdout f (inr (claim, read, inr (log, given, verifies, kept))) =
+    of_printed Growths stdout verifies.1.0 f (of_verify_answer Growths claim log.bytes verifies.1.0 tt verifies.1.1) verifies.1.2
 of_done store (request.Run options) stdout f h = played GrowthsAndStarts ByThreads options store stdout f (λ program ended w run. run.cause) h
 of_done store (request.Replay options) stdout f (inl lacks) = unscheduled Growths store.disk options.schedule f lacks.0
 of_done store (request.Replay options) stdout f (inr h) = played Growths (ByTurns h.0) options.run store stdout f (λ program ended w run. run.cause) h.2

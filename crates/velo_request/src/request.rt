@@ -179,6 +179,15 @@ pub struct ThinOptions<'a> {
     pub map: Option<&'a str>,
 }
 
+/// What `velodrome verify` was asked for.
+#[derive(Clone, Copy, Debug)]
+pub struct VerifyOptions<'a> {
+    /// The path of the log, or `-`.
+    pub input: &'a str,
+    /// The path of the report with the certificate, or `-`.
+    pub report: &'a str,
+}
+
 /// The most delays that a search for predictions tries for each label in a round.
 pub const MAX_TRIES: u32 = 1_000_000;
 
@@ -264,6 +273,8 @@ pub enum Request<'a> {
     Audit(AuditOptions<'a>),
     /// To leave out of a recorded log what adds nothing to its verdict.
     Thin(ThinOptions<'a>),
+    /// To judge by the certificate of a report what it claims of a recorded log.
+    Verify(VerifyOptions<'a>),
     /// To search for what other runs of the program of a recorded log can show.
     Predict(PredictOptions<'a>),
 }

@@ -2,7 +2,7 @@
 use Rattle.std.specs.Prelude.{ℕ, Bool, true, List, Option, Some, None, codes, option_map}
 use Rattle.std.specs.Borrow.{Bor}
 use Rattle.velo_request.specs.declared.request.Request.{Request}
-use Rattle.velo_request.specs.declared.request.Request.TheVariants.{Audit, Carry, Check, Explain, Explore, Predict, Replay, Run, Thin, Watch, WatchEndless}
+use Rattle.velo_request.specs.declared.request.Request.TheVariants.{Audit, Carry, Check, Explain, Explore, Predict, Replay, Run, Thin, Verify, Watch, WatchEndless}
 use Rattle.velo_request.specs.declared.request.ScheduleSource.{ScheduleSource}
 use Rattle.velo_request.specs.declared.request.ScheduleSource.TheVariants.{File}
 use Rattle.velo_words.specs.declared.roles.Role.{Role}
@@ -15,6 +15,7 @@ word_of role.Names = codes "--names"
 word_of role.Known = codes "--not-atomic"
 word_of role.Sites = codes "--sites"
 word_of role.Log = codes "LOG"
+word_of role.Report = codes "REPORT"
 word_of role.Work = codes "FILE"
 word_of role.Picture = codes "--dot"
 word_of role.SavedLog = codes "--log"
@@ -70,7 +71,12 @@ log_path_of (WatchEndless options) = Some options.input.now
 log_path_of (Audit options) = Some options.input.now
 log_path_of (Thin options) = Some options.input.now
 log_path_of (Predict options) = Some options.input.now
+log_path_of (Verify options) = Some options.input.now
 log_path_of _ = None
+
+abbrev pub report_of : Request → Option (List ℕ)
+report_of (Verify options) = Some options.report.now
+report_of _ = None
 
 abbrev pub work_path_of : Request → Option (List ℕ)
 work_path_of (Replay options) = Some options.run.input.now
@@ -108,6 +114,7 @@ path_of role.Names request = names_of request
 path_of role.Known request = known_of request
 path_of role.Sites request = sites_of request
 path_of role.Log request = log_path_of request
+path_of role.Report request = report_of request
 path_of role.Work request = work_path_of request
 path_of role.Picture request = picture_of request
 path_of role.SavedLog request = saved_log_of request

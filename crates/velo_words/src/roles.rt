@@ -1,6 +1,6 @@
 //! The files of a request, by what each is for.
 ghost use Rattle.std.specs.Prelude.{◌≡◌, option_map};
-ghost use Rattle.velo_words.specs.Roles.{asks_for_words, known_of, log_path_of, map_of, names_of, path_of, picture_of, saved_log_of, saved_names_of, sites_of, turns_of, word_of, work_path_of};
+ghost use Rattle.velo_words.specs.Roles.{asks_for_words, known_of, log_path_of, map_of, names_of, path_of, picture_of, report_of, saved_log_of, saved_names_of, sites_of, turns_of, word_of, work_path_of};
 
 use velo_request::{Request, ScheduleSource};
 
@@ -17,6 +17,8 @@ pub enum Role {
     Sites,
     /// It is a recorded log.
     Log,
+    /// It is a report, with its certificate.
+    Report,
     /// It is a workload.
     Work,
     /// A picture is saved there.
@@ -30,12 +32,13 @@ pub enum Role {
 }
 
 /// The roles, in the order in which a command opens its files.
-pub const ROLES: [Role; 10] = [
+pub const ROLES: [Role; 11] = [
     Role::Turns,
     Role::Names,
     Role::Known,
     Role::Sites,
     Role::Log,
+    Role::Report,
     Role::Work,
     Role::Picture,
     Role::SavedLog,
@@ -53,6 +56,7 @@ pub fn word_of(role: Role) -> &'static str
         Role::Known => "--not-atomic",
         Role::Sites => "--sites",
         Role::Log => "LOG",
+        Role::Report => "REPORT",
         Role::Work => "FILE",
         Role::Picture => "--dot",
         Role::SavedLog => "--log",
@@ -131,6 +135,16 @@ fn log_path_of<'a>(request: &Request<'a>) -> Option<&'a str>
         Request::Audit(options) => Some(options.input),
         Request::Thin(options) => Some(options.input),
         Request::Predict(options) => Some(options.input),
+        Request::Verify(options) => Some(options.input),
+        _ => None,
+    }
+}
+
+fn report_of<'a>(request: &Request<'a>) -> Option<&'a str>
+    ensures { option_map (λ path. path.now) result ≡ report_of request.now }
+{
+    match request {
+        Request::Verify(options) => Some(options.report),
         _ => None,
     }
 }
@@ -199,6 +213,7 @@ pub fn path_of<'a>(role: Role, request: &Request<'a>) -> Option<&'a str>
         Role::Known => known_of(request),
         Role::Sites => sites_of(request),
         Role::Log => log_path_of(request),
+        Role::Report => report_of(request),
         Role::Work => work_path_of(request),
         Role::Picture => picture_of(request),
         Role::SavedLog => saved_log_of(request),
