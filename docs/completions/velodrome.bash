@@ -10,7 +10,7 @@ _velodrome() {
         check) words="--names --why --events --nodes --certificate --help" ;;
         replay) words="--schedule --turns --stop --why --log --names-out --events --nodes --certificate --help" ;;
         run) words="--stop --why --log --names-out --events --nodes --certificate --help" ;;
-        explain) words="--dot --names --sites --help" ;;
+        explain) words="--dot --svg --names --sites --help" ;;
         carry) words="--log --why --help" ;;
         explore) words="--states --first --progress --random --seed --log --names-out --events --nodes --certificate --help" ;;
         watch) words="--names --stop --endless --events --nodes --certificate --help" ;;

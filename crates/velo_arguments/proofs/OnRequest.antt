@@ -167,10 +167,11 @@ an_explanation rows word = (
   record {
     input = a_path word.0;
     target = a_path_if (first_of (codes "dot") rows);
+    drawing = a_path_if (first_of (codes "svg") rows);
     names = a_path_if (first_of (codes "names") rows);
     sites = a_path_if (first_of (codes "sites") rows);
   },
-  (word.1, path_of (first_of (codes "dot") rows), path_of (first_of (codes "names") rows), path_of (first_of (codes "sites") rows)),
+  (word.1, path_of (first_of (codes "dot") rows), path_of (first_of (codes "svg") rows), path_of (first_of (codes "names") rows), path_of (first_of (codes "sites") rows)),
 )
 
 a_carrying : (rows : List Row) → HasWord (codes "LOG") rows → HasWord (codes "log") rows → (options : CarryOptions) × IsCarrying rows options
@@ -258,9 +259,12 @@ an_audit rows word has =
         ignored_locks = the_words (codes "ignore-lock") rows;
         ignored_variables = the_words (codes "ignore-variable") rows;
         witness = not (is_true (one_of (codes "no-witness") rows));
+        counts = is_true (one_of (codes "counts") rows);
+        by_count = is_true (one_of (codes "by-count") rows);
+        innermost = is_true (one_of (codes "innermost") rows);
         limits = limits.0;
       },
-      (word.1, path_of (first_of (codes "names") rows), left_out rows, is_flag_turned (one_of (codes "no-witness") rows), limits.1),
+      (word.1, path_of (first_of (codes "names") rows), left_out rows, is_flag_turned (one_of (codes "no-witness") rows), record { counts = is_flag (one_of (codes "counts") rows); by_count = is_flag (one_of (codes "by-count") rows); innermost = is_flag (one_of (codes "innermost") rows) }, limits.1),
     )
 
 a_thinning : (rows : List Row) → HasWord (codes "LOG") rows → HasWord (codes "log") rows → (options : ThinOptions) × IsThinning rows options

@@ -237,7 +237,7 @@ replay_right words e =
 
 pub explain_right : (words : List Text) → AreFaultless explain words → HasWord (codes "LOG") (rows_of_leaf explain words)
 explain_right words e =
-    let level = level_has limits (leaf explain) words refl (makes_word (codes "LOG") refl, (makes_valued (codes "dot") refl, (makes_valued (codes "names") refl, (makes_valued (codes "sites") refl, (makes_help, tt))))) e in
+    let level = level_has limits (leaf explain) words refl (makes_word (codes "LOG") refl, (makes_valued (codes "dot") refl, (makes_valued (codes "svg") refl, (makes_valued (codes "names") refl, (makes_valued (codes "sites") refl, (makes_help, tt)))))) e in
     word_there (codes "LOG") (rows_of_leaf explain words) level.passes (level.given.0 refl)
 
 pub carry_right : (words : List Text) → AreFaultless carry words
@@ -274,8 +274,8 @@ watch_right words e =
 pub audit_right : (words : List Text) → AreFaultless audit words
     → HasWord (codes "LOG") (rows_of_leaf audit words) × HasLimits (rows_of_leaf audit words)
 audit_right words e =
-    let level = level_has limits (leaf audit) words refl (makes_word (codes "LOG") refl, (makes_flag (codes "no-witness") refl, labels_made)) e in
-    (word_there (codes "LOG") (rows_of_leaf audit words) level.passes (level.given.0 refl), limits_there (rows_of_leaf audit words) level.passes (level.defaults.1.1.1.1.1.1.0 tt) (level.defaults.1.1.1.1.1.1.1.0 tt))
+    let level = level_has limits (leaf audit) words refl (makes_word (codes "LOG") refl, (makes_flag (codes "no-witness") refl, (makes_flag (codes "counts") refl, (makes_flag (codes "by-count") refl, (makes_flag (codes "innermost") refl, labels_made))))) e in
+    (word_there (codes "LOG") (rows_of_leaf audit words) level.passes (level.given.0 refl), limits_there (rows_of_leaf audit words) level.passes (level.defaults.1.1.1.1.1.1.1.1.1.0 tt) (level.defaults.1.1.1.1.1.1.1.1.1.1.0 tt))
 
 pub thin_right : (words : List Text) → AreFaultless thin words
     → HasWord (codes "LOG") (rows_of_leaf thin words) × HasWord (codes "log") (rows_of_leaf thin words)

@@ -90,6 +90,7 @@ abbrev pub IsExplanation : List Row → ExplainOptions → Type 0
 IsExplanation rows options =
     (first_of (codes "LOG") rows ≡ Some options.input.now)
     × IsPath (codes "dot") rows options.target
+    × IsPath (codes "svg") rows options.drawing
     × IsPath (codes "names") rows options.names
     × IsPath (codes "sites") rows options.sites
 
@@ -147,12 +148,19 @@ AreLeftOut rows known locks variables =
     × AreWords (codes "ignore-lock") rows locks
     × AreWords (codes "ignore-variable") rows variables
 
+-- its labels are listed so
+pub record IsListing (rows : List Row) (options : AuditOptions) : Type 0 where
+  pub counts : IsFlag (one_of (codes "counts") rows) options.counts
+  pub by_count : IsFlag (one_of (codes "by-count") rows) options.by_count
+  pub innermost : IsFlag (one_of (codes "innermost") rows) options.innermost
+
 abbrev pub IsAudit : List Row → AuditOptions → Type 0
 IsAudit rows options =
     (first_of (codes "LOG") rows ≡ Some options.input.now)
     × IsPath (codes "names") rows options.names
     × AreLeftOut rows options.known options.ignored_locks.now options.ignored_variables.now
     × IsFlag (one_of (codes "no-witness") rows) (not options.witness)
+    × IsListing rows options
     × AreLimits rows options.limits
 
 abbrev pub IsThinning : List Row → ThinOptions → Type 0

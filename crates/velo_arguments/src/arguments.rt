@@ -7,10 +7,11 @@ ghost use Rattle.velo_arguments.specs.Options.{rule_for};
 use crate::growth::{with_argument, with_subcommand};
 use crate::help;
 use crate::options::{
-    ALL_EVENTS, ALL_NODES, Argument, CARRIED_LOG, CERTIFICATE, DELAY_SEED, DOT, ENDLESS, EVENTS,
-    FILE, FIRST, FOUND_LOG, IGNORE_LOCK, IGNORE_VARIABLE, LOG, MAP, NAMES, NAMES_OUT, NO_WITNESS,
-    NODES, NOT_ATOMIC, PREDICTED_LOG, PROGRESS, RANDOM, REPORT, RUN_LOG, RUN_SEED, SCHEDULE, SITES,
-    STATES, STOP, STOP_WATCH, TRIES, TURNS, VALUES, WHY, argument_of,
+    ALL_EVENTS, ALL_NODES, Argument, BY_COUNT, CARRIED_LOG, CERTIFICATE, COUNTS, DELAY_SEED, DOT,
+    ENDLESS, EVENTS, FILE, FIRST, FOUND_LOG, IGNORE_LOCK, IGNORE_VARIABLE, INNERMOST, LOG, MAP,
+    NAMES, NAMES_OUT, NO_WITNESS, NODES, NOT_ATOMIC, PREDICTED_LOG, PROGRESS, RANDOM, REPORT,
+    RUN_LOG, RUN_SEED, SCHEDULE, SITES, STATES, STOP, STOP_WATCH, SVG, TRIES, TURNS, VALUES, WHY,
+    argument_of,
 };
 use clap::Command;
 use std::alloc::Global;
@@ -103,7 +104,7 @@ fn explain<'a>(alloc: Global) -> Result<Command<'a>, Memory>
     ensures { IfOk result (IsSubcommand explain) }
 {
     let about = "Reads a recorded log and explains the verdict in lanes and words";
-    let arguments = [LOG, DOT, NAMES, SITES];
+    let arguments = [LOG, DOT, SVG, NAMES, SITES];
     subcommand(alloc, "explain", about, help::OF_EXPLAIN, &arguments)
 }
 
@@ -150,6 +151,9 @@ fn audit<'a>(alloc: Global) -> Result<Command<'a>, Memory>
     let arguments = [
         LOG,
         NO_WITNESS,
+        COUNTS,
+        BY_COUNT,
+        INNERMOST,
         NAMES,
         NOT_ATOMIC,
         IGNORE_LOCK,

@@ -167,9 +167,12 @@ It shows the cycle in lanes: a column for each thread, a row for each event show
 the log, and how many lines are between two rows. Then it says which event closes the cycle, which
 transactions are on it, which two events make each edge, and which blocks are to blame and why.
 
+--svg writes the same as a drawing that a browser shows, in one file: a column for each thread, blocks
+as bars, and an arrow for each edge. --dot writes the cycle alone, for Graphviz.
+
 For a log without an alarm it prints how many transactions a serial order has. It then prints no
-lanes, draws no picture, and does not open OUT. With --names the lanes, the words and the picture have
-names after the numbers. A text that is too long for its lane ends in '..'.
+lanes, draws nothing, and opens neither OUT nor SVG. With --names the lanes, the words, the picture and
+the drawing have names after the numbers. A text that is too long for its lane ends in '..'.
 
 The sites: a file that a recorder writes beside the log, 'vsites 1 SITES EVENTS', then a line
 'FILE:LINE FUNCTION' for each site, then for each event a line with the number of its site, or 0.
@@ -178,15 +181,16 @@ files of --names and --sites can be -.
 
 It uses the greatest limits, 16777216 events and 4096 nodes, which no log exceeds.
 
-LOG and OUT must be different files; otherwise the command stops before it writes. Standard input is
-not compared with OUT.
+LOG, OUT and SVG must be different files; otherwise the command stops before it writes. Standard input
+is not compared with OUT and SVG.
 
 Statuses, each with the lines on standard error:
   0  no alarm, or help
-  2  usage; 'error: standard input can be read once'; 'error: LOG and OUT are one file'; the text is
-     no log: 'log fault K', 'log fault K line N'; an event cannot happen: 'refused K at P',
-     'wrong value at P'; the text of --names is no file of names: 'names fault K line N'; the text of
-     --sites is no file of sites, or of another log: 'sites fault K line N'
+  2  usage; 'error: standard input can be read once'; 'error: LOG and OUT are one file', the same of
+     LOG and SVG, and of OUT and SVG; the text is no log: 'log fault K', 'log fault K line N'; an event
+     cannot happen: 'refused K at P', 'wrong value at P'; the text of --names is no file of names:
+     'names fault K line N'; the text of --sites is no file of sites, or of another log:
+     'sites fault K line N'
   3  an alarm: no serial reordering of the log exists
   5  memory or a device failed: 'out of memory', 'read failed', 'write failed', 'cannot open'
 
@@ -322,6 +326,13 @@ round has no alarm. All positions and lines are those of the log as it was read.
 It prints 'left out label L', 'left out lock N', 'left out variable N' for what the options leave out;
 'not atomic L' for each label found, and after the labels of a round its witness, unless --no-witness
 is given; then 'atomic N labels' and 'rounds R'. With --names each number has its name after it.
+
+--counts prints '  B of N blocks' after each label: of its N blocks, B are to blame somewhere in the log,
+not only at an alarm. --by-count prints the labels with the greatest B first. --innermost leaves out a
+label if each of its blocks to blame has another one inside it, and prints how many were left out:
+'  and N labels around these'. A function that calls one that is not atomic is not atomic either, so
+begin with the innermost ones. With these options a witness comes after the labels of its round that
+are next to one another, and may come again.
 
 --not-atomic reads the known labels, one a line: a number, a name, or a line that an audit printed. So
 the output of one audit can be the list of the next. If number and name of such a line no longer belong

@@ -123,6 +123,7 @@ fn explain_options<'a>(found: &ArgMatches<'a>) -> Option<ExplainOptions<'a>>
     Some(ExplainOptions {
         input: found.get_str("LOG")?,
         target: found.get_str("dot"),
+        drawing: found.get_str("svg"),
         names: found.get_str("names"),
         sites: found.get_str("sites"),
     })
@@ -258,6 +259,9 @@ fn audit_options<'a>(found: &'a ArgMatches) -> Option<AuditOptions<'a>>
         ignored_locks: left.locks,
         ignored_variables: left.variables,
         witness: !found.get_flag("no-witness"),
+        counts: found.get_flag("counts"),
+        by_count: found.get_flag("by-count"),
+        innermost: found.get_flag("innermost"),
         limits: limits_of(found)?,
     })
 }

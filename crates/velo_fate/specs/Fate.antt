@@ -223,6 +223,7 @@ word_of operand.Turns = codes "TURNS"
 word_of operand.Out = codes "OUT"
 word_of operand.NamesOut = codes "NAMES"
 word_of operand.Map = codes "MAP"
+word_of operand.Svg = codes "SVG"
 
 abbrev pub line_of_one_file : Operand → Operand → List ℕ
 line_of_one_file first second =

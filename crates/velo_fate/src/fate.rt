@@ -422,6 +422,7 @@ fn put_operand(buffer: &mut [u8], at: usize, operand: Operand) -> usize
         Operand::Out => put_bytes(buffer, at, b"OUT"),
         Operand::Names | Operand::NamesOut => put_bytes(buffer, at, b"NAMES"),
         Operand::Map => put_bytes(buffer, at, b"MAP"),
+        Operand::Svg => put_bytes(buffer, at, b"SVG"),
     }
 }
 

@@ -78,6 +78,8 @@ pub struct ExplainOptions<'a> {
     pub input: &'a str,
     /// The path where the picture of the cycle is saved.
     pub target: Option<&'a str>,
+    /// The path where the drawing is saved.
+    pub drawing: Option<&'a str>,
     /// The path of the names that the words print, or `-`.
     pub names: Option<&'a str>,
     /// The path of the sites of the log's events, or `-`.
@@ -237,6 +239,12 @@ pub struct AuditOptions<'a> {
     pub ignored_variables: &'a [&'a str],
     /// Whether the witness of each round is printed.
     pub witness: bool,
+    /// Whether each label comes with how many of its blocks are to blame.
+    pub counts: bool,
+    /// Whether the labels with the most blocks to blame come first.
+    pub by_count: bool,
+    /// Whether a label is left out if each of its blocks to blame has another one inside it.
+    pub innermost: bool,
     /// The limits within which the log is checked.
     pub limits: Limits,
 }

@@ -18,6 +18,7 @@ word_of role.Log = codes "LOG"
 word_of role.Report = codes "REPORT"
 word_of role.Work = codes "FILE"
 word_of role.Picture = codes "--dot"
+word_of role.Drawing = codes "--svg"
 word_of role.SavedLog = codes "--log"
 word_of role.SavedNames = codes "--names-out"
 word_of role.Map = codes "--map"
@@ -88,6 +89,10 @@ abbrev pub picture_of : Request → Option (List ℕ)
 picture_of (Explain options) = given options.target
 picture_of _ = None
 
+abbrev pub drawing_of : Request → Option (List ℕ)
+drawing_of (Explain options) = given options.drawing
+drawing_of _ = None
+
 abbrev pub saved_log_of : Request → Option (List ℕ)
 saved_log_of (Carry options) = Some options.target.now
 saved_log_of (Thin options) = Some options.target.now
@@ -117,6 +122,7 @@ path_of role.Log request = log_path_of request
 path_of role.Report request = report_of request
 path_of role.Work request = work_path_of request
 path_of role.Picture request = picture_of request
+path_of role.Drawing request = drawing_of request
 path_of role.SavedLog request = saved_log_of request
 path_of role.SavedNames request = saved_names_of request
 path_of role.Map request = map_of request

@@ -1,6 +1,6 @@
 //! The files of a request, by what each is for.
 ghost use Rattle.std.specs.Prelude.{◌≡◌, option_map};
-ghost use Rattle.velo_words.specs.Roles.{asks_for_words, known_of, log_path_of, map_of, names_of, path_of, picture_of, report_of, saved_log_of, saved_names_of, sites_of, turns_of, word_of, work_path_of};
+ghost use Rattle.velo_words.specs.Roles.{asks_for_words, drawing_of, known_of, log_path_of, map_of, names_of, path_of, picture_of, report_of, saved_log_of, saved_names_of, sites_of, turns_of, word_of, work_path_of};
 
 use velo_request::{Request, ScheduleSource};
 
@@ -23,6 +23,8 @@ pub enum Role {
     Work,
     /// A picture is saved there.
     Picture,
+    /// A drawing is saved there.
+    Drawing,
     /// A log is saved there.
     SavedLog,
     /// The names of a workload are saved there.
@@ -32,7 +34,7 @@ pub enum Role {
 }
 
 /// The roles, in the order in which a command opens its files.
-pub const ROLES: [Role; 11] = [
+pub const ROLES: [Role; 12] = [
     Role::Turns,
     Role::Names,
     Role::Known,
@@ -41,6 +43,7 @@ pub const ROLES: [Role; 11] = [
     Role::Report,
     Role::Work,
     Role::Picture,
+    Role::Drawing,
     Role::SavedLog,
     Role::SavedNames,
     Role::Map,
@@ -59,6 +62,7 @@ pub fn word_of(role: Role) -> &'static str
         Role::Report => "REPORT",
         Role::Work => "FILE",
         Role::Picture => "--dot",
+        Role::Drawing => "--svg",
         Role::SavedLog => "--log",
         Role::SavedNames => "--names-out",
         Role::Map => "--map",
@@ -169,6 +173,15 @@ fn picture_of<'a>(request: &Request<'a>) -> Option<&'a str>
     }
 }
 
+fn drawing_of<'a>(request: &Request<'a>) -> Option<&'a str>
+    ensures { option_map (λ path. path.now) result ≡ drawing_of request.now }
+{
+    match request {
+        Request::Explain(options) => options.drawing,
+        _ => None,
+    }
+}
+
 fn saved_log_of<'a>(request: &Request<'a>) -> Option<&'a str>
     ensures { option_map (λ path. path.now) result ≡ saved_log_of request.now }
 {
@@ -216,6 +229,7 @@ pub fn path_of<'a>(role: Role, request: &Request<'a>) -> Option<&'a str>
         Role::Report => report_of(request),
         Role::Work => work_path_of(request),
         Role::Picture => picture_of(request),
+        Role::Drawing => drawing_of(request),
         Role::SavedLog => saved_log_of(request),
         Role::SavedNames => saved_names_of(request),
         Role::Map => map_of(request),
