@@ -14,7 +14,7 @@ _velodrome() {
         carry) words="--log --why --help" ;;
         explore) words="--states --first --progress --random --seed --log --names-out --events --nodes --certificate --help" ;;
         watch) words="--names --stop --endless --events --nodes --certificate --help" ;;
-        audit) words="--no-witness --names --not-atomic --ignore-lock --ignore-variable --events --nodes --help" ;;
+        audit) words="--no-witness --counts --by-count --innermost --names --not-atomic --ignore-lock --ignore-variable --events --nodes --help" ;;
         thin) words="--log --map --help" ;;
         predict) words="--log --values --tries --seed --names --not-atomic --ignore-lock --ignore-variable --events --nodes --help" ;;
         verify) words="--help" ;;
