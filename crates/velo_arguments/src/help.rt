@@ -339,8 +339,8 @@ the output of one audit can be the list of the next. If number and name of such 
 together, it means the labels of the name. Other lines of an audit, empty lines, and comments that
 begin with '#' are ignored. A name that no label has is allowed.
 
---ignore-lock and --ignore-variable take a number or a name, and may be repeated. Only one of LOG and
-the FILEs can be -.
+--ignore-lock and --ignore-variable take a number, or a name in which '*' stands for any characters, and
+may be repeated. Only one of LOG and the FILEs can be -.
 
 List faults, line 0 for the whole text:
    1  bad line

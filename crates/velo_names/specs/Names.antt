@@ -10,6 +10,7 @@ use Rattle.velo_names.specs.declared.fault.NamesFault.{NamesFault}
 use Rattle.velo_names.specs.declared.fault.NamesFault.TheVariants.{BadLine, NamedTwice, TooManyLines, TooManyBytes, NotText, Memory}
 use Rattle.velo_names.specs.declared.kind.NameKind.{NameKind}
 use Rattle.velo_names.specs.declared.kind.NameKind.TheVariants.{Thread, Variable, Lock, Label}
+use Rattle.velo_names.specs.Pattern.{is_like}
 use Rattle.velo_names.specs.Line.{Naming, IsNaming, naming_text, naming_of, is_silent, lines, is_number, number_of_kind}
 
 -- numbers with their names, in the order of the lines
@@ -54,10 +55,14 @@ numbers_in list name = map (λ e. e.0) (filter (λ e. bytes_eq name e.1) list)
 abbrev pub numbers_of : NameLists → NameKind → List ℕ → List ℕ
 numbers_of names kind name = numbers_in (list_of kind names) name
 
+-- the numbers whose names are like a pattern, in the order of their lines
+abbrev pub numbers_like : NameList → List ℕ → List ℕ
+numbers_like list pattern = map (λ e. e.0) (filter (λ e. is_like pattern e.1) list)
+
 -- What an argument means: digits alone are a number, which has to be one of the kind; all else is a
--- name
+-- pattern of names
 abbrev pub meant_by : NameLists → NameKind → List ℕ → List ℕ
-meant_by names kind argument = if is_number argument then option_to_list (number_of_kind kind argument) else numbers_of names kind argument
+meant_by names kind argument = if is_number argument then option_to_list (number_of_kind kind argument) else numbers_like (list_of kind names) argument
 
 -- ---- what a text says
 

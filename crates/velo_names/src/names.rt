@@ -4,13 +4,14 @@ ghost use Rattle.std.specs.Option.{option_copied};
 ghost use Rattle.velo_names.specs.Answers.{list_in, AnswersAs};
 ghost use Rattle.velo_names.specs.Said.{said};
 ghost use Rattle.velo_names.specs.Line.{lines};
-ghost use Rattle.velo_names.specs.Names.{no_names, meant_by, name_in, numbers_in, list_with, names_with, names_after, names_from, name_of, numbers_of, ReadsAs};
+ghost use Rattle.velo_names.specs.Names.{no_names, meant_by, name_in, numbers_in, numbers_like, list_of, list_with, names_with, names_after, names_from, name_of, numbers_of, ReadsAs};
 
 use crate::fault::NamesFault;
 use crate::growth::insert;
 use crate::kind::NameKind;
 use crate::limits::{MAX_NAME_LINES, MAX_NAMES_BYTES};
 use crate::line::{Said, is_number, is_silent, naming, number_of_kind, split_line};
+use crate::pattern::is_like;
 use indexmap::IndexMap;
 use std::alloc::Global;
 use std::fmt;
@@ -72,6 +73,24 @@ fn numbers_in(alloc: Global, names: &IndexMap<u32, &[u8]>, name: &[u8]) -> Resul
     let mut numbers = Vec::new(alloc);
     for (number, other) in names {
         if name == *other {
+            reserve(&mut numbers, 1)?;
+            numbers.push_reserved(*number);
+        }
+    }
+    Ok(numbers)
+}
+
+/// The numbers in a list whose names are like a pattern.
+fn numbers_like(
+    alloc: Global,
+    names: &IndexMap<u32, &[u8]>,
+    pattern: &[u8],
+) -> Result<Vec<u32>, Memory>
+    ensures { IfOk result (λ numbers. numbers.items ≡ numbers_like (list_in names.now) pattern.now) }
+{
+    let mut numbers = Vec::new(alloc);
+    for (number, name) in names {
+        if is_like(pattern, *name) {
             reserve(&mut numbers, 1)?;
             numbers.push_reserved(*number);
         }
@@ -187,9 +206,27 @@ impl<'a> Names<'a> {
         }
     }
 
+    /// The numbers whose names are like a pattern, in the order of their lines.
+    fn numbers_like(
+        &self,
+        alloc: Global,
+        kind: NameKind,
+        pattern: &[u8],
+    ) -> Result<Vec<u32>, Memory>
+        ensures { IfOk result (λ numbers. numbers.items
+            ≡ numbers_like (list_of kind self.now) pattern.now) }
+    {
+        match kind {
+            NameKind::Thread => numbers_like(alloc, &self.threads, pattern),
+            NameKind::Variable => numbers_like(alloc, &self.variables, pattern),
+            NameKind::Lock => numbers_like(alloc, &self.locks, pattern),
+            NameKind::Label => numbers_like(alloc, &self.labels, pattern),
+        }
+    }
+
     /// The numbers that an argument means: a number, if the argument is digits alone, and else
-    /// those of which it is the name. Digits with a leading zero, or beyond the ids of the kind,
-    /// mean none.
+    /// those whose names are like it: a `*` in it stands for any bytes, also for none. Digits with a
+    /// leading zero, or beyond the ids of the kind, mean none.
     ///
     /// # Errors
     /// `Memory` if an allocation failed.
@@ -202,7 +239,7 @@ impl<'a> Names<'a> {
         ensures { IfOk result (λ numbers. numbers.items ≡ meant_by self.now kind argument.now) }
     {
         if !is_number(argument) {
-            return self.numbers_of(alloc, kind, argument);
+            return self.numbers_like(alloc, kind, argument);
         }
         let mut numbers = Vec::new(alloc);
         if let Some(number) = number_of_kind(kind, argument) {

@@ -415,7 +415,7 @@ static IGNORED: [Listed; 9] = [
         err: "",
         status: 0,
     },
-    // by a name, which is that of two locks and of a variable
+    // by a pattern, and by a name, which are those of two locks and of a variable
     Listed {
         words: &[
             "velodrome",
@@ -424,7 +424,7 @@ static IGNORED: [Listed; 9] = [
             "--names",
             "n",
             "--ignore-lock",
-            "m",
+            "m*",
         ],
         log: LOCKED,
         names: BOTH,
