@@ -14,13 +14,7 @@ pub fn names_of<'a>(request: &Request<'a>) -> Option<&'a str>
         Request::WatchEndless(options) => options.names,
         Request::Audit(options) => options.names,
         Request::Predict(options) => options.names,
-        Request::Check(options) => {
-            if options.why {
-                options.names
-            } else {
-                None
-            }
-        }
+        Request::Check(options) => { if options.why { options.names } else { None } }
         _ => None,
     }
 }

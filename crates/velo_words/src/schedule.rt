@@ -130,12 +130,7 @@ fn first_bad(text: &[u8]) -> Option<BadWord<'_>>
 
 /// Adds what is said of a word.
 #[tactic(auto, unfolding(crate::specs::Schedule::bad_word_words))]
-fn add_bad_word(
-    page: &mut Page,
-    alloc: Global,
-    place: &str,
-    bad: BadWord,
-) -> Result<(), Memory>
+fn add_bad_word(page: &mut Page, alloc: Global, place: &str, bad: BadWord) -> Result<(), Memory>
     ensures { OnOk result (page.new ≡ page.old ++ bad_word_words place.now (bad_word bad.entry)) }
 {
     add_file(page, place)?;
