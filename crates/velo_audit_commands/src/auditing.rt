@@ -16,6 +16,7 @@ ghost use Rattle.velo_delivery.specs.Reading.{reading};
 ghost use Rattle.velo_inputs.specs.Sending.{PrintsOrLacks};
 ghost use Rattle.velo_delivery.specs.Writing.{writing};
 
+use crate::command::Command;
 use std::alloc::Global;
 use velo_audit::{AuditFault, Told, audit, count_atomic};
 use velo_audit_text::{Asked, audit_text};
@@ -249,8 +250,8 @@ fn audit_input<F: Files, O: Sink>(
     }
 }
 
-impl ByAsked for AuditOptions<'_> {
-    ghost does = { λ options names asked. AuditsLog names asked options };
+impl ByAsked for Command<'_, AuditOptions<'_>> {
+    ghost does = { λ command names asked. AuditsLog names asked command.options.now };
 
     fn do_asked<F: Files, O: Sink>(
         &self,
@@ -260,12 +261,12 @@ impl ByAsked for AuditOptions<'_> {
         files: &mut F,
         out: &mut O,
     ) -> Fate {
-        audit_input(alloc, self, names, asked, files, out)
+        audit_input(alloc, self.options, names, asked, files, out)
     }
 }
 
-impl ByNames for AuditOptions<'_> {
-    ghost does = { λ options names. AuditsNamed names options };
+impl ByNames for Command<'_, AuditOptions<'_>> {
+    ghost does = { λ command names. AuditsNamed names command.options.now };
 
     fn do_by<F: Files, O: Sink>(
         &self,
@@ -275,9 +276,9 @@ impl ByNames for AuditOptions<'_> {
         out: &mut O,
     ) -> Fate {
         let words = AskedWords {
-            known: self.known,
-            locks: self.ignored_locks,
-            variables: self.ignored_variables,
+            known: self.options.known,
+            locks: self.options.ignored_locks,
+            variables: self.options.ignored_variables,
         };
         do_by_asked(alloc, self, names, &words, files, out)
     }
@@ -293,5 +294,5 @@ pub fn audit_file<F: Files, O: Sink>(
     ensures { DoesAudit options.now (store F.disk files.old files.new)
         (writing O.contents O.failures out.old out.new) result }
 {
-    do_by_names(alloc, options, options.names, files, out)
+    do_by_names(alloc, &Command { options }, options.names, files, out)
 }

@@ -2,6 +2,7 @@
 #![tactic(auto)]
 
 mod auditing;
+mod command;
 mod predicting;
 
 pub use auditing::audit_file;

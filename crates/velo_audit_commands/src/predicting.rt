@@ -18,6 +18,7 @@ ghost use Rattle.velo_audit_commands.specs.Predicting.{ArePredictionsOf, Predict
 ghost use Rattle.velo_inputs.specs.Sending.{DeliversOrLacks};
 
 use crate::auditing::{config_of_rounds, left_out, rounds_of};
+use crate::command::Command;
 use std::alloc::Global;
 use velo_audit::Told;
 use velo_audit_text::Asked;
@@ -329,8 +330,8 @@ fn predict_input<F: Files, O: Sink>(
     }
 }
 
-impl ByAsked for PredictOptions<'_> {
-    ghost does = { λ options names asked. PredictsLog names asked options };
+impl ByAsked for Command<'_, PredictOptions<'_>> {
+    ghost does = { λ command names asked. PredictsLog names asked command.options.now };
 
     fn do_asked<F: Files, O: Sink>(
         &self,
@@ -343,14 +344,14 @@ impl ByAsked for PredictOptions<'_> {
         let inquiry = Inquiry {
             names,
             asked,
-            options: self,
+            options: self.options,
         };
         predict_input(alloc, &inquiry, files, out)
     }
 }
 
-impl ByNames for PredictOptions<'_> {
-    ghost does = { λ options names. PredictsNamed names options };
+impl ByNames for Command<'_, PredictOptions<'_>> {
+    ghost does = { λ command names. PredictsNamed names command.options.now };
 
     fn do_by<F: Files, O: Sink>(
         &self,
@@ -360,9 +361,9 @@ impl ByNames for PredictOptions<'_> {
         out: &mut O,
     ) -> Fate {
         let words = AskedWords {
-            known: self.known,
-            locks: self.ignored_locks,
-            variables: self.ignored_variables,
+            known: self.options.known,
+            locks: self.options.ignored_locks,
+            variables: self.options.ignored_variables,
         };
         do_by_asked(alloc, self, names, &words, files, out)
     }
@@ -379,5 +380,5 @@ pub fn predict_file<F: Files, O: Sink>(
     ensures { DoesPredict options.now (store F.disk files.old files.new)
         (writing O.contents O.failures out.old out.new) result }
 {
-    do_by_names(alloc, options, options.names, files, out)
+    do_by_names(alloc, &Command { options }, options.names, files, out)
 }

@@ -1,13 +1,14 @@
 //! All schedules of a workload at once.
-ghost use Rattle.std.specs.Prelude.{◌≡◌, ◌≤◌, ◌-◌, ◌^◌, [], true, false, is_some, length, map, min, sum_by, IfOk, IfSome, IsTrue};
+ghost use Rattle.std.specs.Prelude.{◌≡◌, ◌⊎◌, ◌≤◌, ◌-◌, ◌^◌, [], true, false, is_some, length, map, min, sum_by, IfOk, IfSome, IsTrue};
 ghost use Rattle.velo_worker.specs.Counts.{body_events};
 ghost use Rattle.velo_search.specs.declared.fault.Fault.{Fault as FaultOf};
 ghost use Rattle.velo_search.specs.Search.{has_fault};
+ghost use Rattle.velo_search.specs.Told.{has_ended, shown_of};
 ghost use Rattle.velo_search.specs.Trail.{LeadToCycles, LeadsTo, turns_for};
 ghost use Rattle.velo_explore.specs.declared.finding.Finding.TheVariants.{Open};
 ghost use Rattle.velo_explore.specs.Bodies.{all_scripts};
 ghost use Rattle.velo_explore.specs.Goals.{finding_of};
-ghost use Rattle.velo_explore.specs.Told.{AreAlarms, IsCutShort, IsLeftOpen, IsSomewhere, IsTold, NeverHas, OnOpen};
+ghost use Rattle.velo_explore.specs.Told.{AreAlarms, AreSpent, IsLeftOpen, IsSomewhere, IsTold, NeverHas, OnOpen};
 
 use crate::exploration::Exploration;
 use crate::finding::{Finding, Findings};
@@ -23,7 +24,8 @@ use velo_workload::Workload;
 /// refusal. The configuration has to have the workload's bounds. Where its bodies have more events
 /// than the configuration lets a log have, nothing is tried.
 ///
-/// With `first` it ends as soon as it finds one of the three, and reports the others as open.
+/// With `first` it ends as soon as it finds one of the three, shows it, and reports the others as
+/// open.
 ///
 /// What is shown was replayed. What is said never to be is so by no schedule. What is open is so as
 /// not all schedules were tried, or as the replay by the schedule that leads there ends before: for
@@ -45,7 +47,7 @@ pub fn explore<P: Progress>(
     ensures told { IfOk result (λ x. (fault : FaultOf) →
         IsTold workload.now config fault (finding_of x.findings fault)) }
     ensures left_open { IfOk result (λ x. (fault : FaultOf) → OnOpen (finding_of x.findings fault)
-        (IsLeftOpen workload.now config most_states first x.states fault)) }
+        (IsLeftOpen workload.now config most_states first x.states x.findings fault)) }
     ensures alarms { IfOk result (λ x. AreAlarms workload.now config first x.findings.alarm
         (map (λ v. v.items) x.alarms.items)) }
 {
@@ -133,13 +135,14 @@ fn search_all<P: Progress>(
         IsSomewhere workload.now fault) }
     ensures cut { IfOk result (λ x. x.whole ≡ false → (fault : FaultOf) →
         has_fault x.found fault ≡ false →
-        IsCutShort workload.now config.now most_states first x.states fault) }
+        ((has_ended first x.found ≡ true) ⊎ AreSpent workload.now most_states x.states fault)) }
     ensures leads { IfOk result (λ x. (fault : FaultOf) → IfSome (turns_for x.schedules fault)
         (LeadsTo workload.now.bounds (all_scripts workload.now) fault)) }
     ensures each { IfOk result (λ x. x.whole ≡ true → (fault : FaultOf) →
         has_fault x.found fault ≡ true → IsTrue (is_some (turns_for x.schedules fault))) }
-    ensures each_all { IfOk result (λ x. first ≡ false → (fault : FaultOf) →
-        has_fault x.found fault ≡ true → IsTrue (is_some (turns_for x.schedules fault))) }
+    ensures shown { IfOk result (λ x. (fault : FaultOf) →
+        has_fault (shown_of first x.found) fault ≡ true →
+        IsTrue (is_some (turns_for x.schedules fault))) }
     ensures alarms { IfOk result (λ x. LeadToCycles workload.now.bounds (all_scripts workload.now)
         first x.schedules) }
     ensures count { IfOk result (λ x. length workload.now.bodies ≡ workload.now.bounds.threads) }

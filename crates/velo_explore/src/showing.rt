@@ -1,5 +1,5 @@
 //! Replays, and the schedules whose replays show what was looked for.
-ghost use Rattle.std.specs.Prelude.{◌≡◌, ◌<◌, ◌++◌, ◌∷◌, [], ℕ, true, false, is_some, length, IsTrue, IfNone, IfOk, IfSome};
+ghost use Rattle.std.specs.Prelude.{◌≡◌, ◌↔◌, ◌<◌, ◌++◌, ◌∷◌, [], ℕ, true, false, is_some, length, IsTrue, IfNone, IfOk, IfSome};
 ghost use Rattle.velo_worker.specs.Schedule.{Replays};
 ghost use Rattle.velo_explore.specs.Goals.{IsWitness, lacks_memory};
 ghost use Rattle.velo_explore.specs.Told.{IsMissed, IsOutcome, IsTold, Lacks, NeverHas, OnOpen, OnShown};
@@ -157,7 +157,7 @@ pub(crate) fn tell(
     requires leads { IfSome found
         (λ turns. LeadsTo workload.now.bounds (all_scripts workload.now) fault turns.items) }
     ensures told { IfOk result (IsTold workload.now config fault) }
-    ensures never { IfOk result (λ f. ruled_out ≡ true → f ≡ Never) }
+    ensures never { IfOk result (λ f. (ruled_out ≡ true) ↔ (f ≡ Never)) }
     ensures missed { IfOk result (λ f. OnOpen f ((ruled_out ≡ false) × IfSome found
         (λ turns. IsMissed workload.now config fault))) }
     ensures from { IfOk result (λ f. OnShown f (λ witness. IsTrue (is_some found))) }

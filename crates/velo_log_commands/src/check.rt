@@ -10,6 +10,7 @@ ghost use Rattle.velo_delivery.specs.Disk.{store};
 ghost use Rattle.velo_delivery.specs.Writing.{writing};
 ghost use Rattle.velo_log_commands.specs.Steps.{Shows};
 
+use crate::command::Command;
 use std::alloc::Global;
 use velo_bytes::{Sink, Source, WriteFault};
 use velo_delivery::{Files, Operand};
@@ -170,8 +171,8 @@ fn check_named<F: Files, O: Sink>(
     }
 }
 
-impl ByNames for CheckOptions<'_> {
-    ghost does = { λ options names. ChecksBy names options };
+impl ByNames for Command<'_, CheckOptions<'_>> {
+    ghost does = { λ command names. ChecksBy names command.options.now };
 
     fn do_by<F: Files, O: Sink>(
         &self,
@@ -180,8 +181,8 @@ impl ByNames for CheckOptions<'_> {
         files: &mut F,
         out: &mut O,
     ) -> Fate {
-        let shown = shown_by(self.names, names);
-        check_named(alloc, self, &shown, files, out)
+        let shown = shown_by(self.options.names, names);
+        check_named(alloc, self.options, &shown, files, out)
     }
 }
 
@@ -195,5 +196,5 @@ pub fn check_file<F: Files, O: Sink>(
     ensures { DoesCheck options.now (store F.disk files.old files.new)
         (writing O.contents O.failures out.old out.new) result }
 {
-    do_by_names(alloc, options, options.names, files, out)
+    do_by_names(alloc, &Command { options }, options.names, files, out)
 }

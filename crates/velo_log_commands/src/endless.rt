@@ -10,6 +10,7 @@ ghost use Rattle.velo_log_commands.specs.Commands.{DoesWatchEndless, WatchesBy};
 ghost use Rattle.velo_log_commands.specs.Steps.{ShowsLog};
 ghost use Rattle.velo_log_commands.specs.Endless.{CanWatchOn, terms_of_endless};
 
+use crate::command::Command;
 use crate::watching::{AskedWatch, watch_named};
 use std::alloc::Global;
 use velo_bytes::{Sink, Source, WriteFault};
@@ -103,8 +104,8 @@ fn report_of<O: Sink>(
     }
 }
 
-impl ByNames for EndlessOptions<'_> {
-    ghost does = { λ options names. WatchesBy names (terms_of_endless options) };
+impl ByNames for Command<'_, EndlessOptions<'_>> {
+    ghost does = { λ command names. WatchesBy names (terms_of_endless command.options.now) };
 
     fn do_by<F: Files, O: Sink>(
         &self,
@@ -113,8 +114,8 @@ impl ByNames for EndlessOptions<'_> {
         files: &mut F,
         out: &mut O,
     ) -> Fate {
-        let shown = shown_by(self.names, names);
-        watch_named(alloc, self, &shown, files, out)
+        let shown = shown_by(self.options.names, names);
+        watch_named(alloc, self.options, &shown, files, out)
     }
 }
 
@@ -128,5 +129,5 @@ pub fn watch_endless_file<F: Files, O: Sink>(
     ensures { DoesWatchEndless options.now (store F.disk files.old files.new)
         (writing O.contents O.failures out.old out.new) result }
 {
-    do_by_names(alloc, options, options.names, files, out)
+    do_by_names(alloc, &Command { options }, options.names, files, out)
 }

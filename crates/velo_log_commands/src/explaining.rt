@@ -12,6 +12,7 @@ ghost use Rattle.velo_delivery.specs.Writing.{writing};
 ghost use Rattle.velo_inputs.specs.Sending.{DeliversOrLacks, PrintsOrLacks};
 ghost use Rattle.velo_log_commands.specs.Steps.{Explains, ExplainsIfOf, ExplainsInput};
 
+use crate::command::Command;
 use std::alloc::Global;
 use velo_bytes::{Sink, Source};
 use velo_certify::CertFault;
@@ -206,8 +207,8 @@ fn explain_input<F: Files, O: Sink>(
     }
 }
 
-impl ByNames for ExplainOptions<'_> {
-    ghost does = { λ options names. ExplainsBy names options };
+impl ByNames for Command<'_, ExplainOptions<'_>> {
+    ghost does = { λ command names. ExplainsBy names command.options.now };
 
     fn do_by<F: Files, O: Sink>(
         &self,
@@ -216,17 +217,17 @@ impl ByNames for ExplainOptions<'_> {
         files: &mut F,
         out: &mut O,
     ) -> Fate {
-        let bytes = match read_given(alloc, self.sites, MAX_SITES_BYTES, files) {
+        let bytes = match read_given(alloc, self.options.sites, MAX_SITES_BYTES, files) {
             Ok(bytes) => bytes,
             Err(fate) => return fate,
         };
-        let fate = match sites_in(alloc, self.sites, &bytes) {
+        let fate = match sites_in(alloc, self.options.sites, &bytes) {
             Ok(sites) => {
                 let legend = Legend {
                     names,
                     sites: &sites,
                 };
-                let fate = explain_input(alloc, self, &legend, files, out);
+                let fate = explain_input(alloc, self.options, &legend, files, out);
                 drop(sites);
                 fate
             }
@@ -247,5 +248,5 @@ pub fn explain_file<F: Files, O: Sink>(
     ensures { DoesExplain options.now (store F.disk files.old files.new)
         (writing O.contents O.failures out.old out.new) result }
 {
-    do_by_names(alloc, options, options.names, files, out)
+    do_by_names(alloc, &Command { options }, options.names, files, out)
 }

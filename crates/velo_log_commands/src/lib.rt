@@ -3,6 +3,7 @@
 
 mod carrying;
 mod check;
+mod command;
 mod endless;
 mod explaining;
 mod thinning;

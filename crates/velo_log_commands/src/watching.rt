@@ -14,6 +14,7 @@ ghost use Rattle.velo_report.specs.declared.names.Names.{Names as Shown};
 ghost use Rattle.velo_watch.specs.UnderWay.{IsFaultOfOpening, IsUnderWay, read_failures, write_failures};
 
 use crate::check::{fate_of, finish};
+use crate::command::Command;
 use std::alloc::Global;
 use velo_bytes::{Sink, Source};
 use velo_delivery::{Files, Operand};
@@ -266,8 +267,8 @@ impl AskedWatch for WatchOptions<'_> {
     }
 }
 
-impl ByNames for WatchOptions<'_> {
-    ghost does = { λ options names. WatchesBy names (terms_of_watch options) };
+impl ByNames for Command<'_, WatchOptions<'_>> {
+    ghost does = { λ command names. WatchesBy names (terms_of_watch command.options.now) };
 
     fn do_by<F: Files, O: Sink>(
         &self,
@@ -276,8 +277,8 @@ impl ByNames for WatchOptions<'_> {
         files: &mut F,
         out: &mut O,
     ) -> Fate {
-        let shown = shown_by(self.names, names);
-        watch_named(alloc, self, &shown, files, out)
+        let shown = shown_by(self.options.names, names);
+        watch_named(alloc, self.options, &shown, files, out)
     }
 }
 
@@ -291,5 +292,5 @@ pub fn watch_file<F: Files, O: Sink>(
     ensures { DoesWatch options.now (store F.disk files.old files.new)
         (writing O.contents O.failures out.old out.new) result }
 {
-    do_by_names(alloc, options, options.names, files, out)
+    do_by_names(alloc, &Command { options }, options.names, files, out)
 }

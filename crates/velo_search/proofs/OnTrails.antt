@@ -1,7 +1,7 @@
 -- Ways stay where more events come behind them, and lead to one list of turns.
 use Rattle.std.proofs.Common.{◌≡◌, ℕ, ◌+◌, ◌<◌, ◌≤◌, List, [], ◌∷◌, ◌++◌, take, append_assoc, append-nil, length, length-append, reverse, Option, Some, None, refl, sym, ap, ◌∙◌, subst, arith, ⊎_elim, inl, inr}
 use Rattle.std.specs.Prelude.{◌⊎◌, nat_lt, not, ◌&&◌, ◌||◌, Bool, true, false, All, Contains, is_some, IfSome, IsTrue, slice_get}
-use Rattle.std.proofs.lemmas.Bool.{and_parts, and_from, not-true, cases_lt, cases_Bool, lt-ltb, false≢true}
+use Rattle.std.proofs.lemmas.Bool.{and_parts, and_from, not-true, or_parts, cases_lt, cases_Bool, lt-ltb, false≢true}
 use Rattle.std.proofs.lemmas.List.{map-append, reverse-append}
 use Rattle.std.proofs.lemmas.List.Elements.{All-nil, All-push}
 use Rattle.std.proofs.Math.Seq.{take-append_seam}
@@ -21,7 +21,7 @@ use Rattle.velo_search.specs.Steps.{AreEarlier, IsWay, IsLonger, Notes}
 use Rattle.velo_search.specs.declared.found.Found.{Found}
 use Rattle.velo_search.specs.declared.trail.Trail.{Trail}
 use Rattle.velo_search.specs.Faults.{Fault, Cycle, Stuck, Refusing, IsFault}
-use Rattle.velo_search.specs.Told.{foremost, nothing}
+use Rattle.velo_search.specs.Told.{foremost, nothing, shown_of}
 use Rattle.velo_search.specs.Search.{IsReached, has_fault}
 use Rattle.velo_search.specs.Trail.{IsReachedBy, LeadsTo, turns_of, turns_for, alarms_of, AlarmsGoOn, IsNoted, NotesAlarm, GoesOn, SettlesBy, NotesTurns, AreShown}
 use Rattle.velo_search.proofs.OnRuns.{IsRunOf-next, IsRunOf-nil}
@@ -156,39 +156,63 @@ module _ (bounds : Bounds) (scripts : List (List Kind)) where
   pub all-longer : (old now : List Step) (states : List State) → IsLonger old now → All (IsReachedBy bounds scripts old) states → All (IsReachedBy bounds scripts now) states
   all-longer old now states longer all = λ k d l. reached-longer old now _ longer (all k d l)
 
+-- ---- what is shown of what was found
+
+-- one alone is one of them
+foremost-found : (found : Found) (fault : Fault) → has_fault (foremost found) fault ≡ true → has_fault found fault ≡ true
+foremost-found found Cycle h = h
+foremost-found found Stuck h = (and_parts found.stuck (not found.alarm) h).0
+foremost-found found Refusing h = (and_parts found.refused (not (found.alarm || found.stuck)) h).0
+
+-- what is shown was found
+pub shown-found : (first : Bool) (found : Found) (fault : Fault) → has_fault (shown_of first found) fault ≡ true → has_fault found fault ≡ true
+shown-found true found fault h = foremost-found found fault h
+shown-found false found fault h = h
+
+-- without `first` all that was found is
+pub shown-all : (first : Bool) (found : Found) (fault : Fault) → first ≡ false → has_fault found fault ≡ true → has_fault (shown_of first found) fault ≡ true
+shown-all true found fault all h = absurd (false≢true (sym all))
+shown-all false found fault all h = h
+
+-- what is shown now, and was found before, was shown before
+pub shown-before : (first : Bool) (before after : Found) → ((fault : Fault) → has_fault after fault ≡ false → has_fault before fault ≡ false) →
+    (fault : Fault) → has_fault (shown_of first after) fault ≡ true → has_fault before fault ≡ true → has_fault (shown_of first before) fault ≡ true
+shown-before false before after more fault shown was = was
+shown-before true before after more Cycle shown was = was
+shown-before true before after more Stuck shown was =
+    let none = not-true after.alarm (and_parts after.stuck (not after.alarm) shown).1 in
+    and_from before.stuck (not before.alarm) was (ap not (more Cycle none))
+shown-before true before after more Refusing shown was =
+    let none = or_parts after.alarm after.stuck (not-true (after.alarm || after.stuck) (and_parts after.refused (not (after.alarm || after.stuck)) shown).1) in
+    and_from before.refused (not (before.alarm || before.stuck)) was (ap not (ap (λ b. b || before.stuck) (more Cycle none.0) ∙ more Stuck none.1))
+
 -- ---- what is noted
 
 pub notes-steps : (one other : List Step) → one ≡ other → (place : ℕ) (before after : Bool) (was now : Option (List ThreadId)) → Notes one place before after was now → Notes other place before after was now
 notes-steps one other same place before after was now notes = subst (λ xs. Notes xs place before after was now) same notes
 
 pub notes-by : (old : Trail) (place : ℕ) (before given after : Found) (now : Trail) → now.steps.items ≡ old.steps.items → now.first ≡ old.first → alarms_of now.shown ≡ alarms_of old.shown →
-    ((fault : Fault) → has_fault after fault ≡ true → has_fault given fault ≡ true) → (old.first ≡ false → after ≡ given) →
+    after ≡ shown_of old.first given →
     Notes old.steps.items place before.alarm after.alarm (turns_for old.shown Cycle) (turns_for now.shown Cycle) →
     Notes old.steps.items place before.stuck after.stuck (turns_for old.shown Stuck) (turns_for now.shown Stuck) →
     Notes old.steps.items place before.refused after.refused (turns_for old.shown Refusing) (turns_for now.shown Refusing) → NotesTurns old place before given now
-notes-by old place before given after now steps first alarms told all alarm stuck refused = record {
+notes-by old place before given after now steps first alarms shown alarm stuck refused = record {
   steps = steps;
   first = first;
   alarms = alarms;
   turns = λ fault. ⊎_elim
       (λ fresh.
       let both = and_parts (has_fault after fault) (not (has_fault before fault)) fresh in
-      inr (not-true (has_fault before fault) both.1, told fault both.0, subst (λ xs. IfSome (turns_for now.shown fault) (IsWay xs place)) (sym steps) ((noted fault).way fresh)))
+      inr (not-true (has_fault before fault) both.1, shown-found old.first given fault (subst (λ (f : Found). has_fault f fault ≡ true) shown both.0), subst (λ xs. IfSome (turns_for now.shown fault) (IsWay xs place)) (sym steps) ((noted fault).way fresh)))
       (λ stale. inl ((noted fault).same stale))
       (cases_Bool (has_fault after fault && not (has_fault before fault)));
-  each = λ is fault none some. (noted fault).some (and_from (has_fault after fault) (not (has_fault before fault)) (subst (λ (f : Found). has_fault f fault ≡ true) (sym (all is)) some) (ap not none));
+  each = λ fault none some. (noted fault).some (and_from (has_fault after fault) (not (has_fault before fault)) (subst (λ (f : Found). has_fault f fault ≡ true) (sym shown) some) (ap not none));
 }
   where
     noted : (fault : Fault) → Notes old.steps.items place (has_fault before fault) (has_fault after fault) (turns_for old.shown fault) (turns_for now.shown fault)
     noted Cycle = alarm
     noted Stuck = stuck
     noted Refusing = refused
-
--- one alone is one of them
-pub foremost-told : (found : Found) (fault : Fault) → has_fault (foremost found) fault ≡ true → has_fault found fault ≡ true
-foremost-told found Cycle h = h
-foremost-told found Stuck h = (and_parts found.stuck (not found.alarm) h).0
-foremost-told found Refusing h = (and_parts found.refused (not (found.alarm || found.stuck)) h).0
 
 -- ---- trails that go on
 
@@ -286,15 +310,16 @@ module _ (bounds : Bounds) (scripts : List (List Kind)) where
 
   -- the turns to a state at which a fault was found first
   pub shown-note : (first : Bool) (before after : Found) (old now : Trail) (state : State) → IsReachedBy bounds scripts old.steps.items state → AreShown bounds scripts first before old →
+      ((fault : Fault) → has_fault after fault ≡ false → has_fault before fault ≡ false) →
       ((fault : Fault) → has_fault before fault ≡ false → has_fault after fault ≡ true → (log : List Event) → IsRunOf bounds scripts log → IsStateOf log state → IsFault bounds scripts fault log) →
       (old.first ≡ false → before.alarm ≡ false → after.alarm ≡ true → 0 < length (alarms_of old.shown)) →
       NotesTurns old state.place before after now → AreShown bounds scripts first after now
-  shown-note first before after old now state r shown bad alarm notes = record {
+  shown-note first before after old now state r shown more bad alarm notes = record {
     same = notes.first ∙ shown.same;
     leads = λ fault. leads fault (notes.turns fault);
-    each = λ all fault found. ⊎_elim
-        (λ was. kept fault (shown.each all fault was) (notes.turns fault) was)
-        (λ not_before. notes.each (shown.same ∙ all) fault not_before found)
+    each = λ fault found. ⊎_elim
+        (λ was. kept fault (shown.each fault (shown-before first before after more fault found was)) (notes.turns fault) was)
+        (λ not_before. notes.each fault not_before (subst (λ b. has_fault (shown_of b after) fault ≡ true) (sym shown.same) found))
         (cases_Bool (has_fault before fault));
     alarms = record {
       lead = subst (All (LeadsTo bounds scripts Cycle)) (sym notes.alarms) shown.alarms.lead;
@@ -330,7 +355,7 @@ module _ (bounds : Bounds) (scripts : List (List Kind)) where
   shown-nothing first found trail is same none empty = record {
     same = same;
     leads = λ fault. subst (λ o. IfSome o (LeadsTo bounds scripts fault)) (sym (none fault)) tt;
-    each = λ all fault h. absurd (nowhere fault (subst (λ (f : Found). has_fault f fault ≡ true) is h));
+    each = λ fault h. absurd (nowhere fault (subst (λ (f : Found). has_fault f fault ≡ true) is (shown-found first found fault h)));
     alarms = record {
       lead = subst (All (LeadsTo bounds scripts Cycle)) (sym empty) (All-nil (LeadsTo bounds scripts Cycle));
       few = omega (arith, ap length empty);
@@ -349,7 +374,7 @@ module _ (bounds : Bounds) (scripts : List (List Kind)) where
   shown-goes_on first found old now on alarms shown = record {
     same = on.first ∙ shown.same;
     leads = λ fault. subst (λ o. IfSome o (LeadsTo bounds scripts fault)) (sym (on.shown fault)) (shown.leads fault);
-    each = λ all fault h. ap is_some (on.shown fault) ∙ shown.each all fault h;
+    each = λ fault h. ap is_some (on.shown fault) ∙ shown.each fault h;
     alarms = record {
       lead = alarms.lead shown.alarms.lead;
       few = alarms.few shown.alarms.few;

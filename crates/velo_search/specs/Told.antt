@@ -1,5 +1,5 @@
 -- What a state tells, by its alarm and its threads.
-use Rattle.std.specs.Prelude.{Bool, false, not, ◌&&◌, ◌||◌}
+use Rattle.std.specs.Prelude.{Bool, false, not, ◌&&◌, ◌||◌, if◌then◌else◌}
 use Rattle.velo_search.specs.declared.found.Found.{Found}
 use Rattle.velo_search.specs.declared.seen.Seen.{Seen}
 use Rattle.velo_search.specs.Faults.{Fault, Cycle, Stuck, Refusing}
@@ -30,3 +30,7 @@ foremost found = record {
   stuck = found.stuck && not found.alarm;
   refused = found.refused && not (found.alarm || found.stuck);
 }
+
+-- what is shown of what was found: with `first` one alone
+abbrev pub shown_of : Bool → Found → Found
+shown_of first found = if first then foremost found else found

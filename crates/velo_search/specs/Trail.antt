@@ -17,6 +17,7 @@ use Rattle.velo_search.specs.Runs.{IsRunOf}
 use Rattle.velo_search.specs.States.{IsStateOf}
 use Rattle.velo_search.specs.Steps.{IsWay, IsLonger}
 use Rattle.velo_search.specs.Search.{Settles, has_fault}
+use Rattle.velo_search.specs.Told.{shown_of}
 
 -- the turns of a run
 abbrev pub turns_of : List Event → List ThreadId
@@ -89,18 +90,18 @@ pub record SettlesBy (bounds : Bounds) (scripts : List (List Kind)) (old : Trail
   pub goes_on : GoesOn old now
   pub alarms : alarms_of now.shown ≡ alarms_of old.shown
 
--- the turns to the place are kept for faults that were not found before; for each, unless the first finding alone is shown
+-- the turns to the place are kept for faults that were not found before; for each that is shown
 pub record NotesTurns (old : Trail) (place : ℕ) (before after : Found) (now : Trail) : Type 0 where
   pub steps : now.steps.items ≡ old.steps.items
   pub first : now.first ≡ old.first
   pub alarms : alarms_of now.shown ≡ alarms_of old.shown
   pub turns : (fault : Fault) → (turns_for now.shown fault ≡ turns_for old.shown fault)
       ⊎ ((has_fault before fault ≡ false) × (has_fault after fault ≡ true) × IfSome (turns_for now.shown fault) (IsWay now.steps.items place))
-  pub each : old.first ≡ false → (fault : Fault) → has_fault before fault ≡ false → has_fault after fault ≡ true → IsTrue (is_some (turns_for now.shown fault))
+  pub each : (fault : Fault) → has_fault before fault ≡ false → has_fault (shown_of old.first after) fault ≡ true → IsTrue (is_some (turns_for now.shown fault))
 
--- what the trail shows leads to what was found; and each that was found is shown, unless the first alone is
+-- what the trail shows leads to what was found; and each that was found is shown, or the foremost with `first`
 pub record AreShown (bounds : Bounds) (scripts : List (List Kind)) (first : Bool) (found : Found) (trail : Trail) : Type 0 where
   pub same : trail.first ≡ first
   pub leads : (fault : Fault) → IfSome (turns_for trail.shown fault) (LeadsTo bounds scripts fault)
-  pub each : first ≡ false → (fault : Fault) → has_fault found fault ≡ true → IsTrue (is_some (turns_for trail.shown fault))
+  pub each : (fault : Fault) → has_fault (shown_of first found) fault ≡ true → IsTrue (is_some (turns_for trail.shown fault))
   pub alarms : LeadToCycles bounds scripts first trail.shown

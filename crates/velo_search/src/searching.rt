@@ -11,7 +11,7 @@ ghost use Rattle.velo_search.specs.Faults.{Fault, IsFault, NextIs, is_wait};
 ghost use Rattle.velo_search.specs.Runs.{script_of, IsRunOf, IsNext, Never, NeverWithin};
 ghost use Rattle.velo_search.specs.States.{IsStateOf};
 ghost use Rattle.velo_search.specs.Search.{ArePlain, AreShort, IsClean, StandsAmong, IsCleanBy, IsTried, IsTrueOf, IsCutShort, has_fault};
-ghost use Rattle.velo_search.specs.Told.{has_ended};
+ghost use Rattle.velo_search.specs.Told.{has_ended, shown_of};
 ghost use Rattle.velo_search.specs.Trail.{AlarmsGoOn, LeadToCycles, AreShown, GoesOn, IsNoted, IsReachedBy, LeadsTo};
 ghost use Rattle.velo_search.specs.Trail.{alarms_of, turns_for};
 
@@ -319,7 +319,8 @@ fn first_level(
 /// Tries the runs of the scripts, event by event, free ones at once, as long as no more than so
 /// many states are to be looked at, and with `first` until something is found. What was found is
 /// there in any case; what was not found is not there, where everything was tried. `progress` is
-/// called after each level.
+/// called after each level. The turns of a run are handed out for each fault that was found; with
+/// `first` for the foremost alone.
 ///
 /// # Errors
 /// `Memory` where a growth was refused.
@@ -342,7 +343,7 @@ pub fn search<P: Progress>(
         IsCutShort config.now.bounds scripts.now most_states first x.found x.states) }
     ensures shown { IfOk result (λ x. (fault : Fault) → IfSome (turns_for x.schedules fault)
         (LeadsTo config.now.bounds scripts.now fault)) }
-    ensures each { IfOk result (λ x. first ≡ false → (fault : Fault) → has_fault x.found fault ≡
+    ensures each { IfOk result (λ x. (fault : Fault) → has_fault (shown_of first x.found) fault ≡
         true → IsTrue (is_some (turns_for x.schedules fault))) }
     ensures alarms { IfOk result
         (λ x. LeadToCycles config.now.bounds scripts.now first x.schedules) }

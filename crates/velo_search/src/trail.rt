@@ -25,7 +25,7 @@ impl Trail {
     ghost use Rattle.velo_search.specs.declared.schedules.TheConstants.{MAX_ALARMS};
     ghost use Rattle.velo_search.specs.declared.step.Step.{Step};
     ghost use Rattle.velo_search.specs.Faults.{Fault};
-    ghost use Rattle.velo_search.specs.Search.{has_fault};
+    ghost use Rattle.velo_search.specs.Told.{shown_of};
     ghost use Rattle.velo_search.specs.Trail.{alarms_of, GoesOn, turns_for, NotesAlarm, NotesTurns};
 
     /// Of no event. With `first` a single finding will be shown.
@@ -82,9 +82,7 @@ impl Trail {
 
     /// What is shown of what was found.
     fn told_of(&self, found: Found) -> Found
-        ensures some { (fault : Fault) → has_fault result fault ≡ true → has_fault found fault ≡
-            true }
-        ensures all { self.now.first ≡ false → result ≡ found }
+        ensures { result ≡ shown_of self.now.first found }
     {
         if self.first { found.foremost() } else { found }
     }

@@ -15,7 +15,7 @@ use Rattle.velo_explore.specs.declared.goal.Goal.{Goal}
 use Rattle.velo_explore.specs.declared.goal.Goal.TheVariants.{Alarm, Refused}
 use Rattle.velo_explore.specs.declared.goal.Goal.TheVariants as goals
 use Rattle.velo_explore.specs.Goals.{finding_of, first_of}
-use Rattle.velo_explore.specs.Told.{IsLeftOpen, IsTold, OnOpen}
+use Rattle.velo_explore.specs.Told.{AreAlarms, IsLeftOpen, IsTold, OnOpen}
 use Rattle.velo_shrink.specs.declared.findings.Replay.{Replay}
 use Rattle.velo_shrink.specs.Simple.{IsShrunkFrom}
 use Rattle.velo_deadlock.specs.Waits.{waits_text}
@@ -47,14 +47,17 @@ abbrev pub most_to_blame : Bool → ℕ
 most_to_blame first = if first then 0 else MAX_BLAMING
 
 -- what a search within the limits that were asked for may say of the program's schedules: what is
--- shown is so, what is never shown is so by no schedule, and what is open is so for a cause
+-- shown is so, what is never shown is so by no schedule, and what is open is so for a cause. The
+-- schedules that it hands out lead to alarms
 pub record IsSearchOf (program : Program) (config : Config) (options : ExploreOptions)
     (search : Exploration) : Type 0 where
   pub events : search.events ≡ min (sum_by body_events program.bodies) (2 ^ 64 - 1)
   pub states : search.states ≤ options.states
   pub told : (fault : Fault) → IsTold program config fault (finding_of search.findings fault)
   pub left_open : (fault : Fault) → OnOpen (finding_of search.findings fault)
-      (IsLeftOpen program config options.states options.first search.states fault)
+      (IsLeftOpen program config options.states options.first search.states search.findings fault)
+  pub alarms : AreAlarms program config options.first search.findings.alarm
+      (map (λ schedule. schedule.items) search.alarms.items)
 
 -- All schedules of the program are tried, and what was found is told by simple schedules. Whom the
 -- alarms blame is told of the replays by the first of the schedules that the search hands out.

@@ -1,6 +1,7 @@
 use Rattle.std.proofs.Common.{sym, ◌∙◌, arith}
 use Rattle.std.proofs.lemmas.Bool.{false≢true}
 use Rattle.velo_search.specs.Trail.{turns_for}
+use Rattle.velo_search.proofs.OnTrails.{shown-all}
 use Rattle.velo_explore.proofs.OnTold.{alarms-bodies, cut-search, goes_on_all, leads-bodies, never-has, plain-scripts, short-scripts}
 use Rattle.velo_explore.proofs.exploring.search_all.Goals as goal
 
@@ -17,8 +18,8 @@ returns-clause-never g c = λ whole fault none.
 
 pub returns-clause-cut : goal.returns-clause-cut
 returns-clause-cut g c = λ part fault none.
-    cut-search c.args.workload.now c.args.config.now.bounds c.requires.bounds c.in_ok-scripts.scripts c.in_ok-scripts.ensures.scripts c.args.config.now c.args.most_states c.args.first c.in_ok-searched.searched.found c.in_ok-searched.searched.states
-    c.in_ok-searched.ensures.found (c.in_ok-searched.ensures.cut part) fault none
+    cut-search c.args.workload.now c.args.config.now.bounds c.requires.bounds c.in_ok-scripts.scripts c.in_ok-scripts.ensures.scripts c.args.most_states c.args.first c.in_ok-searched.searched.found c.in_ok-searched.searched.states
+    (c.in_ok-searched.ensures.cut part) fault none
 
 pub returns-clause-leads : goal.returns-clause-leads
 returns-clause-leads g c = λ fault.
@@ -26,7 +27,8 @@ returns-clause-leads g c = λ fault.
 
 pub returns-clause-each : goal.returns-clause-each
 returns-clause-each g c = λ whole fault found.
-    c.in_ok-searched.ensures.each (goes_on_all c.args.first (λ first. false≢true (sym (c.in_ok-searched.ensures.first first whole fault) ∙ found))) fault found
+    let goes_on = goes_on_all c.args.first (λ first. false≢true (sym (c.in_ok-searched.ensures.first first whole fault) ∙ found)) in
+    c.in_ok-searched.ensures.each fault (shown-all c.args.first c.in_ok-searched.searched.found fault goes_on found)
 
 pub returns-clause-alarms : goal.returns-clause-alarms
 returns-clause-alarms g c =

@@ -66,7 +66,7 @@ loop-state-preserved c =
       shown = shown-note bounds scripts c.args.first c.loop-state.found c.in_ok-after.after c.put_next.new.trail c.note.new.self state
           (reached-longer bounds scripts c.loop-state.trail.steps.items c.put_next.new.trail.steps.items state c.in_ok-after.ensures.goes_on.longer here)
           (shown-goes_on bounds scripts c.args.first c.loop-state.found c.loop-state.trail c.put_next.new.trail c.in_ok-after.ensures.goes_on c.in_ok-after.ensures.alarms inv.shown)
-          c.in_ok-after.ensures.shows alarm placed;
+          c.in_ok-after.ensures.more c.in_ok-after.ensures.shows alarm placed;
       leads = λ n fault h all left.
           let w = c.in_ok-after.ensures.leads n fault h all in
           inv.leads n fault (c.in_ok-after.ensures.more fault h) w.0 (subst (All (IsClean bounds scripts (n + 1) fault)) (sym popped) (All-push (IsClean bounds scripts (n + 1) fault) rest state left w.1));
@@ -101,6 +101,6 @@ returns-then-has_ended-clause-shown c =
     shown-note bounds scripts c.args.first c.loop-state.found c.in_ok-after.after c.put_next.new.trail c.note.new.self state
     (reached-longer bounds scripts c.loop-state.trail.steps.items c.put_next.new.trail.steps.items state c.in_ok-after.ensures.goes_on.longer here)
     (shown-goes_on bounds scripts c.args.first c.loop-state.found c.loop-state.trail c.put_next.new.trail c.in_ok-after.ensures.goes_on c.in_ok-after.ensures.alarms inv.shown)
-    c.in_ok-after.ensures.shows
+    c.in_ok-after.ensures.more c.in_ok-after.ensures.shows
     (λ first. c.in_ok-after.ensures.alarm (sym c.in_ok-after.ensures.goes_on.first ∙ first))
     (subst (λ n. NotesTurns c.put_next.new.trail n c.loop-state.found c.in_ok-after.after c.note.new.self) c.place.ensures c.in_ok-note.ensures)

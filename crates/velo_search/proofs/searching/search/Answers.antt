@@ -6,6 +6,7 @@ use Rattle.velo_search.specs.Runs.{NeverWithin}
 use Rattle.velo_search.specs.declared.found.Found.{Found}
 use Rattle.velo_search.specs.declared.schedules.Schedules.{Schedules}
 use Rattle.velo_search.specs.Trail.{LeadToCycles, LeadsTo, turns_for}
+use Rattle.velo_search.specs.Told.{shown_of}
 use Rattle.velo_search.specs.Search.{IsClean, IsCutShort, IsTrueOf, has_fault}
 use Rattle.velo_search.proofs.OnCounts.{few-level, ways-level}
 use Rattle.velo_search.proofs.OnRuns.{never-any}
@@ -93,24 +94,24 @@ returns-then-has_ended-clause-shown g c = λ fault.
     subst (λ (s : Schedules). IfSome (turns_for s fault) (LeadsTo c.args.config.now.bounds c.args.scripts.now fault)) (sym c.into_searched.ensures.schedules) (c.in_ok-looked.ensures.shown.leads fault)
 
 pub returns-then-has_ended-clause-each : goal.returns-then-has_ended-clause-each
-returns-then-has_ended-clause-each g c = λ all fault found.
-    subst (λ (s : Schedules). IsTrue (is_some (turns_for s fault))) (sym c.into_searched.ensures.schedules) (c.in_ok-looked.ensures.shown.each all fault (subst (λ (f : Found). has_fault f fault ≡ true) c.into_searched.ensures.found found))
+returns-then-has_ended-clause-each g c = λ fault found.
+    subst (λ (s : Schedules). IsTrue (is_some (turns_for s fault))) (sym c.into_searched.ensures.schedules) (c.in_ok-looked.ensures.shown.each fault (subst (λ (f : Found). has_fault (shown_of c.args.first f) fault ≡ true) c.into_searched.ensures.found found))
 
 pub returns-then-is_empty-clause-shown : goal.returns-then-is_empty-clause-shown
 returns-then-is_empty-clause-shown g c = λ fault.
     subst (λ (s : Schedules). IfSome (turns_for s fault) (LeadsTo c.args.config.now.bounds c.args.scripts.now fault)) (sym c.into_searched-then-is_empty.ensures.schedules) (c.in_ok-looked.ensures.shown.leads fault)
 
 pub returns-then-is_empty-clause-each : goal.returns-then-is_empty-clause-each
-returns-then-is_empty-clause-each g c = λ all fault found.
-    subst (λ (s : Schedules). IsTrue (is_some (turns_for s fault))) (sym c.into_searched-then-is_empty.ensures.schedules) (c.in_ok-looked.ensures.shown.each all fault (subst (λ (f : Found). has_fault f fault ≡ true) c.into_searched-then-is_empty.ensures.found found))
+returns-then-is_empty-clause-each g c = λ fault found.
+    subst (λ (s : Schedules). IsTrue (is_some (turns_for s fault))) (sym c.into_searched-then-is_empty.ensures.schedules) (c.in_ok-looked.ensures.shown.each fault (subst (λ (f : Found). has_fault (shown_of c.args.first f) fault ≡ true) c.into_searched-then-is_empty.ensures.found found))
 
 pub returns-clause-shown : goal.returns-clause-shown
 returns-clause-shown g c = λ fault.
     subst (λ (s : Schedules). IfSome (turns_for s fault) (LeadsTo c.args.config.now.bounds c.args.scripts.now fault)) (sym c.into_searched-2.ensures.schedules) (c.loop-states.invariant.shown.leads fault)
 
 pub returns-clause-each : goal.returns-clause-each
-returns-clause-each g c = λ all fault found.
-    subst (λ (s : Schedules). IsTrue (is_some (turns_for s fault))) (sym c.into_searched-2.ensures.schedules) (c.loop-states.invariant.shown.each all fault (subst (λ (f : Found). has_fault f fault ≡ true) c.into_searched-2.ensures.found found))
+returns-clause-each g c = λ fault found.
+    subst (λ (s : Schedules). IsTrue (is_some (turns_for s fault))) (sym c.into_searched-2.ensures.schedules) (c.loop-states.invariant.shown.each fault (subst (λ (f : Found). has_fault (shown_of c.args.first f) fault ≡ true) c.into_searched-2.ensures.found found))
 
 pub returns-then-has_ended-clause-alarms : goal.returns-then-has_ended-clause-alarms
 returns-then-has_ended-clause-alarms g c =

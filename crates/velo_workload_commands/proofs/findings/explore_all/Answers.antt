@@ -26,8 +26,9 @@ returns g c =
         states = omega (arith, c.in_ok-events.ensures.states, c.from-most_states.ensures);
         told = c.in_ok-events.ensures.told;
         left_open = λ fault.
-            subst (λ (n : ℕ). OnOpen (finding_of search.findings fault) (IsLeftOpen program c.args.config n options.first search.states fault))
+            subst (λ (n : ℕ). OnOpen (finding_of search.findings fault) (IsLeftOpen program c.args.config n options.first search.states search.findings fault))
             c.from-most_states.ensures (c.in_ok-events.ensures.left_open fault);
+        alarms = c.in_ok-events.ensures.alarms;
       };
       tried = refl;
       findings = c.in_ok-shrunk.ensures;

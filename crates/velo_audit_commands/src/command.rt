@@ -1,0 +1,8 @@
+//! A command, by what it was asked for.
+
+/// A command that is done by the names of a file, and without what is left out: what it was asked for.
+#[derive(Clone, Copy)]
+pub struct Command<'o, O> {
+    /// What it was asked for.
+    pub options: &'o O,
+}
