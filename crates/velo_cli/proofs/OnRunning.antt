@@ -1,5 +1,5 @@
 -- What the program does with its words, by what `clap` makes of them.
-use Rattle.std.proofs.Common.{◌≡◌, ◌⊎◌, subst, true, List, [], inl, inr}
+use Rattle.std.proofs.Common.{◌≡◌, ◌⊎◌, ℕ, subst, true, List, [], inl, inr}
 use Rattle.clap.specs.Words.{App, HasMatchesOf, IsAmong, Text, fault_of, is_simple_and_free, subcommand_of, subcommand_rows_of}
 use Rattle.clap.specs.declared.error.kind.ErrorKind.{ErrorKind}
 use Rattle.clap.specs.declared.error.kind.ErrorKind.TheVariants.{OutOfMemory}
@@ -9,6 +9,7 @@ use Rattle.velo_arguments.specs.Asked.{Asked, AsksForNothing}
 use Rattle.velo_arguments.specs.CommandLine.{asked_by, command_line, faults_of}
 use Rattle.velo_cli.specs.Running.{Answers, Runs}
 use Rattle.velo_cli.specs.Usage.{Console, Tells, TellsError}
+use Rattle.velo_words.specs.declared.failing.Reason.{Reason}
 use Rattle.velo_arguments.proofs.OnCommandLine.{line_is_simple, line_is_simple_and_free}
 use Rattle.velo_arguments.proofs.OnRequest.{faultless_asks}
 
@@ -23,25 +24,25 @@ matches_ask line words m is matches faultless nothing =
     (subst AsksForNothing same nothing)
 
 -- the words were taken, and what they ask for was answered
-pub runs_asked : (line : App) (words : List Text) (m : ArgMatches) (store : Store) (console : Console)
+pub runs_asked : (line : App) (words : List Text) (m : ArgMatches) (store : Store) (failed : List ℕ → Reason → Type 0) (console : Console)
     → line ≡ command_line → HasMatchesOf line words m → (is_simple_and_free line ≡ true → fault_of line words ≡ [])
-    → Answers (subcommand_rows_of m) store console → Runs words store console
+    → Answers (subcommand_rows_of m) store failed console → Runs words store failed console
 unfolding faults_of asked_by
-runs_asked line words m store console is matches faultless does =
+runs_asked line words m store failed console is matches faultless does =
     let same : subcommand_rows_of m ≡ subcommand_of command_line words =
     (subst (λ (x : App). HasMatchesOf x words m) is matches line_is_simple).1 in
     inl (
       subst (λ (x : App). is_simple_and_free x ≡ true → fault_of x words ≡ []) is faultless line_is_simple_and_free,
-      subst (λ (asked : Asked). Answers asked store console) same does,
+      subst (λ (asked : Asked). Answers asked store failed console) same does,
     )
 
 -- the words were refused, and the reason was told
-pub runs_told : (line : App) (words : List Text) (kind : ErrorKind) (store : Store) (console : Console)
+pub runs_told : (line : App) (words : List Text) (kind : ErrorKind) (store : Store) (failed : List ℕ → Reason → Type 0) (console : Console)
     → line ≡ command_line → (is_simple_and_free line ≡ true → (kind ≡ OutOfMemory) ⊎ IsAmong kind (fault_of line words)) → store.is_kept
-    → Tells kind console → Runs words store console
+    → Tells kind console → Runs words store failed console
 unfolding faults_of asked_by
-runs_told line words kind store console is has_kind same (inr lacks) = inr (same, inr lacks)
-runs_told line words kind store console is has_kind same (inl t) =
+runs_told line words kind store failed console is has_kind same (inr lacks) = inr (same, inr lacks)
+runs_told line words kind store failed console is has_kind same (inl t) =
     let kinds : (kind ≡ OutOfMemory) ⊎ IsAmong kind (fault_of command_line words) =
     subst (λ (x : App). is_simple_and_free x ≡ true → (kind ≡ OutOfMemory) ⊎ IsAmong kind (fault_of x words)) is has_kind line_is_simple_and_free in
     inr (

@@ -23,12 +23,19 @@ use velo_commands::do_request;
 use velo_delivery::Files;
 use velo_events::Memory;
 use velo_fate::{Fate, end_with};
-use velo_words::end_in_words;
+use velo_words::{Recall, end_in_words};
 use velo_workload_commands::ExploreProgress;
 
 /// Does what the words ask for, with reports and help on the one sink and all else on the other,
 /// and returns the status to end with. How far a search is goes to `progress`.
-pub fn run<R: Threads + Wait + Sync, F: Files, W: AsStr, O: Sink, E: Sink, P: ExploreProgress>(
+pub fn run<
+    R: Threads + Wait + Sync,
+    F: Files + Recall,
+    W: AsStr,
+    O: Sink,
+    E: Sink,
+    P: ExploreProgress,
+>(
     rt: &R,
     alloc: Global,
     words: &[W],
@@ -38,6 +45,7 @@ pub fn run<R: Threads + Wait + Sync, F: Files, W: AsStr, O: Sink, E: Sink, P: Ex
     progress: &mut P,
 ) -> u8
     ensures { Runs (map W.text words.now) (store F.disk files.old files.new)
+        (F.failed files.new)
         (console_of (out.new ≡ out.old)
         (writing O.contents O.failures out.old out.new)
         (writing E.contents E.failures err.old err.new) result) }
@@ -62,7 +70,7 @@ pub fn run<R: Threads + Wait + Sync, F: Files, W: AsStr, O: Sink, E: Sink, P: Ex
 
 /// Does what the matches ask for, if its options go together, and returns the status to end with.
 /// If the words have no fault, they ask for something.
-fn do_asked<R: Threads + Wait + Sync, F: Files, O: Sink, E: Sink, P: ExploreProgress>(
+fn do_asked<R: Threads + Wait + Sync, F: Files + Recall, O: Sink, E: Sink, P: ExploreProgress>(
     rt: &R,
     alloc: Global,
     matches: &ArgMatches,
@@ -73,6 +81,7 @@ fn do_asked<R: Threads + Wait + Sync, F: Files, O: Sink, E: Sink, P: ExploreProg
 ) -> u8
     requires { ¬ AsksForNothing (subcommand_rows_of matches.now) }
     ensures { Answers (subcommand_rows_of matches.now) (store F.disk files.old files.new)
+        (F.failed files.new)
         (console_of (out.new ≡ out.old)
         (writing O.contents O.failures out.old out.new)
         (writing E.contents E.failures err.old err.new) result) }

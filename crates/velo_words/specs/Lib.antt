@@ -1,6 +1,7 @@
 pub mod Beside
 pub mod Ended
 pub mod Events
+pub mod Failing
 pub mod Faults
 pub mod Given
 pub mod Header
@@ -9,6 +10,7 @@ pub mod Lines
 pub mod Log
 pub mod Place
 pub mod Refused
+pub mod Roles
 pub mod Saying
 pub mod Schedule
 pub mod Work

@@ -20,8 +20,10 @@ use Rattle.velo_schedule_text.specs.declared.schedule.ScheduleFault.TheVariants 
 use Rattle.velo_sites.specs.declared.fault.SitesFault.TheVariants as sites_fault
 use Rattle.velo_suppressions.specs.declared.fault.ListFault.TheVariants as list_fault
 use Rattle.velo_workload.specs.declared.fault.WorkFault.TheVariants as work_fault
+use Rattle.velo_words.specs.declared.failing.Reason.{Reason}
 use Rattle.velo_words.specs.Ended.{SaysEnd}
 use Rattle.velo_words.specs.Events.{HasEvent}
+use Rattle.velo_words.specs.Failing.{SaysFailure}
 use Rattle.velo_words.specs.Faults.{fault_words}
 use Rattle.velo_words.specs.Beside.{other_sites_words}
 use Rattle.velo_words.specs.Given.{list_of, names_of, schedule_of, sites_of}
@@ -115,10 +117,11 @@ IsSaid disk request (fate.List fault) words =
     IfSome (list_of request) (λ path. SaysFault disk path (file.List fault) words)
 IsSaid disk request f words = ⊥
 
--- The program ends by its fate: with its line and its status; or what is said of the fate goes out
--- before the line, and this is the status, or one of the two breaks off, and the status is 5.
-abbrev pub EndsInWords : Disk → Request → Fate → Writing → ℕ → Type 0
-EndsInWords disk request f stderr result =
+-- The program ends by its fate: with its line and its status; or what is said of the fate, or of the
+-- file that failed, goes out before the line, and this is the status, or one of the two breaks off,
+-- and the status is 5.
+abbrev pub EndsInWords : Disk → (List ℕ → Reason → Type 0) → Request → Fate → Writing → ℕ → Type 0
+EndsInWords disk failed request f stderr result =
     Ends f stderr result
-    ⊎ ((words : List ℕ) × IsSaid disk request f words
+    ⊎ ((words : List ℕ) × (IsSaid disk request f words ⊎ SaysFailure failed request f words)
     × Closes (status_of f) (words ++ line_of f) stderr result)

@@ -4,6 +4,7 @@
 mod beside;
 mod ended;
 mod events;
+mod failing;
 mod faults;
 mod given;
 mod header;
@@ -12,9 +13,11 @@ mod lines;
 mod log;
 mod place;
 mod refused;
+mod roles;
 mod saying;
 mod schedule;
 mod work;
 
+pub use failing::{Reason, Recall};
 pub use header::{HeaderFault, header_fault_of};
 pub use saying::end_in_words;

@@ -1,15 +1,17 @@
 //! What a command says of its end, before its last line.
-ghost use Rattle.std.specs.Prelude.{◌≡◌, ◌≤◌, ◌++◌, IfOk, IfSome, None, Some, if◌then◌else◌, length, option_map};
+ghost use Rattle.std.specs.Prelude.{◌≡◌, ◌≤◌, ◌++◌, ◌⊎◌, IfOk, IfSome, None, Some, if◌then◌else◌, length, option_map};
 ghost use Rattle.velo_request.specs.declared.request.ScheduleSource.TheVariants.{File as FileOf};
 ghost use Rattle.velo_delivery.specs.Writing.{writing};
 ghost use Rattle.velo_events.specs.declared.limits.TheConstants.{MAX_EVENTS};
 ghost use Rattle.velo_fate.specs.Fate.{Closes, line_of, status_of};
 ghost use Rattle.velo_words.specs.Beside.{other_sites_words};
+ghost use Rattle.velo_words.specs.Failing.{SaysFailure};
 ghost use Rattle.velo_words.specs.Saying.{EndsInWords, IsSaid, IsTextAt, SaysEvent, SaysFault, SaysSchedule, event_words, log_of, work_of};
 
 use crate::beside::other_sites_words;
 use crate::ended::words_of_end;
 use crate::events::events_up_to;
+use crate::failing::{Recall, words_of_failure};
 use crate::faults::{FileFault, fault_words, most_bytes_for, most_up_to};
 use crate::given::{list_of, names_of, schedule_of, sites_of};
 use crate::refused::{refused_words, wrong_value_words};
@@ -203,6 +205,22 @@ fn words_of<F: Files>(alloc: Global, request: &Request, fate: Fate, files: &F) -
     }
 }
 
+/// What is said of a file that failed, or else of what a file says.
+fn said_of<F: Files + Recall>(
+    alloc: Global,
+    request: &Request,
+    fate: Fate,
+    files: &F,
+) -> Option<Page>
+    ensures { IfSome result (λ page. IsSaid (F.disk files.now) request.now fate page
+        ⊎ SaysFailure (F.failed files.now) request.now fate page) }
+{
+    match words_of_failure(alloc, request, fate, files) {
+        Some(page) => Some(page),
+        None => words_of(alloc, request, fate, files),
+    }
+}
+
 /// Writes the words, and then reports how a run ended.
 fn end_after<E: Sink>(words: &[u8], fate: &Fate, err: &mut E) -> u8
     ensures { Closes (status_of fate.now) (words.now ++ line_of fate.now)
@@ -217,17 +235,17 @@ fn end_after<E: Sink>(words: &[u8], fate: &Fate, err: &mut E) -> u8
 /// Reports how a run ended, in words before the line where the request asks for them and they can be
 /// had, and returns the status to end with: that of `end_line`, or [`FAILED`] where what is to be
 /// written could not be written.
-pub fn end_in_words<F: Files, E: Sink>(
+pub fn end_in_words<F: Files + Recall, E: Sink>(
     alloc: Global,
     request: &Request,
     fate: &Fate,
     files: &F,
     err: &mut E,
 ) -> u8
-    ensures { EndsInWords (F.disk files.now) request.now fate.now
+    ensures { EndsInWords (F.disk files.now) (F.failed files.now) request.now fate.now
         (writing E.contents E.failures err.old err.new) result }
 {
-    match words_of(alloc, request, *fate, files) {
+    match said_of(alloc, request, *fate, files) {
         Some(page) => end_after(page.as_slice(), fate, err),
         None => end_with(fate, err),
     }

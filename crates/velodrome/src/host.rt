@@ -1,26 +1,66 @@
 //! The files of the system.
 
+use crate::notes::Notes;
 use std::fs::{self, File, Metadata};
-use std::io::{self, Read, Stdin};
+use std::io::{self, Read, Stdin, Write};
 use std::os::unix::fs::MetadataExt;
 use velo_bytes::{ReaderSource, WriterSink};
+use velo_cli::{Reason, Recall};
 use velo_commands::Files;
 
 /// A file, or standard input.
 #[derive(Drop)]
-pub enum HostInput {
+enum Opened {
     /// A file.
     File(File),
     /// Standard input.
     StandardInput(Stdin),
 }
 
-impl Read for HostInput {
+impl Read for Opened {
     fn read(&mut self, piece: &mut [u8]) -> io::Result<usize> {
         match self {
-            HostInput::File(file) => file.read(piece),
-            HostInput::StandardInput(input) => input.read(piece),
+            Opened::File(file) => file.read(piece),
+            Opened::StandardInput(input) => input.read(piece),
         }
+    }
+}
+
+/// What is read, and the notes of what fails.
+#[derive(Drop)]
+pub struct HostInput<'a> {
+    opened: Opened,
+    notes: &'a Notes,
+}
+
+impl Read for HostInput<'_> {
+    fn read(&mut self, piece: &mut [u8]) -> io::Result<usize> {
+        let answer = self.opened.read(piece);
+        if let Err(error) = &answer {
+            self.notes.fail_read(error.kind());
+        }
+        answer
+    }
+}
+
+/// A file that is written, and the notes of what fails.
+#[derive(Drop)]
+pub struct HostOutput<'a> {
+    file: File,
+    notes: &'a Notes,
+}
+
+impl Write for HostOutput<'_> {
+    fn write(&mut self, piece: &[u8]) -> io::Result<usize> {
+        let answer = self.file.write(piece);
+        if let Err(error) = &answer {
+            self.notes.fail_write(error.kind());
+        }
+        answer
+    }
+
+    fn flush(&mut self) -> io::Result<()> {
+        self.file.flush()
     }
 }
 
@@ -28,29 +68,47 @@ impl Read for HostInput {
 #[derive(Drop)]
 pub struct HostFiles<'a> {
     rt: &'a HostRuntime,
+    notes: &'a Notes,
 }
 
 impl<'a> HostFiles<'a> {
-    /// The files of the system.
-    pub fn new(rt: &'a HostRuntime) -> HostFiles<'a> {
-        HostFiles { rt }
+    /// The files of the system, and where it is noted which of them fails.
+    pub fn new(rt: &'a HostRuntime, notes: &'a Notes) -> HostFiles<'a> {
+        HostFiles { rt, notes }
+    }
+
+    /// What was opened, as a source.
+    fn input(&self, opened: Opened) -> ReaderSource<HostInput<'a>> {
+        let notes = self.notes;
+        ReaderSource::new(HostInput { opened, notes })
     }
 }
 
-impl Files for HostFiles<'_> {
-    type Input = ReaderSource<HostInput>;
+impl Recall for HostFiles<'_> {
+    fn failure_at(&self, path: &str) -> Option<Reason> {
+        self.notes.failure_at(path)
+    }
+}
 
-    type Output = WriterSink<File>;
+impl<'a> Files for HostFiles<'a> {
+    type Input = ReaderSource<HostInput<'a>>;
 
-    fn open(&self, path: &str) -> Option<ReaderSource<HostInput>> {
+    type Output = WriterSink<HostOutput<'a>>;
+
+    fn open(&self, path: &str) -> Option<ReaderSource<HostInput<'a>>> {
+        self.notes.open_to_read(path);
         match File::open(self.rt, path) {
-            Ok(file) => Some(ReaderSource::new(HostInput::File(file))),
-            Err(_) => None,
+            Ok(file) => Some(self.input(Opened::File(file))),
+            Err(error) => {
+                self.notes.fail_read(error.kind());
+                None
+            }
         }
     }
 
-    fn standard_input(&self) -> ReaderSource<HostInput> {
-        ReaderSource::new(HostInput::StandardInput(self.rt.stdin()))
+    fn standard_input(&self) -> ReaderSource<HostInput<'a>> {
+        self.notes.open_to_read("-");
+        self.input(Opened::StandardInput(self.rt.stdin()))
     }
 
     fn are_one(&self, input: &str, target: &str) -> bool {
@@ -62,14 +120,19 @@ impl Files for HostFiles<'_> {
         }
     }
 
-    fn create(&mut self, path: &str) -> Option<WriterSink<File>> {
+    fn create(&mut self, path: &str) -> Option<WriterSink<HostOutput<'a>>> {
+        let notes = self.notes;
+        notes.open_to_write(path);
         match File::create(self.rt, path) {
-            Ok(file) => Some(WriterSink::new(file)),
-            Err(_) => None,
+            Ok(file) => Some(WriterSink::new(HostOutput { file, notes })),
+            Err(error) => {
+                notes.fail_write(error.kind());
+                None
+            }
         }
     }
 
-    fn close(&mut self, _path: &str, file: WriterSink<File>) {
+    fn close(&mut self, _path: &str, file: WriterSink<HostOutput<'a>>) {
         drop(file);
     }
 }

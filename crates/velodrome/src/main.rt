@@ -2,10 +2,12 @@
 #![tactic(auto)]
 
 mod host;
+mod notes;
 mod progress;
 mod why;
 
 use host::HostFiles;
+use notes::Notes;
 use progress::{ProgressLine, is_terminal};
 use std::io::ErrorKind;
 use std::process::ExitCode;
@@ -25,6 +27,7 @@ fn words_of(rt: &HostRuntime) -> Result<Vec<String>, ErrorKind> {
 }
 
 fn main(rt: HostRuntime) -> ExitCode {
+    let notes = Notes::new();
     let mut out = WriterSink::new(rt.stdout());
     let mut err = WriterSink::new(rt.stderr());
     let told = WriterSink::new(rt.stderr());
@@ -39,7 +42,7 @@ fn main(rt: HostRuntime) -> ExitCode {
             &rt,
             rt.alloc(),
             passed.as_slice(),
-            &mut HostFiles::new(&rt),
+            &mut HostFiles::new(&rt, &notes),
             &mut out,
             &mut err,
             &mut progress,

@@ -25,7 +25,7 @@ use std::process::Abort;
 use std::sync::Wait;
 use std::thread::Threads;
 use velo_bytes::{Bytes, Text};
-use velo_cli::run;
+use velo_cli::{Recall, run};
 use velo_commands::{Files, Quiet};
 
 const LOST_UPDATE: &str = "vlog 1 2 1 0\n0 fork 1\n0 begin 7\n0 rd 0 0\n1 wr 0 5\n0 wr 0 1\n";
@@ -70,6 +70,8 @@ impl<'a> Folder<'a> {
         }
     }
 }
+
+impl Recall for Folder<'_> {}
 
 impl<'a> Files for Folder<'a> {
     type Input = Bytes<'a>;
@@ -120,7 +122,7 @@ struct Shown {
 }
 
 /// Runs the program on these words with these outputs.
-fn show_on<R: Threads + Wait + Sync, F: Files>(
+fn show_on<R: Threads + Wait + Sync, F: Files + Recall>(
     rt: &R,
     alloc: Global,
     words: &[&str],
@@ -147,7 +149,7 @@ fn compare(rt: &impl Abort, shown: &Shown, out: &str, err: &str, status: u8, tex
 }
 
 /// Runs the program on these words with a standard output that fails after a number of bytes.
-fn show_short<R: Threads + Wait + Sync, F: Files>(
+fn show_short<R: Threads + Wait + Sync, F: Files + Recall>(
     rt: &R,
     alloc: Global,
     words: &[&str],

@@ -1,11 +1,12 @@
 //! A file that is read is not emptied.
 use crate::host::HostFiles;
+use crate::notes::Notes;
 use std::alloc::Global;
 use std::process::Abort;
 use std::sync::Wait;
 use std::thread::Threads;
 use velo_bytes::{Bytes, Text};
-use velo_cli::run;
+use velo_cli::{Recall, run};
 use velo_commands::{Files, Quiet};
 
 /// Two paths, and whether one regular file is at both.
@@ -20,7 +21,8 @@ const PATHS: [(&str, &str, bool); 6] = [
 
 #[test]
 fn one_file_at_two_paths(rt: HostRuntime) {
-    let files = HostFiles::new(&rt);
+    let notes = Notes::new();
+    let files = HostFiles::new(&rt, &notes);
     for (input, target, are_one) in PATHS {
         assert_eq!(&rt; files.are_one(input, target), are_one, "{input} {target}");
     }
@@ -35,6 +37,8 @@ struct Linked {
     alloc: Global,
     is_emptied: bool,
 }
+
+impl Recall for Linked {}
 
 impl Files for Linked {
     type Input = Bytes<'static>;

@@ -11,6 +11,7 @@ use std::sync::Wait;
 use std::test::Fail;
 use std::thread::Threads;
 use velo_bytes::{Bytes, Text};
+use velo_cli::Recall;
 use velo_commands::Files;
 use velo_events::Bounds;
 use velo_logtext::{LogFault, read_log};
@@ -38,6 +39,8 @@ impl<'a> Devices<'a> {
         }
     }
 }
+
+impl Recall for Devices<'_> {}
 
 impl<'a> Files for Devices<'a> {
     type Input = Bytes<'a>;

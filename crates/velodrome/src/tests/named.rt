@@ -6,6 +6,7 @@ use std::process::Abort;
 use std::sync::Wait;
 use std::thread::Threads;
 use velo_bytes::{Bytes, Text, WriterSink};
+use velo_cli::Recall;
 use velo_commands::{
     ExploreOptions, Fate, Files, Limits, Quiet, ReplayOptions, Request, RunOptions, ScheduleSource,
     do_request, end_with,
@@ -410,6 +411,8 @@ struct Saved<'a> {
     log: &'a [u8],
     names: &'a [u8],
 }
+
+impl Recall for Saved<'_> {}
 
 impl<'a> Files for Saved<'a> {
     type Input = Bytes<'a>;

@@ -7,6 +7,7 @@ use std::process::Abort;
 use std::sync::Wait;
 use std::thread::Threads;
 use velo_bytes::{Bytes, Text};
+use velo_cli::Recall;
 use velo_commands::Files;
 
 /// The text of a file, which is standard input too, and what a replay by its turns shows.
@@ -159,6 +160,8 @@ struct Watched<'a> {
     alloc: Global,
     is_opened: Cell<bool>,
 }
+
+impl Recall for Watched<'_> {}
 
 impl<'a> Files for Watched<'a> {
     type Input = Bytes<'a>;

@@ -1,0 +1,115 @@
+-- The files of a request, by what each is for.
+use Rattle.std.specs.Prelude.{ℕ, Bool, true, List, Option, Some, None, codes, option_map}
+use Rattle.std.specs.Borrow.{Bor}
+use Rattle.velo_request.specs.declared.request.Request.{Request}
+use Rattle.velo_request.specs.declared.request.Request.TheVariants.{Audit, Carry, Check, Explain, Explore, Predict, Replay, Run, Thin, Watch, WatchEndless}
+use Rattle.velo_request.specs.declared.request.ScheduleSource.{ScheduleSource}
+use Rattle.velo_request.specs.declared.request.ScheduleSource.TheVariants.{File}
+use Rattle.velo_words.specs.declared.roles.Role.{Role}
+use Rattle.velo_words.specs.declared.roles.Role.TheVariants as role
+
+-- the word of the command line that gives its path
+abbrev pub word_of : Role → List ℕ
+word_of role.Turns = codes "--turns"
+word_of role.Names = codes "--names"
+word_of role.Known = codes "--not-atomic"
+word_of role.Sites = codes "--sites"
+word_of role.Log = codes "LOG"
+word_of role.Work = codes "FILE"
+word_of role.Picture = codes "--dot"
+word_of role.SavedLog = codes "--log"
+word_of role.SavedNames = codes "--names-out"
+word_of role.Map = codes "--map"
+
+-- what is wrong with a file is said in words: always, or with --why
+abbrev pub asks_for_words : Request → Bool
+asks_for_words (Check options) = options.why
+asks_for_words (Carry options) = options.why
+asks_for_words (Run options) = options.why
+asks_for_words (Replay options) = options.run.why
+asks_for_words _ = true
+
+-- ---- their paths
+
+-- that of an option, if it is given
+abbrev pub given : Option (Bor (List ℕ)) → Option (List ℕ)
+given path = option_map (λ path. path.now) path
+
+abbrev pub turns_file : ScheduleSource → Option (List ℕ)
+turns_file (File path) = Some path.now
+turns_file _ = None
+
+abbrev pub turns_of : Request → Option (List ℕ)
+turns_of (Replay options) = turns_file options.schedule
+turns_of _ = None
+
+abbrev pub names_of : Request → Option (List ℕ)
+names_of (Check options) = given options.names
+names_of (Explain options) = given options.names
+names_of (Watch options) = given options.names
+names_of (WatchEndless options) = given options.names
+names_of (Audit options) = given options.names
+names_of (Predict options) = given options.names
+names_of _ = None
+
+abbrev pub known_of : Request → Option (List ℕ)
+known_of (Audit options) = given options.known
+known_of (Predict options) = given options.known
+known_of _ = None
+
+abbrev pub sites_of : Request → Option (List ℕ)
+sites_of (Explain options) = given options.sites
+sites_of _ = None
+
+abbrev pub log_path_of : Request → Option (List ℕ)
+log_path_of (Check options) = Some options.input.now
+log_path_of (Explain options) = Some options.input.now
+log_path_of (Carry options) = Some options.input.now
+log_path_of (Watch options) = Some options.input.now
+log_path_of (WatchEndless options) = Some options.input.now
+log_path_of (Audit options) = Some options.input.now
+log_path_of (Thin options) = Some options.input.now
+log_path_of (Predict options) = Some options.input.now
+log_path_of _ = None
+
+abbrev pub work_path_of : Request → Option (List ℕ)
+work_path_of (Replay options) = Some options.run.input.now
+work_path_of (Run options) = Some options.input.now
+work_path_of (Explore options) = Some options.input.now
+work_path_of _ = None
+
+abbrev pub picture_of : Request → Option (List ℕ)
+picture_of (Explain options) = given options.target
+picture_of _ = None
+
+abbrev pub saved_log_of : Request → Option (List ℕ)
+saved_log_of (Carry options) = Some options.target.now
+saved_log_of (Thin options) = Some options.target.now
+saved_log_of (Predict options) = given options.target
+saved_log_of (Replay options) = given options.run.target
+saved_log_of (Run options) = given options.target
+saved_log_of (Explore options) = given options.target
+saved_log_of _ = None
+
+abbrev pub saved_names_of : Request → Option (List ℕ)
+saved_names_of (Replay options) = given options.run.names_target
+saved_names_of (Run options) = given options.names_target
+saved_names_of (Explore options) = given options.names_target
+saved_names_of _ = None
+
+abbrev pub map_of : Request → Option (List ℕ)
+map_of (Thin options) = given options.map
+map_of _ = None
+
+-- the path of the file of a role, if the request has one
+abbrev pub path_of : Role → Request → Option (List ℕ)
+path_of role.Turns request = turns_of request
+path_of role.Names request = names_of request
+path_of role.Known request = known_of request
+path_of role.Sites request = sites_of request
+path_of role.Log request = log_path_of request
+path_of role.Work request = work_path_of request
+path_of role.Picture request = picture_of request
+path_of role.SavedLog request = saved_log_of request
+path_of role.SavedNames request = saved_names_of request
+path_of role.Map request = map_of request

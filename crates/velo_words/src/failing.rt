@@ -1,0 +1,153 @@
+//! Which file could not be opened, read or written, in words.
+ghost use Rattle.std.specs.Prelude.{◌≡◌, ◌++◌, ⊤, ℕ, List, IfOk, IfSome, OnOk, option_map};
+ghost use Rattle.velo_words.specs.Failing.{IsFailure, SaysFailure, failure_text, reason_of, verb_of};
+ghost use Rattle.velo_words.specs.Roles.{word_of};
+ghost use Rattle.velo_words.specs.declared.failing.Reason.{Reason as ReasonOf};
+
+use crate::roles::{ROLES, Role, asks_for_words, path_of, word_of};
+use std::alloc::Global;
+use velo_events::Memory;
+use velo_explain::{Page, Piece};
+use velo_fate::{CheckFault, Fate};
+use velo_logtext::LogFault;
+use velo_request::Request;
+
+/// Why a file could not be opened, read or written.
+#[derive(Clone, Copy, Debug, PartialEq, Eq)]
+pub enum Reason {
+    /// No file is there, or no directory for it.
+    NotFound,
+    /// The system does not permit it.
+    Denied,
+    /// A directory is there.
+    IsDirectory,
+    /// No room is left.
+    Full,
+    /// The system gives another reason.
+    Other,
+}
+
+/// Files that recall which of them failed last.
+pub trait Recall {
+    /// What is said of a failure that is recalled: nothing, unless an implementation says more.
+    ghost failed: { Self → List ℕ → ReasonOf → Type 0 } = { λ files path reason. ⊤ };
+
+    /// Why the file at a path could not be opened, read or written, if it is the one that failed
+    /// last, and this is known.
+    fn failure_at(&self, path: &str) -> Option<Reason>
+        ensures { IfSome result (failed self.now path.now) }
+    {
+        None
+    }
+}
+
+/// A file of a request that failed.
+#[derive(Clone, Copy)]
+struct Failed<'a> {
+    role: Role,
+    path: &'a str,
+    reason: Reason,
+}
+
+/// What was to be done with the file, where the fate is that it failed.
+fn verb_of(fate: Fate) -> Option<&'static str>
+    ensures { option_map (λ verb. verb.now) result ≡ verb_of fate }
+{
+    match fate {
+        Fate::CannotOpen => Some("open"),
+        Fate::ReadFailed | Fate::Check(CheckFault::Log(LogFault::Read)) => Some("read"),
+        Fate::WriteFailed => Some("write"),
+        _ => None,
+    }
+}
+
+/// A reason in words.
+fn reason_of(reason: Reason) -> &'static str
+    ensures { result.now ≡ reason_of reason }
+{
+    match reason {
+        Reason::NotFound => "there is no such file",
+        Reason::Denied => "permission is denied",
+        Reason::IsDirectory => "it is a directory",
+        Reason::Full => "no room is left",
+        Reason::Other => "the system refused it",
+    }
+}
+
+/// The failure of the file of a role, if the request has one and it failed.
+fn failure_of<'a, F: Recall>(role: Role, request: &Request<'a>, files: &F) -> Option<Failed<'a>>
+    ensures { IfSome result (λ it. IsFailure (F.failed files.now) request.now it.role it.path.now
+        it.reason) }
+{
+    let path = path_of(role, request)?;
+    let reason = files.failure_at(path)?;
+    Some(Failed { role, path, reason })
+}
+
+/// The file of a request that failed, if it is known.
+fn failed_of<'a, F: Recall>(request: &Request<'a>, files: &F) -> Option<Failed<'a>>
+    ensures { IfSome result (λ it. IsFailure (F.failed files.now) request.now it.role it.path.now
+        it.reason) }
+{
+    for role in &ROLES {
+        if let Some(failed) = failure_of(*role, request, files) {
+            return Some(failed);
+        }
+    }
+    None
+}
+
+/// Adds what is said of a file, by what was to be done, its word and the reason.
+#[tactic(auto, unfolding(crate::specs::Failing::failure_text))]
+fn add_failure(
+    page: &mut Page,
+    path: &str,
+    verb: &str,
+    word: &str,
+    reason: &str,
+) -> Result<(), Memory>
+    ensures { OnOk result (page.new
+        ≡ page.old ++ failure_text path.now verb.now word.now reason.now) }
+{
+    page.add(&[
+        Piece::Text("velodrome: "),
+        Piece::Text(path),
+        Piece::Text(": cannot "),
+        Piece::Text(verb),
+        Piece::Text(" "),
+        Piece::Text(word),
+        Piece::Text(": "),
+        Piece::Text(reason),
+        Piece::Text("\n"),
+    ])
+}
+
+/// What is said of a file that failed.
+fn failure_words(alloc: Global, verb: &str, failed: &Failed) -> Result<Page, Memory>
+    ensures { IfOk result (λ page. page ≡ failure_text failed.now.path.now verb.now
+        (word_of failed.now.role) (reason_of failed.now.reason)) }
+{
+    let mut page = Page::new(alloc);
+    let word = word_of(failed.role);
+    let reason = reason_of(failed.reason);
+    add_failure(&mut page, failed.path, verb, word, reason)?;
+    Ok(page)
+}
+
+/// What is said where a file of a request could not be opened, read or written, if the request asks
+/// for words and it is known which file it is.
+pub fn words_of_failure<F: Recall>(
+    alloc: Global,
+    request: &Request,
+    fate: Fate,
+    files: &F,
+) -> Option<Page>
+    ensures { IfSome result (SaysFailure (F.failed files.now) request.now fate) }
+{
+    if !asks_for_words(request) {
+        return None;
+    }
+    let verb = verb_of(fate)?;
+    let failed = failed_of(request, files)?;
+    failure_words(alloc, verb, &failed).ok()
+}

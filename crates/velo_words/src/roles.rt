@@ -1,0 +1,210 @@
+//! The files of a request, by what each is for.
+ghost use Rattle.std.specs.Prelude.{◌≡◌, option_map};
+ghost use Rattle.velo_words.specs.Roles.{asks_for_words, known_of, log_path_of, map_of, names_of, path_of, picture_of, saved_log_of, saved_names_of, sites_of, turns_of, word_of, work_path_of};
+
+use velo_request::{Request, ScheduleSource};
+
+/// What a file is for.
+#[derive(Clone, Copy, Debug, PartialEq, Eq)]
+pub enum Role {
+    /// It has the turns of a schedule.
+    Turns,
+    /// It has names.
+    Names,
+    /// It has the labels that are known already.
+    Known,
+    /// It has sites.
+    Sites,
+    /// It is a recorded log.
+    Log,
+    /// It is a workload.
+    Work,
+    /// A picture is saved there.
+    Picture,
+    /// A log is saved there.
+    SavedLog,
+    /// The names of a workload are saved there.
+    SavedNames,
+    /// A map of positions is saved there.
+    Map,
+}
+
+/// The roles, in the order in which a command opens its files.
+pub const ROLES: [Role; 10] = [
+    Role::Turns,
+    Role::Names,
+    Role::Known,
+    Role::Sites,
+    Role::Log,
+    Role::Work,
+    Role::Picture,
+    Role::SavedLog,
+    Role::SavedNames,
+    Role::Map,
+];
+
+/// The word of the command line that gives the path of a file of this role.
+pub fn word_of(role: Role) -> &'static str
+    ensures { result.now ≡ word_of role }
+{
+    match role {
+        Role::Turns => "--turns",
+        Role::Names => "--names",
+        Role::Known => "--not-atomic",
+        Role::Sites => "--sites",
+        Role::Log => "LOG",
+        Role::Work => "FILE",
+        Role::Picture => "--dot",
+        Role::SavedLog => "--log",
+        Role::SavedNames => "--names-out",
+        Role::Map => "--map",
+    }
+}
+
+/// Whether what is wrong with a file of the request is said in words.
+pub fn asks_for_words(request: &Request) -> bool
+    ensures { result ≡ asks_for_words request.now }
+{
+    match request {
+        Request::Check(options) => options.why,
+        Request::Carry(options) => options.why,
+        Request::Run(options) => options.why,
+        Request::Replay(options) => options.run.why,
+        Request::Explain(_) | Request::Explore(_) | Request::Watch(_) => true,
+        Request::WatchEndless(_) | Request::Audit(_) => true,
+        Request::Thin(_) | Request::Predict(_) => true,
+    }
+}
+
+fn turns_of<'a>(request: &Request<'a>) -> Option<&'a str>
+    ensures { option_map (λ path. path.now) result ≡ turns_of request.now }
+{
+    match request {
+        Request::Replay(options) => match options.schedule {
+            ScheduleSource::File(path) => Some(path),
+            ScheduleSource::Text(_) | ScheduleSource::Turns(_) => None,
+        },
+        _ => None,
+    }
+}
+
+fn names_of<'a>(request: &Request<'a>) -> Option<&'a str>
+    ensures { option_map (λ path. path.now) result ≡ names_of request.now }
+{
+    match request {
+        Request::Check(options) => options.names,
+        Request::Explain(options) => options.names,
+        Request::Watch(options) => options.names,
+        Request::WatchEndless(options) => options.names,
+        Request::Audit(options) => options.names,
+        Request::Predict(options) => options.names,
+        _ => None,
+    }
+}
+
+fn known_of<'a>(request: &Request<'a>) -> Option<&'a str>
+    ensures { option_map (λ path. path.now) result ≡ known_of request.now }
+{
+    match request {
+        Request::Audit(options) => options.known,
+        Request::Predict(options) => options.known,
+        _ => None,
+    }
+}
+
+fn sites_of<'a>(request: &Request<'a>) -> Option<&'a str>
+    ensures { option_map (λ path. path.now) result ≡ sites_of request.now }
+{
+    match request {
+        Request::Explain(options) => options.sites,
+        _ => None,
+    }
+}
+
+fn log_path_of<'a>(request: &Request<'a>) -> Option<&'a str>
+    ensures { option_map (λ path. path.now) result ≡ log_path_of request.now }
+{
+    match request {
+        Request::Check(options) => Some(options.input),
+        Request::Explain(options) => Some(options.input),
+        Request::Carry(options) => Some(options.input),
+        Request::Watch(options) => Some(options.input),
+        Request::WatchEndless(options) => Some(options.input),
+        Request::Audit(options) => Some(options.input),
+        Request::Thin(options) => Some(options.input),
+        Request::Predict(options) => Some(options.input),
+        Request::Replay(_) | Request::Run(_) | Request::Explore(_) => None,
+    }
+}
+
+fn work_path_of<'a>(request: &Request<'a>) -> Option<&'a str>
+    ensures { option_map (λ path. path.now) result ≡ work_path_of request.now }
+{
+    match request {
+        Request::Replay(options) => Some(options.run.input),
+        Request::Run(options) => Some(options.input),
+        Request::Explore(options) => Some(options.input),
+        _ => None,
+    }
+}
+
+fn picture_of<'a>(request: &Request<'a>) -> Option<&'a str>
+    ensures { option_map (λ path. path.now) result ≡ picture_of request.now }
+{
+    match request {
+        Request::Explain(options) => options.target,
+        _ => None,
+    }
+}
+
+fn saved_log_of<'a>(request: &Request<'a>) -> Option<&'a str>
+    ensures { option_map (λ path. path.now) result ≡ saved_log_of request.now }
+{
+    match request {
+        Request::Carry(options) => Some(options.target),
+        Request::Thin(options) => Some(options.target),
+        Request::Predict(options) => options.target,
+        Request::Replay(options) => options.run.target,
+        Request::Run(options) => options.target,
+        Request::Explore(options) => options.target,
+        _ => None,
+    }
+}
+
+fn saved_names_of<'a>(request: &Request<'a>) -> Option<&'a str>
+    ensures { option_map (λ path. path.now) result ≡ saved_names_of request.now }
+{
+    match request {
+        Request::Replay(options) => options.run.names_target,
+        Request::Run(options) => options.names_target,
+        Request::Explore(options) => options.names_target,
+        _ => None,
+    }
+}
+
+fn map_of<'a>(request: &Request<'a>) -> Option<&'a str>
+    ensures { option_map (λ path. path.now) result ≡ map_of request.now }
+{
+    match request {
+        Request::Thin(options) => options.map,
+        _ => None,
+    }
+}
+
+/// The path of the file of a role, if the request has one.
+pub fn path_of<'a>(role: Role, request: &Request<'a>) -> Option<&'a str>
+    ensures { option_map (λ path. path.now) result ≡ path_of role request.now }
+{
+    match role {
+        Role::Turns => turns_of(request),
+        Role::Names => names_of(request),
+        Role::Known => known_of(request),
+        Role::Sites => sites_of(request),
+        Role::Log => log_path_of(request),
+        Role::Work => work_path_of(request),
+        Role::Picture => picture_of(request),
+        Role::SavedLog => saved_log_of(request),
+        Role::SavedNames => saved_names_of(request),
+        Role::Map => map_of(request),
+    }
+}
