@@ -61,6 +61,8 @@ PARTS = [
         "velo_inputs": "Before* Input",
         "velo_log_commands": "Commands* Check Explaining Carrying",
         "velo_audit_commands": "Commands* Predicting",
+        "velo_verify": "Commands* Verifying",
+        "velo_claims": "Judging* Text* Line",
         "velo_workload_commands": "Commands* Scheduling Playing ByChance Exploring*",
         "velo_fate": "Verdict Format Delivery Barred Fate Failures Causes",
         "velo_delivery": "Disk Reading Writing Answers",

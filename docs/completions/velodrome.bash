@@ -2,7 +2,7 @@
 _velodrome() {
     local word=${COMP_WORDS[COMP_CWORD]} before=${COMP_WORDS[COMP_CWORD-1]} words=
     if [ "$COMP_CWORD" -eq 1 ]; then
-        COMPREPLY=($(compgen -W "check replay run explain carry explore watch audit thin predict help --help --version" -- "$word"))
+        COMPREPLY=($(compgen -W "check replay run explain carry explore watch audit thin predict verify help --help --version" -- "$word"))
         return
     fi
     case $before in --events|--ignore-lock|--ignore-variable|--nodes|--random|--schedule|--seed|--states|--tries|--turns) COMPREPLY=(); return ;; esac
@@ -10,13 +10,14 @@ _velodrome() {
         check) words="--names --why --events --nodes --certificate --help" ;;
         replay) words="--schedule --turns --stop --why --log --names-out --events --nodes --certificate --help" ;;
         run) words="--stop --why --log --names-out --events --nodes --certificate --help" ;;
-        explain) words="--dot --names --sites --help" ;;
+        explain) words="--dot --svg --names --sites --help" ;;
         carry) words="--log --why --help" ;;
         explore) words="--states --first --progress --random --seed --log --names-out --events --nodes --certificate --help" ;;
         watch) words="--names --stop --endless --events --nodes --certificate --help" ;;
-        audit) words="--no-witness --names --not-atomic --ignore-lock --ignore-variable --events --nodes --help" ;;
+        audit) words="--no-witness --counts --by-count --innermost --names --not-atomic --ignore-lock --ignore-variable --events --nodes --help" ;;
         thin) words="--log --map --help" ;;
         predict) words="--log --values --tries --seed --names --not-atomic --ignore-lock --ignore-variable --events --nodes --help" ;;
+        verify) words="--help" ;;
     esac
     case $word in
         -*) COMPREPLY=($(compgen -W "$words" -- "$word")) ;;

@@ -1,3 +1,4 @@
+//! Slots for nodes, used again after they are freed.
 ghost use Rattle.std.specs.Prelude.{◌≡◌, ℕ, ◌<◌, ◌≤◌, ◌↔◌, Some, None, replicate, IfOk, OnErr, IsErr, IsTrue, true, vec_capacity, if◌then◌else◌};
 ghost use Rattle.velo_arena.specs.Slots.{limit_of, is_used, used_in, bears, stamp_in, is_finished_in, with_node, Opens, HasOwnStamps};
 ghost use Rattle.std.specs.Option.{ForSome};

@@ -1,3 +1,4 @@
+//! A node's name: its slot and its stamp.
 ghost use Rattle.std.specs.Prelude.{◌≡◌};
 ghost use Rattle.velo_arena.specs.Heirs.{renamed};
 

@@ -26,13 +26,14 @@ use Rattle.velo_request.specs.declared.request.ScheduleSource.{ScheduleSource}
 use Rattle.velo_request.specs.declared.request.ScheduleSource.TheVariants as source
 use Rattle.velo_request.specs.declared.request.TheConstants.{DEFAULT_SEED, MAX_RUNS, MAX_STATES, MAX_TRIES}
 use Rattle.velo_request.specs.declared.request.ThinOptions.{ThinOptions}
+use Rattle.velo_request.specs.declared.request.VerifyOptions.{VerifyOptions}
 use Rattle.velo_request.specs.declared.request.Request.{Request}
-use Rattle.velo_request.specs.declared.request.Request.TheVariants.{Audit, Carry, Check, Explain, Explore, Predict, Replay, Run, Thin, Watch, WatchEndless}
-use Rattle.velo_arguments.specs.Asked.{AreLeftOut, AreLimits, AreRandomRuns, AreTurns, AsksFor, AsksForNothing, IsAudit, IsCarrying, IsCheck, IsExplanation, IsExploring, IsFlag, IsPredicting, IsReplay, IsRun, IsSchedule, IsSeed, IsThinning, WritesNumber}
-use Rattle.velo_arguments.specs.CommandLine.{asked_by, audit, carry, check, command_line, explain, explore, faults_of, predict, replay, run, thin, watch}
+use Rattle.velo_request.specs.declared.request.Request.TheVariants.{Audit, Carry, Check, Explain, Explore, Predict, Replay, Run, Thin, Verify, Watch, WatchEndless}
+use Rattle.velo_arguments.specs.Asked.{AreLeftOut, AreLimits, AreRandomRuns, AreTurns, AsksFor, AsksForNothing, IsAudit, IsCarrying, IsCheck, IsExplanation, IsExploring, IsFlag, IsPredicting, IsReplay, IsRun, IsSchedule, IsSeed, IsThinning, IsVerifying, WritesNumber}
+use Rattle.velo_arguments.specs.CommandLine.{asked_by, audit, carry, check, command_line, explain, explore, faults_of, predict, replay, run, thin, verify, watch}
 use Rattle.velo_arguments.proofs.OnLimits.{HasLimit, HasWide, HasWord, MayHave}
 use Rattle.velo_arguments.proofs.OnWalk.{Each, found_has}
-use Rattle.velo_arguments.proofs.OnRight.{AreFaultless, HasDelays, HasLimits, HasSearch, audit_right, carry_right, check_right, explain_right, explore_right, faultless_enters, predict_right, replay_right, rows_of_leaf, run_right, thin_right, watch_right}
+use Rattle.velo_arguments.proofs.OnRight.{AreFaultless, HasDelays, HasLimits, HasSearch, audit_right, carry_right, check_right, explain_right, explore_right, faultless_enters, predict_right, replay_right, rows_of_leaf, run_right, thin_right, verify_right, watch_right}
 
 -- ---- the parts of a request
 
@@ -166,10 +167,11 @@ an_explanation rows word = (
   record {
     input = a_path word.0;
     target = a_path_if (first_of (codes "dot") rows);
+    drawing = a_path_if (first_of (codes "svg") rows);
     names = a_path_if (first_of (codes "names") rows);
     sites = a_path_if (first_of (codes "sites") rows);
   },
-  (word.1, path_of (first_of (codes "dot") rows), path_of (first_of (codes "names") rows), path_of (first_of (codes "sites") rows)),
+  (word.1, path_of (first_of (codes "dot") rows), path_of (first_of (codes "svg") rows), path_of (first_of (codes "names") rows), path_of (first_of (codes "sites") rows)),
 )
 
 a_carrying : (rows : List Row) → HasWord (codes "LOG") rows → HasWord (codes "log") rows → (options : CarryOptions) × IsCarrying rows options
@@ -257,9 +259,12 @@ an_audit rows word has =
         ignored_locks = the_words (codes "ignore-lock") rows;
         ignored_variables = the_words (codes "ignore-variable") rows;
         witness = not (is_true (one_of (codes "no-witness") rows));
+        counts = is_true (one_of (codes "counts") rows);
+        by_count = is_true (one_of (codes "by-count") rows);
+        innermost = is_true (one_of (codes "innermost") rows);
         limits = limits.0;
       },
-      (word.1, path_of (first_of (codes "names") rows), left_out rows, is_flag_turned (one_of (codes "no-witness") rows), limits.1),
+      (word.1, path_of (first_of (codes "names") rows), left_out rows, is_flag_turned (one_of (codes "no-witness") rows), record { counts = is_flag (one_of (codes "counts") rows); by_count = is_flag (one_of (codes "by-count") rows); innermost = is_flag (one_of (codes "innermost") rows) }, limits.1),
     )
 
 a_thinning : (rows : List Row) → HasWord (codes "LOG") rows → HasWord (codes "log") rows → (options : ThinOptions) × IsThinning rows options
@@ -298,6 +303,10 @@ a_predicting rows word has =
         limits.1,
       ),
     )
+
+a_verifying : (rows : List Row) → HasWord (codes "LOG") rows → HasWord (codes "REPORT") rows → (options : VerifyOptions) × IsVerifying rows options
+unfolding a_path
+a_verifying rows log report = (record { input = a_path log.0; report = a_path report.0 }, (log.1, report.1))
 
 -- ---- the words
 
@@ -356,8 +365,11 @@ thin_asks words = asks thin words Thin IsThinning (λ o is. (refl, is)) (λ e. a
 predict_asks : (words : List Text) → AsksBy predict words
 predict_asks words = asks predict words Predict IsPredicting (λ o is. (refl, is)) (λ e. a_predicting (rows_of_leaf predict words) (predict_right words e).0 (predict_right words e).1)
 
+verify_asks : (words : List Text) → AsksBy verify words
+verify_asks words = asks verify words Verify IsVerifying (λ o is. (refl, is)) (λ e. a_verifying (rows_of_leaf verify words) (verify_right words e).0 (verify_right words e).1)
+
 each_asks : (name : Text) (words : List Text) → bytes_eq name (codes "help") ≡ false → Each (AsksAt name words) (built command_line).subs
-each_asks name words apart = (λ hit. check_asks words, (λ hit. replay_asks words, (λ hit. run_asks words, (λ hit. explain_asks words, (λ hit. carry_asks words, (λ hit. explore_asks words, (λ hit. watch_asks words, (λ hit. audit_asks words, (λ hit. thin_asks words, (λ hit. predict_asks words, (λ hit e. absurd (not_help name apart hit), tt)))))))))))
+each_asks name words apart = (λ hit. check_asks words, (λ hit. replay_asks words, (λ hit. run_asks words, (λ hit. explain_asks words, (λ hit. carry_asks words, (λ hit. explore_asks words, (λ hit. watch_asks words, (λ hit. audit_asks words, (λ hit. thin_asks words, (λ hit. predict_asks words, (λ hit. verify_asks words, (λ hit e. absurd (not_help name apart hit), tt))))))))))))
 
 -- words without a fault ask for a request
 pub faultless_asks : (words : List Text) → faults_of words ≡ [] → ¬ AsksForNothing (asked_by words)

@@ -14,7 +14,7 @@ use Rattle.clap.specs.Faults.{built_fault, defaults_fault, entered_fault, level_
 use Rattle.clap.specs.declared.parser.matches.ValueSource.{ValueSource}
 use Rattle.velo_events.specs.declared.limits.TheConstants.{MAX_EVENTS, MAX_NODES}
 use Rattle.velo_request.specs.declared.request.TheConstants.{MAX_RUNS, MAX_STATES, MAX_TRIES}
-use Rattle.velo_arguments.specs.CommandLine.{audit, carry, check, command_line, events, explain, explore, flag, graph_options, label_options, needed, nodes, predict, random, repeated, replay, run, run_options, saved_options, seed, states, thin, tries, valued, watch, word}
+use Rattle.velo_arguments.specs.CommandLine.{audit, carry, check, command_line, events, explain, explore, flag, graph_options, label_options, needed, nodes, predict, random, repeated, replay, run, run_options, saved_options, seed, states, thin, tries, valued, verify, watch, word}
 use Rattle.velo_arguments.proofs.OnWalk.{Each, level_keeps, neither}
 use Rattle.velo_arguments.proofs.OnStop.{StopsNotAtHelp, walk_stops}
 use Rattle.velo_arguments.proofs.OnRows.{IsFilled, MakesRows, default_keeps, defaults_have, is_plain, more_row, new_row, required_given, row_given, row_there, subcommand_there, used_keeps}
@@ -237,7 +237,7 @@ replay_right words e =
 
 pub explain_right : (words : List Text) → AreFaultless explain words → HasWord (codes "LOG") (rows_of_leaf explain words)
 explain_right words e =
-    let level = level_has limits (leaf explain) words refl (makes_word (codes "LOG") refl, (makes_valued (codes "dot") refl, (makes_valued (codes "names") refl, (makes_valued (codes "sites") refl, (makes_help, tt))))) e in
+    let level = level_has limits (leaf explain) words refl (makes_word (codes "LOG") refl, (makes_valued (codes "dot") refl, (makes_valued (codes "svg") refl, (makes_valued (codes "names") refl, (makes_valued (codes "sites") refl, (makes_help, tt)))))) e in
     word_there (codes "LOG") (rows_of_leaf explain words) level.passes (level.given.0 refl)
 
 pub carry_right : (words : List Text) → AreFaultless carry words
@@ -245,6 +245,12 @@ pub carry_right : (words : List Text) → AreFaultless carry words
 carry_right words e =
     let level = level_has limits (leaf carry) words refl (makes_word (codes "LOG") refl, (makes_needed (codes "log") refl, (makes_flag (codes "why") refl, (makes_help, tt)))) e in
     (word_there (codes "LOG") (rows_of_leaf carry words) level.passes (level.given.0 refl), word_there (codes "log") (rows_of_leaf carry words) level.passes (level.given.1.0 refl))
+
+pub verify_right : (words : List Text) → AreFaultless verify words
+    → HasWord (codes "LOG") (rows_of_leaf verify words) × HasWord (codes "REPORT") (rows_of_leaf verify words)
+verify_right words e =
+    let level = level_has limits (leaf verify) words refl (makes_word (codes "LOG") refl, (makes_word (codes "REPORT") refl, (makes_help, tt))) e in
+    (word_there (codes "LOG") (rows_of_leaf verify words) level.passes (level.given.0 refl), word_there (codes "REPORT") (rows_of_leaf verify words) level.passes (level.given.1.0 refl))
 
 -- what an exploration has besides its word
 abbrev pub HasSearch : List Row → Type 0
@@ -268,8 +274,8 @@ watch_right words e =
 pub audit_right : (words : List Text) → AreFaultless audit words
     → HasWord (codes "LOG") (rows_of_leaf audit words) × HasLimits (rows_of_leaf audit words)
 audit_right words e =
-    let level = level_has limits (leaf audit) words refl (makes_word (codes "LOG") refl, (makes_flag (codes "no-witness") refl, labels_made)) e in
-    (word_there (codes "LOG") (rows_of_leaf audit words) level.passes (level.given.0 refl), limits_there (rows_of_leaf audit words) level.passes (level.defaults.1.1.1.1.1.1.0 tt) (level.defaults.1.1.1.1.1.1.1.0 tt))
+    let level = level_has limits (leaf audit) words refl (makes_word (codes "LOG") refl, (makes_flag (codes "no-witness") refl, (makes_flag (codes "counts") refl, (makes_flag (codes "by-count") refl, (makes_flag (codes "innermost") refl, labels_made))))) e in
+    (word_there (codes "LOG") (rows_of_leaf audit words) level.passes (level.given.0 refl), limits_there (rows_of_leaf audit words) level.passes (level.defaults.1.1.1.1.1.1.1.1.1.0 tt) (level.defaults.1.1.1.1.1.1.1.1.1.1.0 tt))
 
 pub thin_right : (words : List Text) → AreFaultless thin words
     → HasWord (codes "LOG") (rows_of_leaf thin words) × HasWord (codes "log") (rows_of_leaf thin words)

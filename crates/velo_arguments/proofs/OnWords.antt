@@ -22,8 +22,9 @@ use Rattle.velo_request.specs.declared.request.ExploreOptions.{ExploreOptions}
 use Rattle.velo_request.specs.declared.request.ScheduleSource.TheVariants as source
 use Rattle.velo_request.specs.declared.request.TheConstants.{DEFAULT_SEED, DEFAULT_TRIES}
 use Rattle.velo_request.specs.declared.request.ThinOptions.{ThinOptions}
+use Rattle.velo_request.specs.declared.request.VerifyOptions.{VerifyOptions}
 use Rattle.velo_request.specs.declared.request.WatchOptions.{WatchOptions}
-use Rattle.velo_request.specs.declared.request.Request.TheVariants.{Audit, Carry, Check, Explain, Explore, Predict, Replay, Run, Thin, Watch, WatchEndless}
+use Rattle.velo_request.specs.declared.request.Request.TheVariants.{Audit, Carry, Check, Explain, Explore, Predict, Replay, Run, Thin, Verify, Watch, WatchEndless}
 use Rattle.velo_arguments.specs.Asked.{AreTurns, AsksFor, IsFlag, IsSchedule, WritesNumber}
 use Rattle.velo_arguments.specs.CommandLine.{asked_by, faults_of}
 use Rattle.velo_arguments.specs.Together.{given_by}
@@ -150,18 +151,18 @@ replay_file_asks options path schedule says file stop log names events nodes cer
   ),
 )
 
--- a log and a picture
+-- a log, a picture and a drawing
 abbrev explain_words : List Text
-explain_words = codes "velodrome" ∷ codes "explain" ∷ codes "a" ∷ codes "--dot" ∷ codes "p" ∷ codes "--names=n" ∷ codes "--sites" ∷ codes "s" ∷ []
+explain_words = codes "velodrome" ∷ codes "explain" ∷ codes "a" ∷ codes "--dot" ∷ codes "p" ∷ codes "--svg=d" ∷ codes "--names=n" ∷ codes "--sites" ∷ codes "s" ∷ []
 
 explain_is_right : faults_of explain_words ≡ []
 unfolding faults_of walk_fault walked defaults_fault
 explain_is_right = refl
 
 explain_asks : (options : ExplainOptions) → options.input.now ≡ codes "a" → option_map (λ path. path.now) options.target ≡ Some (codes "p")
-    → option_map (λ path. path.now) options.names ≡ Some (codes "n") → option_map (λ path. path.now) options.sites ≡ Some (codes "s") → AsksFor (asked_by explain_words) (Explain options)
+    → option_map (λ path. path.now) options.drawing ≡ Some (codes "d") → option_map (λ path. path.now) options.names ≡ Some (codes "n") → option_map (λ path. path.now) options.sites ≡ Some (codes "s") → AsksFor (asked_by explain_words) (Explain options)
 unfolding asked_by walked
-explain_asks options log dot names sites = (refl, (ap Some (sym log), sym dot, sym names, sym sites))
+explain_asks options log dot svg names sites = (refl, (ap Some (sym log), sym dot, sym svg, sym names, sym sites))
 
 -- a log, and the file for it
 abbrev carry_words : List Text
@@ -267,6 +268,18 @@ thin_asks : (options : ThinOptions) → options.input.now ≡ codes "a" → opti
 unfolding asked_by walked
 thin_asks options log out map = (refl, (ap Some (sym log), ap Some (sym out), sym map))
 
+-- a report beside its log
+abbrev verify_words : List Text
+verify_words = codes "velodrome" ∷ codes "verify" ∷ codes "a" ∷ codes "b" ∷ []
+
+verify_is_right : faults_of verify_words ≡ []
+unfolding faults_of walk_fault walked defaults_fault
+verify_is_right = refl
+
+verify_asks : (options : VerifyOptions) → options.input.now ≡ codes "a" → options.report.now ≡ codes "b" → AsksFor (asked_by verify_words) (Verify options)
+unfolding asked_by walked
+verify_asks options log report = (refl, (ap Some (sym log), ap Some (sym report)))
+
 -- a log whose predictions are searched for, with the tries, the seed and the limits that are there by default
 abbrev predict_words : List Text
 predict_words = codes "velodrome" ∷ codes "predict" ∷ codes "a" ∷ codes "--values" ∷ codes "--log" ∷ codes "o" ∷ []
@@ -296,7 +309,7 @@ predict_asks options log names known locks variables values tries seed out event
 
 -- a log that is audited, without two locks; the limits are the greatest ones by default
 abbrev audit_words : List Text
-audit_words = codes "velodrome" ∷ codes "audit" ∷ codes "a" ∷ codes "--ignore-lock" ∷ codes "3" ∷ codes "--no-witness" ∷ codes "--ignore-lock=m" ∷ codes "--not-atomic" ∷ codes "l" ∷ []
+audit_words = codes "velodrome" ∷ codes "audit" ∷ codes "a" ∷ codes "--ignore-lock" ∷ codes "3" ∷ codes "--no-witness" ∷ codes "--ignore-lock=m" ∷ codes "--innermost" ∷ codes "--not-atomic" ∷ codes "l" ∷ []
 
 audit_is_right : faults_of audit_words ≡ []
 unfolding faults_of walk_fault walked defaults_fault
@@ -304,11 +317,11 @@ audit_is_right = refl
 
 audit_asks : (options : AuditOptions) → options.input.now ≡ codes "a" → options.names ≡ None → option_map (λ path. path.now) options.known ≡ Some (codes "l")
     → map (λ w. w.now) options.ignored_locks.now ≡ codes "3" ∷ codes "m" ∷ [] → map (λ w. w.now) options.ignored_variables.now ≡ [] → options.witness ≡ false
-    → options.limits.events ≡ 16777216 → options.limits.nodes ≡ 4096 → AsksFor (asked_by audit_words) (Audit options)
+    → options.counts ≡ false → options.by_count ≡ false → options.innermost ≡ true → options.limits.events ≡ 16777216 → options.limits.nodes ≡ 4096 → AsksFor (asked_by audit_words) (Audit options)
 unfolding asked_by walked
-audit_asks options log names known locks variables witness events nodes = (
+audit_asks options log names known locks variables witness counts by_count innermost events nodes = (
   refl,
-  (ap Some (sym log), ap (option_map (λ path. path.now)) (sym names), (sym known, sym locks, sym variables), search rules, search rules),
+  (ap Some (sym log), ap (option_map (λ path. path.now)) (sym names), (sym known, sym locks, sym variables), search rules, record { counts = search rules; by_count = search rules; innermost = search rules }, search rules),
 )
 
 -- ---- wrong words, and words that ask for help
@@ -348,6 +361,10 @@ too_many_runs = refl
 too_many_tries : faults_of (codes "velodrome" ∷ codes "predict" ∷ codes "a" ∷ codes "--tries=1000001" ∷ []) ≡ ValueValidation ∷ []
 unfolding faults_of walk_fault walked defaults_fault
 too_many_tries = refl
+
+no_report : faults_of (codes "velodrome" ∷ codes "verify" ∷ codes "a" ∷ []) ≡ MissingRequiredArgument ∷ []
+unfolding faults_of walk_fault walked defaults_fault
+no_report = refl
 
 no_file_for_what_is_left : faults_of (codes "velodrome" ∷ codes "thin" ∷ codes "a" ∷ []) ≡ MissingRequiredArgument ∷ []
 unfolding faults_of walk_fault walked defaults_fault

@@ -19,9 +19,10 @@ use Rattle.velo_request.specs.declared.request.ScheduleSource.TheVariants as sch
 use Rattle.velo_request.specs.declared.request.TheConstants.{DEFAULT_SEED}
 use Rattle.velo_request.specs.declared.request.ExplainOptions.{ExplainOptions}
 use Rattle.velo_request.specs.declared.request.ThinOptions.{ThinOptions}
+use Rattle.velo_request.specs.declared.request.VerifyOptions.{VerifyOptions}
 use Rattle.velo_request.specs.declared.request.WatchOptions.{WatchOptions}
 use Rattle.velo_request.specs.declared.request.Request.{Request}
-use Rattle.velo_request.specs.declared.request.Request.TheVariants.{Audit, Carry, Check, Explain, Explore, Predict, Replay, Run, Thin, Watch, WatchEndless}
+use Rattle.velo_request.specs.declared.request.Request.TheVariants.{Audit, Carry, Check, Explain, Explore, Predict, Replay, Run, Thin, Verify, Watch, WatchEndless}
 
 -- the text writes this number, which an unsigned type of `bits` bits holds; a plus may come before
 -- it
@@ -89,6 +90,7 @@ abbrev pub IsExplanation : List Row → ExplainOptions → Type 0
 IsExplanation rows options =
     (first_of (codes "LOG") rows ≡ Some options.input.now)
     × IsPath (codes "dot") rows options.target
+    × IsPath (codes "svg") rows options.drawing
     × IsPath (codes "names") rows options.names
     × IsPath (codes "sites") rows options.sites
 
@@ -146,12 +148,19 @@ AreLeftOut rows known locks variables =
     × AreWords (codes "ignore-lock") rows locks
     × AreWords (codes "ignore-variable") rows variables
 
+-- its labels are listed so
+pub record IsListing (rows : List Row) (options : AuditOptions) : Type 0 where
+  pub counts : IsFlag (one_of (codes "counts") rows) options.counts
+  pub by_count : IsFlag (one_of (codes "by-count") rows) options.by_count
+  pub innermost : IsFlag (one_of (codes "innermost") rows) options.innermost
+
 abbrev pub IsAudit : List Row → AuditOptions → Type 0
 IsAudit rows options =
     (first_of (codes "LOG") rows ≡ Some options.input.now)
     × IsPath (codes "names") rows options.names
     × AreLeftOut rows options.known options.ignored_locks.now options.ignored_variables.now
     × IsFlag (one_of (codes "no-witness") rows) (not options.witness)
+    × IsListing rows options
     × AreLimits rows options.limits
 
 abbrev pub IsThinning : List Row → ThinOptions → Type 0
@@ -171,6 +180,11 @@ IsPredicting rows options =
     × IsPath (codes "log") rows options.target
     × AreLimits rows options.limits
 
+abbrev pub IsVerifying : List Row → VerifyOptions → Type 0
+IsVerifying rows options =
+    (first_of (codes "LOG") rows ≡ Some options.input.now)
+    × (first_of (codes "REPORT") rows ≡ Some options.report.now)
+
 -- a subcommand by its name, with the values of its arguments
 abbrev pub Asked : Type 0
 Asked = Option (Text × List Row)
@@ -189,6 +203,7 @@ AsksFor (Some found) (WatchEndless options) = (found.0 ≡ codes "watch") × IsE
 AsksFor (Some found) (Audit options) = (found.0 ≡ codes "audit") × IsAudit found.1 options
 AsksFor (Some found) (Thin options) = (found.0 ≡ codes "thin") × IsThinning found.1 options
 AsksFor (Some found) (Predict options) = (found.0 ≡ codes "predict") × IsPredicting found.1 options
+AsksFor (Some found) (Verify options) = (found.0 ≡ codes "verify") × IsVerifying found.1 options
 
 -- no request is asked for
 abbrev pub AsksForNothing : Asked → Type 0

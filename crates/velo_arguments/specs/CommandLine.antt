@@ -111,7 +111,7 @@ run = subcommand (codes "run") (word (codes "FILE") ∷ run_options)
 
 abbrev pub explain : Shape
 explain = subcommand (codes "explain")
-    (word (codes "LOG") ∷ valued (codes "dot") ∷ valued (codes "names")
+    (word (codes "LOG") ∷ valued (codes "dot") ∷ valued (codes "svg") ∷ valued (codes "names")
     ∷ valued (codes "sites") ∷ [])
 
 abbrev pub carry : Shape
@@ -128,7 +128,9 @@ watch = subcommand (codes "watch")
 
 abbrev pub audit : Shape
 audit =
-    subcommand (codes "audit") (word (codes "LOG") ∷ flag (codes "no-witness") ∷ label_options)
+    subcommand (codes "audit")
+    (word (codes "LOG") ∷ flag (codes "no-witness") ∷ flag (codes "counts")
+    ∷ flag (codes "by-count") ∷ flag (codes "innermost") ∷ label_options)
 
 abbrev pub thin : Shape
 thin = subcommand (codes "thin")
@@ -138,6 +140,9 @@ abbrev pub predict : Shape
 predict = subcommand (codes "predict")
     (word (codes "LOG") ∷ valued (codes "log") ∷ flag (codes "values") ∷ tries ∷ seed
     ∷ label_options)
+
+abbrev pub verify : Shape
+verify = subcommand (codes "verify") (word (codes "LOG") ∷ word (codes "REPORT") ∷ [])
 
 -- the program before it has its subcommands
 abbrev pub bare : App
@@ -155,7 +160,8 @@ command_line = record {
     subcommand_required = true;
   };
   subs =
-      check ∷ replay ∷ run ∷ explain ∷ carry ∷ explore ∷ watch ∷ audit ∷ thin ∷ predict ∷ [];
+      check ∷ replay ∷ run ∷ explain ∷ carry ∷ explore ∷ watch ∷ audit ∷ thin ∷ predict
+      ∷ verify ∷ [];
 }
 
 -- ---- what it makes of words

@@ -10,12 +10,12 @@ use Rattle.velo_request.specs.declared.request.ExploreOptions.{ExploreOptions}
 use Rattle.velo_request.specs.declared.request.RandomRuns.{RandomRuns}
 use Rattle.velo_request.specs.declared.request.ReplayOptions.{ReplayOptions}
 use Rattle.velo_request.specs.declared.request.Request.{Request}
-use Rattle.velo_request.specs.declared.request.Request.TheVariants.{Audit, Carry, Check, Explain, Explore, Predict, Replay, Run, Thin, Watch, WatchEndless}
+use Rattle.velo_request.specs.declared.request.Request.TheVariants.{Audit, Carry, Check, Explain, Explore, Predict, Replay, Run, Thin, Verify, Watch, WatchEndless}
 use Rattle.velo_request.specs.declared.request.ScheduleSource.{ScheduleSource}
 use Rattle.velo_request.specs.declared.request.ScheduleSource.TheVariants as schedule
 use Rattle.velo_arguments.specs.Asked.{Asked, AsksFor}
 use Rattle.velo_arguments.specs.declared.together.Clash.{Clash}
-use Rattle.velo_arguments.specs.declared.together.Clash.TheVariants.{EndlessCertificate, InputTwice, MapIsLog, NamesWithoutLog, OnePath, SearchByChance, SeedAlone, TwoSchedules}
+use Rattle.velo_arguments.specs.declared.together.Clash.TheVariants.{DrawingIsPicture, EndlessCertificate, InputTwice, MapIsLog, NamesWithoutLog, OnePath, SearchByChance, SeedAlone, TwoSchedules}
 use Rattle.velo_arguments.specs.declared.together.Given.{Given}
 
 -- ---- paths
@@ -47,6 +47,13 @@ clash_of_targets (Some log) (Some names) =
 abbrev pub clash_of_map : List ℕ → Option (Bor (List ℕ)) → Option Clash
 clash_of_map log None = None
 clash_of_map log (Some map) = if bytes_eq log map.now then Some MapIsLog else None
+
+-- the drawing of an alarm is saved at the path of its picture
+abbrev pub clash_of_drawing : Option (Bor (List ℕ)) → Option (Bor (List ℕ)) → Option Clash
+clash_of_drawing None drawing = None
+clash_of_drawing (Some picture) None = None
+clash_of_drawing (Some picture) (Some drawing) =
+    if bytes_eq picture.now drawing.now then Some DrawingIsPicture else None
 
 -- ---- what the words give
 
@@ -107,7 +114,9 @@ clash_of (Check options) given = clash_of_inputs (options.input.now ∷ path_if 
 clash_of (Replay options) given = clash_of_replay options given.schedule
 clash_of (Run options) given = clash_of_targets options.target options.names_target
 clash_of (Explain options) given =
-    clash_of_inputs (options.input.now ∷ path_if options.names ++ path_if options.sites)
+    option_or
+    (clash_of_inputs (options.input.now ∷ path_if options.names ++ path_if options.sites))
+    (clash_of_drawing options.target options.drawing)
 clash_of (Carry options) given = None
 clash_of (Explore options) given =
     option_or (clash_of_search options given)
@@ -119,6 +128,7 @@ clash_of (Audit options) given =
 clash_of (Thin options) given = clash_of_map options.target.now options.map
 clash_of (Predict options) given =
     clash_of_inputs (options.input.now ∷ path_if options.names ++ path_if options.known)
+clash_of (Verify options) given = clash_of_inputs (options.input.now ∷ options.report.now ∷ [])
 
 -- the request that is asked for, whose options go together
 pub record IsTogether (asked : Asked) (request : Request) : Type 0 where
@@ -140,4 +150,5 @@ line_of_clash SearchByChance =
 line_of_clash TwoSchedules = codes "error: --schedule does not go with --turns\n"
 line_of_clash SeedAlone = codes "error: --seed goes only with --random\n"
 line_of_clash MapIsLog = codes "error: OUT and MAP are one file\n"
+line_of_clash DrawingIsPicture = codes "error: OUT and SVG are one file\n"
 line_of_clash EndlessCertificate = codes "error: --endless does not go with --certificate\n"

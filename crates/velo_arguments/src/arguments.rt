@@ -1,24 +1,25 @@
 //! The command line: its subcommands.
 ghost use Rattle.std.specs.Prelude.{◌≡◌, map, IfOk};
 ghost use Rattle.clap.specs.Words.{app_of};
-ghost use Rattle.velo_arguments.specs.CommandLine.{AddsRules, IsSubcommand, audit, bare, carry, check, command_line, explain, explore, predict, replay, run, subcommand, thin, watch};
+ghost use Rattle.velo_arguments.specs.CommandLine.{AddsRules, IsSubcommand, audit, bare, carry, check, command_line, explain, explore, predict, replay, run, subcommand, thin, verify, watch};
 ghost use Rattle.velo_arguments.specs.Options.{rule_for};
 
 use crate::growth::{with_argument, with_subcommand};
 use crate::help;
 use crate::options::{
-    ALL_EVENTS, ALL_NODES, Argument, CARRIED_LOG, CERTIFICATE, DELAY_SEED, DOT, ENDLESS, EVENTS,
-    FILE, FIRST, FOUND_LOG, IGNORE_LOCK, IGNORE_VARIABLE, LOG, MAP, NAMES, NAMES_OUT, NO_WITNESS,
-    NODES, NOT_ATOMIC, PREDICTED_LOG, PROGRESS, RANDOM, RUN_LOG, RUN_SEED, SCHEDULE, SITES, STATES,
-    STOP, STOP_WATCH, TRIES, TURNS, VALUES, WHY, argument_of,
+    ALL_EVENTS, ALL_NODES, Argument, BY_COUNT, CARRIED_LOG, CERTIFICATE, COUNTS, DELAY_SEED, DOT,
+    ENDLESS, EVENTS, FILE, FIRST, FOUND_LOG, IGNORE_LOCK, IGNORE_VARIABLE, INNERMOST, LOG, MAP,
+    NAMES, NAMES_OUT, NO_WITNESS, NODES, NOT_ATOMIC, PREDICTED_LOG, PROGRESS, RANDOM, REPORT,
+    RUN_LOG, RUN_SEED, SCHEDULE, SITES, STATES, STOP, STOP_WATCH, SVG, TRIES, TURNS, VALUES, WHY,
+    argument_of,
 };
 use clap::Command;
 use std::alloc::Global;
 use velo_events::Memory;
 
 /// The command line of the program, whose words [`run`](crate::run) reads: the subcommands `check`,
-/// `replay`, `run`, `explain`, `carry`, `explore`, `watch`, `audit`, `thin` and `predict`, each with
-/// its operand and its options. An unknown subcommand, or a number out of its range, is an error of
+/// `replay`, `run`, `explain`, `carry`, `explore`, `watch`, `audit`, `thin`, `predict` and `verify`,
+/// each with its operands and its options. An unknown subcommand, or a number out of its range, is an error of
 /// usage. Numbers begin at 1, and go up to [`MAX_EVENTS`](velo_events::MAX_EVENTS) and
 /// [`MAX_NODES`](velo_events::MAX_NODES), by default 1,048,576 and 1,024 (for `audit` and `predict`
 /// the greatest); to [`MAX_STATES`](velo_request::MAX_STATES), by default 2,097,152; to
@@ -40,7 +41,8 @@ pub fn command<'a>(alloc: Global) -> Result<Command<'a>, Memory>
     let program = with_subcommand(program, watch(alloc)?)?;
     let program = with_subcommand(program, audit(alloc)?)?;
     let program = with_subcommand(program, thin(alloc)?)?;
-    with_subcommand(program, predict(alloc)?)
+    let program = with_subcommand(program, predict(alloc)?)?;
+    with_subcommand(program, verify(alloc)?)
 }
 
 /// The program before it has its subcommands.
@@ -102,7 +104,7 @@ fn explain<'a>(alloc: Global) -> Result<Command<'a>, Memory>
     ensures { IfOk result (IsSubcommand explain) }
 {
     let about = "Reads a recorded log and explains the verdict in lanes and words";
-    let arguments = [LOG, DOT, NAMES, SITES];
+    let arguments = [LOG, DOT, SVG, NAMES, SITES];
     subcommand(alloc, "explain", about, help::OF_EXPLAIN, &arguments)
 }
 
@@ -149,6 +151,9 @@ fn audit<'a>(alloc: Global) -> Result<Command<'a>, Memory>
     let arguments = [
         LOG,
         NO_WITNESS,
+        COUNTS,
+        BY_COUNT,
+        INNERMOST,
         NAMES,
         NOT_ATOMIC,
         IGNORE_LOCK,
@@ -185,6 +190,14 @@ fn predict<'a>(alloc: Global) -> Result<Command<'a>, Memory>
         ALL_NODES,
     ];
     subcommand(alloc, "predict", about, help::OF_PREDICT, &arguments)
+}
+
+fn verify<'a>(alloc: Global) -> Result<Command<'a>, Memory>
+    ensures { IfOk result (IsSubcommand verify) }
+{
+    let about = "Checks the certificate of a report against the log";
+    let arguments = [LOG, REPORT];
+    subcommand(alloc, "verify", about, help::OF_VERIFY, &arguments)
 }
 
 /// A subcommand with these arguments.

@@ -167,9 +167,12 @@ It shows the cycle in lanes: a column for each thread, a row for each event show
 the log, and how many lines are between two rows. Then it says which event closes the cycle, which
 transactions are on it, which two events make each edge, and which blocks are to blame and why.
 
+--svg writes the same as a drawing that a browser shows, in one file: a column for each thread, blocks
+as bars, and an arrow for each edge. --dot writes the cycle alone, for Graphviz.
+
 For a log without an alarm it prints how many transactions a serial order has. It then prints no
-lanes, draws no picture, and does not open OUT. With --names the lanes, the words and the picture have
-names after the numbers. A text that is too long for its lane ends in '..'.
+lanes, draws nothing, and opens neither OUT nor SVG. With --names the lanes, the words, the picture and
+the drawing have names after the numbers. A text that is too long for its lane ends in '..'.
 
 The sites: a file that a recorder writes beside the log, 'vsites 1 SITES EVENTS', then a line
 'FILE:LINE FUNCTION' for each site, then for each event a line with the number of its site, or 0.
@@ -178,15 +181,16 @@ files of --names and --sites can be -.
 
 It uses the greatest limits, 16777216 events and 4096 nodes, which no log exceeds.
 
-LOG and OUT must be different files; otherwise the command stops before it writes. Standard input is
-not compared with OUT.
+LOG, OUT and SVG must be different files; otherwise the command stops before it writes. Standard input
+is not compared with OUT and SVG.
 
 Statuses, each with the lines on standard error:
   0  no alarm, or help
-  2  usage; 'error: standard input can be read once'; 'error: LOG and OUT are one file'; the text is
-     no log: 'log fault K', 'log fault K line N'; an event cannot happen: 'refused K at P',
-     'wrong value at P'; the text of --names is no file of names: 'names fault K line N'; the text of
-     --sites is no file of sites, or of another log: 'sites fault K line N'
+  2  usage; 'error: standard input can be read once'; 'error: LOG and OUT are one file', the same of
+     LOG and SVG, and of OUT and SVG; the text is no log: 'log fault K', 'log fault K line N'; an event
+     cannot happen: 'refused K at P', 'wrong value at P'; the text of --names is no file of names:
+     'names fault K line N'; the text of --sites is no file of sites, or of another log:
+     'sites fault K line N'
   3  an alarm: no serial reordering of the log exists
   5  memory or a device failed: 'out of memory', 'read failed', 'write failed', 'cannot open'
 
@@ -323,6 +327,13 @@ It prints 'left out label L', 'left out lock N', 'left out variable N' for what 
 'not atomic L' for each label found, and after the labels of a round its witness, unless --no-witness
 is given; then 'atomic N labels' and 'rounds R'. With --names each number has its name after it.
 
+--counts prints '  B of N blocks' after each label: of its N blocks, B are to blame somewhere in the log,
+not only at an alarm. --by-count prints the labels with the greatest B first. --innermost leaves out a
+label if each of its blocks to blame has another one inside it, and prints how many were left out:
+'  and N labels around these'. A function that calls one that is not atomic is not atomic either, so
+begin with the innermost ones. With these options a witness comes after the labels of its round that
+are next to one another, and may come again.
+
 --not-atomic reads the known labels, one a line: a number, a name, or a line that an audit printed. So
 the output of one audit can be the list of the next. If number and name of such a line no longer belong
 together, it means the labels of the name. Other lines of an audit, empty lines, and comments that
@@ -431,3 +442,40 @@ Statuses, each with the lines on standard error:
 
 Lists, ignored words: see 'velodrome audit --help'. Log, names, faults and refusals: see
 'velodrome check --help'.";
+
+/// After the help of `verify`.
+pub const OF_VERIFY: &str = "\
+Example, the lost update of 'velodrome check --help' in the file log:
+  velodrome check log --certificate > report
+  velodrome verify log report
+It prints 'verified alarm 4', with status 0.
+
+REPORT is what 'velodrome check --certificate' prints, with or without --names. The number of events,
+the verdict, the transaction and the certificate are read, and checked against the events of LOG alone.
+If REPORT says 'verdict clean', the serial order must have each position once, any two conflicting
+events as they are in LOG, and the events of each transaction next to one another. If it says
+'verdict alarm P', the cycle must be a shortest one of the events up to and including P that begins with
+the transaction there.
+
+It prints 'verified clean' or 'verified alarm P'; or 'not verified: ' and the first of these that
+applies: 'another number of events', 'no certificate', 'wrong order', 'wrong cycle', 'wrong transaction'.
+
+'verified clean' means that the log can be serialized, 'verified alarm P' that the events up to and
+including P cannot, for a cycle through the transaction of P. Not looked at are the threads and the
+blocks to blame, whether an earlier event closes a cycle, and whether the events of LOG can happen.
+
+REPORT is read before LOG. Only one of them can be -.
+
+Report faults, line 0 for the whole text:
+   1  bad line
+   2  ends early
+   3  too many bytes
+
+Statuses, each with the lines on standard error:
+  0  verified, or help
+  2  usage; 'error: standard input can be read once'; the text is no log: 'log fault K',
+     'log fault K line N'; the text of REPORT is no report: 'report fault K line N'
+  3  not verified
+  5  memory or a device failed: 'out of memory', 'read failed', 'write failed', 'cannot open'
+
+Log and log faults: see 'velodrome check --help'.";

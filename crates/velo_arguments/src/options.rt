@@ -51,6 +51,12 @@ pub const FILE: Argument<'static> = Argument {
     help: "The path of the workload, or - for standard input",
 };
 
+pub const REPORT: Argument<'static> = Argument {
+    name: "REPORT",
+    takes: Takes::Operand,
+    help: "The path of a report with its certificate, or - for standard input",
+};
+
 pub const SCHEDULE: Argument<'static> = Argument {
     name: "schedule",
     takes: Takes::Value("TEXT"),
@@ -103,6 +109,12 @@ pub const DOT: Argument<'static> = Argument {
     name: "dot",
     takes: Takes::Value("OUT"),
     help: "Write the cycle of an alarm to OUT, as a Graphviz picture",
+};
+
+pub const SVG: Argument<'static> = Argument {
+    name: "svg",
+    takes: Takes::Value("SVG"),
+    help: "Write the explanation of an alarm to SVG, as a drawing",
 };
 
 pub const CERTIFICATE: Argument<'static> = Argument {
@@ -217,6 +229,24 @@ pub const NO_WITNESS: Argument<'static> = Argument {
     name: "no-witness",
     takes: Takes::Nothing,
     help: "Print no witnesses",
+};
+
+pub const COUNTS: Argument<'static> = Argument {
+    name: "counts",
+    takes: Takes::Nothing,
+    help: "Print after each label how many of its blocks are to blame",
+};
+
+pub const BY_COUNT: Argument<'static> = Argument {
+    name: "by-count",
+    takes: Takes::Nothing,
+    help: "Print the labels with the most blocks to blame first",
+};
+
+pub const INNERMOST: Argument<'static> = Argument {
+    name: "innermost",
+    takes: Takes::Nothing,
+    help: "Print only labels with a block to blame that has no other one inside it",
 };
 
 const EVENTS_HELP: &str = "The most events that the log may have, 1 to 16777216";

@@ -13,15 +13,16 @@ ghost use Rattle.velo_request.specs.declared.request.RandomRuns.{RandomRuns};
 ghost use Rattle.velo_request.specs.declared.request.ReplayOptions.{ReplayOptions};
 ghost use Rattle.velo_request.specs.declared.request.RunOptions.{RunOptions};
 ghost use Rattle.velo_request.specs.declared.request.ThinOptions.{ThinOptions};
+ghost use Rattle.velo_request.specs.declared.request.VerifyOptions.{VerifyOptions};
 ghost use Rattle.velo_request.specs.declared.request.WatchOptions.{WatchOptions};
-ghost use Rattle.velo_arguments.specs.Asked.{AreLeftOut, AreLimits, AreRandomRuns, AreTurns, AsksFor, AsksForNothing, IsAudit, IsCarrying, IsCheck, IsEndless, IsExplanation, IsExploring, IsPredicting, IsReplay, IsRun, IsSchedule, IsSeed, IsThinning, IsWatch, WritesNumber};
+ghost use Rattle.velo_arguments.specs.Asked.{AreLeftOut, AreLimits, AreRandomRuns, AreTurns, AsksFor, AsksForNothing, IsAudit, IsCarrying, IsCheck, IsEndless, IsExplanation, IsExploring, IsPredicting, IsReplay, IsRun, IsSchedule, IsSeed, IsThinning, IsVerifying, IsWatch, WritesNumber};
 
 use clap::ArgMatches;
 use velo_events::{MAX_EVENTS, MAX_NODES};
 use velo_request::{
     AuditOptions, CarryOptions, CheckOptions, DEFAULT_SEED, EndlessOptions, ExplainOptions,
     ExploreOptions, Limits, MAX_RUNS, MAX_STATES, MAX_TRIES, PredictOptions, RandomRuns,
-    ReplayOptions, Request, RunOptions, ScheduleSource, ThinOptions, WatchOptions,
+    ReplayOptions, Request, RunOptions, ScheduleSource, ThinOptions, VerifyOptions, WatchOptions,
 };
 
 /// Reads a number from 1 to `most`; none where it is missing or out of this range.
@@ -122,6 +123,7 @@ fn explain_options<'a>(found: &ArgMatches<'a>) -> Option<ExplainOptions<'a>>
     Some(ExplainOptions {
         input: found.get_str("LOG")?,
         target: found.get_str("dot"),
+        drawing: found.get_str("svg"),
         names: found.get_str("names"),
         sites: found.get_str("sites"),
     })
@@ -257,6 +259,9 @@ fn audit_options<'a>(found: &'a ArgMatches) -> Option<AuditOptions<'a>>
         ignored_locks: left.locks,
         ignored_variables: left.variables,
         witness: !found.get_flag("no-witness"),
+        counts: found.get_flag("counts"),
+        by_count: found.get_flag("by-count"),
+        innermost: found.get_flag("innermost"),
         limits: limits_of(found)?,
     })
 }
@@ -271,6 +276,17 @@ fn thin_options<'a>(found: &ArgMatches<'a>) -> Option<ThinOptions<'a>>
         input: found.get_str("LOG")?,
         target,
         map: found.get_str("map"),
+    })
+}
+
+fn verify_options<'a>(found: &ArgMatches<'a>) -> Option<VerifyOptions<'a>>
+    ensures some { IfSome result (IsVerifying (rows_of (found_of found.now))) }
+    ensures none { IfNone result ((options : VerifyOptions)
+        → ¬ IsVerifying (rows_of (found_of found.now)) options) }
+{
+    Some(VerifyOptions {
+        input: found.get_str("LOG")?,
+        report: found.get_str("REPORT")?,
     })
 }
 
@@ -312,6 +328,7 @@ pub fn request_of<'a>(matches: &'a ArgMatches) -> Option<Request<'a>>
         "audit" => Some(Request::Audit(audit_options(found)?)),
         "thin" => Some(Request::Thin(thin_options(found)?)),
         "predict" => Some(Request::Predict(predict_options(found)?)),
+        "verify" => Some(Request::Verify(verify_options(found)?)),
         _ => None,
     }
 }

@@ -5,7 +5,7 @@ ghost use Rattle.std.specs.Str.{bytes_eq};
 ghost use Rattle.clap.specs.Takes.{is_given};
 ghost use Rattle.clap.specs.Words.{found_of, rows_of, subcommand_rows_of};
 ghost use Rattle.velo_arguments.specs.Asked.{AsksForNothing};
-ghost use Rattle.velo_arguments.specs.Together.{IsApart, IsTogether, clash_of, clash_of_chance, clash_of_endless, clash_of_inputs, clash_of_map, clash_of_replay, clash_of_schedule, clash_of_search, clash_of_targets, given_by, given_in, line_of_clash, path_if, schedule_path_if};
+ghost use Rattle.velo_arguments.specs.Together.{IsApart, IsTogether, clash_of, clash_of_chance, clash_of_drawing, clash_of_endless, clash_of_inputs, clash_of_map, clash_of_replay, clash_of_schedule, clash_of_search, clash_of_targets, given_by, given_in, line_of_clash, path_if, schedule_path_if};
 
 use crate::requests::request_of;
 use clap::ArgMatches;
@@ -17,6 +17,8 @@ use velo_request::{
 /// Why the options of a request do not go together.
 #[derive(Clone, Copy, Debug, PartialEq, Eq)]
 pub enum Clash {
+    /// The picture and the drawing of an alarm are to be saved at one path.
+    DrawingIsPicture,
     /// An endless watch is to have a certificate.
     EndlessCertificate,
     /// Both inputs are standard input.
@@ -94,7 +96,9 @@ fn clash_of(request: &Request, given: Given) -> Option<Clash>
         Request::Check(options) => clash_of_inputs(options.input, options.names),
         Request::Replay(options) => clash_of_replay(options, given.schedule),
         Request::Run(options) => clash_of_targets(options.target, options.names_target),
-        Request::Explain(options) => clash_of_three(options.input, options.names, options.sites),
+        Request::Explain(options) => clash_of_three(options.input, options.names, options.sites).or(
+            clash_of_drawing(options.target, options.drawing),
+        ),
         Request::Carry(_) => None,
         Request::Explore(options) => clash_of_search(options, given).or(clash_of_targets(
             options.target,
@@ -105,6 +109,7 @@ fn clash_of(request: &Request, given: Given) -> Option<Clash>
         Request::Audit(options) => clash_of_three(options.input, options.names, options.known),
         Request::Thin(options) => clash_of_map(options.target, options.map),
         Request::Predict(options) => clash_of_three(options.input, options.names, options.known),
+        Request::Verify(options) => clash_of_inputs(options.input, Some(options.report)),
     }
 }
 
@@ -193,6 +198,16 @@ fn clash_of_map(log: &str, map: Option<&str>) -> Option<Clash>
     }
 }
 
+/// The drawing of an alarm is saved at another path than its picture.
+fn clash_of_drawing(picture: Option<&str>, drawing: Option<&str>) -> Option<Clash>
+    ensures { result ≡ clash_of_drawing picture.entry drawing.entry }
+{
+    match (picture, drawing) {
+        (Some(picture), Some(drawing)) if picture == drawing => Some(Clash::DrawingIsPicture),
+        _ => None,
+    }
+}
+
 /// An endless watch has no certificate, and no clash of its paths.
 fn clash_of_endless(options: &EndlessOptions, has_certificate: bool) -> Option<Clash>
     ensures { result ≡ clash_of_endless options.now has_certificate }
@@ -246,6 +261,7 @@ pub fn line_of_clash(clash: Clash) -> &'static [u8]
     ensures { result.now ≡ line_of_clash clash }
 {
     match clash {
+        Clash::DrawingIsPicture => b"error: OUT and SVG are one file\n",
         Clash::EndlessCertificate => b"error: --endless does not go with --certificate\n",
         Clash::InputTwice => b"error: standard input can be read once\n",
         Clash::MapIsLog => b"error: OUT and MAP are one file\n",

@@ -2,7 +2,13 @@ pub mod OnRounds
 pub mod OnTold
 pub mod OnWitness
 pub mod OnAnswers
+pub mod OnShifted
+pub mod OnPieceWitness
+pub mod OnPieces
+pub mod OnCuts
+pub mod OnVerdicts
 pub mod OnAudit
+pub mod OnClean
 pub mod OnUnique
 pub mod OnCount
 pub mod OnFewNodes

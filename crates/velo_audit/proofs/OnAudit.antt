@@ -10,7 +10,10 @@ use Rattle.velo_filter.specs.Left.{Left, rest_of, with_labels}
 use Rattle.velo_audit.specs.Rounds.{IsRound, Rounds, AreTheOnlyRounds, FirstRounds, AreFound, labels_told, labels_found, left_after, atomic_labels}
 use Rattle.velo_audit.specs.Rounds as round
 use Rattle.velo_audit.specs.Tells.{told_as}
-use Rattle.velo_audit.specs.Audit.{TellsTruly, AreWitnessed, RoundTells, left_behind, StandsAt}
+use Rattle.velo_audit.specs.Audit.{TellsTruly, AreWitnessed, RoundTells, left_behind, StandsAt, IsFullAt, IsRoundFault, IsAuditFault}
+use Rattle.velo_events.specs.declared.config.Config.{Config}
+use Rattle.velo_audit.specs.declared.round.AuditFault.{AuditFault}
+use Rattle.velo_audit.specs.declared.round.AuditFault.TheVariants.{Memory, GraphFull}
 use Rattle.velo_audit.specs.Witness.{HasWitness}
 use Rattle.velo_audit.specs.declared.told.Told.{Told}
 use Rattle.velo_audit.proofs.OnWitness.{witness-within}
@@ -40,6 +43,15 @@ Rounds-from log left (t ∷ rest) h none = (h.0, Rounds-from log (with_labels le
 pub StandsAt-start : (asked : Bool) (log : List Event) (start : Left) (rounds : List Told) → rounds ≡ [] → StandsAt asked log start rounds start
 unfolding FirstRounds left_after AreWitnessed
 StandsAt-start asked log start rounds none = subst (λ xs. StandsAt asked log start xs start) (sym none) (record { first = tt; behind = refl; truly = λ k d l. absurd (omega (arith, l)); witnessed = tt })
+
+-- why the next round does not come to its end is why the audit does not
+pub audit-fault : (asked : Bool) (config : Config) (log : List Event) (start : Left) (rounds : List Told) (left : Left) → StandsAt asked log start rounds left → (fault : AuditFault) → IsRoundFault config log left fault → IsAuditFault config log start fault
+audit-fault asked config log start rounds left w Memory h = h
+audit-fault asked config log start rounds left w (GraphFull place) h = record {
+  rounds = map told_as rounds;
+  are_first = w.first;
+  is_full = subst (λ x. IsFullAt config log x place) w.behind h;
+}
 
 module _ (asked : Bool) (log : List Event) (start : Left) (rounds : List Told) (left : Left) (w : StandsAt asked log start rounds left) (answer : Option Told) (tells : RoundTells asked log left answer) (new : Left) (behind : new ≡ left_behind log left answer) where
   -- a round with an alarm leaves out more

@@ -2,12 +2,17 @@
 //! out that the one before reported.
 #![tactic(auto)]
 
+mod checked;
 mod count;
+mod cut;
+mod piece;
+mod pieces;
 mod round;
 mod rounds;
 mod told;
 mod witness;
 
+pub use checked::audit_checked;
 pub use count::count_atomic;
 pub use round::AuditFault;
 pub use rounds::audit;

@@ -1,11 +1,14 @@
 //! One round: the rest of a log is checked.
-ghost use Rattle.std.specs.Prelude.{◌≡◌, ◌≢◌, ◌*◌, ◌≤◌, false, length, IfOk, IfErr, OnErr};
+ghost use Rattle.std.specs.Prelude.{◌≡◌, ◌≢◌, ◌*◌, ◌≤◌, false, length, IfOk, IfErr, OnOk, OnErr};
 ghost use Rattle.velo_events.specs.Refusals.{GrowthRefused};
 ghost use Rattle.velo_events.specs.WellFormed.{IsWellFormed};
 ghost use Rattle.velo_audit.specs.Audit.{RoundTells, IsRoundFault, CheckTells, IsCheckFault, out_of_memory};
+ghost use Rattle.velo_audit.specs.Cut.{IsCut};
 ghost use Rattle.velo_filter.specs.Tables.{left_of};
 ghost use Rattle.velo_world.specs.Faults.{IsFaultOfLog};
 
+use crate::cut::Cut;
+use crate::pieces::{Verdict, by_pieces};
 use crate::told::{Told, told_of};
 use crate::witness::place_at;
 use std::alloc::Global;
@@ -43,11 +46,36 @@ impl From<Memory> for AuditFault {
     }
 }
 
-/// Checks the rest of a log that can happen, within its limits. The configuration has to go on after an alarm.
+/// Checks the rest of a log that can happen, within its limits, from the cut on. The configuration has to go on after an alarm.
+/// Where a piece of the rest cannot be judged by itself, the whole rest is checked.
 ///
 /// # Errors
 /// `GraphFull` where the graph of the rest needs more nodes than there may be, `Memory` where a growth was refused.
 pub fn round(
+    alloc: Global,
+    config: &Config,
+    log: &Trace,
+    left: &LeftOut,
+    cut: &mut Cut,
+    asked: bool,
+) -> Result<Option<Told>, AuditFault>
+    requires goes_on { config.now.stop ≡ false }
+    requires short { length log.now.events ≤ config.now.events }
+    requires well_formed { IsWellFormed config.now.bounds log.now.events }
+    requires cut { IsCut (left_of left.now) log.now.events cut.old }
+    ensures tells { IfOk result (RoundTells asked log.now.events (left_of left.now)) }
+    ensures cut { OnOk result (IsCut (left_of left.now) log.now.events cut.new) }
+    ensures fault { IfErr result (IsRoundFault config.now log.now.events (left_of left.now)) }
+{
+    match by_pieces(alloc, config, log, left, cut, asked)? {
+        Verdict::Told(told) => Ok(Some(told)),
+        Verdict::NoCycle => Ok(None),
+        Verdict::Unknown => whole_round(alloc, config, log, left, asked),
+    }
+}
+
+/// Checks the whole rest.
+fn whole_round(
     alloc: Global,
     config: &Config,
     log: &Trace,
@@ -97,7 +125,7 @@ fn check(
 }
 
 /// The closed world of a recorded log, whose graph has no more nodes than a round has use for.
-fn replayed(alloc: Global, config: &Config, log: Trace) -> Result<Closed, LogReplayFault>
+pub fn replayed(alloc: Global, config: &Config, log: Trace) -> Result<Closed, LogReplayFault>
     requires goes_on { config.now.stop ≡ false }
     ensures log { IfOk result (λ closed. closed.log ≡ log.events) }
     ensures fault { IfErr result (λ fault. IsFaultOfLog config.now log.events fault) }
@@ -143,7 +171,7 @@ fn tell(
 }
 
 /// What is reported of a world's alarm, if it has one.
-fn told_in(
+pub fn told_in(
     alloc: Global,
     asked: bool,
     closed: &Closed,

@@ -1,5 +1,5 @@
 //! All rounds of an audit.
-ghost use Rattle.std.specs.Prelude.{◌≡◌, ◌≤◌, ◌+◌, ◌++◌, ◌∷◌, [], false, length, map, All, IfOk, IfErr, OnOk, OnErr};
+ghost use Rattle.std.specs.Prelude.{◌≡◌, ◌≤◌, ◌+◌, ◌++◌, ◌∷◌, [], List, false, length, map, All, IfOk, IfErr, OnOk, OnErr};
 ghost use Rattle.velo_events.specs.Refusals.{GrowthRefused};
 ghost use Rattle.velo_events.specs.Reordering.{IsSerializable};
 ghost use Rattle.velo_events.specs.WellFormed.{IsWellFormed};
@@ -7,9 +7,12 @@ ghost use Rattle.velo_traces.specs.declared.block.Block.{Block as BlockOf};
 ghost use Rattle.velo_audit.specs.Audit.{RoundTells, TellsTruly, AreWitnessed, IsRoundFault, IsAuditFault, left_behind, out_of_memory};
 ghost use Rattle.velo_filter.specs.Left.{rest_of, with_labels};
 ghost use Rattle.velo_audit.specs.Rounds.{Rounds, AreTheOnlyRounds, AreFound, labels_found, atomic_labels};
+ghost use Rattle.velo_audit.specs.Cut.{IsCut};
+ghost use Rattle.velo_events.specs.declared.event.Event.{Event as EventOf};
 ghost use Rattle.velo_filter.specs.Tables.{left_of};
 ghost use Rattle.velo_audit.specs.Tells.{told_as};
 
+use crate::cut::Cut;
 use crate::round::{AuditFault, round};
 use crate::told::Told;
 use std::alloc::Global;
@@ -46,7 +49,8 @@ pub fn audit(
     ensures fault { IfErr result (IsAuditFault config.now log.now.events (left_of left.old)) }
 {
     let mut rounds = Vec::new(alloc);
-    while let Some(told) = next_round(alloc, config, log, left, asked)? {
+    let mut cut = Cut::at_start(alloc)?;
+    while let Some(told) = next_round(alloc, config, log, left, &mut cut, asked)? {
         keep(&mut rounds, told)?;
     }
     Ok(rounds)
@@ -73,26 +77,43 @@ fn next_round(
     config: &Config,
     log: &Trace,
     left: &mut LeftOut,
+    cut: &mut Cut,
     asked: bool,
 ) -> Result<Option<Told>, AuditFault>
     requires goes_on { config.now.stop ≡ false }
     requires short { length log.now.events ≤ config.now.events }
     requires well_formed { IsWellFormed config.now.bounds log.now.events }
+    requires cut { IsCut (left_of left.old) log.now.events cut.old }
+    ensures cut { OnOk result (IsCut (left_of left.new) log.now.events cut.new) }
     ensures tells { IfOk result (RoundTells asked log.now.events (left_of left.old)) }
     ensures left { IfOk result (λ told. left_of left.new ≡ left_behind log.now.events (left_of left.old) told) }
     ensures fault { IfErr result (IsRoundFault config.now log.now.events (left_of left.old)) }
 {
-    match round(alloc, config, log, left, asked)? {
+    match round(alloc, config, log, left, cut, asked)? {
         None => Ok(None),
-        Some(told) => match leave_out_all(left, &told.blocks) {
+        Some(told) => match leave_out_all(alloc, left, cut, &told.blocks) {
             Ok(()) => Ok(Some(told)),
             Err(Memory) => Err(AuditFault::Memory),
         },
     }
 }
 
+/// Leaves out the labels of the blocks, and has the cut follow.
+fn leave_out_all(
+    alloc: Global,
+    left: &mut LeftOut,
+    cut: &mut Cut,
+    blocks: &[Block],
+) -> Result<(), Memory>
+    ensures left { OnOk result (left_of left.new ≡ with_labels (left_of left.old) (map (λ (b : BlockOf). b.label.0) blocks.now)) }
+    ensures cut { OnOk result ((log : List EventOf) → IsCut (left_of left.old) log cut.old → IsCut (left_of left.new) log cut.new) }
+{
+    leave_out_labels(left, blocks)?;
+    cut.follow(alloc, blocks)
+}
+
 /// Leaves out the labels of the blocks.
-fn leave_out_all(left: &mut LeftOut, blocks: &[Block]) -> Result<(), Memory>
+fn leave_out_labels(left: &mut LeftOut, blocks: &[Block]) -> Result<(), Memory>
     ensures { OnOk result (left_of left.new ≡ with_labels (left_of left.old) (map (λ (b : BlockOf). b.label.0) blocks.now)) }
 {
     for block in blocks {

@@ -17,17 +17,16 @@ use Rattle.velo_audit.specs.Rounds.{AreFound, AreTheOnlyRounds, Rounds, atomic_l
 use Rattle.velo_audit.specs.Tells.{told_as}
 use Rattle.velo_audit.specs.declared.told.Told.{Told}
 use Rattle.velo_audit_text.specs.declared.words.Asked.{Asked}
-use Rattle.velo_audit_text.specs.Text.{audit_text}
+use Rattle.velo_audit_text.specs.declared.entries.Listing.{Listing}
 use Rattle.velo_worker.specs.declared.ending.Ending.TheVariants.{Done}
 use Rattle.velo_fate.specs.declared.fault.CheckFault.TheVariants as check_fault
 use Rattle.velo_fate.specs.declared.fate.Fate.{Fate}
 use Rattle.velo_fate.specs.declared.fate.Fate.TheVariants as fate
 use Rattle.velo_request.specs.declared.request.AuditOptions.{AuditOptions}
-use Rattle.velo_audit_commands.specs.Auditing.{AreRoundsOf, Audits, AuditsEvents, HasFullGraph, IsAuditAnswer, LacksRounds, audited, is_found, left_at_first, left_at_last, with_locks, with_variables}
+use Rattle.velo_audit_commands.specs.Auditing.{AreRoundsOf, Audits, AuditsEvents, HasFullGraph, IsAuditAnswer, IsAuditText, LacksRounds, PrintsRounds, atomic_of, is_found, listing_of, left_at_first, left_at_last, with_locks, with_variables}
 use Rattle.velo_fate.specs.Delivery.{Answer, IsDelivered, IsPrinted, LacksMemory, printing, silent}
 use Rattle.velo_delivery.specs.Disk.{Store}
 use Rattle.velo_fate.specs.Failures.{failures_told}
-use Rattle.velo_inputs.specs.Sending.{PrintsOrLacks}
 use Rattle.velo_delivery.specs.Writing.{Writing, WritesNothing}
 use Rattle.velo_fate.proofs.OnDelivery.{put_of, same_fate}
 
@@ -68,16 +67,15 @@ asked_left asked a b c d start labels locks variables =
 
 -- ---- the text
 
-pub told_put : (names : NameLists) (log : List Event) (asked : Asked) (rounds : List Told) (left : Left) (words : List ℕ) (atomic : ℕ) (alarm : Bool)
-    → words ≡ audit_text names log asked rounds atomic → atomic ≡ atomic_labels left log → left ≡ left_at_last log (left_at_first asked) rounds → alarm ≡ is_found rounds
-    → (stdout : Writing) (f : Fate) → IsPrinted stdout (printing words (fate.Finished Done alarm)) f → IsPrinted stdout (audited names log asked rounds) f
-told_put names log asked rounds left words atomic alarm is count behind found stdout f told =
-    subst (λ (b : Bool). IsPrinted stdout (printing whole (fate.Finished Done b)) f) found
-    (subst (λ (t : List ℕ). IsPrinted stdout (printing t (fate.Finished Done alarm)) f)
-    (is ∙ ap (audit_text names log asked rounds) (count ∙ ap (λ (l : Left). atomic_labels l log) behind)) told)
-  where
-    whole : List ℕ
-    whole = audit_text names log asked rounds (atomic_labels (left_at_last log (left_at_first asked) rounds) log)
+pub told_put : (names : NameLists) (log : List Event) (asked : Asked) (listing : Option Listing) (rounds : List Told) (left : Left) (words page : List ℕ) (atomic : ℕ) (alarm : Bool)
+    → words ≡ page → IsAuditText names log asked listing rounds atomic page → atomic ≡ atomic_labels left log → left ≡ left_at_last log (left_at_first asked) rounds → alarm ≡ is_found rounds
+    → (stdout : Writing) (f : Fate) → IsPrinted stdout (printing words (fate.Finished Done alarm)) f → PrintsRounds names log asked listing rounds stdout f
+told_put names log asked listing rounds left words page atomic alarm same is count behind found stdout f told = inl (
+  words,
+  subst (IsAuditText names log asked listing rounds (atomic_of log asked rounds)) (sym same)
+      (subst (λ (n : ℕ). IsAuditText names log asked listing rounds n page) (count ∙ ap (λ (l : Left). atomic_labels l log) behind) is),
+  subst (λ (b : Bool). IsPrinted stdout (printing words (fate.Finished Done b)) f) found told,
+)
 
 -- ---- the rounds
 
@@ -106,11 +104,18 @@ left_from log first start behind rounds begins left = left ∙ ap (λ (x : Left)
 
 -- they are printed, or memory was wanting
 pub rounds_printed : (names : NameLists) (asked : Asked) (options : AuditOptions) (bounds : Bounds) (log events : List Event) (rounds told : List Told) → events ≡ log → told ≡ rounds
-    → AreRoundsOf options.witness events (left_at_first asked) rounds → (stdout : Writing) (f : Fate) → PrintsOrLacks (audited names events asked told) stdout f
+    → AreRoundsOf options.witness events (left_at_first asked) rounds → (stdout : Writing) (f : Fate) → PrintsRounds names events asked (listing_of options) told stdout f
     → Audits names asked options bounds log stdout f
-rounds_printed names asked options bounds log events rounds told same as_told are stdout f (inl put) = (
-  audited names events asked told,
-  inl (inl (record { rounds = rounds; are_rounds = subst (λ (l : List Event). AreRoundsOf options.witness l (left_at_first asked) rounds) same are; said = ap (λ (l : List Event). audited names l asked told) same ∙ ap (audited names log asked) as_told })),
+rounds_printed names asked options bounds log events rounds told same as_told are stdout f (inl (page, is_text, put)) = (
+  printing page (fate.Finished Done (is_found told)),
+  inl (inl (record {
+    rounds = rounds;
+    are_rounds = subst (λ (l : List Event). AreRoundsOf options.witness l (left_at_first asked) rounds) same are;
+    page = page;
+    is_text = subst (λ (r : List Told). IsAuditText names log asked (listing_of options) r (atomic_of log asked r) page) as_told
+        (subst (λ (l : List Event). IsAuditText names l asked (listing_of options) told (atomic_of l asked told) page) same is_text);
+    said = ap (λ (r : List Told). printing page (fate.Finished Done (is_found r))) as_told;
+  })),
   put,
 )
 rounds_printed names asked options bounds log events rounds told same as_told are stdout f (inr lacks) =

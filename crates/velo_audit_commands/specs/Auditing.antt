@@ -1,5 +1,5 @@
 -- What an audit has to say, by the bytes of its input and by the definitions.
-use Rattle.std.specs.Prelude.{◌≡◌, ◌⊎◌, ◌||◌, ◌+◌, ◌≤◌, ℕ, Bool, true, false, All, List, [], ◌∷◌, length, map, Option}
+use Rattle.std.specs.Prelude.{◌≡◌, ◌⊎◌, ◌||◌, ◌+◌, ◌≤◌, ℕ, Bool, true, false, All, List, [], ◌∷◌, length, map, Option, Some, None}
 use Rattle.velo_events.specs.declared.config.Bounds.{Bounds}
 use Rattle.velo_events.specs.declared.config.Config.{Config}
 use Rattle.velo_events.specs.declared.event.Event.{Event}
@@ -7,6 +7,7 @@ use Rattle.velo_events.specs.declared.event.Label.{Label}
 use Rattle.velo_events.specs.declared.event.LockId.{LockId}
 use Rattle.velo_events.specs.declared.event.VarId.{VarId}
 use Rattle.velo_events.specs.declared.refusal.Refusal.TheVariants.{GraphFull}
+use Rattle.velo_events.specs.Refusals.{GrowthRefused}
 use Rattle.velo_events.specs.Reordering.{IsSerializable}
 use Rattle.velo_names.specs.Names.{NameLists}
 use Rattle.velo_filter.specs.Left.{Left, is_listed, rest_of, with_labels}
@@ -15,17 +16,19 @@ use Rattle.velo_audit.specs.Audit.{AreWitnessed, IsFullAfter, TellsTruly}
 use Rattle.velo_audit.specs.Rounds.{AreFound, AreTheOnlyRounds, Rounds, atomic_labels, labels_found}
 use Rattle.velo_audit.specs.Tells.{told_as}
 use Rattle.velo_audit_text.specs.declared.words.Asked.{Asked}
+use Rattle.velo_audit_text.specs.declared.entries.Listing.{Listing}
+use Rattle.velo_audit_text.specs.Listing.{IsListingText}
 use Rattle.velo_audit_text.specs.Text.{audit_text}
 use Rattle.velo_worker.specs.declared.ending.Ending.TheVariants.{Done}
 use Rattle.velo_fate.specs.declared.fault.CheckFault.TheVariants.{Refused}
 use Rattle.velo_fate.specs.declared.fate.Fate.{Fate}
-use Rattle.velo_fate.specs.declared.fate.Fate.TheVariants.{Check, Finished}
+use Rattle.velo_fate.specs.declared.fate.Fate.TheVariants.{Check, Finished, Memory}
 use Rattle.velo_request.specs.declared.request.AuditOptions.{AuditOptions}
 use Rattle.velo_inputs.specs.Input.{ComesAbout, IsUnchecked}
 use Rattle.velo_fate.specs.Delivery.{Answer, IsPrinted, LacksMemory, printing, silent}
 use Rattle.velo_fate.specs.Failures.{FailuresAsTold}
 use Rattle.velo_delivery.specs.Reading.{Reading}
-use Rattle.velo_delivery.specs.Writing.{Writing}
+use Rattle.velo_delivery.specs.Writing.{Writing, WritesNothing}
 
 -- ---- what is left out
 
@@ -65,21 +68,42 @@ abbrev pub is_found : List Told → Bool
 is_found [] = false
 is_found (told ∷ rounds) = true
 
--- the text of the rounds by these names; the labels of the log that are neither found nor left out
--- are counted
-abbrev pub audited : NameLists → List Event → Asked → List Told → Answer
-audited names log asked rounds =
-    printing
-    (audit_text names log asked rounds
-    (atomic_labels (left_at_last log (left_at_first asked) rounds) log))
-    (Finished Done (is_found rounds))
+-- the labels of the log that are neither found nor left out
+abbrev pub atomic_of : List Event → Asked → List Told → ℕ
+atomic_of log asked rounds = atomic_labels (left_at_last log (left_at_first asked) rounds) log
+
+-- how the labels are to be listed, if this was asked for
+abbrev pub listing_if : AuditOptions → Bool → Option Listing
+listing_if options true =
+    Some (record {
+      counts = options.counts;
+      by_count = options.by_count;
+      innermost = options.innermost;
+    })
+listing_if options false = None
+
+abbrev pub listing_of : AuditOptions → Option Listing
+listing_of options =
+    listing_if options (options.counts || (options.by_count || options.innermost))
+
+-- The text of the rounds by these names, where so many labels are atomic: one after another, or
+-- their labels listed as was asked for. Blocks are counted in what is left of the log at first.
+abbrev pub IsAuditText : NameLists → List Event → Asked → Option Listing → List Told → ℕ → List ℕ
+    → Type 0
+IsAuditText names log asked None rounds atomic page =
+    page ≡ audit_text names log asked rounds atomic
+IsAuditText names log asked (Some listing) rounds atomic page =
+    IsListingText names log asked listing (rest_of (left_at_first asked) log) rounds atomic page
 
 -- its rounds are printed
-pub record TellsRounds (names : NameLists) (asked : Asked) (witness : Bool) (log : List Event)
-    (answer : Answer) : Type 0 where
+pub record TellsRounds (names : NameLists) (asked : Asked) (options : AuditOptions)
+    (log : List Event) (answer : Answer) : Type 0 where
   pub rounds : List Told
-  pub are_rounds : AreRoundsOf witness log (left_at_first asked) rounds
-  pub said : answer ≡ audited names log asked rounds
+  pub are_rounds : AreRoundsOf options.witness log (left_at_first asked) rounds
+  pub page : List ℕ
+  pub is_text :
+      IsAuditText names log asked (listing_of options) rounds (atomic_of log asked rounds) page
+  pub said : answer ≡ printing page (Finished Done (is_found rounds))
 
 -- A round needs more nodes than there may be: the event at this position of the log as read finds
 -- none. Nothing is printed, not even of the rounds before it.
@@ -94,7 +118,7 @@ pub record HasFullGraph (asked : Asked) (nodes : ℕ) (bounds : Bounds) (log : L
 
 abbrev pub AuditsEvents : NameLists → Asked → AuditOptions → Bounds → List Event → Answer → Type 0
 AuditsEvents names asked options bounds log answer =
-    TellsRounds names asked options.witness log answer
+    TellsRounds names asked options log answer
     ⊎ HasFullGraph asked options.limits.nodes bounds log answer
 
 -- ---- the answer
@@ -119,6 +143,15 @@ IsAuditAnswer names asked options read answer =
 abbrev pub LacksRounds : Asked → ℕ → Bounds → List Event → Fate → Type 0
 LacksRounds asked nodes bounds log f =
     HasFullGraph asked nodes bounds log (silent f) ⊎ LacksMemory (silent f)
+
+-- the rounds were printed, or memory was wanting
+abbrev pub PrintsRounds : NameLists → List Event → Asked → Option Listing → List Told → Writing → Fate
+    → Type 0
+PrintsRounds names log asked listing rounds stdout f =
+    ((page : List ℕ)
+    × IsAuditText names log asked listing rounds (atomic_of log asked rounds) page
+    × IsPrinted stdout (printing page (Finished Done (is_found rounds))) f)
+    ⊎ (GrowthRefused × (f ≡ Memory) × WritesNothing stdout)
 
 -- these locks, these variables are left out as well
 abbrev pub with_locks : Left → List ℕ → Left

@@ -1,33 +1,35 @@
 //! `velodrome audit`.
-ghost use Rattle.std.specs.Prelude.{◌≡◌, ◌≤◌, All, false, length, map, IfErr, IfOk, OnOk};
+ghost use Rattle.std.specs.Prelude.{◌≡◌, ◌≤◌, All, false, length, map, IfErr, IfOk, OnOk, IsTrue};
 ghost use Rattle.velo_events.specs.declared.event.Label.{Label as LabelOf};
 ghost use Rattle.velo_events.specs.declared.event.LockId.{LockId as LockOf};
 ghost use Rattle.velo_events.specs.declared.event.VarId.{VarId as VariableOf};
 ghost use Rattle.velo_events.specs.declared.limits.TheConstants.{MAX_EVENTS};
+ghost use Rattle.velo_events.specs.Graph.{HasCycle};
 ghost use Rattle.velo_events.specs.WellFormed.{IsWellFormed};
-ghost use Rattle.velo_filter.specs.Left.{with_labels};
+ghost use Rattle.velo_filter.specs.Left.{rest_of, with_labels};
 ghost use Rattle.velo_filter.specs.Tables.{left_of};
-ghost use Rattle.velo_filter.specs.Thinned.{CanComeAbout};
 ghost use Rattle.velo_audit.specs.Audit.{TellsTruly};
-ghost use Rattle.velo_audit_commands.specs.Auditing.{AreRoundsOf, Audits, AuditsInput, LacksRounds, audited, is_found, left_at_first, left_at_last, with_locks, with_variables};
+ghost use Rattle.velo_audit_commands.specs.Auditing.{AreRoundsOf, Audits, AuditsInput, IsAuditText, LacksRounds, PrintsRounds, is_found, left_at_first, left_at_last, listing_of, with_locks, with_variables};
+ghost use Rattle.velo_audit_text.specs.Listing.{IsListingText};
 ghost use Rattle.velo_delivery.specs.Disk.{store};
 ghost use Rattle.velo_audit_commands.specs.Commands.{AuditsLog, AuditsNamed, DoesAudit};
 ghost use Rattle.velo_delivery.specs.Reading.{reading};
-ghost use Rattle.velo_inputs.specs.Sending.{PrintsOrLacks};
 ghost use Rattle.velo_delivery.specs.Writing.{writing};
 
 use crate::command::Command;
 use std::alloc::Global;
-use velo_audit::{AuditFault, Told, audit, count_atomic};
-use velo_audit_text::{Asked, audit_text};
+use velo_audit::{AuditFault, Told, audit_checked, count_atomic};
+use velo_audit_text::{Asked, Listing, audit_text, listing_text};
 use velo_bytes::{Sink, Source};
 use velo_delivery::{Files, Operand};
-use velo_events::{Config, Label, LockId, Memory, Refusal, VarId};
+use velo_events::{Bounds, Config, Label, LockId, Memory, Refusal, VarId};
+use velo_explain::Page;
 use velo_fate::{CheckFault, Fate, open_input};
-use velo_filter::LeftOut;
+use velo_filter::{LeftOut, thin};
 use velo_inputs::{AskedWords, ByAsked, ByNames, do_by_asked, do_by_names, do_input, print};
 use velo_names::Names;
 use velo_request::{AuditOptions, Limits};
+use velo_tally::marks_of;
 use velo_traces::Trace;
 use velo_world::Closed;
 
@@ -88,6 +90,16 @@ pub fn config_of_rounds(closed: &Closed, limits: Limits) -> Config
     }
 }
 
+/// Whether the log has no cycle.
+pub fn is_clean(closed: &Closed) -> bool
+    ensures { IsTrue result → ¬ HasCycle closed.now.log }
+{
+    match closed.alarm() {
+        None => true,
+        Some(_) => false,
+    }
+}
+
 /// Whether a round found a label.
 fn is_found(rounds: &[Told]) -> bool
     ensures { result ≡ is_found rounds.now }
@@ -98,35 +110,107 @@ fn is_found(rounds: &[Told]) -> bool
     }
 }
 
-/// Prints the text of the rounds, as a whole.
-fn tell_rounds<O: Sink>(
+/// How the labels are to be listed, if this was asked for.
+fn listing_of(options: &AuditOptions) -> Option<Listing>
+    ensures { result ≡ listing_of options.now }
+{
+    if !(options.counts || options.by_count || options.innermost) {
+        return None;
+    }
+    Some(Listing {
+        counts: options.counts,
+        by_count: options.by_count,
+        innermost: options.innermost,
+    })
+}
+
+/// The text of the rounds where their labels are listed as was asked for.
+fn listed(
     alloc: Global,
+    bounds: Bounds,
     log: &Trace,
     names: &Names,
     asked: &Asked,
+    listing: Listing,
+    rounds: &[Told],
+    atomic: usize,
+) -> Result<Page, Memory>
+    requires few { length log.now.events ≤ MAX_EVENTS }
+    requires well_formed { IsWellFormed bounds log.now.events }
+    requires truly { All (TellsTruly log.now.events) rounds.now }
+    ensures { IfOk result (λ page. IsListingText names.now log.now.events asked.now listing
+        (rest_of (left_at_first asked.now) log.now.events) rounds.now atomic page) }
+{
+    let left = left_out(alloc, asked)?;
+    let first = thin(alloc, log, &left)?;
+    let marks = marks_of(alloc, bounds, &first.trace)?;
+    listing_text(
+        alloc,
+        names,
+        log,
+        asked,
+        listing,
+        &first.trace,
+        &marks,
+        rounds,
+        atomic,
+    )
+}
+
+/// The text of the rounds.
+fn text_of(
+    alloc: Global,
+    bounds: Bounds,
+    log: &Trace,
+    names: &Names,
+    asked: &Asked,
+    listing: Option<Listing>,
+    rounds: &[Told],
+    atomic: usize,
+) -> Result<Page, Memory>
+    requires few { length log.now.events ≤ MAX_EVENTS }
+    requires well_formed { IsWellFormed bounds log.now.events }
+    requires truly { All (TellsTruly log.now.events) rounds.now }
+    ensures { IfOk result (λ page.
+        IsAuditText names.now log.now.events asked.now listing rounds.now atomic page) }
+{
+    match listing {
+        None => audit_text(alloc, names, log, asked, rounds, atomic),
+        Some(listing) => listed(alloc, bounds, log, names, asked, listing, rounds, atomic),
+    }
+}
+
+/// Prints the text of the rounds, as a whole.
+fn tell_rounds<O: Sink>(
+    alloc: Global,
+    bounds: Bounds,
+    log: &Trace,
+    names: &Names,
+    asked: &Asked,
+    listing: Option<Listing>,
     rounds: &[Told],
     left: &LeftOut,
     out: &mut O,
 ) -> Fate
     requires few { length log.now.events ≤ MAX_EVENTS }
-    requires can_come_about { CanComeAbout log.now.events }
+    requires well_formed { IsWellFormed bounds log.now.events }
     requires truly { All (TellsTruly log.now.events) rounds.now }
     requires left { left_of left.now
         ≡ left_at_last log.now.events (left_at_first asked.now) rounds.now }
-    ensures { PrintsOrLacks (audited names.now log.now.events asked.now rounds.now)
+    ensures { PrintsRounds names.now log.now.events asked.now listing rounds.now
         (writing O.contents O.failures out.old out.new) result }
 {
     let atomic = match count_atomic(alloc, log, left) {
         Ok(atomic) => atomic,
         Err(Memory) => return Fate::Memory,
     };
-    match audit_text(alloc, names, log, asked, rounds, atomic) {
+    match text_of(alloc, bounds, log, names, asked, listing, rounds, atomic) {
         Ok(text) => print(text.as_slice(), is_found(rounds), out),
         Err(Memory) => Fate::Memory,
     }
 }
 
-/// The rounds of a log of which so much is left out at first.
+/// The rounds of a log of which so much is left out at first, and which is clean or not.
 ///
 /// # Errors
 /// `Check` with the refusal where the graph of a round is full, `Memory` if an allocation failed.
@@ -134,6 +218,7 @@ pub fn rounds_of(
     alloc: Global,
     config: &Config,
     log: &Trace,
+    clean: bool,
     asked: &Asked,
     witness: bool,
     left: &mut LeftOut,
@@ -141,6 +226,7 @@ pub fn rounds_of(
     requires goes_on { config.now.stop ≡ false }
     requires short { length log.now.events ≤ config.now.events }
     requires well_formed { IsWellFormed config.now.bounds log.now.events }
+    requires clean { IsTrue clean → ¬ HasCycle log.now.events }
     requires left { left_of left.old ≡ left_at_first asked.now }
     ensures rounds { IfOk result (λ rounds.
         AreRoundsOf witness log.now.events (left_at_first asked.now) rounds.items) }
@@ -149,7 +235,7 @@ pub fn rounds_of(
     ensures fault { IfErr result (λ fate.
         LacksRounds asked.now config.now.nodes config.now.bounds log.now.events fate) }
 {
-    match audit(alloc, config, log, left, witness) {
+    match audit_checked(alloc, config, log, clean, left, witness) {
         Ok(rounds) => Ok(rounds),
         Err(AuditFault::Memory) => Err(Fate::Memory),
         Err(AuditFault::GraphFull { position }) => Err(Fate::Check(CheckFault::Refused {
@@ -176,9 +262,21 @@ fn audit_rest<O: Sink>(
 {
     let config = config_of_rounds(closed, options.limits);
     let log = closed.log();
-    match rounds_of(alloc, &config, log, asked, options.witness, left) {
+    match rounds_of(
+        alloc,
+        &config,
+        log,
+        is_clean(closed),
+        asked,
+        options.witness,
+        left,
+    ) {
         Ok(rounds) => {
-            let fate = tell_rounds(alloc, log, names, asked, &rounds, left, out);
+            let listing = listing_of(options);
+            let bounds = config.bounds;
+            let fate = tell_rounds(
+                alloc, bounds, log, names, asked, listing, &rounds, left, out,
+            );
             drop(rounds);
             fate
         }

@@ -17,7 +17,7 @@ ghost use Rattle.velo_audit_commands.specs.Commands.{DoesPredict, PredictsLog, P
 ghost use Rattle.velo_audit_commands.specs.Predicting.{ArePredictionsOf, Predicts, PredictsInput, first_trace, predicted};
 ghost use Rattle.velo_inputs.specs.Sending.{DeliversOrLacks};
 
-use crate::auditing::{config_of_rounds, left_out, rounds_of};
+use crate::auditing::{config_of_rounds, is_clean, left_out, rounds_of};
 use crate::command::Command;
 use std::alloc::Global;
 use velo_audit::Told;
@@ -256,7 +256,15 @@ fn predict_rest<F: Files, O: Sink>(
 {
     let config = config_of_rounds(closed, inquiry.options.limits);
     let log = closed.log();
-    match rounds_of(alloc, &config, log, inquiry.asked, true, left) {
+    match rounds_of(
+        alloc,
+        &config,
+        log,
+        is_clean(closed),
+        inquiry.asked,
+        true,
+        left,
+    ) {
         Ok(rounds) => {
             let fate = predict_after(alloc, &config, log, inquiry, &rounds, left, files, out);
             drop(rounds);

@@ -1,3 +1,4 @@
 pub mod OnPieces
 pub mod OnOpen
 pub mod OnLabels
+mod OnEntries

@@ -2,3 +2,5 @@ pub mod Names
 pub mod Words
 pub mod Witness
 pub mod Text
+pub mod Entries
+pub mod Listing

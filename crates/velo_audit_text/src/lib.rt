@@ -2,9 +2,13 @@
 //! round, and the counts.
 #![tactic(auto)]
 
+mod entries;
+mod listing;
 mod whole;
 mod witness;
 mod words;
 
+pub use entries::Listing;
+pub use listing::listing_text;
 pub use whole::{add_rounds, add_witness_if_any, audit_text};
 pub use words::{Asked, add_asked};

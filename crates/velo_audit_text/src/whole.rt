@@ -21,7 +21,7 @@ use velo_names::Names;
 use velo_traces::{Block, Trace};
 
 /// Whether one of the blocks has the label.
-fn is_label_of(blocks: &[Block], label: Label) -> bool
+pub(crate) fn is_label_of(blocks: &[Block], label: Label) -> bool
     ensures { result ≡ is_listed (map (λ block. block.label.0) blocks.now) label.0 }
 {
     for block in blocks {

@@ -1,3 +1,4 @@
+//! Why there is no certificate.
 use thiserror::Error;
 use velo_events::Memory;
 

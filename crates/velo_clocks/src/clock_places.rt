@@ -1,3 +1,4 @@
+//! What is known at the places of a run, by their numbers.
 ghost use Rattle.std.specs.Prelude.{◌≡◌, ◌<◌, ◌≤◌, ◌+◌, ◌-◌, ◌^◌, ℕ, min, true, false, [], length, slice_index_or, slice_set, None, IsTrue, IsFalse, IfOk, OnOk, OnErr};
 ghost use Rattle.velo_events.specs.Event.{thread_of, access_of, thread_forked};
 ghost use Rattle.velo_clocks.specs.Clocks.{ClockPlace, blank_clock, clock_at, known_at, OfLast, blame_bound, KnowsNothing, KnowsTheSame};

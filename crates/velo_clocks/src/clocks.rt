@@ -1,3 +1,4 @@
+//! The clocks of a run: how far the last events at each place know each thread.
 ghost use Rattle.std.specs.Prelude.{◌≡◌, ◌+◌, ◌<◌, ◌^◌, length, IsTrue, IsFalse, IfOk, OnOk, OnErr};
 ghost use Rattle.velo_clocks.specs.Clocks.{blame_bound, known_at, OfLast, KnowsNothing, IsNoted, KnowsTheSame};
 ghost use Rattle.velo_clocks.specs.Noted.{HasRoomToNote, IsOfThreads};

@@ -1,3 +1,4 @@
+//! An event at a place: when it came in its thread, and what it knows.
 ghost use Rattle.std.specs.Prelude.{◌≡◌, slice_index_or};
 ghost use Rattle.velo_clocks.specs.Epochs.{blank_epoch};
 

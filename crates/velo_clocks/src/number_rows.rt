@@ -1,3 +1,4 @@
+//! Rows of numbers of one width, one after another in one list.
 ghost use Rattle.std.specs.Prelude.{◌≡◌, ◌<◌, ◌≤◌, ◌^◌, ◌++◌, ℕ, max, replicate, [], length, slice_index_or, slice_set, OnOk, OnErr};
 ghost use Rattle.velo_clocks.specs.NumberRows.{with_row};
 ghost use Rattle.velo_clocks.specs.Noted.{maxima};

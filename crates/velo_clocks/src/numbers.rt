@@ -1,3 +1,4 @@
+//! A list of numbers, one for each thread.
 ghost use Rattle.std.specs.Prelude.{◌≡◌, ◌≤◌, ◌<◌, max, length, slice_index_or, slice_set};
 ghost use Rattle.velo_clocks.specs.Noted.{maxima};
 

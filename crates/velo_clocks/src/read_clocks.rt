@@ -1,3 +1,4 @@
+//! What the reads of each variable since its last write know.
 ghost use Rattle.std.specs.Prelude.{◌≡◌, ◌<◌, ◌≤◌, ◌+◌, ◌^◌, ℕ, max, true, false, [], length, slice_index_or, slice_set, IsTrue, OnOk, OnErr};
 ghost use Rattle.velo_clocks.specs.declared.read_clocks.ReadBy.TheVariants.{Nobody, One, Several};
 ghost use Rattle.velo_clocks.specs.Clocks.{blank_clock};

@@ -1,3 +1,4 @@
+//! The collection of finished nodes that no unfinished one reaches.
 ghost use Rattle.std.specs.Prelude.{◌≡◌, ◌≤◌, [], IfOk};
 ghost use Rattle.velo_arena.specs.Slots.{limit_of};
 ghost use Rattle.velo_graph.specs.Collects.{Collects, TellsFreed, HasNothingLeft};

@@ -1,3 +1,4 @@
+mod OnVerifying
 mod OnCauses
 mod OnRefusals
 mod OnThinning

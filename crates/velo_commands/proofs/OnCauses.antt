@@ -68,13 +68,14 @@ use Rattle.velo_schedule_text.specs.Schedule.{IsFaultOfSchedule, IsFaultOfTurns}
 use Rattle.velo_workload_commands.specs.Scheduling.{HaveFaultOfSchedule, LacksSchedule, turns_file}
 use Rattle.velo_log_commands.specs.Watching.{EndsAfter, IsFaultOfHeader, IsFaultWithin, IsWatchAnswer, Terms, Watches, terms_of_watch}
 use Rattle.velo_log_commands.specs.Endless.{IsFaultOfWhole, terms_of_endless}
-use Rattle.velo_log_commands.specs.Commands.{DoesWatchBy}
+use Rattle.velo_log_commands.specs.Commands.{DoesWatchBy, drawing_of}
 use Rattle.velo_world.specs.declared.log_replay.LogReplayFault.TheVariants as replay
 use Rattle.velo_delivery.specs.Writing.{Writing}
 use Rattle.velo_log_commands.specs.Thinning.{map_of}
 use Rattle.velo_workload_commands.proofs.OnFindings.{caused}
 use Rattle.velo_commands.proofs.OnRefusals.{of_flaw, of_log, of_refused}
 use Rattle.velo_commands.proofs.OnThinning.{of_thin}
+use Rattle.velo_commands.proofs.OnVerifying.{of_verify_answer, unclaimed}
 
 -- ---- by what each command has to say
 
@@ -99,11 +100,11 @@ module _ (needs : Needs) where
   of_check names limit nodes certificate read answer done (inl c) = said answer _ c.said done
   of_check names limit nodes certificate read answer done (inr f) = said answer (silent (fate.Check f.0)) f.2 (of_fault limit nodes read f.0 f.1)
 
-  of_explanation : (names : NameLists) (sites : Option Table) (read : Option (List ℕ)) (answer : Answer) → EndsByRefusal needs ending.Done → IsExplanation names sites read answer → HasCause answer
-  of_explanation names sites read answer done (inl e) = ⊎_elim (λ alarm. said answer _ alarm.said done) (λ clean. said answer _ clean.1 done) e.verdict
-  of_explanation names sites read answer done (inr (inl other)) = said answer (silent fate.OtherSites) other.said tt
-  of_explanation names sites read answer done (inr (inr (inl f))) = said answer (silent (fate.Check f.0)) f.2 (of_fault _ _ read f.0 f.1)
-  of_explanation names sites read answer done (inr (inr (inr lacks))) = of_lack answer lacks
+  of_explanation : (names : NameLists) (sites : Option Table) (read : Option (List ℕ)) (answer : Answer) (drawing : List ℕ) → EndsByRefusal needs ending.Done → IsExplanation names sites read answer drawing → HasCause answer
+  of_explanation names sites read answer drawing done (inl e) = ⊎_elim (λ alarm. said answer _ alarm.said done) (λ clean. said answer _ clean.1 done) e.verdict
+  of_explanation names sites read answer drawing done (inr (inl other)) = said answer (silent fate.OtherSites) other.said tt
+  of_explanation names sites read answer drawing done (inr (inr (inl f))) = said answer (silent (fate.Check f.0)) f.2 (of_fault _ _ read f.0 f.1)
+  of_explanation names sites read answer drawing done (inr (inr (inr lacks))) = of_lack answer lacks
 
   of_audit : (names : NameLists) (asked : Asked) (options : AuditOptions) (read : Option (List ℕ)) (answer : Answer) → EndsByRefusal needs ending.Done → IsAuditAnswer names asked options read answer
       → HasCause answer
@@ -360,13 +361,18 @@ of_done store (request.Check options) stdout f (inr (names, read, (shown, are, i
 of_done store (request.Check options) stdout f (inr (names, read, (shown, are, inr h))) = of_delivered Growths store None stdout h.1 f (of_check Growths shown _ _ _ h.0.bytes h.1 tt h.4) h.5
 of_done store (request.Explain options) stdout f (inl h) = unnamed Growths store.disk options.names f h.0
 of_done store (request.Explain options) stdout f (inr (names, read, inl h)) = unsited Growths store.disk options.sites f h.0
-of_done store (request.Explain options) stdout f (inr (names, read, inr (sites, given, inl h))) = unread Growths store.disk Log options.input.now options.target f h.0
-of_done store (request.Explain options) stdout f (inr (names, read, inr (sites, given, inr h))) = of_delivered Growths store options.target stdout h.1 f (of_explanation Growths names sites h.0.bytes h.1 tt h.4) h.5
+of_done store (request.Explain options) stdout f (inr (names, read, inr (sites, given, inl h))) = unread_apart Growths store.disk Log options.input.now options.target (drawing_of options) f h.0
+of_done store (request.Explain options) stdout f (inr (names, read, inr (sites, given, inr h))) =
+    of_in_turn Growths store options.target options.drawing h.2 stdout h.1 f (of_explanation Growths names sites h.0.bytes h.1 h.2 tt h.5) h.6
 of_done store (request.Carry options) stdout f (inl h) = unread Growths store.disk Log options.input.now (Some options.target) f h.0
 of_done store (request.Carry options) stdout f (inr (inl h)) = subst (ComesByRefusal Growths) (sym h.0) tt
 of_done store (request.Carry options) stdout f (inr (inr h)) = of_put Growths h.2 h.1 f (of_carry Growths h.0.bytes h.1 tt h.5) h.7
 of_done store (request.Thin options) stdout f (inl h) = unread_apart Growths store.disk Log options.input.now (Some options.target) (map_of options) f h.0
 of_done store (request.Thin options) stdout f (inr h) = of_thin Growths options h.0.bytes store stdout f tt h.3
+of_done store (request.Verify options) stdout f (inl h) = unclaimed Growths store.disk options.report.now f h.0
+of_done store (request.Verify options) stdout f (inr (claim, read, inl h)) = unread Growths store.disk Log options.input.now None f h.0
+of_done store (request.Verify options) stdout f (inr (claim, read, inr (log, given, verifies, kept))) =
+    of_printed Growths stdout verifies.1.0 f (of_verify_answer Growths claim log.bytes verifies.1.0 tt verifies.1.1) verifies.1.2
 of_done store (request.Run options) stdout f h = played GrowthsAndStarts ByThreads options store stdout f (λ program ended w run. run.cause) h
 of_done store (request.Replay options) stdout f (inl lacks) = unscheduled Growths store.disk options.schedule f lacks.0
 of_done store (request.Replay options) stdout f (inr h) = played Growths (ByTurns h.0) options.run store stdout f (λ program ended w run. run.cause) h.2

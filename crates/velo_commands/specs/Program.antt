@@ -1,16 +1,17 @@
 -- What the program does: the table of its commands. Read this page first.
 --
 -- What a command does is one definition, whose lines are its steps, in `Commands` of its crate:
--- `velo_log_commands`, `velo_audit_commands` or `velo_workload_commands`. The store is the files that
--- the command finds and leaves, stdout is standard output before and after, and f is the command's
--- fate.
+-- `velo_log_commands`, `velo_audit_commands`, `velo_verify` or `velo_workload_commands`. The store is
+-- the files that the command finds and leaves, stdout is standard output before and after, and f is
+-- the command's fate.
 use Rattle.velo_delivery.specs.Disk.{Store}
 use Rattle.velo_delivery.specs.Writing.{Writing}
 use Rattle.velo_fate.specs.declared.fate.Fate.{Fate}
 use Rattle.velo_audit_commands.specs.Commands.{DoesAudit, DoesPredict}
 use Rattle.velo_log_commands.specs.Commands.{DoesCarry, DoesCheck, DoesExplain, DoesThin, DoesWatch, DoesWatchEndless}
 use Rattle.velo_request.specs.declared.request.Request.{Request}
-use Rattle.velo_request.specs.declared.request.Request.TheVariants.{Audit, Carry, Check, Explain, Explore, Predict, Replay, Run, Thin, Watch, WatchEndless}
+use Rattle.velo_request.specs.declared.request.Request.TheVariants.{Audit, Carry, Check, Explain, Explore, Predict, Replay, Run, Thin, Verify, Watch, WatchEndless}
+use Rattle.velo_verify.specs.Commands.{DoesVerify}
 use Rattle.velo_workload_commands.specs.Commands.{DoesExplore, DoesReplay, DoesRun}
 
 -- What was asked for was done. (Callers take it as a word: only what is proved of it here opens it.)
@@ -23,6 +24,7 @@ Does store (WatchEndless options) stdout f = DoesWatchEndless options store stdo
 Does store (Audit options) stdout f = DoesAudit options store stdout f
 Does store (Predict options) stdout f = DoesPredict options store stdout f
 Does store (Thin options) stdout f = DoesThin options store stdout f
+Does store (Verify options) stdout f = DoesVerify options store stdout f
 Does store (Run options) stdout f = DoesRun options store stdout f
 Does store (Replay options) stdout f = DoesReplay options store stdout f
 Does store (Explore options) stdout f = DoesExplore options store stdout f

@@ -15,6 +15,7 @@ use velo_log_commands::{
     carry_file, check_file, explain_file, thin_file, watch_endless_file, watch_file,
 };
 use velo_request::Request;
+use velo_verify::verify_file;
 use velo_workload_commands::{ExploreProgress, explore_file, replay_file, run_file};
 
 /// Does what was asked for, with the report, the certificate or the words of an explanation on the
@@ -60,5 +61,6 @@ fn do_by<R: Threads + Wait + Sync, F: Files, O: Sink, P: ExploreProgress>(
         Request::Audit(options) => audit_file(alloc, options, files, out),
         Request::Predict(options) => predict_file(alloc, options, files, out),
         Request::Thin(options) => thin_file(alloc, options, files, out),
+        Request::Verify(options) => verify_file(alloc, options, files, out),
     }
 }

@@ -21,6 +21,8 @@ pub enum Operand {
     NamesOut,
     /// `MAP`, where the positions of what is left of a log are saved.
     Map,
+    /// `SVG`, where a drawing is saved.
+    Svg,
 }
 
 /// What failed, of memory and devices. What the files say is not at fault.

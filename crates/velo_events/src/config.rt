@@ -1,3 +1,4 @@
+//! Bounds and limits of a run.
 ghost use Rattle.std.specs.Prelude.{◌≡◌, ◌≤◌, IfOk, IfErr, None, Some};
 ghost use Rattle.velo_events.specs.declared.limits.TheConstants.{MAX_EVENTS, MAX_LOCKS, MAX_NODES, MAX_THREADS};
 

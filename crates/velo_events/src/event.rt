@@ -1,3 +1,4 @@
+//! Threads, variables, locks, labels, and what an event does with them.
 ghost use Rattle.std.specs.Prelude.{◌≡◌, ◌+◌};
 ghost use Rattle.velo_events.specs.Event.{access_of, value_read};
 ghost use Rattle.velo_events.specs.Meaning.{action_of, is_live, is_unborn};

@@ -1,3 +1,4 @@
+//! Out of memory, with the fact that an allocation failed.
 use std::marker::Model;
 use thiserror::Error;
 

@@ -1,3 +1,4 @@
+//! Why an action is refused.
 use thiserror::Error;
 
 /// Why an action is refused. A refused action changes nothing.

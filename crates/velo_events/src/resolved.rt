@@ -1,3 +1,4 @@
+//! An event whose kind was matched once.
 ghost use Rattle.std.specs.Prelude.{◌≡◌};
 ghost use Rattle.velo_events.specs.Event.{access_of};
 

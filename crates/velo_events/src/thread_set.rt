@@ -1,3 +1,4 @@
+//! Sets of threads, one bit for each.
 ghost use Rattle.std.specs.Prelude.{◌≡◌, ◌<◌, ◌==◌, ◌&&◌, ◌||◌, ℕ, not, IfNone, IfSome, IsTrue, IsFalse};
 ghost use Rattle.velo_events.specs.declared.limits.TheConstants.{MAX_THREADS};
 ghost use Rattle.velo_events.specs.ThreadSets.{has_thread, has_none, no_threads, with_thread, without_thread};

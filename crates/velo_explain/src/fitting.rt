@@ -41,7 +41,7 @@ fn begins_character(byte: u8) -> bool
 }
 
 /// How many characters a text has.
-pub(crate) fn characters(text: &[u8]) -> usize
+pub fn characters(text: &[u8]) -> usize
     ensures { result ≡ characters text.now }
 {
     let mut count = 0;
@@ -104,9 +104,12 @@ pub(crate) fn add_right(page: &mut Page, number: u64) -> Result<(), Memory>
     page.add_bytes(&buffer[..end])
 }
 
-/// Adds a text in at most `room` characters.
+/// Adds a text in at most `room` characters: as it is, or with `..` in the place of what has no room.
+///
+/// # Errors
+/// `Memory` if an allocation failed; the page is then no longer to be used.
 #[tactic(auto, unfolding(crate::specs::Fitting::shortened))]
-pub(crate) fn add_shortened(page: &mut Page, room: usize, text: &[u8]) -> Result<(), Memory>
+pub fn add_shortened(page: &mut Page, room: usize, text: &[u8]) -> Result<(), Memory>
     ensures { OnOk result (page.new ≡ page.old ++ shortened room text.now) }
 {
     if characters(text) <= room {

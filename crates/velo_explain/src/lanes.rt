@@ -24,12 +24,11 @@ fn threads_of(alloc: Global, events: &[Event], shown: &[usize]) -> Result<Vec<us
     Ok(threads)
 }
 
-/// The threads that have lanes, where these positions are shown.
-pub(crate) fn lanes_of(
-    alloc: Global,
-    events: &[Event],
-    shown: &[usize],
-) -> Result<Vec<usize>, Memory>
+/// The threads that have lanes, where these positions are shown: those that act there, least first.
+///
+/// # Errors
+/// `Memory` if an allocation failed.
+pub fn lanes_of(alloc: Global, events: &[Event], shown: &[usize]) -> Result<Vec<usize>, Memory>
     requires within { AreBelow (length events.now) shown.now }
     ensures ok { IfOk result (λ lanes. lanes.items ≡ lanes_of events.now shown.now) }
     ensures below { IfOk result (λ lanes. AreBelow 256 lanes.items) }
@@ -158,8 +157,8 @@ fn add_row(
     page.add_bytes(b"\n")
 }
 
-/// How many lines lie between a position and the one before it.
-fn lines_before(shown: &[usize], k: usize) -> usize
+/// How many lines lie between the position at a place of a list and the one before it.
+pub fn lines_before(shown: &[usize], k: usize) -> usize
     requires place { k < length shown.now }
     requires few { AreBelow MAX_EVENTS shown.now }
     ensures { result ≡ lines_before shown.now k }

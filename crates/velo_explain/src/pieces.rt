@@ -113,7 +113,7 @@ impl Page {
     ///
     /// # Errors
     /// `Memory` if an allocation failed.
-    pub(crate) fn add_bytes(&mut self, bytes: &[u8]) -> Result<(), Memory>
+    pub fn add_bytes(&mut self, bytes: &[u8]) -> Result<(), Memory>
         ensures { OnOk result (self.new ≡ self.old ++ bytes.now) }
     {
         append(&mut self.bytes, bytes)

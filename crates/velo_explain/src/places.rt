@@ -85,6 +85,25 @@ fn add_shown(page: &mut Page, sites: &Sites, shown: &[usize]) -> Result<(), Memo
     Ok(())
 }
 
+/// The positions that the explanation of an alarm mentions, in the order of a log with so many
+/// events, each once.
+///
+/// # Errors
+/// `Memory` if an allocation failed.
+pub fn mentioned_in_order(
+    alloc: Global,
+    events: usize,
+    position: usize,
+    evidence: &Evidence,
+) -> Result<Vec<usize>, Memory>
+    ensures ok { IfOk result (λ shown. shown.items
+        ≡ among_below events (mentioned position evidence.now)) }
+    ensures below { IfOk result (λ shown. AreBelow events shown.items) }
+{
+    let positions = mentioned(alloc, position, evidence)?;
+    in_order(alloc, &positions, events)
+}
+
 /// Adds the places of the events that the explanation of an alarm mentions, in the order of a log with so many events.
 ///
 /// # Errors
@@ -101,7 +120,6 @@ pub(crate) fn add_places(
     ensures { OnOk result (page.new
         ≡ page.old ++ places_text sites.now (among_below events (mentioned position evidence.now))) }
 {
-    let positions = mentioned(alloc, position, evidence)?;
-    let shown = in_order(alloc, &positions, events)?;
+    let shown = mentioned_in_order(alloc, events, position, evidence)?;
     add_shown(page, sites, &shown)
 }

@@ -9,6 +9,8 @@ use Rattle.velo_names.specs.declared.fault.NamesFault.{NamesFault}
 use Rattle.velo_names.specs.declared.fault.NamesFault.TheVariants as names_fault
 use Rattle.velo_sites.specs.declared.fault.SitesFault.{SitesFault}
 use Rattle.velo_sites.specs.declared.fault.SitesFault.TheVariants as sites_fault
+use Rattle.velo_claims.specs.declared.fault.ReportFault.{ReportFault}
+use Rattle.velo_claims.specs.declared.fault.ReportFault.TheVariants as report_fault
 use Rattle.velo_worker.specs.declared.ending.Ending.{Ending}
 use Rattle.velo_worker.specs.Causes.{RefusedByGrowth, EndsByGrowth, EndsWithCause}
 use Rattle.velo_workload.specs.declared.fault.WorkFault.{WorkFault}
@@ -52,6 +54,10 @@ abbrev pub SitesByGrowth : SitesFault → Type 0
 SitesByGrowth sites_fault.Memory = GrowthRefused
 SitesByGrowth f = ⊤
 
+abbrev pub ReportByGrowth : ReportFault → Type 0
+ReportByGrowth report_fault.Memory = GrowthRefused
+ReportByGrowth f = ⊤
+
 -- ---- of what the program comes to
 
 -- what a command asks the system for: memory alone, or starts of threads too
@@ -73,6 +79,7 @@ ComesByRefusal needs (fate.Work f) = WorkByGrowth f
 ComesByRefusal needs (fate.Names f) = NamesByGrowth f
 ComesByRefusal needs (fate.List f) = ListByGrowth f
 ComesByRefusal needs (fate.Sites f) = SitesByGrowth f
+ComesByRefusal needs (fate.Report f) = ReportByGrowth f
 ComesByRefusal needs (fate.Check f) = CheckByGrowth f
 ComesByRefusal needs fate.Memory = GrowthRefused
 ComesByRefusal needs f = ⊤

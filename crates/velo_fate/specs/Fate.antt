@@ -14,6 +14,9 @@ use Rattle.velo_names.specs.declared.fault.NamesFault.{NamesFault}
 use Rattle.velo_sites.specs.declared.fault.SitesFault.{SitesFault}
 use Rattle.velo_sites.specs.declared.fault.SitesFault.TheVariants as sites_fault
 use Rattle.velo_sites.specs.Fault.{fault_line as line_of_sites_fault, fault_number as number_of_sites_fault}
+use Rattle.velo_claims.specs.declared.fault.ReportFault.{ReportFault}
+use Rattle.velo_claims.specs.declared.fault.ReportFault.TheVariants as report_fault
+use Rattle.velo_claims.specs.Fault.{fault_line as line_of_report_fault, fault_number as number_of_report_fault}
 use Rattle.velo_names.specs.declared.fault.NamesFault.TheVariants as names_fault
 use Rattle.velo_names.specs.Fault.{fault_line, fault_number}
 use Rattle.velo_worker.specs.declared.ending.Ending.{Ending}
@@ -109,6 +112,10 @@ abbrev pub status_of_sites : SitesFault → ℕ
 status_of_sites sites_fault.Memory = 5
 status_of_sites _ = 2
 
+abbrev pub status_of_report : ReportFault → ℕ
+status_of_report report_fault.Memory = 5
+status_of_report _ = 2
+
 abbrev pub status_of : Fate → ℕ
 status_of (Finished how alarm) = status_of_ending how alarm
 status_of (Schedule fault) = status_of_schedule fault
@@ -117,6 +124,7 @@ status_of (Names fault) = status_of_names fault
 status_of (fate.List fault) = status_of_list fault
 status_of (Sites fault) = status_of_sites fault
 status_of OtherSites = 2
+status_of (fate.Report fault) = status_of_report fault
 status_of (Check fault) = status_of_check fault
 status_of CannotOpen = 5
 status_of (fate.Ignored what) = 2
@@ -194,6 +202,12 @@ line_of_sites (Some number) n =
     codes "sites fault " ++ decimal number ++ codes " line " ++ decimal n ++ codes "\n"
 line_of_sites None n = codes "out of memory\n"
 
+-- the same of a report
+abbrev pub line_of_report : Option ℕ → ℕ → List ℕ
+line_of_report (Some number) n =
+    codes "report fault " ++ decimal number ++ codes " line " ++ decimal n ++ codes "\n"
+line_of_report None n = codes "out of memory\n"
+
 -- by what was to be ignored and means nothing
 abbrev pub line_of_ignored : Ignorable → List ℕ
 line_of_ignored ignorable.Lock = codes "ignored fault 1\n"
@@ -209,6 +223,7 @@ word_of operand.Turns = codes "TURNS"
 word_of operand.Out = codes "OUT"
 word_of operand.NamesOut = codes "NAMES"
 word_of operand.Map = codes "MAP"
+word_of operand.Svg = codes "SVG"
 
 abbrev pub line_of_one_file : Operand → Operand → List ℕ
 line_of_one_file first second =
@@ -222,6 +237,7 @@ line_of (Names fault) = line_of_names (fault_number fault) (fault_line fault)
 line_of (fate.List fault) = line_of_list (number_of_list_fault fault) (line_of_list_fault fault)
 line_of (Sites fault) = line_of_sites (number_of_sites_fault fault) (line_of_sites_fault fault)
 line_of OtherSites = codes "sites fault 5 line 0\n"
+line_of (fate.Report fault) = line_of_report (number_of_report_fault fault) (line_of_report_fault fault)
 line_of (fate.Ignored what) = line_of_ignored what
 line_of (Check fault) = line_of_check fault
 line_of CannotOpen = codes "cannot open\n"

@@ -3,11 +3,13 @@ ghost use Rattle.std.specs.Prelude.{◌≡◌, ◌≢◌, ◌≤◌, ◌+◌, �
 ghost use Rattle.velo_suppressions.specs.Fault.{fault_line as line_of_list_fault, fault_number as number_of_list_fault};
 ghost use Rattle.velo_names.specs.Fault.{fault_line, fault_number};
 ghost use Rattle.velo_sites.specs.Fault.{fault_line as line_of_sites_fault, fault_number as number_of_sites_fault};
+ghost use Rattle.velo_claims.specs.Fault.{fault_line as line_of_report_fault, fault_number as number_of_report_fault};
 ghost use Rattle.velo_delivery.specs.Writing.{BreaksOff, Writes, writing};
-ghost use Rattle.velo_fate.specs.Fate.{Ends, fate_of_failure, number_of, status_of, status_of_check, status_of_list, status_of_log, status_of_refused, status_of_ending, status_of_names, status_of_schedule, status_of_sites, status_of_work, place_of_work, line_of, line_of_check, line_of_log, line_of_ending, line_of_ignored, line_of_list, line_of_names, line_of_one_file, line_of_refused, line_of_schedule, line_of_sites, line_of_work, word_of};
+ghost use Rattle.velo_fate.specs.Fate.{Ends, fate_of_failure, number_of, status_of, status_of_check, status_of_list, status_of_log, status_of_refused, status_of_ending, status_of_names, status_of_report, status_of_schedule, status_of_sites, status_of_work, place_of_work, line_of, line_of_check, line_of_log, line_of_ending, line_of_ignored, line_of_list, line_of_names, line_of_one_file, line_of_refused, line_of_report, line_of_schedule, line_of_sites, line_of_work, word_of};
 
 use crate::fault::CheckFault;
 use velo_bytes::{Sink, WriteFault, put_bytes, put_number, write_all};
+use velo_claims::ReportFault;
 use velo_delivery::{Failure, Operand};
 use velo_events::{Refusal, ThreadId};
 use velo_logtext::LogFault;
@@ -40,6 +42,8 @@ pub enum Fate {
     Sites(SitesFault),
     /// The sites are those of a log with another number of events.
     OtherSites,
+    /// The text is no report.
+    Report(ReportFault),
     /// Nothing is meant by what was to be ignored.
     Ignored(Ignorable),
     /// The check met a fault.
@@ -156,6 +160,15 @@ fn status_of_sites(fault: SitesFault) -> u8
     }
 }
 
+fn status_of_report(fault: ReportFault) -> u8
+    ensures { result ≡ status_of_report fault }
+{
+    match fault {
+        ReportFault::Memory => FAILED,
+        _ => BAD_INPUT,
+    }
+}
+
 fn status_of_list(fault: ListFault) -> u8
     ensures { result ≡ status_of_list fault }
 {
@@ -175,6 +188,7 @@ fn status_of(fate: Fate) -> u8
         Fate::Names(fault) => status_of_names(fault),
         Fate::List(fault) => status_of_list(fault),
         Fate::Sites(fault) => status_of_sites(fault),
+        Fate::Report(fault) => status_of_report(fault),
         Fate::Check(fault) => status_of_check(fault),
         Fate::Ignored(_) | Fate::OtherSites | Fate::OneFile(..) => BAD_INPUT,
         Fate::Open => INCOMPLETE,
@@ -363,6 +377,25 @@ fn put_sites_fault(buffer: &mut [u8], fault: SitesFault) -> usize
     }
 }
 
+/// Puts the line of a fault of a report at the front of a buffer, and returns where it ends.
+fn put_report_fault(buffer: &mut [u8], fault: ReportFault) -> usize
+    requires { 64 ≤ length buffer.old }
+    ensures text { take result buffer.new
+        ≡ line_of_report (number_of_report_fault fault) (line_of_report_fault fault) }
+    ensures end { result ≤ length buffer.new }
+{
+    match fault.number() {
+        Some(number) => {
+            let at = put_bytes(buffer, 0, b"report fault ");
+            let at = put_number(buffer, at, u64::from(number));
+            let at = put_bytes(buffer, at, b" line ");
+            let at = put_number(buffer, at, fault.line() as u64);
+            put_bytes(buffer, at, b"\n")
+        }
+        None => put_bytes(buffer, 0, b"out of memory\n"),
+    }
+}
+
 /// Puts the line of what was to be ignored and means nothing at the front of a buffer, and returns where it ends.
 fn put_ignored(buffer: &mut [u8], what: Ignorable) -> usize
     requires { 64 ≤ length buffer.old }
@@ -389,6 +422,7 @@ fn put_operand(buffer: &mut [u8], at: usize, operand: Operand) -> usize
         Operand::Out => put_bytes(buffer, at, b"OUT"),
         Operand::Names | Operand::NamesOut => put_bytes(buffer, at, b"NAMES"),
         Operand::Map => put_bytes(buffer, at, b"MAP"),
+        Operand::Svg => put_bytes(buffer, at, b"SVG"),
     }
 }
 
@@ -421,6 +455,7 @@ fn put_line(buffer: &mut [u8], fate: Fate) -> usize
         Fate::List(fault) => put_list_fault(buffer, fault),
         Fate::Sites(fault) => put_sites_fault(buffer, fault),
         Fate::OtherSites => put_bytes(buffer, 0, b"sites fault 5 line 0\n"),
+        Fate::Report(fault) => put_report_fault(buffer, fault),
         Fate::Ignored(what) => put_ignored(buffer, what),
         Fate::Check(fault) => put_check_fault(buffer, fault),
         Fate::CannotOpen => put_bytes(buffer, 0, b"cannot open\n"),

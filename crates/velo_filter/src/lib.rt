@@ -7,4 +7,5 @@ mod marks;
 mod thinned;
 
 pub use left::LeftOut;
+pub use marks::{no_marks, stays_at};
 pub use thinned::{Thinned, thin};

@@ -12,7 +12,10 @@ use velo_events::{Event, Kind, Memory, ThreadId};
 /// One row for each number that a thread can have.
 const ROWS: usize = 256;
 
-/// No block is open.
+/// The marks where no block is open.
+///
+/// # Errors
+/// `Memory` where a growth was refused.
 pub fn no_marks(alloc: Global) -> Result<Vec<u64>, Memory>
     ensures { IfOk result (λ rows. rows.items ≡ replicate 256 0) }
 {

@@ -26,7 +26,11 @@ pub struct Thinned {
 }
 
 impl Thinned {
-    fn push(&mut self, position: usize, event: Event) -> Result<(), Memory>
+    /// Appends an event, and its position in the log as read.
+    ///
+    /// # Errors
+    /// `Memory` where a growth was refused.
+    pub fn push(&mut self, position: usize, event: Event) -> Result<(), Memory>
         requires { position < 4294967296 }
         ensures events { OnOk result (self.new.trace.events ≡ self.old.trace.events ++ event ∷ []) }
         ensures places { OnOk result (self.new.places.items ≡ self.old.places.items ++ position ∷ []) }

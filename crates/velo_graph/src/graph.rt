@@ -1,3 +1,4 @@
+//! The graph of transactions: nodes in slots, each with its ancestors.
 ghost use Rattle.std.specs.Prelude.{◌≡◌, ◌≢◌, ◌↔◌, ℕ, ◌<◌, ◌≤◌, false, Some, None, length, replicate, is_some, IfOk, OnErr, IsErr, IsTrue, IsFalse, true, vec_capacity, if◌then◌else◌};
 ghost use Rattle.std.specs.Option.{ForSome};
 ghost use Rattle.velo_arena.specs.Slots.{limit_of, is_used, used_in, bears, stamp_in, is_finished_in, with_node, Opens};

@@ -1,3 +1,4 @@
+//! Freeing the slots that have an heir.
 ghost use Rattle.std.specs.Prelude.{◌≡◌, ℕ, ◌≤◌, length, is_some, IsTrue};
 ghost use Rattle.velo_arena.specs.Slots.{limit_of, is_used};
 ghost use Rattle.velo_arena.specs.Heirs.{heir_in};

@@ -1,3 +1,4 @@
+//! The rows of a graph: the ancestors of each slot.
 ghost use Rattle.std.specs.Prelude.{◌≡◌, ◌<◌, ◌≤◌, map, length, replicate, IfOk, IsTrue, false, if◌then◌else◌};
 ghost use Rattle.std.specs.FinSet as set;
 ghost use Rattle.velo_rows.specs.Meet.{Meet};

@@ -1,3 +1,4 @@
+//! Tests of the arena.
 use std::alloc::Global;
 use std::process::Abort;
 use std::test::Fail;

@@ -1,3 +1,4 @@
+//! Tests of the clocks.
 ghost use Rattle.std.specs.Prelude.{◌≡◌, ◌<◌, length};
 ghost use Rattle.velo_clocks.specs.Noted.{IsOfThreads};
 

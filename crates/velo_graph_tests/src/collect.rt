@@ -1,3 +1,4 @@
+//! Tests of the collection.
 ghost use Rattle.std.specs.Prelude.{◌≡◌, ◌≤◌};
 
 use crate::nodes::{edge, finish, open};

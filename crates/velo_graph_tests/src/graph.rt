@@ -1,3 +1,4 @@
+//! Tests of the graph.
 ghost use Rattle.std.specs.Prelude.{◌≡◌, ◌≤◌, vec_capacity};
 
 use std::alloc::Global;

@@ -1,3 +1,4 @@
+//! Tests of the merge rule.
 use crate::nodes::{edge, finish, open};
 use std::alloc::Global;
 use std::process::Abort;

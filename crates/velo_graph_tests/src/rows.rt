@@ -1,3 +1,4 @@
+//! Tests of both kinds of rows.
 ghost use Rattle.std.specs.Prelude.{◌≡◌, ◌<◌};
 
 use std::alloc::Global;

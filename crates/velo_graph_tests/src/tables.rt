@@ -1,3 +1,4 @@
+//! Tests of the tables of last accesses.
 ghost use Rattle.std.specs.Prelude.{◌≡◌, length};
 ghost use Rattle.velo_tables.specs.LastAccesses.{HasItsThreads};
 

@@ -1,3 +1,4 @@
+//! Who holds a lock.
 ghost use Rattle.std.specs.Prelude.{◌≡◌, ◌<◌};
 ghost use Rattle.velo_events.specs.declared.limits.TheConstants.{MAX_THREADS};
 ghost use Rattle.velo_events.specs.ThreadSets.{has_thread};

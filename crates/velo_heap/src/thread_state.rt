@@ -1,3 +1,4 @@
+//! The state of a thread.
 ghost use Rattle.std.specs.Prelude.{◌≡◌};
 ghost use Rattle.velo_heap.specs.Steps.{begin_in, end_in, exit_in, fork_by, join_by, unborn};
 

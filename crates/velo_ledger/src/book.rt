@@ -1,3 +1,4 @@
+//! The book of a run: a row of counts and sums for each thread.
 ghost use Rattle.velo_events.specs.declared.limits.TheConstants.{MAX_EVENTS};
 ghost use Rattle.std.specs.Prelude.{◌≡◌, ◌<◌, ◌≤◌, ◌+◌, ◌↔◌, Some, IfOk, IfSome, IsTrue, length, slice_get, sum_by, option_copied};
 ghost use Rattle.std.specs.Option.{SomeIff};

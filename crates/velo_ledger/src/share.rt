@@ -1,3 +1,4 @@
+//! A thread's share of the book.
 ghost use Rattle.std.specs.Prelude.{◌≡◌};
 
 use crate::tally::Tally;

@@ -1,3 +1,4 @@
+//! A place for each thread's share.
 ghost use Rattle.std.specs.Prelude.{◌≡◌, ◌↔◌, [], None, Some, IsOk, IfOk, OnOk, IfErr, OnErr, IfSome, replicate, slice_get, slice_set};
 ghost use Rattle.std.specs.Option.{option_copied};
 ghost use Rattle.velo_ledger.specs.Shares.{AreInPlace, share_at, share_in};

@@ -1,6 +1,6 @@
 -- What an explanation comes to.
 use Rattle.std.proofs.Common.{◌≡◌, ◌∙◌, ap, inl, inr, refl, sym, subst, take, ⊎_elim}
-use Rattle.std.specs.Prelude.{ℕ, Bool, false, List, Option, Some, None, Err, ◌⊎◌}
+use Rattle.std.specs.Prelude.{ℕ, Bool, false, List, [], Option, Some, None, Err, ◌⊎◌}
 use Rattle.std.specs.Borrow.{Bor}
 use Rattle.velo_events.specs.declared.config.Bounds.{Bounds}
 use Rattle.velo_events.specs.declared.event.Event.{Event}
@@ -13,20 +13,22 @@ use Rattle.velo_names.specs.Names.{NameLists}
 use Rattle.velo_sites.specs.Sites.{Table}
 use Rattle.velo_explain.specs.declared.evidence.Evidence.{Evidence}
 use Rattle.velo_explain.specs.Evidence.{IsEvidence, HaveReasons}
+use Rattle.velo_picture.specs.Drawing.{drawing_text}
+use Rattle.velo_request.specs.declared.request.ExplainOptions.{ExplainOptions}
 use Rattle.velo_worker.specs.declared.ending.Ending.TheVariants as ending
 use Rattle.velo_fate.specs.declared.fate.Fate.{Fate}
 use Rattle.velo_fate.specs.declared.fate.Fate.TheVariants as fate
-use Rattle.velo_fate.specs.Delivery.{Answer, IsDelivered, IsPrinted, LacksMemory, Saves, printing, silent}
-use Rattle.velo_delivery.specs.Disk.{Store}
+use Rattle.velo_fate.specs.Delivery.{Answer, IsDelivered, IsDeliveredInTurn, IsPrinted, LacksMemory, Saves, printing, silent}
+use Rattle.velo_delivery.specs.Disk.{Disk, Store, store}
 use Rattle.velo_delivery.specs.Reading.{Reading}
 use Rattle.velo_inputs.specs.Input.{ComesAbout}
-use Rattle.velo_log_commands.specs.Explaining.{ExplainsAlarm, ExplainsVerdict, counted, explained}
+use Rattle.velo_log_commands.specs.Explaining.{ExplainsAlarm, ExplainsVerdict, counted, explained, saying}
 use Rattle.velo_fate.specs.Failures.{failures_told}
 use Rattle.velo_delivery.specs.Writing.{Writing, WritesNothing}
-use Rattle.velo_inputs.specs.Sending.{DeliversOrLacks, PrintsOrLacks}
-use Rattle.velo_log_commands.specs.Steps.{Explains, ExplainsIfOf, ExplainsInput}
+use Rattle.velo_inputs.specs.Sending.{PrintsOrLacks}
+use Rattle.velo_log_commands.specs.Steps.{DrawsOrLacks, Explains, ExplainsIfOf, ExplainsInput}
 use Rattle.velo_fate.specs.Saving.{IsSaved}
-use Rattle.velo_fate.proofs.OnDelivery.{delivered_reads, printed_put, same_fate}
+use Rattle.velo_fate.proofs.OnDelivery.{in_turn_reads, printed_put, same_fate}
 use Rattle.velo_certify.proofs.OnClosing.{no_cycle_before}
 
 module _ (store : Store) (target : Option (Bor (List ℕ))) (stdout : Writing) where
@@ -51,56 +53,76 @@ module _ (store : Store) (target : Option (Bor (List ℕ))) (stdout : Writing) w
   words_put saved words text alarm is kept f told =
       printed_put store target stdout saved None (Some text) _ kept (λ e. cc) f (subst (λ (t : List ℕ). IsPrinted stdout (printing t (fate.Finished ending.Done alarm)) f) is told)
 
+module _ (store : Store) (options : ExplainOptions) (stdout : Writing) where
   -- no explanation is told as a failed read
-  pub explains_reads : (names : NameLists) (sites : Option Table) (log : List Event) (answer : Answer) (n : ℕ) → ExplainsVerdict names sites log answer ⊎ LacksMemory answer → (f : Fate) → IsDelivered store target stdout answer f → failures_told f n ≡ n
-  explains_reads names sites log answer n is f h = delivered_reads store target stdout answer n (by_fate is) f h
+  pub explains_reads : (names : NameLists) (sites : Option Table) (log : List Event) (answer : Answer) (drawing : List ℕ) (n : ℕ) → ExplainsVerdict names sites log answer drawing ⊎ LacksMemory answer
+      → (f : Fate) → IsDeliveredInTurn store options.target options.drawing drawing stdout answer f → failures_told f n ≡ n
+  explains_reads names sites log answer drawing n is f h = in_turn_reads store options.target drawing stdout answer f options.drawing n (by_fate is) h
     where
-      by_fate : ExplainsVerdict names sites log answer ⊎ LacksMemory answer → failures_told answer.fate n ≡ n
+      by_fate : ExplainsVerdict names sites log answer drawing ⊎ LacksMemory answer → failures_told answer.fate n ≡ n
       by_fate (inl (inl alarm)) = same_fate answer _ n alarm.said refl
       by_fate (inl (inr clean)) = same_fate answer _ n clean.1 refl
       by_fate (inr lacks) = same_fate answer _ n lacks.1 refl
 
   -- this answer explains the log; or memory was wanting, and nothing is said
-  pub explains_by : (names : NameLists) (sites : Option Table) (log : List Event) (answer : Answer) (f : Fate) → ExplainsVerdict names sites log answer → DeliversOrLacks answer store target stdout f → Explains names sites log store target stdout f
-  explains_by names sites log answer f explains (inl put) = (answer, inl explains, put)
-  explains_by names sites log answer f explains (inr lacks) =
-      (silent fate.Memory, inr (lacks.0, refl), subst (λ (f : Fate). IsDelivered store target stdout (silent fate.Memory) f) (sym lacks.1) (refl, lacks.2, lacks.3))
+  pub explains_by : (names : NameLists) (sites : Option Table) (log : List Event) (answer : Answer) (drawing : List ℕ) (f : Fate) → ExplainsVerdict names sites log answer drawing
+      → DrawsOrLacks answer drawing store options stdout f → Explains names sites log store options stdout f
+  explains_by names sites log answer drawing f explains (inl put) = (answer, drawing, inl explains, put)
+  explains_by names sites log answer drawing f explains (inr lacks) =
+      (silent fate.Memory, [], inr (lacks.0, refl), subst (λ (f : Fate). IsDelivered store options.target stdout (silent fate.Memory) f) (sym lacks.1) (refl, lacks.2, lacks.3))
 
   -- words alone leave the files as they were
-  pub explains_clean : (names : NameLists) (sites : Option Table) (log : List Event) (f : Fate) → ¬ HasCycle log → store.is_kept → PrintsOrLacks (counted log) stdout f → Explains names sites log store target stdout f
-  explains_clean names sites log f none kept (inl told) = (counted log, inl (inr (none, refl)), printed_put store target stdout None None (counted log).printed (fate.Finished ending.Done false) kept (λ e. cc) f told)
+  pub explains_clean : (names : NameLists) (sites : Option Table) (log : List Event) (f : Fate) → ¬ HasCycle log → store.is_kept → PrintsOrLacks (counted log) stdout f → Explains names sites log store options stdout f
+  explains_clean names sites log f none kept (inl told) =
+      (counted log, [], inl (inr (none, refl)), printed_put store options.target stdout None None (counted log).printed (fate.Finished ending.Done false) kept (λ e. cc) f told)
   explains_clean names sites log f none kept (inr lacks) =
-      (silent fate.Memory, inr (lacks.0, refl), subst (λ (f : Fate). IsDelivered store target stdout (silent fate.Memory) f) (sym lacks.1) (refl, kept, lacks.2))
+      (silent fate.Memory, [], inr (lacks.0, refl), subst (λ (f : Fate). IsDelivered store options.target stdout (silent fate.Memory) f) (sym lacks.1) (refl, kept, lacks.2))
 
   -- what was made of a log, if the sites are of it, was made of the input
   pub of_input : (names : NameLists) (sites : Option Table) (bounds : Bounds) (log : List Event) (read : Reading) (f : Fate)
-      → ComesAbout MAX_EVENTS read.bytes bounds log → read.failures_after ≡ read.failures_before → ExplainsIfOf names sites log store target stdout f → ExplainsInput names sites target store read stdout f
+      → ComesAbout MAX_EVENTS read.bytes bounds log → read.failures_after ≡ read.failures_before → ExplainsIfOf names sites log store options stdout f → ExplainsInput names sites options store read stdout f
   of_input names sites bounds log read f came no_failure (inl so) =
       let told = so.1 in (
-        no_failure ∙ sym (explains_reads names sites log told.0 _ told.1 f told.2),
+        no_failure ∙ sym (explains_reads names sites log told.0 told.1 _ told.2 f told.3),
         (
           told.0,
+          told.1,
           ⊎_elim
               (λ verdict. inl (record { bounds = bounds; log = log; comes_about = came; of_log = so.0; verdict = verdict }))
               (λ lacks. inr (inr (inr lacks)))
-              told.1,
-          told.2,
+              told.2,
+          told.3,
         ),
       )
   of_input names sites bounds log read f came no_failure (inr other) = (
     subst (λ (f : Fate). read.failures_after ≡ failures_told f read.failures_before) (sym other.1) no_failure,
     (
       silent fate.OtherSites,
+      [],
       inr (inl (record { bounds = bounds; log = log; comes_about = came; of_other = other.0; said = refl })),
-      subst (λ (f : Fate). IsDelivered store target stdout (silent fate.OtherSites) f) (sym other.1) (refl, other.2, other.3),
+      subst (λ (f : Fate). IsDelivered store options.target stdout (silent fate.OtherSites) f) (sym other.1) (refl, other.2, other.3),
     ),
   )
+
+-- a drawing alone: nothing is saved before it
+pub drawn_alone : {F : Type 0} (disk : F → Disk) (first left : F) (path : Bor (List ℕ)) (stdout : Writing) (picture words text drawn drawing : List ℕ) (f : Fate) → words ≡ text → drawn ≡ drawing
+    → IsDelivered (store disk first left) (Some path) stdout (saying drawn words) f → IsDeliveredInTurn (store disk first left) None (Some path) drawing stdout (saying picture text) f
+drawn_alone disk first left path stdout picture words text drawn drawing f are is put =
+    inr (first, refl, subst (λ (d : List ℕ). IsDelivered (store disk first left) (Some path) stdout (saying d text) f) is (subst (λ (t : List ℕ). IsDelivered (store disk first left) (Some path) stdout (saying drawn t) f) are put))
+
+-- a picture, and then a drawing
+pub drawn_both : (store : Store) (target path : Bor (List ℕ)) (stdout : Writing) (made picture words text drawn drawing : List ℕ) (f : Fate) → made ≡ picture → words ≡ text → drawn ≡ drawing
+    → IsDeliveredInTurn store (Some target) (Some path) drawn stdout (saying made words) f → IsDeliveredInTurn store (Some target) (Some path) drawing stdout (saying picture text) f
+drawn_both store target path stdout made picture words text drawn drawing f has are is put =
+    subst (λ (p : List ℕ). IsDeliveredInTurn store (Some target) (Some path) drawing stdout (saying p text) f) has
+    (subst (λ (t : List ℕ). IsDeliveredInTurn store (Some target) (Some path) drawing stdout (saying made t) f) are
+    (subst (λ (d : List ℕ). IsDeliveredInTurn store (Some target) (Some path) d stdout (saying made words) f) is put))
 
 -- an alarm is explained by its evidence, whichever list of its events the evidence is of
 pub of_evidence : (names : NameLists) (sites : Option Table) (events log : List Event) → events ≡ log → (a : Alarm) (blamed : List Block) → blamed ≡ a.blamed.items → (evidence : Evidence)
     → IsAlarm log a → IsEvidence events a.position blamed evidence
     → (¬ HasCycle (take a.position events) → HaveReasons events a.position blamed evidence)
-    → ExplainsAlarm names sites log (explained names sites events a.position evidence)
+    → ExplainsAlarm names sites log (explained names sites events a.position evidence) (drawing_text names sites events a.position evidence)
 of_evidence names sites events log is a blamed same evidence is_alarm is_evidence reasons =
     record {
       alarm = a;
@@ -112,4 +134,5 @@ of_evidence names sites events log is a blamed same evidence is_alarm is_evidenc
           (subst (λ (b : List Block). HaveReasons events a.position b evidence) same
           (reasons (subst (λ (l : List Event). ¬ HasCycle (take a.position l)) (sym is) (no_cycle_before log a.position is_alarm.closing))));
       said = ap (λ (l : List Event). explained names sites l a.position evidence) is;
+      drawn = ap (λ (l : List Event). drawing_text names sites l a.position evidence) is;
     }

@@ -3,7 +3,7 @@
 -- The store is the files that the command finds and leaves, stdout is standard output before and
 -- after, and f is the command's fate. Each command names in parentheses the page that says what it
 -- answers to the bytes of its input.
-use Rattle.std.specs.Prelude.{◌≡◌, ◌⊎◌, Option, Some, None}
+use Rattle.std.specs.Prelude.{◌≡◌, ◌⊎◌, ℕ, List, Option, Some, None}
 use Rattle.velo_names.specs.Names.{NameLists}
 use Rattle.velo_sites.specs.Sites.{Table}
 use Rattle.velo_report.specs.declared.names.Names.{Names}
@@ -14,11 +14,12 @@ use Rattle.velo_request.specs.declared.request.CheckOptions.{CheckOptions}
 use Rattle.velo_request.specs.declared.request.EndlessOptions.{EndlessOptions}
 use Rattle.velo_request.specs.declared.request.ExplainOptions.{ExplainOptions}
 use Rattle.velo_request.specs.declared.request.ThinOptions.{ThinOptions}
-use Rattle.velo_delivery.specs.declared.failure.Operand.TheVariants.{Log}
+use Rattle.velo_delivery.specs.declared.failure.Operand.TheVariants.{Log, Svg}
 use Rattle.velo_request.specs.declared.request.WatchOptions.{WatchOptions}
 use Rattle.velo_log_commands.specs.Carrying.{IsCarryAnswer, IsPut}
 use Rattle.velo_log_commands.specs.Check.{IsCheckAnswer}
-use Rattle.velo_fate.specs.Delivery.{Answer, IsDelivered}
+use Rattle.velo_fate.specs.declared.files.Beside.{Beside}
+use Rattle.velo_fate.specs.Delivery.{Answer, IsDelivered, IsDeliveredInTurn}
 use Rattle.velo_fate.specs.Barred.{WritesNowhere, DoesNotRead, DoesNotReadApart}
 use Rattle.velo_delivery.specs.Disk.{IsWritten, Store}
 use Rattle.velo_log_commands.specs.Endless.{terms_of_endless}
@@ -54,18 +55,23 @@ abbrev pub DoesCheck : CheckOptions → Store → Writing → Fate → Type 0
 DoesCheck options store stdout f =
     DoesByNames (λ names. ChecksBy names options) options.names store stdout f
 
--- ---- velodrome explain LOG [--names FILE] [--sites FILE] [--dot OUT]
+-- ---- velodrome explain LOG [--names FILE] [--sites FILE] [--dot OUT] [--svg SVG]
 
--- LOG is read whole. The picture of the cycle is saved at OUT, if there is a cycle, and then the
--- explanation goes to standard output, both by these names; or nothing, for a reason
--- (`Explaining`). Behind a log without a cycle OUT is untouched.
+-- the drawing, beside the picture
+abbrev pub drawing_of : ExplainOptions → Beside
+drawing_of options = record { operand = Svg; path = options.drawing }
+
+-- LOG is read whole. If there is a cycle, its picture is saved at OUT, if that is given, and then
+-- its drawing at SVG, if that is given; and then the explanation goes to standard output, all by
+-- these names; or nothing, for a reason (`Explaining`). Behind a log without a cycle OUT and SVG are
+-- untouched.
 abbrev pub ExplainsLog : NameLists → Option Table → ExplainOptions → Store → Writing → Fate → Type 0
 ExplainsLog names sites options store stdout f =
-    DoesNotRead store Log options.input.now options.target stdout f
-    ⊎ ((read : Reading) × (answer : Answer)
+    DoesNotReadApart store Log options.input.now options.target (drawing_of options) stdout f
+    ⊎ ((read : Reading) × (answer : Answer) × (drawing : List ℕ)
     × store.disk.gives options.input.now read × FailuresAsTold read f
-    × IsExplanation names sites read.bytes answer
-    × IsDelivered store options.target stdout answer f)
+    × IsExplanation names sites read.bytes answer drawing
+    × IsDeliveredInTurn store options.target options.drawing drawing stdout answer f)
 
 -- The sites are read after the names (`Siting`), where a file of them is given; where it is not read
 -- or gives none, no file is opened to be written and nothing is printed.

@@ -14,6 +14,7 @@ use Rattle.velo_explain.specs.Evidence.{IsEvidence, HaveReasons}
 use Rattle.velo_explain.specs.Picture.{named_picture_text}
 use Rattle.velo_explain.specs.Places.{sited_explanation_text}
 use Rattle.velo_explain.specs.Text.{clean_text, named_explanation_text}
+use Rattle.velo_picture.specs.Drawing.{drawing_text}
 use Rattle.velo_worker.specs.declared.ending.Ending.TheVariants.{Done}
 use Rattle.velo_fate.specs.declared.fate.Fate.TheVariants.{Finished, OtherSites}
 use Rattle.velo_inputs.specs.Input.{ComesAbout, IsUnchecked}
@@ -27,48 +28,50 @@ abbrev pub words_of : NameLists → Option Table → List Event → ℕ → Evid
 words_of names None log p evidence = named_explanation_text names log p evidence
 words_of names (Some sites) log p evidence = sited_explanation_text names sites log p evidence
 
+-- a text to be saved, and words of an alarm to be printed
+abbrev pub saying : List ℕ → List ℕ → Answer
+saying text words = record { saved = Some text; printed = Some words; fate = Finished Done true }
+
 -- what is said of an alarm at position p by its evidence: the picture of its cycle is to be saved,
 -- and its words printed, both by these names
 abbrev pub explained : NameLists → Option Table → List Event → ℕ → Evidence → Answer
 explained names sites log p evidence =
-    record {
-      saved = Some (named_picture_text names log evidence);
-      printed = Some (words_of names sites log p evidence);
-      fate = Finished Done true;
-    }
+    saying (named_picture_text names log evidence) (words_of names sites log p evidence)
 
 -- what is said of a log without a cycle: how many events and how many transactions it has; there is
 -- nothing to be saved
 abbrev pub counted : List Event → Answer
 counted log = printing (clean_text (length log) (transactions_of log)) (Finished Done false)
 
--- The answer explains an alarm of the log, which is at the first event that closes a cycle and
--- blames exactly the blocks to blame: by a shortest cycle there, and by a reason for each of these
--- blocks.
+-- The answer, and the drawing beside it, explain an alarm of the log, which is at the first event
+-- that closes a cycle and blames exactly the blocks to blame: by a shortest cycle there, and by a
+-- reason for each of these blocks.
 pub record ExplainsAlarm (names : NameLists) (sites : Option Table) (log : List Event)
-    (answer : Answer) : Type 0 where
+    (answer : Answer) (drawing : List ℕ) : Type 0 where
   pub alarm : Alarm
   pub is_alarm : IsAlarm log alarm
   pub evidence : Evidence
   pub is_evidence : IsEvidence log alarm.position alarm.blamed.items evidence
   pub reasons : HaveReasons log alarm.position alarm.blamed.items evidence
   pub said : answer ≡ explained names sites log alarm.position evidence
+  pub drawn : drawing ≡ drawing_text names sites log alarm.position evidence
 
-abbrev pub ExplainsVerdict : NameLists → Option Table → List Event → Answer → Type 0
-ExplainsVerdict names sites log answer =
-    ExplainsAlarm names sites log answer ⊎ ((¬ HasCycle log) × (answer ≡ counted log))
+-- a log without a cycle has no drawing
+abbrev pub ExplainsVerdict : NameLists → Option Table → List Event → Answer → List ℕ → Type 0
+ExplainsVerdict names sites log answer drawing =
+    ExplainsAlarm names sites log answer drawing ⊎ ((¬ HasCycle log) × (answer ≡ counted log))
 
 -- ---- the answer
 
 -- the verdict of the log of the input, which the sites are of; the limits are the greatest that a
 -- check can have
 pub record IsExplained (names : NameLists) (sites : Option Table) (read : Option (List ℕ))
-    (answer : Answer) : Type 0 where
+    (answer : Answer) (drawing : List ℕ) : Type 0 where
   pub bounds : Bounds
   pub log : List Event
   pub comes_about : ComesAbout MAX_EVENTS read bounds log
   pub of_log : AreOfLog sites log
-  pub verdict : ExplainsVerdict names sites log answer
+  pub verdict : ExplainsVerdict names sites log answer drawing
 
 -- nothing is said of the log of the input: the sites are of another number of events
 pub record IsOfOtherLog (sites : Option Table) (read : Option (List ℕ)) (answer : Answer)
@@ -79,10 +82,10 @@ pub record IsOfOtherLog (sites : Option Table) (read : Option (List ℕ)) (answe
   pub of_other : ¬ AreOfLog sites log
   pub said : answer ≡ silent OtherSites
 
--- What an explanation has to say: the verdict in words, and the cycle of an alarm; or nothing, for
--- a reason.
-abbrev pub IsExplanation : NameLists → Option Table → Option (List ℕ) → Answer → Type 0
-IsExplanation names sites read answer =
-    IsExplained names sites read answer
+-- What an explanation has to say: the verdict in words, the cycle of an alarm, and its drawing; or
+-- nothing, for a reason.
+abbrev pub IsExplanation : NameLists → Option Table → Option (List ℕ) → Answer → List ℕ → Type 0
+IsExplanation names sites read answer drawing =
+    IsExplained names sites read answer drawing
     ⊎ (IsOfOtherLog sites read answer
     ⊎ (IsUnchecked MAX_EVENTS MAX_NODES read answer ⊎ LacksMemory answer))

@@ -1,6 +1,5 @@
 -- Words of the contracts within the crate: how far each step has come. What the commands do is
 -- said without them.
-use Rattle.std.specs.Borrow.{Bor}
 use Rattle.std.specs.Prelude.{◌≡◌, ◌⊎◌, ℕ, Bool, List, Option, Result, Ok, Err}
 use Rattle.velo_events.specs.Refusals.{GrowthRefused}
 use Rattle.velo_events.specs.declared.event.Event.{Event}
@@ -15,7 +14,8 @@ use Rattle.velo_fate.specs.declared.fate.Fate.{Fate}
 use Rattle.velo_fate.specs.declared.fate.Fate.TheVariants.{CannotOpen, Memory, OtherSites}
 use Rattle.velo_log_commands.specs.Carrying.{Carries}
 use Rattle.velo_fate.specs.Verdict.{IsOutput, IsVerdict}
-use Rattle.velo_fate.specs.Delivery.{Answer, IsDelivered, LacksMemory}
+use Rattle.velo_fate.specs.Delivery.{Answer, IsDeliveredInTurn, LacksMemory}
+use Rattle.velo_request.specs.declared.request.ExplainOptions.{ExplainOptions}
 use Rattle.velo_delivery.specs.Disk.{IsWritten, Store}
 use Rattle.velo_log_commands.specs.Explaining.{ExplainsVerdict, IsExplanation}
 use Rattle.velo_inputs.specs.Siting.{AreOfLog}
@@ -44,27 +44,35 @@ Shows names certificate w stdout result =
 
 -- ---- an explanation
 
+-- this answer was delivered, and this drawing behind what it saves; or an allocation failed, and
+-- nothing was written
+abbrev pub DrawsOrLacks : Answer → List ℕ → Store → ExplainOptions → Writing → Fate → Type 0
+DrawsOrLacks answer drawing store options stdout f =
+    IsDeliveredInTurn store options.target options.drawing drawing stdout answer f
+    ⊎ (GrowthRefused × (f ≡ Memory) × store.is_kept × WritesNothing stdout)
+
 -- what was made of a verdict was delivered: its explanation, or that memory was wanting
-abbrev pub Explains : NameLists → Option Table → List Event → Store → Option (Bor (List ℕ)) → Writing
+abbrev pub Explains : NameLists → Option Table → List Event → Store → ExplainOptions → Writing
     → Fate → Type 0
-Explains names sites log store target stdout f =
-    (answer : Answer) × (ExplainsVerdict names sites log answer ⊎ LacksMemory answer)
-    × IsDelivered store target stdout answer f
+Explains names sites log store options stdout f =
+    (answer : Answer) × (drawing : List ℕ)
+    × (ExplainsVerdict names sites log answer drawing ⊎ LacksMemory answer)
+    × IsDeliveredInTurn store options.target options.drawing drawing stdout answer f
 
 -- so it was, of a log that the sites are of; or they are not, and nothing was written
-abbrev pub ExplainsIfOf : NameLists → Option Table → List Event → Store → Option (Bor (List ℕ))
+abbrev pub ExplainsIfOf : NameLists → Option Table → List Event → Store → ExplainOptions
     → Writing → Fate → Type 0
-ExplainsIfOf names sites log store target stdout f =
-    (AreOfLog sites log × Explains names sites log store target stdout f)
+ExplainsIfOf names sites log store options stdout f =
+    (AreOfLog sites log × Explains names sites log store options stdout f)
     ⊎ ((¬ AreOfLog sites log) × (f ≡ OtherSites) × store.is_kept × WritesNothing stdout)
 
 -- what was made of an input was delivered
-abbrev pub ExplainsInput : NameLists → Option Table → Option (Bor (List ℕ)) → Store → Reading
+abbrev pub ExplainsInput : NameLists → Option Table → ExplainOptions → Store → Reading
     → Writing → Fate → Type 0
-ExplainsInput names sites target store read stdout f =
+ExplainsInput names sites options store read stdout f =
     FailuresAsTold read f
-    × ((answer : Answer) × IsExplanation names sites read.bytes answer
-    × IsDelivered store target stdout answer f)
+    × ((answer : Answer) × (drawing : List ℕ) × IsExplanation names sites read.bytes answer drawing
+    × IsDeliveredInTurn store options.target options.drawing drawing stdout answer f)
 
 -- ---- carrying over
 

@@ -1,3 +1,5 @@
+//! Tests of certificates.
+
 mod growths;
 mod slow;
 

@@ -1,3 +1,4 @@
+//! Tests of events, refusals and configurations.
 use std::mem::size_of;
 use std::test::Fail;
 use velo_events::{BadConfig, Bounds, Config, Event, Kind, MAX_OPEN_BLOCKS, Refusal};

@@ -1,3 +1,4 @@
+//! Tests of explanations in words and as a picture.
 use crate::traces::logs;
 use crate::words::{acquire, begin, end, fork, read, release, trace_of, write};
 use std::alloc::Global;

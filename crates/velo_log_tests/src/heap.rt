@@ -1,3 +1,4 @@
+//! Tests of the heap.
 ghost use Rattle.std.specs.Prelude.{◌≡◌, ◌<◌, List};
 ghost use Rattle.velo_events.specs.declared.event.Event.{Event};
 ghost use Rattle.velo_heap.specs.Contents.{bounds_of, IsHeapOf};

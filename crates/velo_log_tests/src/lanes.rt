@@ -1,3 +1,4 @@
+//! Tests of explanations in lanes.
 use crate::words::{acquire, begin, end, fork, read, release, trace_of, write};
 use std::alloc::Global;
 use std::process::Abort;

@@ -1,3 +1,4 @@
+//! Tests of the text of a log.
 ghost use Rattle.std.specs.Prelude.{◌≤◌, length};
 ghost use Rattle.velo_events.specs.declared.limits.TheConstants.{MAX_EVENTS};
 ghost use Rattle.velo_logtext.specs.Text.{AreBounds};

@@ -1,3 +1,5 @@
+//! Tests of traces.
+
 mod graph;
 pub mod logs;
 

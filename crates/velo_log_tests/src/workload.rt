@@ -1,3 +1,5 @@
+//! Tests of the text of a workload.
+
 mod growths;
 
 use std::alloc::Global;

@@ -1,3 +1,4 @@
+//! The monitor: finds the event that closes the first cycle.
 ghost use Rattle.std.specs.Prelude.{◌≡◌, ◌*◌, ◌≤◌, ◌<◌, ℕ, [], ◌∷◌, ◌++◌, List, length, IsTrue, IsFalse, IfOk, IfSome, OnOk, OnErr, ◌↔◌, Some};
 ghost use Rattle.std.specs.Option.{ForSome, option_to_list};
 ghost use Rattle.velo_events.specs.declared.config.Bounds.{Bounds as BoundsOf};

@@ -1,3 +1,4 @@
+//! What some runs led to, and whom they blame.
 use velo_events::Label;
 use velo_explore::Findings;
 

@@ -8,5 +8,5 @@ pub use request::{
     AuditOptions, CarryOptions, CheckOptions, DEFAULT_SEED, DEFAULT_TRIES, EndlessOptions,
     ExplainOptions, ExploreOptions, Ignorable, Limits, MAX_RUNS, MAX_STATES, MAX_TRIES,
     PredictOptions, RandomRuns, ReplayOptions, Request, RunOptions, ScheduleSource, ThinOptions,
-    WatchOptions,
+    VerifyOptions, WatchOptions,
 };

@@ -78,6 +78,8 @@ pub struct ExplainOptions<'a> {
     pub input: &'a str,
     /// The path where the picture of the cycle is saved.
     pub target: Option<&'a str>,
+    /// The path where the drawing is saved.
+    pub drawing: Option<&'a str>,
     /// The path of the names that the words print, or `-`.
     pub names: Option<&'a str>,
     /// The path of the sites of the log's events, or `-`.
@@ -179,6 +181,15 @@ pub struct ThinOptions<'a> {
     pub map: Option<&'a str>,
 }
 
+/// What `velodrome verify` was asked for.
+#[derive(Clone, Copy, Debug)]
+pub struct VerifyOptions<'a> {
+    /// The path of the log, or `-`.
+    pub input: &'a str,
+    /// The path of the report with the certificate, or `-`.
+    pub report: &'a str,
+}
+
 /// The most delays that a search for predictions tries for each label in a round.
 pub const MAX_TRIES: u32 = 1_000_000;
 
@@ -228,6 +239,12 @@ pub struct AuditOptions<'a> {
     pub ignored_variables: &'a [&'a str],
     /// Whether the witness of each round is printed.
     pub witness: bool,
+    /// Whether each label comes with how many of its blocks are to blame.
+    pub counts: bool,
+    /// Whether the labels with the most blocks to blame come first.
+    pub by_count: bool,
+    /// Whether a label is left out if each of its blocks to blame has another one inside it.
+    pub innermost: bool,
     /// The limits within which the log is checked.
     pub limits: Limits,
 }
@@ -264,6 +281,8 @@ pub enum Request<'a> {
     Audit(AuditOptions<'a>),
     /// To leave out of a recorded log what adds nothing to its verdict.
     Thin(ThinOptions<'a>),
+    /// To judge by the certificate of a report what it claims of a recorded log.
+    Verify(VerifyOptions<'a>),
     /// To search for what other runs of the program of a recorded log can show.
     Predict(PredictOptions<'a>),
 }

@@ -1,3 +1,4 @@
+//! A set of slots as bits.
 ghost use Rattle.std.specs.Prelude.{◌≡◌, ◌+◌, ◌/◌, length};
 ghost use Rattle.velo_rows.specs.Bits.{AreBelow, IsEnd, bits_of, below_bits};
 

@@ -1,3 +1,5 @@
+//! Tests of seats under one lock.
+
 mod cache;
 mod growths;
 

@@ -1,3 +1,4 @@
+//! Tests of workers.
 ghost use Rattle.std.specs.Prelude.{◌≡◌, IfSome};
 
 mod growths;

@@ -1,3 +1,4 @@
+//! Tests of the world.
 ghost use Rattle.std.specs.Prelude.{◌≡◌, false, None, Some, replicate, slice_set};
 ghost use Rattle.velo_ledger.specs.Shares.{opening_share};
 ghost use Rattle.velo_world.specs.World.{FitsLog, HoldsLiveShares, opening};

@@ -1,3 +1,4 @@
+//! What may go wrong in a program whose threads share a world.
 ghost use Rattle.std.specs.Prelude.{◌≡◌};
 ghost use Rattle.velo_runtime.specs.declared.error.RunError.TheVariants as run_error;
 

@@ -1,3 +1,4 @@
+//! A world that threads share, with what each of them waits for.
 ghost use Rattle.velo_events.specs.Refusals.{GrowthRefused};
 ghost use Rattle.std.specs.Prelude.{◌≡◌, ◌≢◌, ◌<◌, ◌+◌, ◌⊎◌, ◌↔◌, None, Err, IfOk, IfErr, IfSome, IfNone, IsFalse, IsTrue, sum_by, length, replicate};
 ghost use Rattle.velo_events.specs.declared.refusal.Refusal.TheVariants as refusal;

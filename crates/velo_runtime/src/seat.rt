@@ -1,3 +1,4 @@
+//! A thread's seat: its right to act in a shared world.
 ghost use Rattle.std.specs.Prelude.{◌≡◌, ◌≢◌, None, Err, IfOk, IfErr, OnErr};
 ghost use Rattle.velo_events.specs.declared.event.Action.TheVariants as action;
 ghost use Rattle.velo_events.specs.declared.event.Kind.TheVariants as kind;

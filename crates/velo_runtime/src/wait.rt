@@ -1,3 +1,4 @@
+//! What a thread waits for, and the result of its turn.
 use velo_events::{LockId, Refusal, ThreadId};
 use velo_world::Reply;
 

@@ -1,3 +1,5 @@
+//! How long a schedule may be.
+
 /// The most turns that a schedule has.
 pub const MAX_TURNS: usize = 1_000_000;
 

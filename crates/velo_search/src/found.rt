@@ -1,3 +1,4 @@
+//! Which faults a search has found.
 ghost use Rattle.std.specs.Prelude.{◌≡◌};
 
 use crate::fault::Fault;

@@ -1,3 +1,4 @@
+//! Groups of events, by what they conflict with.
 use velo_events::{Cell, ThreadId};
 
 /// A group of events of a log. What conflicts with an event is in the groups that the event looks at.

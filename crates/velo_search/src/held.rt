@@ -1,3 +1,4 @@
+//! How a thread has each lock by its own operations.
 ghost use Rattle.std.specs.Prelude.{◌≡◌, [], ◌∷◌, ◌++◌, List, true, IfOk};
 ghost use Rattle.velo_events.specs.declared.event.Kind.{Kind};
 ghost use Rattle.velo_heap.specs.Contents.{Tabulates};

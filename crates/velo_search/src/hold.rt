@@ -1,3 +1,4 @@
+//! How a thread has one lock by its own operations.
 ghost use Rattle.std.specs.Prelude.{◌≡◌, ℕ};
 
 use velo_events::Kind;

@@ -1,3 +1,4 @@
+//! The states of one level of a search.
 ghost use Rattle.std.specs.Prelude.{◌≡◌, ◌⊎◌, ◌+◌, ◌≤◌, true, false, [], length, Contains, IfOk, OnOk};
 ghost use Rattle.std.specs.List.{ReversedBelow};
 ghost use Rattle.velo_search.specs.declared.state.State.{State};

@@ -1,3 +1,4 @@
+//! The threads that reach one group of events.
 ghost use Rattle.std.specs.Prelude.{◌≡◌, ◌<◌, ◌==◌, ◌&&◌, ◌||◌, ℕ, not};
 ghost use Rattle.velo_events.specs.ThreadSets.{has_thread};
 

@@ -1,3 +1,4 @@
+//! Which threads' unfinished transactions reach which groups of events.
 ghost use Rattle.std.specs.Prelude.{◌≡◌, ◌<◌, ◌≤◌, ◌==◌, ◌&&◌, ◌||◌, [], ◌∷◌, ◌++◌, ℕ, true, false, List, length, replicate, slice_index_or, IsTrue, IfOk};
 ghost use Rattle.std.specs.List.{list_any};
 ghost use Rattle.velo_events.specs.declared.event.Event.{Event};

@@ -1,3 +1,4 @@
+//! An operation that may hinder those of other threads.
 ghost use Rattle.std.specs.Prelude.{◌≡◌, false};
 
 use crate::held::Held;

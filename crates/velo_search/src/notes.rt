@@ -1,3 +1,4 @@
+//! The operations of all threads that may hinder others.
 ghost use Rattle.std.specs.Prelude.{◌≡◌, ◌≢◌, ◌<◌, ℕ, false, true, length, take, map, slice_get, Some, Contains, IfOk, OnOk};
 ghost use Rattle.velo_events.specs.declared.event.Kind.{Kind};
 ghost use Rattle.velo_movers.specs.Free.{is_private};

@@ -1,3 +1,5 @@
+//! Who is told how far a search has come.
+
 /// Is told how far a search has come.
 pub trait Progress {
     /// A level of the search is done: so many levels and states were looked at in all.

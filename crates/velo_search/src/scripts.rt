@@ -1,3 +1,4 @@
+//! The operations of each thread, in their order.
 ghost use Rattle.std.specs.Prelude.{◌≡◌, true, map, slice_get, Some, IfOk};
 ghost use Rattle.velo_events.specs.declared.event.Kind.{Kind};
 

@@ -1,3 +1,4 @@
+//! What a search returns.
 ghost use Rattle.std.specs.Prelude.{◌≡◌, ◌&&◌, not};
 
 use crate::fault::Fault;

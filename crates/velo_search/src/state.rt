@@ -1,3 +1,4 @@
+//! A state of a search: all of a log that its continuations depend on.
 ghost use Rattle.std.specs.Prelude.{◌≡◌, ◌+◌, ◌^◌, ◌<◌, ◌↔◌, true, [], ◌∷◌, ◌++◌, List, length, slice_index_or, IsTrue, IfOk};
 ghost use Rattle.velo_events.specs.declared.event.Event.{Event};
 ghost use Rattle.velo_events.specs.Event.{thread_of};

@@ -1,3 +1,4 @@
+//! An event of a run, and where the one before it stands.
 use velo_events::ThreadId;
 
 /// An event of a run: its thread, and where the event before it stands.

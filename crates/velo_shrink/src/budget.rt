@@ -1,3 +1,5 @@
+//! How much may still be tried.
+
 /// How much may still be tried.
 #[derive(Drop)]
 pub(crate) struct Budget {

@@ -1,3 +1,4 @@
+//! The last accesses of each variable and lock.
 ghost use Rattle.std.specs.Prelude.{◌≡◌, ◌<◌, ◌≤◌, ◌+◌, ◌++◌, List, [], Option, None, length, slice_index_or, slice_set, map, vec_capacity, IsTrue, ◌↔◌, OnOk, OnErr};
 ghost use Rattle.std.specs.List.{filter_map};
 ghost use Rattle.std.specs.Option.{option_to_list};

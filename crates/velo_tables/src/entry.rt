@@ -1,3 +1,4 @@
+//! A step or none, in eight bytes.
 ghost use Rattle.std.specs.Prelude.{◌≡◌, None, map, option_map, slice_index_or};
 ghost use Rattle.velo_arena.specs.Heirs.{renamed};
 

@@ -1,3 +1,4 @@
+//! The steps of the last events of threads, variables and locks.
 ghost use Rattle.std.specs.Prelude.{◌≡◌, ◌+◌, ◌^◌, ◌<◌, ◌≤◌, ◌++◌, ◌∷◌, None, Some, length, map, slice_index_or, slice_set, IsTrue, IsFalse, ◌↔◌, IfOk, OnOk, OnErr};
 ghost use Rattle.std.specs.List.{filter_map};
 ghost use Rattle.std.specs.Option.{option_to_list};

@@ -1,3 +1,4 @@
+//! An atomic block of a trace.
 use velo_events::Label;
 
 /// An atomic block of a trace.

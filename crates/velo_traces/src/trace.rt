@@ -1,3 +1,4 @@
+//! The trace of a run: its events, in order.
 ghost use Rattle.velo_events.specs.declared.limits.TheConstants.{MAX_OPEN_BLOCKS};
 ghost use Rattle.velo_events.specs.Block.{owner, open_blocks};
 ghost use Rattle.velo_traces.specs.Blocks.{block_at};

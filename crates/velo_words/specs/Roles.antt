@@ -2,7 +2,7 @@
 use Rattle.std.specs.Prelude.{ℕ, Bool, true, List, Option, Some, None, codes, option_map}
 use Rattle.std.specs.Borrow.{Bor}
 use Rattle.velo_request.specs.declared.request.Request.{Request}
-use Rattle.velo_request.specs.declared.request.Request.TheVariants.{Audit, Carry, Check, Explain, Explore, Predict, Replay, Run, Thin, Watch, WatchEndless}
+use Rattle.velo_request.specs.declared.request.Request.TheVariants.{Audit, Carry, Check, Explain, Explore, Predict, Replay, Run, Thin, Verify, Watch, WatchEndless}
 use Rattle.velo_request.specs.declared.request.ScheduleSource.{ScheduleSource}
 use Rattle.velo_request.specs.declared.request.ScheduleSource.TheVariants.{File}
 use Rattle.velo_words.specs.declared.roles.Role.{Role}
@@ -15,8 +15,10 @@ word_of role.Names = codes "--names"
 word_of role.Known = codes "--not-atomic"
 word_of role.Sites = codes "--sites"
 word_of role.Log = codes "LOG"
+word_of role.Report = codes "REPORT"
 word_of role.Work = codes "FILE"
 word_of role.Picture = codes "--dot"
+word_of role.Drawing = codes "--svg"
 word_of role.SavedLog = codes "--log"
 word_of role.SavedNames = codes "--names-out"
 word_of role.Map = codes "--map"
@@ -70,7 +72,12 @@ log_path_of (WatchEndless options) = Some options.input.now
 log_path_of (Audit options) = Some options.input.now
 log_path_of (Thin options) = Some options.input.now
 log_path_of (Predict options) = Some options.input.now
+log_path_of (Verify options) = Some options.input.now
 log_path_of _ = None
+
+abbrev pub report_of : Request → Option (List ℕ)
+report_of (Verify options) = Some options.report.now
+report_of _ = None
 
 abbrev pub work_path_of : Request → Option (List ℕ)
 work_path_of (Replay options) = Some options.run.input.now
@@ -81,6 +88,10 @@ work_path_of _ = None
 abbrev pub picture_of : Request → Option (List ℕ)
 picture_of (Explain options) = given options.target
 picture_of _ = None
+
+abbrev pub drawing_of : Request → Option (List ℕ)
+drawing_of (Explain options) = given options.drawing
+drawing_of _ = None
 
 abbrev pub saved_log_of : Request → Option (List ℕ)
 saved_log_of (Carry options) = Some options.target.now
@@ -108,8 +119,10 @@ path_of role.Names request = names_of request
 path_of role.Known request = known_of request
 path_of role.Sites request = sites_of request
 path_of role.Log request = log_path_of request
+path_of role.Report request = report_of request
 path_of role.Work request = work_path_of request
 path_of role.Picture request = picture_of request
+path_of role.Drawing request = drawing_of request
 path_of role.SavedLog request = saved_log_of request
 path_of role.SavedNames request = saved_names_of request
 path_of role.Map request = map_of request

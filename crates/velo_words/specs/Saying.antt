@@ -12,7 +12,7 @@ use Rattle.velo_fate.specs.declared.fate.Fate.TheVariants as fate
 use Rattle.velo_fate.specs.declared.fault.CheckFault.TheVariants as check_fault
 use Rattle.velo_names.specs.declared.fault.NamesFault.TheVariants as names_fault
 use Rattle.velo_request.specs.declared.request.Request.{Request}
-use Rattle.velo_request.specs.declared.request.Request.TheVariants.{Audit, Carry, Check, Explain, Explore, Predict, Replay, Run, Thin, Watch}
+use Rattle.velo_request.specs.declared.request.Request.TheVariants.{Audit, Carry, Check, Explain, Explore, Predict, Replay, Run, Thin, Verify, Watch}
 use Rattle.velo_request.specs.declared.request.ScheduleSource.{ScheduleSource}
 use Rattle.velo_request.specs.declared.request.ScheduleSource.TheVariants as source
 use Rattle.velo_schedule_text.specs.declared.limits.TheConstants.{MAX_SCHEDULE_BYTES}
@@ -40,6 +40,7 @@ log_of (Watch options) = Some options.input.now
 log_of (Audit options) = Some options.input.now
 log_of (Thin options) = Some options.input.now
 log_of (Predict options) = Some options.input.now
+log_of (Verify options) = Some options.input.now
 log_of (Check options) = if options.why then Some options.input.now else None
 log_of (Carry options) = if options.why then Some options.input.now else None
 log_of _ = None

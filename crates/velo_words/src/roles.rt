@@ -1,6 +1,6 @@
 //! The files of a request, by what each is for.
 ghost use Rattle.std.specs.Prelude.{◌≡◌, option_map};
-ghost use Rattle.velo_words.specs.Roles.{asks_for_words, known_of, log_path_of, map_of, names_of, path_of, picture_of, saved_log_of, saved_names_of, sites_of, turns_of, word_of, work_path_of};
+ghost use Rattle.velo_words.specs.Roles.{asks_for_words, drawing_of, known_of, log_path_of, map_of, names_of, path_of, picture_of, report_of, saved_log_of, saved_names_of, sites_of, turns_of, word_of, work_path_of};
 
 use velo_request::{Request, ScheduleSource};
 
@@ -17,10 +17,14 @@ pub enum Role {
     Sites,
     /// It is a recorded log.
     Log,
+    /// It is a report, with its certificate.
+    Report,
     /// It is a workload.
     Work,
     /// A picture is saved there.
     Picture,
+    /// A drawing is saved there.
+    Drawing,
     /// A log is saved there.
     SavedLog,
     /// The names of a workload are saved there.
@@ -30,14 +34,16 @@ pub enum Role {
 }
 
 /// The roles, in the order in which a command opens its files.
-pub const ROLES: [Role; 10] = [
+pub const ROLES: [Role; 12] = [
     Role::Turns,
     Role::Names,
     Role::Known,
     Role::Sites,
     Role::Log,
+    Role::Report,
     Role::Work,
     Role::Picture,
+    Role::Drawing,
     Role::SavedLog,
     Role::SavedNames,
     Role::Map,
@@ -53,8 +59,10 @@ pub fn word_of(role: Role) -> &'static str
         Role::Known => "--not-atomic",
         Role::Sites => "--sites",
         Role::Log => "LOG",
+        Role::Report => "REPORT",
         Role::Work => "FILE",
         Role::Picture => "--dot",
+        Role::Drawing => "--svg",
         Role::SavedLog => "--log",
         Role::SavedNames => "--names-out",
         Role::Map => "--map",
@@ -70,9 +78,7 @@ pub fn asks_for_words(request: &Request) -> bool
         Request::Carry(options) => options.why,
         Request::Run(options) => options.why,
         Request::Replay(options) => options.run.why,
-        Request::Explain(_) | Request::Explore(_) | Request::Watch(_) => true,
-        Request::WatchEndless(_) | Request::Audit(_) => true,
-        Request::Thin(_) | Request::Predict(_) => true,
+        _ => true,
     }
 }
 
@@ -133,7 +139,17 @@ fn log_path_of<'a>(request: &Request<'a>) -> Option<&'a str>
         Request::Audit(options) => Some(options.input),
         Request::Thin(options) => Some(options.input),
         Request::Predict(options) => Some(options.input),
-        Request::Replay(_) | Request::Run(_) | Request::Explore(_) => None,
+        Request::Verify(options) => Some(options.input),
+        _ => None,
+    }
+}
+
+fn report_of<'a>(request: &Request<'a>) -> Option<&'a str>
+    ensures { option_map (λ path. path.now) result ≡ report_of request.now }
+{
+    match request {
+        Request::Verify(options) => Some(options.report),
+        _ => None,
     }
 }
 
@@ -153,6 +169,15 @@ fn picture_of<'a>(request: &Request<'a>) -> Option<&'a str>
 {
     match request {
         Request::Explain(options) => options.target,
+        _ => None,
+    }
+}
+
+fn drawing_of<'a>(request: &Request<'a>) -> Option<&'a str>
+    ensures { option_map (λ path. path.now) result ≡ drawing_of request.now }
+{
+    match request {
+        Request::Explain(options) => options.drawing,
         _ => None,
     }
 }
@@ -201,8 +226,10 @@ pub fn path_of<'a>(role: Role, request: &Request<'a>) -> Option<&'a str>
         Role::Known => known_of(request),
         Role::Sites => sites_of(request),
         Role::Log => log_path_of(request),
+        Role::Report => report_of(request),
         Role::Work => work_path_of(request),
         Role::Picture => picture_of(request),
+        Role::Drawing => drawing_of(request),
         Role::SavedLog => saved_log_of(request),
         Role::SavedNames => saved_names_of(request),
         Role::Map => map_of(request),

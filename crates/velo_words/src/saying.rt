@@ -47,6 +47,7 @@ fn log_of<'a>(request: &Request<'a>) -> Option<&'a str>
         Request::Audit(options) => Some(options.input),
         Request::Thin(options) => Some(options.input),
         Request::Predict(options) => Some(options.input),
+        Request::Verify(options) => Some(options.input),
         Request::Check(options) => if_asked(options.why, options.input),
         Request::Carry(options) => if_asked(options.why, options.input),
         Request::Replay(_) | Request::Run(_) | Request::Explore(_) | Request::WatchEndless(_) =>

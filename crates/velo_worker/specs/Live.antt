@@ -1,11 +1,12 @@
 -- How a live run ends, and what it shows where it is done.
-use Rattle.std.specs.Prelude.{ℕ, ◌≡◌, ◌≢◌, ◌≤◌, ◌<◌, ◌⊎◌, List, All, Any, Option, Some, None, slice_get, nat_le, if◌then◌else◌}
+use Rattle.std.specs.Prelude.{ℕ, ◌≡◌, ◌≢◌, ◌≤◌, ◌<◌, ◌⊎◌, ⊤, Bool, IsTrue, List, All, Any, Option, Some, None, slice_get, nat_le, if◌then◌else◌}
 use Rattle.velo_events.specs.declared.event.Event.{Event}
 use Rattle.velo_events.specs.declared.event.Kind.TheVariants.{Exit}
 use Rattle.velo_events.specs.declared.event.Status.TheVariants.{Unborn, Exited, Joined}
 use Rattle.velo_events.specs.declared.event.ThreadId.{ThreadId}
 use Rattle.velo_events.specs.declared.refusal.Refusal.{Refusal}
 use Rattle.velo_events.specs.declared.refusal.Refusal.TheVariants.{Halted, WouldDeadlock}
+use Rattle.velo_events.specs.Graph.{HasCycle}
 use Rattle.velo_events.specs.Heap.{status_in}
 use Rattle.velo_events.specs.Tally.{events_of}
 use Rattle.velo_ledger.specs.Views.{Holding}
@@ -68,6 +69,11 @@ EndsAs ended run.Stuck = (¬ IsAnyGated ended) × ((t : ThreadId) × IsLeastMet 
 EndsAs ended (run.Refused t r) = (¬ IsAnyGated ended) × IsLeastMet ended t r × (r ≢ WouldDeadlock)
 EndsAs ended run.Halted = (¬ IsAnyGated ended) × LeastMet ended None × IsAnyHalted ended
 EndsAs ended run.Done = All (λ worker. worker.outcome ≡ Done) ended
+
+-- a run that is halted is to stop at its alarm, and has one
+abbrev pub HaltsAtAlarm : Bool → List Event → Ending → Type 0
+HaltsAtAlarm stop log run.Halted = IsTrue stop × HasCycle log
+HaltsAtAlarm stop log ending = ⊤
 
 -- ---- what a run that is done shows
 

@@ -1,3 +1,4 @@
+//! How a run ends.
 use velo_events::{Refusal, ThreadId};
 
 /// How a run ends.
@@ -8,7 +9,7 @@ pub enum Ending {
     /// Some thread is left, and none can go on; of a live run, that the least thread that was
     /// refused anything would have waited for itself.
     Stuck,
-    /// The world was halted, as an alarm may do.
+    /// The world was halted: by its alarm.
     Halted,
     /// A thread's action was refused.
     Refused(ThreadId, Refusal),

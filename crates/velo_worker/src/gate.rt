@@ -1,3 +1,6 @@
+//! What decides when live threads go on.
+ghost use Rattle.std.specs.Prelude.{IsTrue};
+
 use velo_events::ThreadId;
 
 /// Decides when live threads go on.
@@ -13,7 +16,9 @@ pub trait Gate {
 pub struct OpenGate;
 
 impl Gate for OpenGate {
-    fn pass(&self, _thread: ThreadId, _step: u64) -> bool {
+    fn pass(&self, _thread: ThreadId, _step: u64) -> bool
+        ensures { IsTrue result }
+    {
         true
     }
 }

@@ -1,11 +1,12 @@
 //! Live runs of a workload: each of its threads is a thread.
-ghost use Rattle.std.specs.Prelude.{◌≡◌, ◌<◌, ◌++◌, ◌∷◌, [], All, Err, IfOk, IfSome, IsTrue, OnErr, map, vec_len, vec_capacity};
+ghost use Rattle.std.specs.Prelude.{◌≡◌, ◌<◌, ◌↔◌, ◌++◌, ◌∷◌, [], All, Err, IfOk, IfSome, IsTrue, OnErr, map, vec_len, vec_capacity};
+ghost use Rattle.velo_events.specs.Graph.{HasCycle};
 ghost use Rattle.velo_events.specs.Refusals.{GrowthRefused};
 ghost use Rattle.velo_worker.specs.declared.ending.Ending.TheVariants as ending;
 ghost use Rattle.velo_worker.specs.declared.living.LiveFault.TheVariants as live_fault;
 ghost use Rattle.velo_worker.specs.declared.outcome.Outcome.TheVariants as outcome;
 ghost use Rattle.velo_worker.specs.Causes.{EndsWithCause};
-ghost use Rattle.velo_worker.specs.Live.{AllDone, EndsAs, HasDone};
+ghost use Rattle.velo_worker.specs.Live.{AllDone, EndsAs, HaltsAtAlarm, HasDone};
 ghost use Rattle.velo_worker.specs.Logs.{IsLogOf};
 ghost use Rattle.velo_worker.specs.Progress.{start_of};
 
@@ -62,7 +63,8 @@ impl From<Memory> for LiveFault {
 /// # Errors
 /// `Memory` if an allocation failed before the first event; one that fails later ends the run as
 /// `Refused`. `Lost` where a seat did not come back, or is not that of the body that its worker
-/// says was done; and where the log would have an event that no body leads to.
+/// says was done; and where the log would have an event that no body leads to, or the run would be
+/// halted without an alarm at which it is to stop.
 pub fn live<G: Gate + Sync, R: Threads + Wait + Sync>(
     rt: &R,
     alloc: Global,
@@ -74,6 +76,7 @@ pub fn live<G: Gate + Sync, R: Threads + Wait + Sync>(
     ensures config { IfOk result (λ run. run.0.config ≡ config) }
     ensures log { IfOk result (λ run. IsLogOf workload.now run.0.log) }
     ensures done { IfOk result (λ run. run.1 ≡ ending.Done → AllDone workload.now run.0) }
+    ensures halted { IfOk result (λ run. HaltsAtAlarm config.stop run.0.log run.1) }
     ensures cause { IfOk result (λ run. EndsWithCause run.1) }
     ensures memory { result ≡ Err live_fault.Memory → GrowthRefused }
 {
@@ -102,14 +105,15 @@ pub fn live<G: Gate + Sync, R: Threads + Wait + Sync>(
     };
     run(rt, &site, &messages, &mut ended);
     let (closed, ending) = finish(workload, shared, ended, seats)?;
-    retraced(workload, threads, closed, ending)
+    retraced(workload, threads, config.stop, closed, ending)
 }
 
 /// The closed world and how its run ended, if each thread's events are those that its body leads
-/// to.
+/// to, and a run that is halted was so by its alarm.
 fn retraced(
     workload: &Workload,
     threads: Vec<Progress>,
+    stop: bool,
     closed: Closed,
     ending: Ending,
 ) -> Result<(Closed, Ending), LiveFault>
@@ -117,12 +121,36 @@ fn retraced(
     requires threads { threads.items ≡ map start_of workload.now.bodies }
     ensures same { IfOk result (λ run. (run.0 ≡ closed) × (run.1 ≡ ending)) }
     ensures log { IfOk result (λ run. IsLogOf workload.now run.0.log) }
+    ensures halted { IfOk result (λ run. HaltsAtAlarm stop run.0.log run.1) }
     ensures lost { OnErr result (result ≡ Err live_fault.Lost) }
 {
+    if !halts_at_alarm(stop, &closed, ending) {
+        return Err(LiveFault::Lost);
+    }
     if all_follow(threads, closed.log().as_slice()) {
         Ok((closed, ending))
     } else {
         Err(LiveFault::Lost)
+    }
+}
+
+/// Whether the run was halted by an alarm at which it is to stop, if it ended as halted.
+fn halts_at_alarm(stop: bool, closed: &Closed, ending: Ending) -> bool
+    ensures { IsTrue result → HaltsAtAlarm stop closed.now.log ending }
+{
+    match ending {
+        Ending::Halted => stop && has_alarm(closed),
+        Ending::Done | Ending::Stuck | Ending::Refused(..) | Ending::Gated => true,
+    }
+}
+
+/// Whether the log has a cycle.
+fn has_alarm(closed: &Closed) -> bool
+    ensures { IsTrue result ↔ HasCycle closed.now.log }
+{
+    match closed.alarm() {
+        Some(_) => true,
+        None => false,
     }
 }
 

@@ -44,7 +44,7 @@ use Rattle.velo_workload_commands.specs.Exploring.{IsExplored, IsSaidOf, IsToldB
 use Rattle.velo_workload_commands.specs.Playing.{IsConfigOf, IsReported}
 use Rattle.velo_workload_commands.specs.Reporting.{IsPlain}
 use Rattle.velo_workload_commands.specs.Steps.{IsReportable}
-use Rattle.velo_workload_commands.proofs.OnTurns.{in_turn_reads}
+use Rattle.velo_fate.proofs.OnDelivery.{in_turn_reads}
 use Rattle.velo_fate.proofs.OnDelivery.{printed_put, same_fate}
 
 -- so many of them, or all

@@ -19,7 +19,7 @@ use Rattle.velo_delivery.specs.Reading.{Reading, IsReadOf}
 use Rattle.velo_delivery.specs.Writing.{Writing, WritesNothing}
 use Rattle.velo_fate.specs.Format.{Reads}
 use Rattle.velo_workload_commands.specs.Steps.{OpensNoProgram}
-use Rattle.velo_workload_commands.proofs.OnTurns.{in_turn_reads}
+use Rattle.velo_fate.proofs.OnDelivery.{in_turn_reads}
 use Rattle.velo_fate.proofs.OnDelivery.{same_fate}
 use Rattle.velo_fate.proofs.OnFormats.{whole, longer}
 

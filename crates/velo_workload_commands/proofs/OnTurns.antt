@@ -10,9 +10,8 @@ use Rattle.velo_workload_commands.specs.Playing.{text_of_names}
 use Rattle.velo_workload_commands.specs.Reporting.{AreNamesFor}
 use Rattle.velo_workload_commands.specs.Steps.{IsSavedInTurn}
 use Rattle.velo_workload.specs.Program.{Program}
-use Rattle.velo_fate.specs.Failures.{failures_told}
 use Rattle.velo_delivery.specs.Writing.{Writing, WritesNothing}
-use Rattle.velo_fate.proofs.OnDelivery.{printed_put, delivered_reads}
+use Rattle.velo_fate.proofs.OnDelivery.{printed_put}
 
 -- ---- names behind a log
 
@@ -51,18 +50,3 @@ module _ (store : Store) (target : Option (Bor (List ℕ))) (names : List ℕ) (
       by (Some log) (Some path) are h = subst (λ (n : List ℕ). DeliversBy (Some log) (Some path) store target n out answer f) are h
       by (Some log) None are h = h
       by None path are h = h
-
-  -- an answer whose fate is no failed read is delivered with none
-  pub in_turn_reads : (path : Option (Bor (List ℕ))) (n : ℕ) → failures_told answer.fate n ≡ n → IsDeliveredInTurn store target path names out answer f → failures_told f n ≡ n
-  in_turn_reads path n none h = by answer.saved path h
-    where
-      failed : (log : List ℕ) (f : Fate) → FailsSaving store target (Some log) f → failures_told f n ≡ n
-      failed log fate.CannotOpen h = refl
-      failed log fate.WriteFailed h = refl
-      failed log f h = absurd h
-
-      by : (saved : Option (List ℕ)) (path : Option (Bor (List ℕ))) → DeliversBy saved path store target names out answer f → failures_told f n ≡ n
-      by (Some log) (Some path) (inl h) = failed log f h.0
-      by (Some log) (Some path) (inr h) = delivered_reads (behind store h.0) (Some path) out (record answer { saved = Some names }) n none f h.2
-      by (Some log) None h = delivered_reads store target out answer n none f h
-      by None path h = delivered_reads store target out answer n none f h

@@ -12,7 +12,7 @@ use Rattle.velo_report.specs.declared.names.Names.TheVariants.{Listed, Numbers, 
 use Rattle.velo_worker.specs.declared.ending.Ending.{Ending}
 use Rattle.velo_worker.specs.declared.ending.Ending.TheVariants as ending
 use Rattle.velo_worker.specs.Causes.{EndsByGrowth, EndsWithCause}
-use Rattle.velo_worker.specs.Live.{AllDone}
+use Rattle.velo_worker.specs.Live.{AllDone, HaltsAtAlarm}
 use Rattle.velo_worker.specs.Logs.{IsLogOf}
 use Rattle.velo_worker.specs.Schedule.{Replays}
 use Rattle.velo_workload.specs.declared.fault.WorkFault.{WorkFault}
@@ -91,12 +91,14 @@ pub record IsReplayOf (schedule : List ThreadId) (options : RunOptions) (program
   pub cause : EndsByGrowth ended
 
 -- a run of the program by threads of its own: it is configured as was asked for, and its log is one
--- of the program's; where it is done, each thread that was born did its body
+-- of the program's; where it is done, each thread that was born did its body; where it is halted,
+-- an alarm did so
 pub record IsLiveRunOf (options : RunOptions) (program : Program) (ended : Ending) (w : WorldState)
     : Type 0 where
   pub configured : IsConfigOf program options w.config
   pub log : IsLogOf program w.log
   pub done : ended ≡ ending.Done → AllDone program w
+  pub halted : HaltsAtAlarm options.stop w.log ended
   pub cause : EndsWithCause ended
 
 abbrev pub IsRunOf : Play → RunOptions → Program → Ending → WorldState → Type 0

@@ -2,7 +2,7 @@
 
 use std::cell::Cell;
 use std::io::ErrorKind;
-use velo_cli::Reason;
+use velo_cli::{Reason, Recall};
 
 /// Where the mark of a path begins, and what it is multiplied by at each byte: FNV-1a.
 const FIRST_MARK: u64 = 0xcbf2_9ce4_8422_2325;
@@ -73,9 +73,10 @@ impl Notes {
             self.failed.set(Some((mark, reason_of(kind))));
         }
     }
+}
 
-    /// Why the file at the path failed, if it is the one that failed last.
-    pub fn failure_at(&self, path: &str) -> Option<Reason> {
+impl Recall for Notes {
+    fn failure_at(&self, path: &str) -> Option<Reason> {
         match self.failed.get() {
             Some((mark, reason)) if mark == mark_of(path) => Some(reason),
             _ => None,

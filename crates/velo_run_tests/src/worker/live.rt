@@ -1,3 +1,4 @@
+//! Tests of runs on real threads.
 use super::config_for;
 use std::alloc::Global;
 use std::sync::Wait;

@@ -79,7 +79,7 @@ const LOG_AND_OUT: &str = "error: LOG and OUT are one file\n";
 
 const FILE_AND_OUT: &str = "error: FILE and OUT are one file\n";
 
-static ROWS: [Row; 9] = [
+static ROWS: [Row; 10] = [
     (
         &["velodrome", "carry", "log", "--log", "again"],
         LOG_AND_OUT,
@@ -89,6 +89,12 @@ static ROWS: [Row; 9] = [
     (
         &["velodrome", "explain", "log", "--dot", "again"],
         LOG_AND_OUT,
+        2,
+        false,
+    ),
+    (
+        &["velodrome", "explain", "log", "--svg", "again"],
+        "error: LOG and SVG are one file\n",
         2,
         false,
     ),

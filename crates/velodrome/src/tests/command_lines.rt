@@ -11,7 +11,7 @@ use velo_events::{MAX_EVENTS, MAX_NODES, MAX_THREADS, Refusal};
 
 /// Right words, with the status and standard error: of the two logs one raises an alarm at its last
 /// event.
-const RIGHT_WORDS: [(&[&str], u8, &str); 9] = [
+const RIGHT_WORDS: [(&[&str], u8, &str); 10] = [
     (&["velodrome", "check", "-"], 3, ""),
     (&["velodrome", "check", "--certificate", "a.log"], 3, ""),
     (&["velodrome", "check", "a.log"], 3, ""),
@@ -46,10 +46,15 @@ const RIGHT_WORDS: [(&[&str], u8, &str); 9] = [
         0,
         "",
     ),
+    (
+        &["velodrome", "verify", "a.log", "b.log"],
+        2,
+        "report fault 1 line 1\n",
+    ),
     (&["velodrome", "--help"], 0, ""),
 ];
 
-const WRONG_WORDS: [&[&str]; 44] = [
+const WRONG_WORDS: [&[&str]; 45] = [
     &["velodrome"],
     &["velodrome", "check"],
     &["velodrome", "race", "a.log"],
@@ -130,6 +135,7 @@ const WRONG_WORDS: [&[&str]; 44] = [
     ],
     &["velodrome", "audit", "a.log", "--ignore-lock"],
     &["velodrome", "thin", "a.log"],
+    &["velodrome", "verify", "a.log"],
     &["velodrome", "thin", "a.log", "--log", "o", "--events", "4"],
     &["velodrome", "predict", "a.log", "--tries", "0"],
     &["velodrome", "predict", "a.log", "--tries", "1000001"],
@@ -322,7 +328,7 @@ fn words_that_do_not_go_together(rt: HostRuntime) {
 }
 
 /// Words that ask for help, and its end.
-const HELP: [(&[&str], &str); 15] = [
+const HELP: [(&[&str], &str); 16] = [
     (&["velodrome", "replay", "--help"], help::OF_REPLAY),
     (&["velodrome", "run", "--help"], help::OF_RUN),
     (&["velodrome", "explain", "--help"], help::OF_EXPLAIN),
@@ -332,6 +338,7 @@ const HELP: [(&[&str], &str); 15] = [
     (&["velodrome", "audit", "--help"], help::OF_AUDIT),
     (&["velodrome", "thin", "--help"], help::OF_THIN),
     (&["velodrome", "predict", "--help"], help::OF_PREDICT),
+    (&["velodrome", "verify", "--help"], help::OF_VERIFY),
     (&["velodrome", "--help"], help::OF_PROGRAM),
     (&["velodrome", "help"], help::OF_PROGRAM),
     (&["velodrome", "check", "--help"], help::OF_CHECK),

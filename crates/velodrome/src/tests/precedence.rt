@@ -45,7 +45,7 @@ struct Run {
     status: u8,
 }
 
-static RUNS: [Run; 21] = [
+static RUNS: [Run; 22] = [
     // the log is read whole before an event is judged
     Run {
         words: &["velodrome", "check", "a"],
@@ -129,6 +129,14 @@ static RUNS: [Run; 21] = [
         out: "",
         err: "write failed\n",
         file: Some("digraph c"),
+        status: 5,
+    },
+    Run {
+        words: &["velodrome", "explain", "a", "--svg", "full"],
+        text: LOST_UPDATE,
+        out: "",
+        err: "write failed\n",
+        file: Some("<svg xmln"),
         status: 5,
     },
     // the file of a log that is carried over is opened after that log, and before it is read

@@ -13,5 +13,6 @@ returns c =
     let with_watch = adds_subcommand _ _ _ _ _ with_explore c.in_ok-watch.ensures c.in_ok-program-7.ensures in
     let with_audit = adds_subcommand _ _ _ _ _ with_watch c.in_ok-audit.ensures c.in_ok-program-8.ensures in
     let with_thin = adds_subcommand _ _ _ _ _ with_audit c.in_ok-thin.ensures c.in_ok-program-9.ensures in
-    IfOk-weaker c.with_subcommand-10.result _ _
-    (λ command adds. adds_subcommand _ _ _ _ _ with_thin c.in_ok-predict.ensures adds) c.with_subcommand-10.ensures
+    let with_predict = adds_subcommand _ _ _ _ _ with_thin c.in_ok-predict.ensures c.in_ok-program-10.ensures in
+    IfOk-weaker c.with_subcommand-11.result _ _
+    (λ command adds. adds_subcommand _ _ _ _ _ with_predict c.in_ok-verify.ensures adds) c.with_subcommand-11.ensures

@@ -9,8 +9,9 @@ returns-clause-some c =
     let f = found_of c.args.found.now in (
       word_read f (codes "LOG") c.get_str.result c.in_ok-get_str.field-0 c.get_str.ensures c.in_ok-get_str.was,
       option_read f (codes "dot") c.get_str-2.result c.get_str-2.ensures,
-      option_read f (codes "names") c.get_str-3.result c.get_str-3.ensures,
-      option_read f (codes "sites") c.get_str-4.result c.get_str-4.ensures,
+      option_read f (codes "svg") c.get_str-3.result c.get_str-3.ensures,
+      option_read f (codes "names") c.get_str-4.result c.get_str-4.ensures,
+      option_read f (codes "sites") c.get_str-5.result c.get_str-5.ensures,
     )
 
 pub returns-in_err-get_str-clause-none : goal.returns-in_err-get_str-clause-none

@@ -1,10 +1,14 @@
 use Rattle.velo_audit.specs.Audit.{StandsAt}
+use Rattle.velo_audit.specs.Cut.{IsCut}
 use Rattle.velo_audit.specs.Rounds.{atomic_labels}
 use Rattle.velo_filter.specs.Tables.{left_of}
 use Rattle.velo_audit.proofs.rounds.audit.Given as goal
 
-abbrev pub invariant-loop-rounds : goal.invariant-loop-rounds
-invariant-loop-rounds l = record { stands : StandsAt l.asked l.log.events (left_of l.initial.left) l.rounds.items (left_of l.left) }
+abbrev pub invariant-loop-cut : goal.invariant-loop-cut
+invariant-loop-cut l = record {
+  stands : StandsAt l.asked l.log.events (left_of l.initial.left) l.rounds.items (left_of l.left);
+  is_cut : IsCut (left_of l.left) l.log.events l.cut;
+}
 
-abbrev pub decreases-loop-rounds : goal.decreases-loop-rounds
-decreases-loop-rounds l = atomic_labels (left_of l.left) l.log.events
+abbrev pub decreases-loop-cut : goal.decreases-loop-cut
+decreases-loop-cut l = atomic_labels (left_of l.left) l.log.events

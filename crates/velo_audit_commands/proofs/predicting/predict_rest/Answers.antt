@@ -1,4 +1,6 @@
-use Rattle.std.proofs.Common.{refl}
+use Rattle.std.proofs.Common.{refl, subst, sym, List}
+use Rattle.velo_events.specs.declared.event.Event.{Event}
+use Rattle.velo_events.specs.Graph.{HasCycle}
 use Rattle.velo_delivery.specs.Disk.{store}
 use Rattle.velo_delivery.specs.Writing.{writing}
 use Rattle.velo_audit_commands.proofs.OnAuditing.{lacks_same}
@@ -19,3 +21,6 @@ returns-in-Err g c =
     untold inquiry.names.now inquiry.asked.now inquiry.options.now (store g.F.Files.disk c.args.files.now c.args.files.now)
     (writing g.O.Sink.contents g.O.Sink.failures c.args.out.now c.args.out.now) c.args.closed.now.config.bounds c.args.closed.now.log c.in-Err.fate refl (refl, refl)
     (lacks_same inquiry.asked.now _ _ _ _ _ _ c.in-Err.fate c.log-log.ensures.events config.ensures.bounds config.ensures.nodes c.in-Err.ensures.fault)
+
+pub rounds_of-requires-clause-clean : goal.rounds_of-requires-clause-clean
+rounds_of-requires-clause-clean g c h = subst (λ (l : List Event). ¬ HasCycle l) (sym c.log-log.ensures.events) (c.is_clean.ensures h)

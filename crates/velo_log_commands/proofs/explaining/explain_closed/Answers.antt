@@ -1,4 +1,4 @@
-use Rattle.std.proofs.Common.{List, inl, inr, refl, sym, subst}
+use Rattle.std.proofs.Common.{[], List, inl, inr, refl, sym, subst}
 use Rattle.velo_events.specs.declared.event.Event.{Event}
 use Rattle.velo_events.specs.Graph.{IsClosing}
 use Rattle.velo_fate.specs.declared.fate.Fate.TheVariants.{Memory}
@@ -6,6 +6,7 @@ use Rattle.velo_fate.specs.Delivery.{silent}
 use Rattle.velo_delivery.specs.Disk.{store}
 use Rattle.velo_log_commands.specs.Explaining.{counted, explained}
 use Rattle.velo_delivery.specs.Writing.{writing}
+use Rattle.velo_picture.specs.Drawing.{drawing_text}
 use Rattle.velo_inputs.specs.Sending.{PrintsOrLacks}
 use Rattle.velo_log_commands.proofs.OnExplaining.{explains_by, explains_clean, of_evidence}
 use Rattle.velo_certify.proofs.OnClosing.{closing_cycle}
@@ -14,7 +15,7 @@ use Rattle.velo_log_commands.proofs.explaining.explain_closed.Goals as goal
 pub returns-in_default : goal.returns-in_default
 returns-in_default g c =
     let stdout = writing g.O.Sink.contents g.O.Sink.failures c.args.out.now c.explain_without.new.out in
-    explains_clean (store g.F.Files.disk c.args.files.now c.args.files.now) c.args.target stdout c.args.legend.now.names.now c.args.legend.now.sites.now c.args.closed.now.log c.explain_without.result c.in_default.ensures.none refl
+    explains_clean (store g.F.Files.disk c.args.files.now c.args.files.now) c.args.options.now stdout c.args.legend.now.names.now c.args.legend.now.sites.now c.args.closed.now.log c.explain_without.result c.in_default.ensures.none refl
     (subst (λ (log : List Event). PrintsOrLacks (counted log) stdout c.explain_without.result) c.log-log.ensures.events c.explain_without.ensures)
 
 pub unreachable-requires : goal.unreachable-requires
@@ -26,8 +27,9 @@ unreachable-requires g c =
 
 pub returns-in-Ok : goal.returns-in-Ok
 returns-in-Ok g c =
-    explains_by (store g.F.Files.disk c.args.files.now c.explain_by-fate.new.files) c.args.target (writing g.O.Sink.contents g.O.Sink.failures c.args.out.now c.explain_by-fate.new.out)
-    c.args.legend.now.names.now c.args.legend.now.sites.now c.args.closed.now.log (explained c.args.legend.now.names.now c.args.legend.now.sites.now c.log-log.result.now.events c.in-Some.alarm.now.position c.in-Ok.evidence) c.explain_by-fate.result
+    explains_by (store g.F.Files.disk c.args.files.now c.explain_by-fate.new.files) c.args.options.now (writing g.O.Sink.contents g.O.Sink.failures c.args.out.now c.explain_by-fate.new.out)
+    c.args.legend.now.names.now c.args.legend.now.sites.now c.args.closed.now.log (explained c.args.legend.now.names.now c.args.legend.now.sites.now c.log-log.result.now.events c.in-Some.alarm.now.position c.in-Ok.evidence)
+    (drawing_text c.args.legend.now.names.now c.args.legend.now.sites.now c.log-log.result.now.events c.in-Some.alarm.now.position c.in-Ok.evidence) c.explain_by-fate.result
     (inl (of_evidence c.args.legend.now.names.now c.args.legend.now.sites.now c.log-log.result.now.events c.args.closed.now.log c.log-log.ensures.events c.in-Some.alarm.now c.as_slice.result.now c.as_slice.ensures
     c.in-Ok.evidence c.in-Some.ensures.some c.in-Ok.ensures.evidence c.in-Ok.ensures.reasons))
     c.explain_by-fate.ensures
@@ -35,4 +37,4 @@ returns-in-Ok g c =
 pub returns-in-Err-Memory : goal.returns-in-Err-Memory
 returns-in-Err-Memory g c =
     let refused = rw c.in-Err-Memory.field-0-is at c.in-Err-Memory.ensures.fault in
-    (silent Memory, inr (refused, refl), (refl, refl, (refl, refl)))
+    (silent Memory, [], inr (refused, refl), (refl, refl, (refl, refl)))

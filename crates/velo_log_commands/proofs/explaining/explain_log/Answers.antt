@@ -1,4 +1,4 @@
-use Rattle.std.proofs.Common.{inl, inr, refl}
+use Rattle.std.proofs.Common.{[], inl, inr, refl}
 use Rattle.velo_fate.specs.declared.fate.Fate.TheVariants.{Check}
 use Rattle.velo_fate.specs.Delivery.{silent}
 use Rattle.velo_delivery.specs.Disk.{store}
@@ -9,12 +9,12 @@ use Rattle.velo_log_commands.proofs.explaining.explain_log.Goals as goal
 
 pub returns-in-Ok : goal.returns-in-Ok
 returns-in-Ok g c =
-    of_input (store g.F.Files.disk c.args.files.now c.explain_if_of-fate.new.files) c.args.options.now.target (writing g.O.Sink.contents g.O.Sink.failures c.args.out.now c.explain_if_of-fate.new.out)
+    of_input (store g.F.Files.disk c.args.files.now c.explain_if_of-fate.new.files) c.args.options.now (writing g.O.Sink.contents g.O.Sink.failures c.args.out.now c.explain_if_of-fate.new.out)
     c.args.legend.now.names.now c.args.legend.now.sites.now c.in-Ok.closed.config.bounds c.in-Ok.closed.log (reading g.I.Source.remaining g.I.Source.failures c.args.source.now c.do_input.new.source) c.explain_if_of-fate.result
     c.in-Ok.ensures.ok c.in-Ok.ensures.read c.explain_if_of-fate.ensures
 
 pub returns-in-Err : goal.returns-in-Err
 returns-in-Err g c = (
   c.in-Err.ensures.failure,
-  (silent (Check c.in-Err.fault), inr (inr (inl (c.in-Err.fault, c.in-Err.ensures.err, refl))), (refl, refl, (refl, refl))),
+  (silent (Check c.in-Err.fault), [], inr (inr (inl (c.in-Err.fault, c.in-Err.ensures.err, refl))), (refl, refl, (refl, refl))),
 )

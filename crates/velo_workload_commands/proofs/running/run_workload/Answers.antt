@@ -1,6 +1,7 @@
 use Rattle.std.proofs.Common.{inl, inr, refl, subst, sym, ⊎_elim}
 use Rattle.velo_fate.specs.declared.fate.Fate.TheVariants.{Lost, Memory}
 use Rattle.velo_fate.specs.Delivery.{silent}
+use Rattle.velo_worker.specs.Live.{HaltsAtAlarm}
 use Rattle.velo_workload_commands.specs.Playing.{IsConfigOf}
 use Rattle.velo_workload_commands.proofs.running.run_workload.Goals as goal
 
@@ -16,6 +17,7 @@ returns-in-Ok g c =
               configured = subst (IsConfigOf c.args.workload.now c.args.options.now) (sym c.in-Ok.ensures.config) c.config_of_run-config.ensures;
               log = c.in-Ok.ensures.log;
               done = c.in-Ok.ensures.done;
+              halted = subst (λ b. HaltsAtAlarm b c.in-Ok.ended.0.log c.in-Ok.ended.1) c.config_of_run-config.ensures.stop c.in-Ok.ensures.halted;
               cause = c.in-Ok.ensures.cause;
             };
             says = says;

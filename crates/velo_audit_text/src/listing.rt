@@ -1,0 +1,214 @@
+//! The text of an audit that lists its labels as was asked for.
+ghost use Rattle.std.specs.Prelude.{◌≡◌, ◌≤◌, ◌<◌, ◌+◌, ◌++◌, length, slice_get, All, IfOk, OnOk};
+ghost use Rattle.velo_events.specs.declared.limits.TheConstants.{MAX_EVENTS};
+ghost use Rattle.velo_explain.specs.Text.{numbered};
+ghost use Rattle.velo_filter.specs.Thinned.{CanComeAbout};
+ghost use Rattle.velo_audit.specs.Audit.{TellsTruly};
+ghost use Rattle.velo_tally.specs.Marks.{AreMarks};
+ghost use Rattle.velo_audit_text.specs.Listing.{IsListingText, end_text, entry_text, entry_text_by, is_followed, outer_text, outer_text_if, round_text, tally_text, tally_text_if};
+ghost use Rattle.velo_audit_text.specs.Witness.{FewAreOpen};
+
+use crate::entries::{Entry, Listing, listed_of};
+use crate::whole::add_witness_if_any;
+use crate::words::{Asked, add_asked, add_counts, add_mark, add_not_atomic};
+use std::alloc::Global;
+use velo_audit::Told;
+use velo_events::{Event, Memory};
+use velo_explain::{Page, Piece};
+use velo_names::Names;
+use velo_tally::{Marks, Tally};
+use velo_traces::Trace;
+
+/// Adds the counts of a label's blocks.
+#[tactic(auto, unfolding(crate::specs::Listing::tally_text))]
+fn add_tally(page: &mut Page, tally: Tally) -> Result<(), Memory>
+    ensures { OnOk result (page.new ≡ page.old ++ tally_text tally) }
+{
+    page.add(&[
+        Piece::Text("  "),
+        Piece::Number(tally.blamed as u64),
+        Piece::Text(" of "),
+        Piece::Number(tally.blocks as u64),
+        Piece::Text(" blocks\n"),
+    ])
+}
+
+/// Adds them if they are asked for.
+fn add_tally_if(page: &mut Page, counts: bool, tally: Tally) -> Result<(), Memory>
+    ensures { OnOk result (page.new ≡ page.old ++ tally_text_if counts tally) }
+{
+    if !counts {
+        return Ok(());
+    }
+    add_tally(page, tally)
+}
+
+/// Adds what a round says after its labels.
+fn add_round(
+    page: &mut Page,
+    names: &Names,
+    alloc: Global,
+    events: &[Event],
+    rounds: &[Told],
+    round: usize,
+) -> Result<(), Memory>
+    requires truly { All (TellsTruly events.now) rounds.now }
+    requires few { length events.now ≤ MAX_EVENTS }
+    requires open { FewAreOpen events.now }
+    ensures { OnOk result (page.new ≡ page.old ++ round_text names.now events.now (slice_get rounds.now round)) }
+{
+    let Some(told) = rounds.get(round) else {
+        return Ok(());
+    };
+    add_mark(page, told.to_blame)?;
+    add_witness_if_any(page, names, alloc, events, told.closing, &told.witness)
+}
+
+/// Whether the next entry is of its round too.
+fn is_followed(entry: Entry, next: Option<Entry>) -> bool
+    ensures { result ≡ is_followed entry next }
+{
+    match next {
+        Some(next) => next.round == entry.round,
+        None => false,
+    }
+}
+
+/// Adds it, unless the next entry is of this round too.
+fn add_end(
+    page: &mut Page,
+    names: &Names,
+    alloc: Global,
+    events: &[Event],
+    rounds: &[Told],
+    entry: Entry,
+    next: Option<Entry>,
+) -> Result<(), Memory>
+    requires truly { All (TellsTruly events.now) rounds.now }
+    requires few { length events.now ≤ MAX_EVENTS }
+    requires open { FewAreOpen events.now }
+    ensures { OnOk result (page.new ≡ page.old ++ end_text names.now events.now rounds.now entry next) }
+{
+    if is_followed(entry, next) {
+        return Ok(());
+    }
+    add_round(page, names, alloc, events, rounds, entry.round)
+}
+
+/// Adds an entry.
+fn add_entry(
+    page: &mut Page,
+    names: &Names,
+    alloc: Global,
+    events: &[Event],
+    rounds: &[Told],
+    counts: bool,
+    entry: Entry,
+    next: Option<Entry>,
+) -> Result<(), Memory>
+    requires truly { All (TellsTruly events.now) rounds.now }
+    requires few { length events.now ≤ MAX_EVENTS }
+    requires open { FewAreOpen events.now }
+    ensures { OnOk result (page.new ≡ page.old
+        ++ entry_text_by names.now events.now rounds.now counts entry next) }
+{
+    add_not_atomic(page, names, entry.label.0)?;
+    add_tally_if(page, counts, entry.tally)?;
+    add_end(page, names, alloc, events, rounds, entry, next)
+}
+
+/// The entry after one.
+fn next_of(entries: &[Entry], k: usize) -> Option<Entry>
+    requires { k < length entries.now }
+    ensures { result ≡ slice_get entries.now (k + 1) }
+{
+    if k + 1 < entries.len() {
+        Some(entries[k + 1])
+    } else {
+        None
+    }
+}
+
+/// Adds the entries.
+fn add_entries(
+    page: &mut Page,
+    names: &Names,
+    alloc: Global,
+    events: &[Event],
+    rounds: &[Told],
+    counts: bool,
+    entries: &[Entry],
+) -> Result<(), Memory>
+    requires truly { All (TellsTruly events.now) rounds.now }
+    requires few { length events.now ≤ MAX_EVENTS }
+    requires open { FewAreOpen events.now }
+    ensures { OnOk result (page.new ≡ page.old
+        ++ numbered (entry_text names.now events.now rounds.now counts entries.now) 0 entries.now) }
+{
+    for k in 0..entries.len() {
+        let next = next_of(entries, k);
+        add_entry(page, names, alloc, events, rounds, counts, entries[k], next)?;
+    }
+    Ok(())
+}
+
+/// Adds how many labels are not listed.
+#[tactic(auto, unfolding(crate::specs::Listing::outer_text))]
+fn add_outer(page: &mut Page, others: usize) -> Result<(), Memory>
+    ensures { OnOk result (page.new ≡ page.old ++ outer_text others) }
+{
+    page.add(&[
+        Piece::Text("  and "),
+        Piece::Number(others as u64),
+        Piece::Text(" labels around these\n"),
+    ])
+}
+
+/// Adds it where not all are.
+fn add_outer_if(page: &mut Page, innermost: bool, others: usize) -> Result<(), Memory>
+    ensures { OnOk result (page.new ≡ page.old ++ outer_text_if innermost others) }
+{
+    if !innermost {
+        return Ok(());
+    }
+    add_outer(page, others)
+}
+
+/// What an audit prints where its labels are listed as was asked for. The marks are those of
+/// `first`, in which the blocks are counted: what is left at first of the log.
+///
+/// # Errors
+/// `Memory` if an allocation failed.
+pub fn listing_text(
+    alloc: Global,
+    names: &Names,
+    log: &Trace,
+    asked: &Asked,
+    listing: Listing,
+    first: &Trace,
+    marks: &Marks,
+    rounds: &[Told],
+    atomic: usize,
+) -> Result<Page, Memory>
+    requires few { length log.now.events ≤ MAX_EVENTS }
+    requires can_come_about { CanComeAbout log.now.events }
+    requires truly { All (TellsTruly log.now.events) rounds.now }
+    requires marks { AreMarks first.now.events marks.now }
+    ensures { IfOk result (λ page. IsListingText names.now log.now.events asked.now listing first.now.events rounds.now atomic page) }
+{
+    let listed = listed_of(alloc, listing, rounds, first, marks)?;
+    let mut page = Page::new(alloc);
+    add_asked(&mut page, names, asked)?;
+    add_entries(
+        &mut page,
+        names,
+        alloc,
+        log.as_slice(),
+        rounds,
+        listing.counts,
+        &listed.entries,
+    )?;
+    add_outer_if(&mut page, listing.innermost, listed.others)?;
+    add_counts(&mut page, atomic, rounds.len() + 1)?;
+    Ok(page)
+}

@@ -1,0 +1,2 @@
+pub mod OnWords
+pub mod OnJudging

@@ -1,0 +1,4 @@
+pub mod Fault
+pub mod Line
+pub mod Text
+pub mod Judging

@@ -1,0 +1,5 @@
+pub mod Xml
+pub mod Grid
+pub mod Shapes
+pub mod Style
+pub mod Drawing

@@ -1,0 +1,5 @@
+mod OnOpen
+mod OnReach
+mod OnBlame
+mod OnMarks
+mod OnTally

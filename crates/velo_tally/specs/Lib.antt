@@ -1,0 +1,5 @@
+pub mod Blame
+pub mod Reach
+pub mod Open
+pub mod Marks
+pub mod Tally

@@ -1,0 +1,107 @@
+//! `velodrome verify`.
+ghost use Rattle.std.specs.Prelude.{IfErr, IfOk};
+ghost use Rattle.velo_delivery.specs.Disk.{store};
+ghost use Rattle.velo_delivery.specs.Reading.{reading};
+ghost use Rattle.velo_delivery.specs.Writing.{writing};
+ghost use Rattle.velo_fate.specs.Format.{LacksAt, Reads};
+ghost use Rattle.velo_verify.specs.Verifying.{ClaimIn, NoClaimIn, VerifiesInput, report_file};
+ghost use Rattle.velo_verify.specs.Commands.{DoesVerify, VerifiesLog};
+
+use crate::told::tell;
+use std::alloc::Global;
+use velo_bytes::{Sink, Source};
+use velo_claims::{Claim, MAX_REPORT_BYTES, judge};
+use velo_delivery::{Files, Operand};
+use velo_events::Memory;
+use velo_fate::{CheckFault, Fate, open_input, read_file};
+use velo_logtext::read_log;
+use velo_request::VerifyOptions;
+
+/// What the bytes of a report claim.
+///
+/// # Errors
+/// `Report` with the fault for which they claim nothing.
+fn claim_in(alloc: Global, bytes: &[u8]) -> Result<Claim, Fate>
+    ensures claim { IfOk result (ClaimIn bytes.now) }
+    ensures fault { IfErr result (NoClaimIn bytes.now) }
+{
+    match Claim::parse(alloc, bytes) {
+        Ok(claim) => Ok(claim),
+        Err(fault) => Err(Fate::Report(fault)),
+    }
+}
+
+/// What the report at a path claims. Its bytes are let go before the log is read.
+///
+/// # Errors
+/// As `read_file`; else `Report` with the fault for which it claims nothing.
+fn claim_at<F: Files>(alloc: Global, path: &str, files: &F) -> Result<Claim, Fate>
+    ensures claim { IfOk result (Reads report_file (F.disk files.now) path.now) }
+    ensures lacking { IfErr result (LacksAt report_file (F.disk files.now) path.now) }
+{
+    let bytes = match read_file(alloc, path, MAX_REPORT_BYTES, files) {
+        Ok(bytes) => bytes,
+        Err(fate) => return Err(fate),
+    };
+    let claim = claim_in(alloc, &bytes);
+    drop(bytes);
+    claim
+}
+
+/// Reads a whole log, judges the claim by it, and prints what became of it.
+fn verify_source<I: Source, O: Sink>(
+    alloc: Global,
+    claim: &Claim,
+    source: &mut I,
+    out: &mut O,
+) -> Fate
+    ensures { VerifiesInput claim.now (reading I.remaining I.failures source.old source.new)
+        (writing O.contents O.failures out.old out.new) result }
+{
+    let (_, log) = match read_log(alloc, source) {
+        Ok(read) => read,
+        Err(fault) => return Fate::Check(CheckFault::Log(fault)),
+    };
+    match judge(alloc, &log, claim) {
+        Ok(outcome) => tell(outcome, out),
+        Err(Memory) => Fate::Memory,
+    }
+}
+
+/// Judges the claim by the log that was asked for.
+fn verify_claim<F: Files, O: Sink>(
+    alloc: Global,
+    options: &VerifyOptions,
+    claim: &Claim,
+    files: &F,
+    out: &mut O,
+) -> Fate
+    ensures { VerifiesLog claim.now options.now (store F.disk files.now files.now)
+        (writing O.contents O.failures out.old out.new) result }
+{
+    match open_input(files, Operand::Log, options.input, None) {
+        Ok(mut log) => verify_source(alloc, claim, &mut log, out),
+        Err(fate) => fate,
+    }
+}
+
+/// Judges by its certificate what the report that was asked for claims of the log. The report is
+/// read first.
+pub fn verify_file<F: Files, O: Sink>(
+    alloc: Global,
+    options: &VerifyOptions,
+    files: &F,
+    out: &mut O,
+) -> Fate
+    ensures { DoesVerify options.now (store F.disk files.now files.now)
+        (writing O.contents O.failures out.old out.new) result }
+{
+    match claim_at(alloc, options.report, files) {
+        Ok(claim) => {
+            let fate = verify_claim(alloc, options, &claim, files, out);
+            drop(claim);
+            fate
+        }
+        Err(fate) => fate,
+    }
+}
