@@ -1,3 +1,4 @@
+mod OnEnded
 mod OnEvents
 mod OnLines
 mod OnPages

@@ -1,4 +1,5 @@
 pub mod Beside
+pub mod Ended
 pub mod Events
 pub mod Failing
 pub mod Faults

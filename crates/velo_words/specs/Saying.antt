@@ -21,6 +21,7 @@ use Rattle.velo_sites.specs.declared.fault.SitesFault.TheVariants as sites_fault
 use Rattle.velo_suppressions.specs.declared.fault.ListFault.TheVariants as list_fault
 use Rattle.velo_workload.specs.declared.fault.WorkFault.TheVariants as work_fault
 use Rattle.velo_words.specs.declared.failing.Reason.{Reason}
+use Rattle.velo_words.specs.Ended.{SaysEnd}
 use Rattle.velo_words.specs.Events.{HasEvent}
 use Rattle.velo_words.specs.Failing.{SaysFailure}
 use Rattle.velo_words.specs.Faults.{fault_words}
@@ -92,6 +93,7 @@ pub record SaysEvent (disk : Disk) (path : List ℕ) (refusal : Option Refusal) 
 
 -- what is said of a fate
 abbrev pub IsSaid : Disk → Request → Fate → List ℕ → Type 0
+IsSaid disk request (fate.Finished ended alarm) words = SaysEnd disk request ended words
 IsSaid disk request (fate.Check (check_fault.Log fault)) words =
     IfSome (log_of request) (λ path. SaysFault disk path (file.Log fault) words)
 IsSaid disk request (fate.Check (check_fault.Refused p refusal)) words =

@@ -2,6 +2,7 @@
 #![tactic(auto)]
 
 mod beside;
+mod ended;
 mod events;
 mod failing;
 mod faults;

@@ -9,6 +9,7 @@ ghost use Rattle.velo_words.specs.Failing.{SaysFailure};
 ghost use Rattle.velo_words.specs.Saying.{EndsInWords, IsSaid, IsTextAt, SaysEvent, SaysFault, SaysSchedule, event_words, log_of, work_of};
 
 use crate::beside::other_sites_words;
+use crate::ended::words_of_end;
 use crate::events::events_up_to;
 use crate::failing::{Recall, words_of_failure};
 use crate::faults::{FileFault, fault_words, most_bytes_for, most_up_to};
@@ -171,6 +172,7 @@ fn words_of<F: Files>(alloc: Global, request: &Request, fate: Fate, files: &F) -
     ensures { IfSome result (IsSaid (F.disk files.now) request.now fate) }
 {
     match fate {
+        Fate::Finished { ending, .. } => words_of_end(alloc, request, ending, files),
         Fate::Check(CheckFault::Log(fault)) => {
             words_of_file(alloc, log_of(request)?, FileFault::Log(fault), files)
         }
