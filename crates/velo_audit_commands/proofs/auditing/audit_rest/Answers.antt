@@ -9,9 +9,11 @@ use Rattle.velo_audit_commands.proofs.auditing.audit_rest.Goals as goal
 
 pub returns-in-Ok : goal.returns-in-Ok
 returns-in-Ok g c =
-    rounds_printed c.args.names.now c.args.asked.now c.args.options.now c.args.closed.now.config.bounds c.args.closed.now.log _ c.in-Ok.rounds.items _ c.log-log.ensures.events c.deref.ensures.value
-    c.in-Ok.ensures.rounds (writing g.O.Sink.contents g.O.Sink.failures c.args.out.now c.tell_rounds-fate.new.out) c.tell_rounds-fate.result
-    (subst (λ (l : Option Listing). PrintsRounds c.args.names.now _ c.args.asked.now l _ _ _) c.listing_of-listing.ensures c.tell_rounds-fate.ensures)
+    let stdout = writing g.O.Sink.contents g.O.Sink.failures c.args.out.now c.tell_rounds-fate.new.out in
+    let fate = c.tell_rounds-fate.result in
+    rounds_printed c.args.names.now c.args.asked.now c.args.options.now c.args.closed.now.config.bounds c.args.closed.now.log c.log-log.result.now.events c.in-Ok.rounds.items c.deref.result.now c.log-log.ensures.events c.deref.ensures.value
+    c.in-Ok.ensures.rounds stdout fate
+    (subst (λ (l : Option Listing). PrintsRounds c.args.names.now c.log-log.result.now.events c.args.asked.now l c.deref.result.now stdout fate) c.listing_of-listing.ensures c.tell_rounds-fate.ensures)
 
 pub returns-in-Err : goal.returns-in-Err
 returns-in-Err g c =
