@@ -35,8 +35,8 @@ The names: each line is 'thread N NAME', 'variable N NAME', 'lock N NAME' or 'la
 or a comment that begins with '#'. With --names they are read before the log, and the report has the
 names of threads and labels after their numbers. Only one of LOG and FILE can be -.
 
-With --why words come before the line on standard error: the path, the line and its text, and what is
-wrong with it.
+With --why, or where standard error is a terminal, words come before the line on standard error: the
+path, the line and its text, and what is wrong with it.
 
 Statuses, each with the lines on standard error:
   0  no alarm, or help
@@ -104,8 +104,8 @@ The names: --names-out writes the names of the workload to NAMES, after the log,
 FILE, OUT and NAMES must be different files; otherwise the command stops before it writes to them.
 Standard input is not compared with OUT and NAMES.
 
-With --why words come before the line on standard error: the path, the line and its text, and what is
-wrong with it.
+With --why, or where standard error is a terminal, words come before the line on standard error: the
+path, the line and its text, and what is wrong with it.
 
 Statuses, each with the lines on standard error:
   0  the run ended without an alarm, or help
@@ -145,8 +145,8 @@ The names: --names-out writes the names of the workload to NAMES, after the log,
 FILE, OUT and NAMES must be different files; otherwise the command stops before it writes to them.
 Standard input is not compared with OUT and NAMES.
 
-With --why words come before the line on standard error: the path, the line and its text, and what is
-wrong with it.
+With --why, or where standard error is a terminal, words come before the line on standard error: the
+path, the line and its text, and what is wrong with it.
 
 Statuses, each with the lines on standard error:
   0  the run ended without an alarm, or help
@@ -214,8 +214,8 @@ is no log, OUT stays empty.
 LOG and OUT must be different files; otherwise the command stops before it writes. Standard input is
 not compared with OUT: if it comes from that file, the log is lost.
 
-With --why words come before the line on standard error: the path, the line and its text, and what is
-wrong with it.
+With --why, or where standard error is a terminal, words come before the line on standard error: the
+path, the line and its text, and what is wrong with it.
 
 Statuses, each with the lines on standard error:
   0  done, or help

@@ -24,7 +24,7 @@ abbrev pub too_many_bytes_reason : List ℕ
 too_many_bytes_reason = codes "the file has more than 16777216 bytes"
 
 abbrev pub not_text_reason : List ℕ
-not_text_reason = codes "this is no text of UTF-8"
+not_text_reason = codes "the file is not UTF-8"
 
 -- ---- a line that says no name
 
@@ -39,23 +39,23 @@ if_taken None reason lacking = lacking
 
 -- by what stands where a name is to be
 abbrev pub name_reason : List ℕ → List ℕ
-name_reason [] = codes "a name is to stand after the number"
+name_reason [] = codes "expected a name after the number"
 name_reason (b ∷ bs) =
     if nat_lt MAX_NAME_BYTES (length (b ∷ bs)) then codes "the name has more than 200 bytes"
     else codes "a control character stands in the name"
 
 abbrev pub number_reason : NameKind → List ℕ
-number_reason Thread = codes "a number from 0 to 255 is to stand after the kind"
-number_reason Variable = codes "a number from 0 to 65535 is to stand after the kind"
-number_reason Lock = codes "a number from 0 to 65535 is to stand after the kind"
-number_reason Label = codes "a number from 0 to 4294967295 is to stand after the kind"
+number_reason Thread = codes "expected a number from 0 to 255 after the kind"
+number_reason Variable = codes "expected a number from 0 to 65535 after the kind"
+number_reason Lock = codes "expected a number from 0 to 65535 after the kind"
+number_reason Label = codes "expected a number from 0 to 4294967295 after the kind"
 
 -- by what stands after the kind
 abbrev pub kind_reason : NameKind → List ℕ → List ℕ
 kind_reason kind bytes =
     if_taken (number_at (greatest kind) bytes)
     (λ rest. if_after (after_word (codes " ") rest) name_reason
-    (codes "one space and a name are to stand after the number"))
+    (codes "expected one space and a name after the number"))
     (number_reason kind)
 
 unfoldable pub naming_reason : List ℕ → List ℕ
@@ -107,7 +107,7 @@ entry_reason line =
     if ends_in_return line then returned_reason
     else (if is_number line then codes "a label has a number from 0 to 4294967295, without leading zeros"
     else (if nat_lt MAX_NAME_BYTES (length line) then codes "a name has at most 200 bytes"
-    else codes "this is no label's number or name, and no line that audit or predict prints"))
+    else codes "this is not a label's number or name, nor a line that audit or predict prints"))
 
 abbrev pub list_reason : ListFault → List ℕ → List ℕ
 list_reason (known.BadLine n) line = entry_reason line
@@ -129,8 +129,8 @@ sites_line _ = 0
 
 abbrev pub site_reason : ℕ → List ℕ
 site_reason n =
-    if n == 1 then codes "this is no file of sites: its first line is to be `vsites 1 SITES EVENTS`"
-    else codes "this is not what is to stand here: first the places, and then a site's number for each event"
+    if n == 1 then codes "this is not a file of sites: expected a first line `vsites 1 SITES EVENTS`"
+    else codes "unexpected line: the places come first, and then a site's number for each event"
 
 abbrev pub sites_reason : SitesFault → List ℕ
 sites_reason (sites.BadLine n) = site_reason n
@@ -151,4 +151,4 @@ sites_words path bytes fault =
 abbrev pub other_sites_words : List ℕ → List ℕ
 other_sites_words path =
     whole_words path (codes "these are the sites of a log with another number of events")
-    (codes "help: the log and its sites are to come from one run\n")
+    (codes "help: take the log and its sites from one run\n")

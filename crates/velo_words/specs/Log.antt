@@ -18,7 +18,7 @@ use Rattle.velo_words.specs.Lines.{first_line, line_at, of_file, of_line, shown_
 
 unfoldable pub header_reason : HeaderFault → List ℕ
 header_reason Marked = codes "a byte-order mark stands before the header"
-header_reason Workload = codes "this is no log: it looks like a workload"
+header_reason Workload = codes "this is not a log: it looks like a workload"
 header_reason Returned = codes "a carriage return stands at the end of the line"
 header_reason (Version n) =
     joined (codes "version " ∷ decimal n ∷ codes " of a log; this program reads 1 and 2" ∷ [])
@@ -26,7 +26,7 @@ header_reason (Threads n) = joined (decimal n ∷ codes " threads; a log has 1 t
 header_reason (Variables n) = joined (decimal n ∷ codes " variables; a log has at most 65535" ∷ [])
 header_reason (Locks n) = joined (decimal n ∷ codes " locks; a log has at most 4096" ∷ [])
 header_reason Other =
-    codes "this is no log: its first line is to be `vlog 2 THREADS VARIABLES LOCKS`"
+    codes "this is not a log: expected a first line `vlog 2 THREADS VARIABLES LOCKS`"
 
 -- what to do
 unfoldable pub header_help : HeaderFault → List ℕ
@@ -67,14 +67,14 @@ plain_reason Tab = codes "a tab stands in the line"
 plain_reason line.Returned = codes "a carriage return stands at the end of the line"
 plain_reason Spaces = codes "one space parts words, and none stands at either end of the line"
 plain_reason Long = codes "the line has more than 64 bytes"
-plain_reason Thread = codes "a thread from 0 to 255 and an operation are to stand in the line"
+plain_reason Thread = codes "expected a thread from 0 to 255 and an operation"
 plain_reason (Unknown likely) = codes "unknown operation"
 plain_reason Later = codes "shared locks come with version 2, and this log is of version 1"
-plain_reason Variable = codes "a variable from 0 to 65535 is to stand after the operation"
-plain_reason Value = codes "a value from 0 to 18446744073709551615 is to stand after the variable"
-plain_reason Lock = codes "a lock from 0 to 65535 is to stand after the operation"
+plain_reason Variable = codes "expected a variable from 0 to 65535 after the operation"
+plain_reason Value = codes "expected a value from 0 to 18446744073709551615 after the variable"
+plain_reason Lock = codes "expected a lock from 0 to 65535 after the operation"
 plain_reason Label = codes "the label is no number from 0 to 4294967295"
-plain_reason line.Other = codes "another thread from 0 to 255 is to stand after the operation"
+plain_reason line.Other = codes "expected another thread from 0 to 255 after the operation"
 plain_reason More = codes "the line goes on after its event"
 plain_reason Sound = codes "this line was another one when it was read"
 

@@ -132,7 +132,7 @@ reason bounds before e r = plain_refusal r
 -- ---- what to do
 
 abbrev pub refusal_help : Refusal → List ℕ
-refusal_help refusal.NotLive = codes "help: a line `T fork U` is to stand before the first event of thread U\n"
+refusal_help refusal.NotLive = codes "help: write a line `T fork U` before the first event of thread U\n"
 refusal_help refusal.NoSuchVariable = codes "help: the header is `vlog 2 THREADS VARIABLES LOCKS`\n"
 refusal_help refusal.NoSuchLock = codes "help: the header is `vlog 2 THREADS VARIABLES LOCKS`\n"
 refusal_help refusal.NoSuchThread = codes "help: the header is `vlog 2 THREADS VARIABLES LOCKS`\n"

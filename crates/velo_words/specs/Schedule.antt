@@ -39,8 +39,8 @@ turns_fault (b ∷ bs) = thread_fault (number_at (MAX_THREADS - 1) (b ∷ bs))
 
 abbrev pub turns_reason : TurnsFault → List ℕ
 turns_reason Blank = codes "one space parts words, and none stands at either end"
-turns_reason Thread = codes "a thread's number from 0 to 63 is to stand here, or such a number, a star and a number of turns"
-turns_reason Count = codes "a number of turns from 2 to 1000000 is to stand after the star"
+turns_reason Thread = codes "expected a thread's number from 0 to 63, or such a number, a star and a number of turns"
+turns_reason Count = codes "expected a number of turns from 2 to 1000000 after the star"
 
 -- ---- a text
 
@@ -92,7 +92,7 @@ turns_words place text = by_bad_word place (first_bad 1 (words_of text))
 abbrev pub numbers_words : List ℕ → List ℕ → List ℕ
 numbers_words place text =
     if list_any (λ b. b == 42) text
-    then whole_words place (codes "a star stands in the text, which is to have thread numbers alone")
+    then whole_words place (codes "there is a star in the text, which may have thread numbers alone")
     (codes "help: for turns such as 0*3 there is --turns\n")
     else turns_words place text
 

@@ -14,7 +14,7 @@ work_line (TooMany n) = n
 work_line Memory = 0
 
 abbrev pub line_reason : WorkFault → List ℕ
-line_reason (BadLine n) = codes "this is no statement, or none for this place"
+line_reason (BadLine n) = codes "this is not a statement, or not one for this place"
 line_reason (Unknown n) = codes "the variable, lock or thread is not declared"
 line_reason (Twice n) = codes "the variable, lock or thread is declared already"
 line_reason (Unmatched n) = codes "a repeat has no done, or a done no repeat"
@@ -23,7 +23,7 @@ line_reason Memory = []
 
 abbrev pub work_reason : WorkFault → List ℕ
 work_reason fault =
-    if work_line fault == 0 then codes "this is no text of UTF-8, has no thread, or is too long"
+    if work_line fault == 0 then codes "this is not UTF-8, has no thread, or is too long"
     else line_reason fault
 
 -- by the path and the bytes of the text

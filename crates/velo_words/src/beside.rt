@@ -18,14 +18,14 @@ const TOO_MANY_LINES: &str = "the file has more than 1000000 lines";
 
 const TOO_MANY_BYTES: &str = "the file has more than 16777216 bytes";
 
-const NOT_TEXT: &str = "this is no text of UTF-8";
+const NOT_TEXT: &str = "the file is not UTF-8";
 
 /// What is wrong with bytes that are no name.
 fn name_reason(name: &[u8]) -> &'static str
     ensures { result.now ≡ name_reason name.now }
 {
     if name.is_empty() {
-        return "a name is to stand after the number";
+        return "expected a name after the number";
     }
     if name.len() > MAX_NAME_BYTES {
         return "the name has more than 200 bytes";
@@ -38,11 +38,11 @@ fn number_reason(kind: NameKind) -> &'static str
     ensures { result.now ≡ number_reason kind }
 {
     match kind {
-        NameKind::Thread => "a number from 0 to 255 is to stand after the kind",
+        NameKind::Thread => "expected a number from 0 to 255 after the kind",
         NameKind::Variable | NameKind::Lock => {
-            "a number from 0 to 65535 is to stand after the kind"
+            "expected a number from 0 to 65535 after the kind"
         }
-        NameKind::Label => "a number from 0 to 4294967295 is to stand after the kind",
+        NameKind::Label => "expected a number from 0 to 4294967295 after the kind",
     }
 }
 
@@ -55,7 +55,7 @@ fn kind_reason(kind: NameKind, bytes: &[u8]) -> &'static str
     };
     match after(rest, b" ") {
         Some(name) => name_reason(name),
-        None => "one space and a name are to stand after the number",
+        None => "expected one space and a name after the number",
     }
 }
 
@@ -169,7 +169,7 @@ fn entry_reason(line: &[u8]) -> &'static str
     if line.len() > MAX_NAME_BYTES {
         return "a name has at most 200 bytes";
     }
-    "this is no label's number or name, and no line that audit or predict prints"
+    "this is not a label's number or name, nor a line that audit or predict prints"
 }
 
 /// What is wrong with a list of known labels.
@@ -221,9 +221,9 @@ fn site_reason(line: usize) -> &'static str
     ensures { result.now ≡ site_reason line }
 {
     if line == 1 {
-        return "this is no file of sites: its first line is to be `vsites 1 SITES EVENTS`";
+        return "this is not a file of sites: expected a first line `vsites 1 SITES EVENTS`";
     }
-    "this is not what is to stand here: first the places, and then a site's number for each event"
+    "unexpected line: the places come first, and then a site's number for each event"
 }
 
 /// What is wrong with a file of sites.
@@ -281,7 +281,7 @@ pub(crate) fn other_sites_words(alloc: Global, path: &str) -> Result<Page, Memor
     let complaint = Complaint {
         line: 0,
         reason: "these are the sites of a log with another number of events",
-        help: "help: the log and its sites are to come from one run\n",
+        help: "help: take the log and its sites from one run\n",
     };
     place_words(alloc, path, &[], complaint)
 }

@@ -20,7 +20,7 @@ fn add_header_reason(page: &mut Page, fault: HeaderFault) -> Result<(), Memory>
             "a byte-order mark stands before the header",
         )]),
         HeaderFault::Workload => page.add(&[Piece::Text(
-            "this is no log: it looks like a workload",
+            "this is not a log: it looks like a workload",
         )]),
         HeaderFault::Returned => {
             page.add(&[Piece::Text("a carriage return stands at the end of the line")])
@@ -49,7 +49,7 @@ fn add_header_reason(page: &mut Page, fault: HeaderFault) -> Result<(), Memory>
             ])
         }
         HeaderFault::Other => page.add(&[Piece::Text(
-            "this is no log: its first line is to be `vlog 2 THREADS VARIABLES LOCKS`",
+            "this is not a log: expected a first line `vlog 2 THREADS VARIABLES LOCKS`",
         )]),
     }
 }
@@ -134,16 +134,14 @@ fn plain_reason(fault: LineFault) -> &'static str
         LineFault::Returned => "a carriage return stands at the end of the line",
         LineFault::Spaces => "one space parts words, and none stands at either end of the line",
         LineFault::Long => "the line has more than 64 bytes",
-        LineFault::Thread => "a thread from 0 to 255 and an operation are to stand in the line",
+        LineFault::Thread => "expected a thread from 0 to 255 and an operation",
         LineFault::Unknown(_) => "unknown operation",
         LineFault::Later => "shared locks come with version 2, and this log is of version 1",
-        LineFault::Variable => "a variable from 0 to 65535 is to stand after the operation",
-        LineFault::Value => {
-            "a value from 0 to 18446744073709551615 is to stand after the variable"
-        }
-        LineFault::Lock => "a lock from 0 to 65535 is to stand after the operation",
+        LineFault::Variable => "expected a variable from 0 to 65535 after the operation",
+        LineFault::Value => { "expected a value from 0 to 18446744073709551615 after the variable" }
+        LineFault::Lock => "expected a lock from 0 to 65535 after the operation",
         LineFault::Label => "the label is no number from 0 to 4294967295",
-        LineFault::Other => "another thread from 0 to 255 is to stand after the operation",
+        LineFault::Other => "expected another thread from 0 to 255 after the operation",
         LineFault::More => "the line goes on after its event",
         LineFault::Sound => "this line was another one when it was read",
     }

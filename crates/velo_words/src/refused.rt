@@ -347,9 +347,7 @@ fn refusal_help(refusal: Refusal) -> &'static str
     ensures { result.now ≡ refusal_help refusal }
 {
     match refusal {
-        Refusal::NotLive => {
-            "help: a line `T fork U` is to stand before the first event of thread U\n"
-        }
+        Refusal::NotLive => { "help: write a line `T fork U` before the first event of thread U\n" }
         Refusal::NoSuchVariable | Refusal::NoSuchLock | Refusal::NoSuchThread => {
             "help: the header is `vlog 2 THREADS VARIABLES LOCKS`\n"
         }

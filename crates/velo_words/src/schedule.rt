@@ -78,9 +78,9 @@ fn turns_reason(fault: TurnsFault) -> &'static str
     match fault {
         TurnsFault::Blank => "one space parts words, and none stands at either end",
         TurnsFault::Thread => {
-            "a thread's number from 0 to 63 is to stand here, or such a number, a star and a number of turns"
+            "expected a thread's number from 0 to 63, or such a number, a star and a number of turns"
         }
-        TurnsFault::Count => "a number of turns from 2 to 1000000 is to stand after the star",
+        TurnsFault::Count => "expected a number of turns from 2 to 1000000 after the star",
     }
 }
 
@@ -189,7 +189,7 @@ pub(crate) fn numbers_words(alloc: Global, place: &str, text: &[u8]) -> Result<P
         return whole_words(
             alloc,
             place,
-            "a star stands in the text, which is to have thread numbers alone",
+            "there is a star in the text, which may have thread numbers alone",
             "help: for turns such as 0*3 there is --turns\n",
         );
     }

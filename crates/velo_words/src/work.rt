@@ -24,7 +24,7 @@ fn line_reason(fault: WorkFault) -> &'static str
     ensures { result.now ≡ line_reason fault }
 {
     match fault {
-        WorkFault::BadLine(_) => "this is no statement, or none for this place",
+        WorkFault::BadLine(_) => "this is not a statement, or not one for this place",
         WorkFault::Unknown(_) => "the variable, lock or thread is not declared",
         WorkFault::Twice(_) => "the variable, lock or thread is declared already",
         WorkFault::Unmatched(_) => "a repeat has no done, or a done no repeat",
@@ -39,7 +39,7 @@ fn work_reason(fault: WorkFault) -> &'static str
     ensures { result.now ≡ work_reason fault }
 {
     if work_line(fault) == 0 {
-        return "this is no text of UTF-8, has no thread, or is too long";
+        return "this is not UTF-8, has no thread, or is too long";
     }
     line_reason(fault)
 }
