@@ -46,11 +46,6 @@ const RIGHT_WORDS: [(&[&str], u8, &str); 10] = [
         0,
         "",
     ),
-    (
-        &["velodrome", "verify", "a.log", "b.log"],
-        2,
-        "report fault 1 line 1\n",
-    ),
     (&["velodrome", "--help"], 0, ""),
 ];
 
