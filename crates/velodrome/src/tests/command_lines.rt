@@ -11,7 +11,7 @@ use velo_events::{MAX_EVENTS, MAX_NODES, MAX_THREADS, Refusal};
 
 /// Right words, with the status and standard error: of the two logs one raises an alarm at its last
 /// event.
-const RIGHT_WORDS: [(&[&str], u8, &str); 10] = [
+const RIGHT_WORDS: [(&[&str], u8, &str); 9] = [
     (&["velodrome", "check", "-"], 3, ""),
     (&["velodrome", "check", "--certificate", "a.log"], 3, ""),
     (&["velodrome", "check", "a.log"], 3, ""),
