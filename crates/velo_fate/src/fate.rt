@@ -440,8 +440,7 @@ fn put_one_file(buffer: &mut [u8], first: Operand, second: Operand) -> usize
     put_bytes(buffer, at, b" are one file\n")
 }
 
-/// Puts the line about how a run ended at the front of a buffer, and returns where it ends: at 0 if
-/// there is none.
+/// Puts the line about how a run ended at the front of a buffer, and returns where it ends, or 0.
 fn put_line(buffer: &mut [u8], fate: Fate) -> usize
     requires { 64 ≤ length buffer.old }
     ensures text { take result buffer.new ≡ line_of fate }

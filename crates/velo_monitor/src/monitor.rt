@@ -477,8 +477,7 @@ impl Monitor {
         self.tables.record_resolved(&resolved, step);
     }
 
-    /// The one step that the event looks up beside that of its thread's last event, if there is one; or `None` for a write of a
-    /// cell that may have reads.
+    /// The one step looked up beside that of the thread's last event, if any; `None` for a write of a cell that may have reads.
     #[inline(always)]
     fn one_beside(&self, event: &Resolved<'_>) -> Option<Option<Step>>
         ensures { IfSome result (λ beside. steps_looked_up self.now.kept event.now
