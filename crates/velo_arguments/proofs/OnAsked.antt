@@ -1,12 +1,14 @@
 -- What the getters of `clap` give, by the rows of the matches.
-use Rattle.std.proofs.Common.{◌≡◌, ◌∙◌, ap, sym, refl, subst, ℕ, Bool, true, false, not, List, map, Option, Some, None, Result, Ok, Err, codes, inl, inr, Bor}
+use Rattle.std.proofs.Common.{◌≡◌, ◌∙◌, ◌≤◌, ap, sym, refl, subst, ℕ, Bool, true, false, not, List, map, Option, Some, None, Result, Ok, Err, codes, inl, inr, Bor}
 use Rattle.std.specs.Prelude.{[], IfNone, IfSome, option_map, unwrap_or}
 use Rattle.std.specs.Str.Parse.{ParsesUnsigned}
 use Rattle.clap.specs.Words.{ReadsOne, Row, Text, all_of, first_of, first_value, matched_of, one_of, one_text, raw_values, rows_of}
 use Rattle.clap.specs.declared.parser.matches.Found.{Found}
 use Rattle.clap.proofs.WalkLemmas.{first_value-rows, one_text-rows, raw_values-rows}
+use Rattle.velo_request.specs.declared.request.OutputFormat.{OutputFormat}
 use Rattle.velo_request.specs.declared.request.RandomRuns.{RandomRuns}
-use Rattle.velo_arguments.specs.Asked.{AreRandomRuns, IsFlag, IsSeed, WritesNumber}
+use Rattle.velo_request.specs.declared.request.TheConstants.{MAX_SECONDS}
+use Rattle.velo_arguments.specs.Asked.{AreRandomRuns, AreSeconds, IsFlag, IsSeed, WritesNumber, form_of}
 
 pub option_read : (f : Found) (id : Text) (r : Option (Bor Text)) → option_map (λ s. s.now) r ≡ first_value f id
     → first_of id (rows_of f) ≡ option_map (λ s. s.now) r
@@ -78,6 +80,11 @@ words_read f id r none words read is empty =
 pub no_word_read : (f : Found) (id : Text) (r : Option (Bor Text)) → option_map (λ s. s.now) r ≡ first_value f id → r ≡ None → first_of id (rows_of f) ≡ None
 no_word_read f id r read none = option_read f id r read ∙ ap (option_map (λ s. s.now)) none
 
+-- a form, by its word
+pub form_read : (f : Found) (id : Text) (r : Option (Bor Text)) (form : OutputFormat) → option_map (λ s. s.now) r ≡ first_value f id
+    → form ≡ form_of (option_map (λ s. s.now) r) → form ≡ form_of (first_of id (rows_of f))
+form_read f id r form read is = is ∙ ap form_of (sym (option_read f id r read))
+
 -- ---- where nothing is asked for
 
 pub if_some : {T : Type 0} (r : Option T) (P : T → Type 0) → ((x : T) → r ≡ Some x → P x) → IfSome r P
@@ -130,6 +137,14 @@ no_seed rows word n given none (inl absent) =
     let bad : None ≡ Some word = sym absent.0 ∙ given in
     cc
 no_seed rows word n given none (inr written) = none written
+
+-- seconds that are given are none
+pub no_seconds : (rows : List Row) (word : Text) → first_of (codes "seconds") rows ≡ Some word
+    → ((n : ℕ) → 1 ≤ n → n ≤ MAX_SECONDS → ¬ WritesNumber 32 (one_of (codes "seconds") rows) n) → (seconds : Option ℕ) → ¬ AreSeconds rows seconds
+no_seconds rows word given none None absent =
+    let bad : None ≡ Some word = sym absent ∙ given in
+    cc
+no_seconds rows word given none (Some n) asks = none n asks.0 asks.1 asks.2
 
 -- runs by chance that are asked for are none
 pub no_runs : (rows : List Row) (word : Text) → first_of (codes "random") rows ≡ Some word → ((random : RandomRuns) → ¬ AreRandomRuns rows (Some random))

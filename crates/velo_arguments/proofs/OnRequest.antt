@@ -12,6 +12,7 @@ use Rattle.clap.specs.Simple.{Shape, argument_words, built, label_of, rows_at}
 use Rattle.clap.specs.Walk.{answers_to, nothing_held}
 use Rattle.clap.specs.Words.{Row, Text, all_of, first_of, one_of}
 use Rattle.velo_events.specs.declared.limits.TheConstants.{MAX_EVENTS, MAX_NODES}
+use Rattle.velo_request.specs.declared.request.Ignored.{Ignored}
 use Rattle.velo_request.specs.declared.request.Limits.{Limits}
 use Rattle.velo_request.specs.declared.request.AuditOptions.{AuditOptions}
 use Rattle.velo_request.specs.declared.request.CarryOptions.{CarryOptions}
@@ -24,12 +25,12 @@ use Rattle.velo_request.specs.declared.request.PredictOptions.{PredictOptions}
 use Rattle.velo_request.specs.declared.request.RandomRuns.{RandomRuns}
 use Rattle.velo_request.specs.declared.request.ScheduleSource.{ScheduleSource}
 use Rattle.velo_request.specs.declared.request.ScheduleSource.TheVariants as source
-use Rattle.velo_request.specs.declared.request.TheConstants.{DEFAULT_SEED, MAX_RUNS, MAX_STATES, MAX_TRIES}
+use Rattle.velo_request.specs.declared.request.TheConstants.{DEFAULT_SEED, MAX_RUNS, MAX_SECONDS, MAX_STATES, MAX_TRIES}
 use Rattle.velo_request.specs.declared.request.ThinOptions.{ThinOptions}
 use Rattle.velo_request.specs.declared.request.VerifyOptions.{VerifyOptions}
 use Rattle.velo_request.specs.declared.request.Request.{Request}
 use Rattle.velo_request.specs.declared.request.Request.TheVariants.{Audit, Carry, Check, Explain, Explore, Predict, Replay, Run, Thin, Verify, Watch, WatchEndless}
-use Rattle.velo_arguments.specs.Asked.{AreLeftOut, AreLimits, AreRandomRuns, AreTurns, AsksFor, AsksForNothing, IsAudit, IsCarrying, IsCheck, IsExplanation, IsExploring, IsFlag, IsPredicting, IsReplay, IsRun, IsSchedule, IsSeed, IsThinning, IsVerifying, WritesNumber}
+use Rattle.velo_arguments.specs.Asked.{AreLeftOut, AreLimits, AreRandomRuns, AreSeconds, AreTurns, AsksFor, AsksForNothing, IsAudit, IsCarrying, IsCheck, IsExplanation, IsExploring, IsFlag, IsPredicting, IsReplay, IsRun, IsSchedule, IsSeed, IsThinning, IsVerifying, WritesNumber, form_of}
 use Rattle.velo_arguments.specs.CommandLine.{asked_by, audit, carry, check, command_line, explain, explore, faults_of, predict, replay, run, thin, verify, watch}
 use Rattle.velo_arguments.proofs.OnLimits.{HasLimit, HasWide, HasWord, MayHave}
 use Rattle.velo_arguments.proofs.OnWalk.{Each, found_has}
@@ -91,10 +92,23 @@ a_limits rows has =
 abbrev the_words : Text → List Row → Bor (List (Bor Text))
 the_words option rows = a_list (unwrap_or (all_of option rows) [])
 
-left_out : (rows : List Row)
-    → AreLeftOut rows (a_path_if (first_of (codes "not-atomic") rows)) (the_words (codes "ignore-lock") rows).now (the_words (codes "ignore-variable") rows).now
-left_out rows =
-    (path_of (first_of (codes "not-atomic") rows), words_of (unwrap_or (all_of (codes "ignore-lock") rows) []), words_of (unwrap_or (all_of (codes "ignore-variable") rows) []))
+left_out : (rows : List Row) → (ignored : Ignored) × AreLeftOut rows ignored
+left_out rows = (
+  record {
+    known = a_path_if (first_of (codes "not-atomic") rows);
+    labels = the_words (codes "ignore-label") rows;
+    locks = the_words (codes "ignore-lock") rows;
+    variables = the_words (codes "ignore-variable") rows;
+    all_locks = is_true (one_of (codes "ignore-locks") rows);
+  },
+  (
+    path_of (first_of (codes "not-atomic") rows),
+    words_of (unwrap_or (all_of (codes "ignore-label") rows) []),
+    words_of (unwrap_or (all_of (codes "ignore-lock") rows) []),
+    words_of (unwrap_or (all_of (codes "ignore-variable") rows) []),
+    is_flag (one_of (codes "ignore-locks") rows),
+  ),
+)
 
 -- ---- the request
 
@@ -163,16 +177,25 @@ a_replay rows word has =
 
 an_explanation : (rows : List Row) → HasWord (codes "LOG") rows → (options : ExplainOptions) × IsExplanation rows options
 unfolding a_path
-an_explanation rows word = (
-  record {
-    input = a_path word.0;
-    target = a_path_if (first_of (codes "dot") rows);
-    drawing = a_path_if (first_of (codes "svg") rows);
-    names = a_path_if (first_of (codes "names") rows);
-    sites = a_path_if (first_of (codes "sites") rows);
-  },
-  (word.1, path_of (first_of (codes "dot") rows), path_of (first_of (codes "svg") rows), path_of (first_of (codes "names") rows), path_of (first_of (codes "sites") rows)),
-)
+an_explanation rows word =
+    let left = left_out rows in (
+      record {
+        input = a_path word.0;
+        target = a_path_if (first_of (codes "dot") rows);
+        drawing = a_path_if (first_of (codes "svg") rows);
+        names = a_path_if (first_of (codes "names") rows);
+        sites = a_path_if (first_of (codes "sites") rows);
+        ignored = left.0;
+      },
+      (
+        word.1,
+        path_of (first_of (codes "dot") rows),
+        path_of (first_of (codes "svg") rows),
+        path_of (first_of (codes "names") rows),
+        path_of (first_of (codes "sites") rows),
+        left.1,
+      ),
+    )
 
 a_carrying : (rows : List Row) → HasWord (codes "LOG") rows → HasWord (codes "log") rows → (options : CarryOptions) × IsCarrying rows options
 unfolding a_path
@@ -193,15 +216,23 @@ random_runs rows (inr has) seed =
     let runs = a_number (codes "random") 32 MAX_RUNS rows refl has in
     (Some (record { runs = runs.0; seed = seed.0; some_run = runs.1; few_runs = runs.2 }), (runs.3, seed.1))
 
+some_seconds : (rows : List Row) → MayHave (codes "seconds") rows (HasLimit (codes "seconds") MAX_SECONDS rows) → (seconds : Option ℕ) × AreSeconds rows seconds
+some_seconds rows (inl none) = (None, none)
+some_seconds rows (inr has) =
+    let seconds = a_number (codes "seconds") 32 MAX_SECONDS rows refl has in
+    (Some seconds.0, (seconds.1, seconds.2, seconds.3))
+
 an_exploring : (rows : List Row) → HasWord (codes "FILE") rows → HasSearch rows → (options : ExploreOptions) × IsExploring rows options
 unfolding a_path
 an_exploring rows word has =
     let states = a_number (codes "states") 32 MAX_STATES rows refl has.0 in
-    let limits = a_limits rows has.1 in
-    let random = random_runs rows has.2 (a_seed rows has.3) in (
+    let seconds = some_seconds rows has.1 in
+    let limits = a_limits rows has.2 in
+    let random = random_runs rows has.3 (a_seed rows has.4) in (
       record {
         input = a_path word.0;
         states = states.0;
+        seconds = seconds.0;
         first = is_true (one_of (codes "first") rows);
         target = a_path_if (first_of (codes "log") rows);
         names_target = a_path_if (first_of (codes "names-out") rows);
@@ -215,6 +246,7 @@ an_exploring rows word has =
       (
         word.1,
         states.3,
+        seconds.1,
         is_flag (one_of (codes "first") rows),
         is_flag (one_of (codes "progress") rows),
         random.1,
@@ -251,20 +283,30 @@ asks_watch rows false endless word has =
 an_audit : (rows : List Row) → HasWord (codes "LOG") rows → HasLimits rows → (options : AuditOptions) × IsAudit rows options
 unfolding a_path
 an_audit rows word has =
+    let left = left_out rows in
     let limits = a_limits rows has in (
       record {
         input = a_path word.0;
         names = a_path_if (first_of (codes "names") rows);
-        known = a_path_if (first_of (codes "not-atomic") rows);
-        ignored_locks = the_words (codes "ignore-lock") rows;
-        ignored_variables = the_words (codes "ignore-variable") rows;
+        sites = a_path_if (first_of (codes "sites") rows);
+        ignored = left.0;
         witness = not (is_true (one_of (codes "no-witness") rows));
         counts = is_true (one_of (codes "counts") rows);
         by_count = is_true (one_of (codes "by-count") rows);
         innermost = is_true (one_of (codes "innermost") rows);
+        format = form_of (first_of (codes "format") rows);
         limits = limits.0;
       },
-      (word.1, path_of (first_of (codes "names") rows), left_out rows, is_flag_turned (one_of (codes "no-witness") rows), record { counts = is_flag (one_of (codes "counts") rows); by_count = is_flag (one_of (codes "by-count") rows); innermost = is_flag (one_of (codes "innermost") rows) }, limits.1),
+      (
+        word.1,
+        path_of (first_of (codes "names") rows),
+        path_of (first_of (codes "sites") rows),
+        left.1,
+        is_flag_turned (one_of (codes "no-witness") rows),
+        record { counts = is_flag (one_of (codes "counts") rows); by_count = is_flag (one_of (codes "by-count") rows); innermost = is_flag (one_of (codes "innermost") rows) },
+        refl,
+        limits.1,
+      ),
     )
 
 a_thinning : (rows : List Row) → HasWord (codes "LOG") rows → HasWord (codes "log") rows → (options : ThinOptions) × IsThinning rows options
@@ -277,13 +319,13 @@ unfolding a_path
 a_predicting rows word has =
     let tries = a_number (codes "tries") 32 MAX_TRIES rows refl has.0 in
     let seed = a_seed rows has.1 in
-    let limits = a_limits rows has.2 in (
+    let limits = a_limits rows has.2 in
+    let left = left_out rows in (
       record {
         input = a_path word.0;
         names = a_path_if (first_of (codes "names") rows);
-        known = a_path_if (first_of (codes "not-atomic") rows);
-        ignored_locks = the_words (codes "ignore-lock") rows;
-        ignored_variables = the_words (codes "ignore-variable") rows;
+        sites = a_path_if (first_of (codes "sites") rows);
+        ignored = left.0;
         values = is_true (one_of (codes "values") rows);
         tries = tries.0;
         seed = seed.0;
@@ -295,7 +337,8 @@ a_predicting rows word has =
       (
         word.1,
         path_of (first_of (codes "names") rows),
-        left_out rows,
+        path_of (first_of (codes "sites") rows),
+        left.1,
         is_flag (one_of (codes "values") rows),
         tries.3,
         seed.1,

@@ -13,8 +13,8 @@ use Rattle.clap.specs.Values.{reading_of}
 use Rattle.clap.specs.Faults.{built_fault, defaults_fault, entered_fault, level_fault, settle_fault, values_fault, walk_fault}
 use Rattle.clap.specs.declared.parser.matches.ValueSource.{ValueSource}
 use Rattle.velo_events.specs.declared.limits.TheConstants.{MAX_EVENTS, MAX_NODES}
-use Rattle.velo_request.specs.declared.request.TheConstants.{MAX_RUNS, MAX_STATES, MAX_TRIES}
-use Rattle.velo_arguments.specs.CommandLine.{audit, carry, check, command_line, events, explain, explore, flag, graph_options, label_options, needed, nodes, predict, random, repeated, replay, run, run_options, saved_options, seed, states, thin, tries, valued, verify, watch, word}
+use Rattle.velo_request.specs.declared.request.TheConstants.{MAX_RUNS, MAX_SECONDS, MAX_STATES, MAX_TRIES}
+use Rattle.velo_arguments.specs.CommandLine.{audit, carry, check, command_line, events, explain, explore, flag, graph_options, label_options, needed, nodes, predict, random, repeated, replay, run, run_options, saved_options, seconds, seed, states, thin, tries, valued, verify, watch, word}
 use Rattle.velo_arguments.proofs.OnWalk.{Each, level_keeps, neither}
 use Rattle.velo_arguments.proofs.OnStop.{StopsNotAtHelp, walk_stops}
 use Rattle.velo_arguments.proofs.OnRows.{IsFilled, MakesRows, default_keeps, defaults_have, is_plain, more_row, new_row, required_given, row_given, row_there, subcommand_there, used_keeps}
@@ -113,7 +113,7 @@ level_has limits s words once plain e =
 
 -- the limits
 abbrev limits : List Rule
-limits = filled (events (codes "1048576")) ∷ filled (nodes (codes "1024")) ∷ filled states ∷ filled random ∷ filled seed ∷ filled tries ∷ []
+limits = filled (events (codes "1048576")) ∷ filled (nodes (codes "1024")) ∷ filled states ∷ filled random ∷ filled seed ∷ filled tries ∷ filled seconds ∷ []
 
 -- those of a graph are read
 abbrev pub HasLimits : List Row → Type 0
@@ -135,6 +135,10 @@ states_there rows passes there =
 tries_there : (rows : List Row) → Each (Passes limits) rows → has_row (codes "tries") rows ≡ true → HasLimit (codes "tries") MAX_TRIES rows
 tries_there rows passes there =
     limit_read (Passes limits) (filled tries) MAX_TRIES rows (λ r holds. (holds.0, holds.1.1.1.1.1.1.0)) refl (row_there (Passes limits) (codes "tries") rows passes there)
+
+-- so many seconds may be given
+seconds_there : (rows : List Row) → Each (Passes limits) rows → MayHave (codes "seconds") rows (HasLimit (codes "seconds") MAX_SECONDS rows)
+seconds_there rows passes = may_have (Passes limits) (codes "seconds") rows _ passes (limit_read (Passes limits) (filled seconds) MAX_SECONDS rows (λ r holds. (holds.0, holds.1.1.1.1.1.1.1.0)) refl)
 
 -- so many runs may be asked for, and a seed given
 runs_there : (rows : List Row) → Each (Passes limits) rows → MayHave (codes "random") rows (HasLimit (codes "random") MAX_RUNS rows)
@@ -173,22 +177,25 @@ makes_flag : (name : Text) → is_other name limits ≡ true → MakesRows (Pass
 makes_flag name other = makes limits (filled (flag name)) refl (others (filled (flag name)) limits other)
 
 makes_events : (default : Text) → MakesRows (Passes limits) (filled (events default))
-makes_events default = makes limits (filled (events default)) refl (inr (refl, refl, refl), (inl refl, (inl refl, (inl refl, (inl refl, (inl refl, tt))))))
+makes_events default = makes limits (filled (events default)) refl (inr (refl, refl, refl), (inl refl, (inl refl, (inl refl, (inl refl, (inl refl, (inl refl, tt)))))))
 
 makes_nodes : (default : Text) → MakesRows (Passes limits) (filled (nodes default))
-makes_nodes default = makes limits (filled (nodes default)) refl (inl refl, (inr (refl, refl, refl), (inl refl, (inl refl, (inl refl, (inl refl, tt))))))
+makes_nodes default = makes limits (filled (nodes default)) refl (inl refl, (inr (refl, refl, refl), (inl refl, (inl refl, (inl refl, (inl refl, (inl refl, tt)))))))
 
 makes_states : MakesRows (Passes limits) (filled states)
-makes_states = makes limits (filled states) refl (inl refl, (inl refl, (inr (refl, refl, refl), (inl refl, (inl refl, (inl refl, tt))))))
+makes_states = makes limits (filled states) refl (inl refl, (inl refl, (inr (refl, refl, refl), (inl refl, (inl refl, (inl refl, (inl refl, tt)))))))
 
 makes_random : MakesRows (Passes limits) (filled random)
-makes_random = makes limits (filled random) refl (inl refl, (inl refl, (inl refl, (inr (refl, refl, refl), (inl refl, (inl refl, tt))))))
+makes_random = makes limits (filled random) refl (inl refl, (inl refl, (inl refl, (inr (refl, refl, refl), (inl refl, (inl refl, (inl refl, tt)))))))
 
 makes_seed : MakesRows (Passes limits) (filled seed)
-makes_seed = makes limits (filled seed) refl (inl refl, (inl refl, (inl refl, (inl refl, (inr (refl, refl, refl), (inl refl, tt))))))
+makes_seed = makes limits (filled seed) refl (inl refl, (inl refl, (inl refl, (inl refl, (inr (refl, refl, refl), (inl refl, (inl refl, tt)))))))
 
 makes_tries : MakesRows (Passes limits) (filled tries)
-makes_tries = makes limits (filled tries) refl (inl refl, (inl refl, (inl refl, (inl refl, (inl refl, (inr (refl, refl, refl), tt))))))
+makes_tries = makes limits (filled tries) refl (inl refl, (inl refl, (inl refl, (inl refl, (inl refl, (inr (refl, refl, refl), (inl refl, tt)))))))
+
+makes_seconds : MakesRows (Passes limits) (filled seconds)
+makes_seconds = makes limits (filled seconds) refl (inl refl, (inl refl, (inl refl, (inl refl, (inl refl, (inl refl, (inr (refl, refl, refl), tt)))))))
 
 makes_help : MakesRows (Passes limits) (filled help_rule)
 makes_help = makes limits (filled help_rule) refl (others (filled help_rule) limits refl)
@@ -204,7 +211,7 @@ run_made : Each (MakesRows (Passes limits)) (map filled run_options ++ filled he
 run_made = (makes_flag (codes "stop") refl, (makes_flag (codes "why") refl, saved_made))
 
 labels_made : Each (MakesRows (Passes limits)) (map filled label_options ++ filled help_rule ∷ [])
-labels_made = (makes_valued (codes "names") refl, (makes_valued (codes "not-atomic") refl, (makes_repeated (codes "ignore-lock") refl, (makes_repeated (codes "ignore-variable") refl, (makes_events (codes "16777216"), (makes_nodes (codes "4096"), (makes_help, tt)))))))
+labels_made = (makes_valued (codes "names") refl, (makes_valued (codes "sites") refl, (makes_valued (codes "not-atomic") refl, (makes_repeated (codes "ignore-label") refl, (makes_repeated (codes "ignore-lock") refl, (makes_flag (codes "ignore-locks") refl, (makes_repeated (codes "ignore-variable") refl, (makes_events (codes "16777216"), (makes_nodes (codes "4096"), (makes_help, tt))))))))))
 
 -- the subcommand as it is built
 abbrev pub leaf : Shape → Shape
@@ -255,15 +262,15 @@ verify_right words e =
 -- what an exploration has besides its word
 abbrev pub HasSearch : List Row → Type 0
 HasSearch rows =
-    HasLimit (codes "states") MAX_STATES rows × HasLimits rows
+    HasLimit (codes "states") MAX_STATES rows × MayHave (codes "seconds") rows (HasLimit (codes "seconds") MAX_SECONDS rows) × HasLimits rows
     × MayHave (codes "random") rows (HasLimit (codes "random") MAX_RUNS rows) × MayHave (codes "seed") rows (HasWide (codes "seed") rows)
 
 pub explore_right : (words : List Text) → AreFaultless explore words
     → HasWord (codes "FILE") (rows_of_leaf explore words) × HasSearch (rows_of_leaf explore words)
 explore_right words e =
     let rows = rows_of_leaf explore words in
-    let level = level_has limits (leaf explore) words refl (makes_word (codes "FILE") refl, (makes_states, (makes_flag (codes "first") refl, (makes_flag (codes "progress") refl, (makes_random, (makes_seed, saved_made)))))) e in
-    (word_there (codes "FILE") rows level.passes (level.given.0 refl), (states_there rows level.passes (level.defaults.1.0 tt), limits_there rows level.passes (level.defaults.1.1.1.1.1.1.1.1.0 tt) (level.defaults.1.1.1.1.1.1.1.1.1.0 tt), runs_there rows level.passes, seed_there rows level.passes))
+    let level = level_has limits (leaf explore) words refl (makes_word (codes "FILE") refl, (makes_states, (makes_seconds, (makes_flag (codes "first") refl, (makes_flag (codes "progress") refl, (makes_random, (makes_seed, saved_made))))))) e in
+    (word_there (codes "FILE") rows level.passes (level.given.0 refl), (states_there rows level.passes (level.defaults.1.0 tt), seconds_there rows level.passes, limits_there rows level.passes (level.defaults.1.1.1.1.1.1.1.1.1.0 tt) (level.defaults.1.1.1.1.1.1.1.1.1.1.0 tt), runs_there rows level.passes, seed_there rows level.passes))
 
 pub watch_right : (words : List Text) → AreFaultless watch words
     → HasWord (codes "LOG") (rows_of_leaf watch words) × HasLimits (rows_of_leaf watch words)
@@ -274,8 +281,8 @@ watch_right words e =
 pub audit_right : (words : List Text) → AreFaultless audit words
     → HasWord (codes "LOG") (rows_of_leaf audit words) × HasLimits (rows_of_leaf audit words)
 audit_right words e =
-    let level = level_has limits (leaf audit) words refl (makes_word (codes "LOG") refl, (makes_flag (codes "no-witness") refl, (makes_flag (codes "counts") refl, (makes_flag (codes "by-count") refl, (makes_flag (codes "innermost") refl, labels_made))))) e in
-    (word_there (codes "LOG") (rows_of_leaf audit words) level.passes (level.given.0 refl), limits_there (rows_of_leaf audit words) level.passes (level.defaults.1.1.1.1.1.1.1.1.1.0 tt) (level.defaults.1.1.1.1.1.1.1.1.1.1.0 tt))
+    let level = level_has limits (leaf audit) words refl (makes_word (codes "LOG") refl, (makes_flag (codes "no-witness") refl, (makes_flag (codes "counts") refl, (makes_flag (codes "by-count") refl, (makes_flag (codes "innermost") refl, (makes_valued (codes "format") refl, labels_made)))))) e in
+    (word_there (codes "LOG") (rows_of_leaf audit words) level.passes (level.given.0 refl), limits_there (rows_of_leaf audit words) level.passes (level.defaults.1.1.1.1.1.1.1.1.1.1.1.1.1.0 tt) (level.defaults.1.1.1.1.1.1.1.1.1.1.1.1.1.1.0 tt))
 
 pub thin_right : (words : List Text) → AreFaultless thin words
     → HasWord (codes "LOG") (rows_of_leaf thin words) × HasWord (codes "log") (rows_of_leaf thin words)
@@ -292,4 +299,4 @@ pub predict_right : (words : List Text) → AreFaultless predict words
 predict_right words e =
     let rows = rows_of_leaf predict words in
     let level = level_has limits (leaf predict) words refl (makes_word (codes "LOG") refl, (makes_valued (codes "log") refl, (makes_flag (codes "values") refl, (makes_tries, (makes_seed, labels_made))))) e in
-    (word_there (codes "LOG") rows level.passes (level.given.0 refl), (tries_there rows level.passes (level.defaults.1.1.1.0 tt), seed_there rows level.passes, limits_there rows level.passes (level.defaults.1.1.1.1.1.1.1.1.1.0 tt) (level.defaults.1.1.1.1.1.1.1.1.1.1.0 tt)))
+    (word_there (codes "LOG") rows level.passes (level.given.0 refl), (tries_there rows level.passes (level.defaults.1.1.1.0 tt), seed_there rows level.passes, limits_there rows level.passes (level.defaults.1.1.1.1.1.1.1.1.1.1.1.1.0 tt) (level.defaults.1.1.1.1.1.1.1.1.1.1.1.1.1.0 tt)))

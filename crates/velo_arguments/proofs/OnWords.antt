@@ -15,6 +15,7 @@ use Rattle.velo_request.specs.declared.request.CarryOptions.{CarryOptions}
 use Rattle.velo_request.specs.declared.request.CheckOptions.{CheckOptions}
 use Rattle.velo_request.specs.declared.request.EndlessOptions.{EndlessOptions}
 use Rattle.velo_request.specs.declared.request.ExplainOptions.{ExplainOptions}
+use Rattle.velo_request.specs.declared.request.OutputFormat.TheVariants as form
 use Rattle.velo_request.specs.declared.request.PredictOptions.{PredictOptions}
 use Rattle.velo_request.specs.declared.request.ReplayOptions.{ReplayOptions}
 use Rattle.velo_request.specs.declared.request.RunOptions.{RunOptions}
@@ -84,7 +85,7 @@ replay_asks options text schedule says file stop log names events nodes certific
   ),
 )
 
-replay_gives : given_by (asked_by replay_words) ≡ record { states = false; seed = false; schedule = true; certificate = false }
+replay_gives : given_by (asked_by replay_words) ≡ record { states = false; seed = false; schedule = true; certificate = false; other_form = false }
 unfolding asked_by walked
 replay_gives = refl
 
@@ -160,9 +161,12 @@ unfolding faults_of walk_fault walked defaults_fault
 explain_is_right = refl
 
 explain_asks : (options : ExplainOptions) → options.input.now ≡ codes "a" → option_map (λ path. path.now) options.target ≡ Some (codes "p")
-    → option_map (λ path. path.now) options.drawing ≡ Some (codes "d") → option_map (λ path. path.now) options.names ≡ Some (codes "n") → option_map (λ path. path.now) options.sites ≡ Some (codes "s") → AsksFor (asked_by explain_words) (Explain options)
+    → option_map (λ path. path.now) options.drawing ≡ Some (codes "d") → option_map (λ path. path.now) options.names ≡ Some (codes "n") → option_map (λ path. path.now) options.sites ≡ Some (codes "s")
+    → options.ignored.known ≡ None → map (λ w. w.now) options.ignored.labels.now ≡ [] → map (λ w. w.now) options.ignored.locks.now ≡ [] → map (λ w. w.now) options.ignored.variables.now ≡ []
+    → options.ignored.all_locks ≡ false → AsksFor (asked_by explain_words) (Explain options)
 unfolding asked_by walked
-explain_asks options log dot svg names sites = (refl, (ap Some (sym log), sym dot, sym svg, sym names, sym sites))
+explain_asks options log dot svg names sites known labels locks variables all =
+    (refl, (ap Some (sym log), sym dot, sym svg, sym names, sym sites, (ap (option_map (λ path. path.now)) (sym known), sym labels, sym locks, sym variables, search rules)))
 
 -- a log, and the file for it
 abbrev carry_words : List Text
@@ -189,14 +193,15 @@ explore_is_right : faults_of explore_words ≡ []
 unfolding faults_of walk_fault walked defaults_fault
 explore_is_right = refl
 
-explore_asks : (options : ExploreOptions) → options.input.now ≡ codes "w" → options.states ≡ 2097152 → options.first ≡ false → options.progress ≡ false → options.random ≡ None
+explore_asks : (options : ExploreOptions) → options.input.now ≡ codes "w" → options.states ≡ 2097152 → options.seconds ≡ None → options.first ≡ false → options.progress ≡ false → options.random ≡ None
     → options.target ≡ None → options.names_target ≡ None → options.limits.events ≡ 1048576 → options.limits.nodes ≡ 1024 → options.certificate ≡ false → AsksFor (asked_by explore_words) (Explore options)
 unfolding asked_by walked
-explore_asks options file states first progress random log names events nodes certificate = (
+explore_asks options file states seconds first progress random log names events nodes certificate = (
   refl,
   (
     ap Some (sym file),
     writes (codes "2097152") 32 options.states refl refl states,
+    rw seconds refl,
     is_unset options.first first,
     is_unset options.progress progress,
     rw random refl,
@@ -207,7 +212,7 @@ explore_asks options file states first progress random log names events nodes ce
   ),
 )
 
-explore_gives : given_by (asked_by explore_words) ≡ record { states = false; seed = false; schedule = false; certificate = false }
+explore_gives : given_by (asked_by explore_words) ≡ record { states = false; seed = false; schedule = false; certificate = false; other_form = false }
 unfolding asked_by walked
 explore_gives = refl
 
@@ -219,7 +224,7 @@ chance_is_right : faults_of chance_words ≡ []
 unfolding faults_of walk_fault walked defaults_fault
 chance_is_right = refl
 
-chance_gives : given_by (asked_by chance_words) ≡ record { states = false; seed = true; schedule = false; certificate = false }
+chance_gives : given_by (asked_by chance_words) ≡ record { states = false; seed = true; schedule = false; certificate = false; other_form = false }
 unfolding asked_by walked
 chance_gives = refl
 
@@ -251,7 +256,7 @@ unfolding asked_by walked
 endless_asks options log stop events nodes names =
     (refl, (search rules, (ap Some (sym log), search rules, search rules, ap (option_map (λ path. path.now)) (sym names))))
 
-endless_gives : given_by (asked_by endless_words) ≡ record { states = false; seed = false; schedule = false; certificate = true }
+endless_gives : given_by (asked_by endless_words) ≡ record { states = false; seed = false; schedule = false; certificate = true; other_form = false }
 unfolding asked_by walked
 endless_gives = refl
 
@@ -288,17 +293,19 @@ predict_is_right : faults_of predict_words ≡ []
 unfolding faults_of walk_fault walked defaults_fault
 predict_is_right = refl
 
-predict_asks : (options : PredictOptions) → options.input.now ≡ codes "a" → options.names ≡ None → options.known ≡ None
-    → map (λ w. w.now) options.ignored_locks.now ≡ [] → map (λ w. w.now) options.ignored_variables.now ≡ [] → options.values ≡ true
+predict_asks : (options : PredictOptions) → options.input.now ≡ codes "a" → options.names ≡ None → options.sites ≡ None → options.ignored.known ≡ None
+    → map (λ w. w.now) options.ignored.labels.now ≡ [] → map (λ w. w.now) options.ignored.locks.now ≡ [] → map (λ w. w.now) options.ignored.variables.now ≡ []
+    → options.ignored.all_locks ≡ false → options.values ≡ true
     → options.tries ≡ DEFAULT_TRIES → options.seed ≡ DEFAULT_SEED → option_map (λ path. path.now) options.target ≡ Some (codes "o")
     → options.limits.events ≡ 16777216 → options.limits.nodes ≡ 4096 → AsksFor (asked_by predict_words) (Predict options)
 unfolding asked_by walked
-predict_asks options log names known locks variables values tries seed out events nodes = (
+predict_asks options log names sites known labels locks variables all values tries seed out events nodes = (
   refl,
   (
     ap Some (sym log),
     ap (option_map (λ path. path.now)) (sym names),
-    (ap (option_map (λ path. path.now)) (sym known), sym locks, sym variables),
+    ap (option_map (λ path. path.now)) (sym sites),
+    (ap (option_map (λ path. path.now)) (sym known), sym labels, sym locks, sym variables, search rules),
     search rules,
     writes (codes "200") 32 options.tries refl refl tries,
     inl (refl, seed),
@@ -307,22 +314,44 @@ predict_asks options log names known locks variables values tries seed out event
   ),
 )
 
--- a log that is audited, without two locks; the limits are the greatest ones by default
+-- a log that is audited, without two locks and a label; the limits are the greatest ones by default
 abbrev audit_words : List Text
-audit_words = codes "velodrome" ∷ codes "audit" ∷ codes "a" ∷ codes "--ignore-lock" ∷ codes "3" ∷ codes "--no-witness" ∷ codes "--ignore-lock=m" ∷ codes "--innermost" ∷ codes "--not-atomic" ∷ codes "l" ∷ []
+audit_words = codes "velodrome" ∷ codes "audit" ∷ codes "a" ∷ codes "--ignore-lock" ∷ codes "3" ∷ codes "--no-witness" ∷ codes "--ignore-lock=m" ∷ codes "--innermost" ∷ codes "--not-atomic" ∷ codes "l" ∷ codes "--ignore-label=5" ∷ codes "--format" ∷ codes "json" ∷ codes "--sites=s" ∷ []
 
 audit_is_right : faults_of audit_words ≡ []
 unfolding faults_of walk_fault walked defaults_fault
 audit_is_right = refl
 
-audit_asks : (options : AuditOptions) → options.input.now ≡ codes "a" → options.names ≡ None → option_map (λ path. path.now) options.known ≡ Some (codes "l")
-    → map (λ w. w.now) options.ignored_locks.now ≡ codes "3" ∷ codes "m" ∷ [] → map (λ w. w.now) options.ignored_variables.now ≡ [] → options.witness ≡ false
-    → options.counts ≡ false → options.by_count ≡ false → options.innermost ≡ true → options.limits.events ≡ 16777216 → options.limits.nodes ≡ 4096 → AsksFor (asked_by audit_words) (Audit options)
+audit_asks : (options : AuditOptions) → options.input.now ≡ codes "a" → options.names ≡ None → option_map (λ path. path.now) options.sites ≡ Some (codes "s")
+    → option_map (λ path. path.now) options.ignored.known ≡ Some (codes "l") → map (λ w. w.now) options.ignored.labels.now ≡ codes "5" ∷ []
+    → map (λ w. w.now) options.ignored.locks.now ≡ codes "3" ∷ codes "m" ∷ [] → map (λ w. w.now) options.ignored.variables.now ≡ [] → options.ignored.all_locks ≡ false
+    → options.witness ≡ false → options.counts ≡ false → options.by_count ≡ false → options.innermost ≡ true → options.format ≡ form.Json → options.limits.events ≡ 16777216 → options.limits.nodes ≡ 4096 → AsksFor (asked_by audit_words) (Audit options)
 unfolding asked_by walked
-audit_asks options log names known locks variables witness counts by_count innermost events nodes = (
+audit_asks options log names sites known labels locks variables all witness counts by_count innermost format events nodes = (
   refl,
-  (ap Some (sym log), ap (option_map (λ path. path.now)) (sym names), (sym known, sym locks, sym variables), search rules, record { counts = search rules; by_count = search rules; innermost = search rules }, search rules),
+  (
+    ap Some (sym log),
+    ap (option_map (λ path. path.now)) (sym names),
+    sym sites,
+    (sym known, sym labels, sym locks, sym variables, search rules),
+    search rules,
+    record { counts = search rules; by_count = search rules; innermost = search rules },
+    format,
+    search rules,
+  ),
 )
+
+-- no lock is looked at, and the form is none that there is
+abbrev no_locks_words : List Text
+no_locks_words = codes "velodrome" ∷ codes "audit" ∷ codes "a" ∷ codes "--ignore-locks" ∷ codes "--format=xml" ∷ []
+
+no_locks_is_right : faults_of no_locks_words ≡ []
+unfolding faults_of walk_fault walked defaults_fault
+no_locks_is_right = refl
+
+no_locks_gives : given_by (asked_by no_locks_words) ≡ record { states = false; seed = false; schedule = false; certificate = false; other_form = true }
+unfolding asked_by walked
+no_locks_gives = refl
 
 -- ---- wrong words, and words that ask for help
 
@@ -353,6 +382,14 @@ too_many_nodes = refl
 too_many_states : faults_of (codes "velodrome" ∷ codes "explore" ∷ codes "w" ∷ codes "--states" ∷ codes "16777217" ∷ []) ≡ ValueValidation ∷ []
 unfolding faults_of walk_fault walked defaults_fault
 too_many_states = refl
+
+no_second : faults_of (codes "velodrome" ∷ codes "explore" ∷ codes "w" ∷ codes "--seconds=0" ∷ []) ≡ ValueValidation ∷ []
+unfolding faults_of walk_fault walked defaults_fault
+no_second = refl
+
+too_many_seconds : faults_of (codes "velodrome" ∷ codes "explore" ∷ codes "w" ∷ codes "--seconds" ∷ codes "1000001" ∷ []) ≡ ValueValidation ∷ []
+unfolding faults_of walk_fault walked defaults_fault
+too_many_seconds = refl
 
 too_many_runs : faults_of (codes "velodrome" ∷ codes "explore" ∷ codes "w" ∷ codes "--random" ∷ codes "1000001" ∷ []) ≡ ValueValidation ∷ []
 unfolding faults_of walk_fault walked defaults_fault

@@ -1,10 +1,14 @@
 -- What the matches of the command line ask for: the values of a subcommand, by the names of its
 -- arguments.
-use Rattle.std.specs.Prelude.{◌≡◌, ◌≢◌, ◌⊎◌, ◌<◌, ◌^◌, ◌++◌, ℕ, Bool, true, false, not, List, [], map, Option, Some, None, codes, option_map, unwrap_or}
+use Rattle.std.specs.Prelude.{◌≡◌, ◌≢◌, ◌⊎◌, ◌<◌, ◌≤◌, ◌^◌, ◌++◌, ℕ, Bool, true, false, not, List, [], map, Option, Some, None, codes, option_and_then, option_map, unwrap_or, if◌then◌else◌}
 use Rattle.std.specs.Borrow.{Bor}
+use Rattle.std.specs.Str.{bytes_eq}
 use Rattle.std.specs.Str.Parse.{IsNumeral, digits_value, without_leading_plus}
 use Rattle.clap.specs.Words.{Row, Text, all_of, first_of, one_of}
+use Rattle.velo_request.specs.declared.request.Ignored.{Ignored}
 use Rattle.velo_request.specs.declared.request.Limits.{Limits}
+use Rattle.velo_request.specs.declared.request.OutputFormat.{OutputFormat}
+use Rattle.velo_request.specs.declared.request.OutputFormat.TheVariants as form
 use Rattle.velo_request.specs.declared.request.AuditOptions.{AuditOptions}
 use Rattle.velo_request.specs.declared.request.CarryOptions.{CarryOptions}
 use Rattle.velo_request.specs.declared.request.CheckOptions.{CheckOptions}
@@ -16,7 +20,7 @@ use Rattle.velo_request.specs.declared.request.RunOptions.{RunOptions}
 use Rattle.velo_request.specs.declared.request.ReplayOptions.{ReplayOptions}
 use Rattle.velo_request.specs.declared.request.ScheduleSource.{ScheduleSource}
 use Rattle.velo_request.specs.declared.request.ScheduleSource.TheVariants as schedule
-use Rattle.velo_request.specs.declared.request.TheConstants.{DEFAULT_SEED}
+use Rattle.velo_request.specs.declared.request.TheConstants.{DEFAULT_SEED, MAX_SECONDS}
 use Rattle.velo_request.specs.declared.request.ExplainOptions.{ExplainOptions}
 use Rattle.velo_request.specs.declared.request.ThinOptions.{ThinOptions}
 use Rattle.velo_request.specs.declared.request.VerifyOptions.{VerifyOptions}
@@ -86,6 +90,15 @@ IsReplay rows options =
     IsSchedule (first_of (codes "turns") rows) (first_of (codes "schedule") rows) options.schedule
     × IsRun rows options.run
 
+-- this is left out
+abbrev pub AreLeftOut : List Row → Ignored → Type 0
+AreLeftOut rows ignored =
+    IsPath (codes "not-atomic") rows ignored.known
+    × AreWords (codes "ignore-label") rows ignored.labels.now
+    × AreWords (codes "ignore-lock") rows ignored.locks.now
+    × AreWords (codes "ignore-variable") rows ignored.variables.now
+    × IsFlag (one_of (codes "ignore-locks") rows) ignored.all_locks
+
 abbrev pub IsExplanation : List Row → ExplainOptions → Type 0
 IsExplanation rows options =
     (first_of (codes "LOG") rows ≡ Some options.input.now)
@@ -93,6 +106,7 @@ IsExplanation rows options =
     × IsPath (codes "svg") rows options.drawing
     × IsPath (codes "names") rows options.names
     × IsPath (codes "sites") rows options.sites
+    × AreLeftOut rows options.ignored
 
 abbrev pub IsCarrying : List Row → CarryOptions → Type 0
 IsCarrying rows options =
@@ -112,10 +126,18 @@ AreRandomRuns rows None = first_of (codes "random") rows ≡ None
 AreRandomRuns rows (Some random) =
     WritesNumber 32 (one_of (codes "random") rows) random.runs × IsSeed rows random.seed
 
+-- these are the seconds that a search may take, if they are given
+abbrev pub AreSeconds : List Row → Option ℕ → Type 0
+AreSeconds rows None = first_of (codes "seconds") rows ≡ None
+AreSeconds rows (Some seconds) =
+    (1 ≤ seconds) × (seconds ≤ MAX_SECONDS)
+    × WritesNumber 32 (one_of (codes "seconds") rows) seconds
+
 abbrev pub IsExploring : List Row → ExploreOptions → Type 0
 IsExploring rows options =
     (first_of (codes "FILE") rows ≡ Some options.input.now)
     × WritesNumber 32 (one_of (codes "states") rows) options.states
+    × AreSeconds rows options.seconds
     × IsFlag (one_of (codes "first") rows) options.first
     × IsFlag (one_of (codes "progress") rows) options.progress
     × AreRandomRuns rows options.random
@@ -141,12 +163,17 @@ IsEndless rows options =
     IsFlag (one_of (codes "endless") rows) true
     × IsWatchOf rows options.input options.stop options.limits options.names
 
--- these are known, and these are left out
-abbrev pub AreLeftOut : List Row → Option (Bor Text) → List (Bor Text) → List (Bor Text) → Type 0
-AreLeftOut rows known locks variables =
-    IsPath (codes "not-atomic") rows known
-    × AreWords (codes "ignore-lock") rows locks
-    × AreWords (codes "ignore-variable") rows variables
+-- the form of an answer that a word names, if it names one
+abbrev pub form_named : Text → Option OutputFormat
+form_named word =
+    if bytes_eq word (codes "text") then Some form.Text
+    else (if bytes_eq word (codes "json") then Some form.Json
+    else (if bytes_eq word (codes "sarif") then Some form.Sarif
+    else (if bytes_eq word (codes "junit") then Some form.Junit else None)))
+
+-- the form that is asked for: text, where no other one is named
+abbrev pub form_of : Option Text → OutputFormat
+form_of word = unwrap_or (option_and_then form_named word) form.Text
 
 -- its labels are listed so
 pub record IsListing (rows : List Row) (options : AuditOptions) : Type 0 where
@@ -158,9 +185,11 @@ abbrev pub IsAudit : List Row → AuditOptions → Type 0
 IsAudit rows options =
     (first_of (codes "LOG") rows ≡ Some options.input.now)
     × IsPath (codes "names") rows options.names
-    × AreLeftOut rows options.known options.ignored_locks.now options.ignored_variables.now
+    × IsPath (codes "sites") rows options.sites
+    × AreLeftOut rows options.ignored
     × IsFlag (one_of (codes "no-witness") rows) (not options.witness)
     × IsListing rows options
+    × (options.format ≡ form_of (first_of (codes "format") rows))
     × AreLimits rows options.limits
 
 abbrev pub IsThinning : List Row → ThinOptions → Type 0
@@ -173,7 +202,8 @@ abbrev pub IsPredicting : List Row → PredictOptions → Type 0
 IsPredicting rows options =
     (first_of (codes "LOG") rows ≡ Some options.input.now)
     × IsPath (codes "names") rows options.names
-    × AreLeftOut rows options.known options.ignored_locks.now options.ignored_variables.now
+    × IsPath (codes "sites") rows options.sites
+    × AreLeftOut rows options.ignored
     × IsFlag (one_of (codes "values") rows) options.values
     × WritesNumber 32 (one_of (codes "tries") rows) options.tries
     × IsSeed rows options.seed

@@ -1,5 +1,5 @@
 -- What the command line of the program is.
-use Rattle.std.specs.Prelude.{◌≡◌, ℕ, List, [], ◌∷◌, Option, Some, true, false, pos, codes, fold}
+use Rattle.std.specs.Prelude.{◌≡◌, ℕ, List, [], ◌∷◌, ◌++◌, Option, Some, true, false, pos, codes, fold}
 use Rattle.clap.specs.Words.{App, Kinds, Row, Rule, Shape, Text, app_of, fault_of, new_rule, rule_of, shape_of, subcommand_of, with_rule}
 use Rattle.clap.specs.Simple.{new_shape}
 use Rattle.clap.specs.declared.builder.action.ArgAction.TheVariants.{Append, Set, SetTrue}
@@ -8,7 +8,7 @@ use Rattle.clap.specs.declared.builder.command.Command.{Command}
 use Rattle.clap.specs.declared.builder.command.Command.TheViews.{out-Command}
 use Rattle.clap.specs.declared.builder.value_parser.ValueParser.TheVariants.{Signed, Unsigned}
 use Rattle.velo_events.specs.declared.limits.TheConstants.{MAX_EVENTS, MAX_NODES}
-use Rattle.velo_request.specs.declared.request.TheConstants.{MAX_RUNS, MAX_STATES, MAX_TRIES}
+use Rattle.velo_request.specs.declared.request.TheConstants.{MAX_RUNS, MAX_SECONDS, MAX_STATES, MAX_TRIES}
 
 -- ---- the arguments
 
@@ -56,6 +56,10 @@ nodes default = numbered_or (codes "nodes") MAX_NODES default
 abbrev pub states : Rule
 states = numbered_or (codes "states") MAX_STATES (codes "2097152")
 
+-- the most seconds of a search, if they are given
+abbrev pub seconds : Rule
+seconds = numbered (codes "seconds") MAX_SECONDS
+
 -- how many delays are tried for each label in a round
 abbrev pub tries : Rule
 tries = numbered_or (codes "tries") MAX_TRIES (codes "200")
@@ -83,15 +87,21 @@ run_options = flag (codes "stop") ∷ flag (codes "why") ∷ saved_options
 -- the options of each command that searches
 abbrev pub search_options : List Rule
 search_options =
-    states ∷ flag (codes "first") ∷ flag (codes "progress") ∷ random ∷ seed ∷ saved_options
+    states ∷ seconds ∷ flag (codes "first") ∷ flag (codes "progress") ∷ random ∷ seed
+    ∷ saved_options
 
--- the options of each command that goes by labels: what is known or left out, and the greatest limits
--- by default
+-- what is left out of a log
+abbrev pub left_out_options : List Rule
+left_out_options =
+    valued (codes "not-atomic") ∷ repeated (codes "ignore-label") ∷ repeated (codes "ignore-lock")
+    ∷ flag (codes "ignore-locks") ∷ repeated (codes "ignore-variable") ∷ []
+
+-- the options of each command that goes by labels: names and sites, what is left out, and the
+-- greatest limits by default
 abbrev pub label_options : List Rule
 label_options =
-    valued (codes "names") ∷ valued (codes "not-atomic")
-    ∷ repeated (codes "ignore-lock") ∷ repeated (codes "ignore-variable")
-    ∷ events (codes "16777216") ∷ nodes (codes "4096") ∷ []
+    valued (codes "names") ∷ valued (codes "sites") ∷ left_out_options
+    ++ events (codes "16777216") ∷ nodes (codes "4096") ∷ []
 
 -- ---- the subcommands
 
@@ -130,7 +140,8 @@ abbrev pub audit : Shape
 audit =
     subcommand (codes "audit")
     (word (codes "LOG") ∷ flag (codes "no-witness") ∷ flag (codes "counts")
-    ∷ flag (codes "by-count") ∷ flag (codes "innermost") ∷ label_options)
+    ∷ flag (codes "by-count") ∷ flag (codes "innermost") ∷ valued (codes "format")
+    ∷ label_options)
 
 abbrev pub thin : Shape
 thin = subcommand (codes "thin")

@@ -1,10 +1,11 @@
 -- Which options of a request do not go together, and the line that says so.
-use Rattle.std.specs.Prelude.{◌≡◌, ◌||◌, List, [], ◌∷◌, ◌++◌, ℕ, Bool, false, Option, Some, None, codes, count_by, nat_lt, if◌then◌else◌}
+use Rattle.std.specs.Prelude.{◌≡◌, ◌||◌, List, [], ◌∷◌, ◌++◌, ℕ, Bool, false, Option, Some, None, codes, count_by, is_some, nat_lt, not, if◌then◌else◌}
 use Rattle.std.specs.Borrow.{Bor}
 use Rattle.std.specs.Option.{option_or}
 use Rattle.std.specs.Str.{bytes_eq}
 use Rattle.clap.specs.Takes.{is_given}
-use Rattle.clap.specs.Words.{Row}
+use Rattle.clap.specs.Words.{Row, first_of}
+use Rattle.velo_request.specs.declared.request.AuditOptions.{AuditOptions}
 use Rattle.velo_request.specs.declared.request.EndlessOptions.{EndlessOptions}
 use Rattle.velo_request.specs.declared.request.ExploreOptions.{ExploreOptions}
 use Rattle.velo_request.specs.declared.request.RandomRuns.{RandomRuns}
@@ -13,9 +14,9 @@ use Rattle.velo_request.specs.declared.request.Request.{Request}
 use Rattle.velo_request.specs.declared.request.Request.TheVariants.{Audit, Carry, Check, Explain, Explore, Predict, Replay, Run, Thin, Verify, Watch, WatchEndless}
 use Rattle.velo_request.specs.declared.request.ScheduleSource.{ScheduleSource}
 use Rattle.velo_request.specs.declared.request.ScheduleSource.TheVariants as schedule
-use Rattle.velo_arguments.specs.Asked.{Asked, AsksFor}
+use Rattle.velo_arguments.specs.Asked.{Asked, AsksFor, form_named}
 use Rattle.velo_arguments.specs.declared.together.Clash.{Clash}
-use Rattle.velo_arguments.specs.declared.together.Clash.TheVariants.{DrawingIsPicture, EndlessCertificate, InputTwice, MapIsLog, NamesWithoutLog, OnePath, SearchByChance, SeedAlone, TwoSchedules}
+use Rattle.velo_arguments.specs.declared.together.Clash.TheVariants.{DrawingIsPicture, EndlessCertificate, InputTwice, MapIsLog, NamesWithoutLog, NoSuchForm, OnePath, SearchByChance, SeedAlone, TwoSchedules}
 use Rattle.velo_arguments.specs.declared.together.Given.{Given}
 
 -- ---- paths
@@ -57,6 +58,11 @@ clash_of_drawing (Some picture) (Some drawing) =
 
 -- ---- what the words give
 
+-- a word is given that names no form of an answer
+abbrev pub is_other_form : Option (List ℕ) → Bool
+is_other_form None = false
+is_other_form (Some word) = not (is_some (form_named word))
+
 -- which of the options that a request does not show are given by the values of a subcommand
 abbrev pub given_in : List Row → Given
 given_in rows = record {
@@ -64,10 +70,17 @@ given_in rows = record {
   seed = is_given (codes "seed") rows;
   schedule = is_given (codes "schedule") rows;
   certificate = is_given (codes "certificate") rows;
+  other_form = is_other_form (first_of (codes "format") rows);
 }
 
 abbrev pub given_by : Asked → Given
-given_by None = record { states = false; seed = false; schedule = false; certificate = false }
+given_by None = record {
+  states = false;
+  seed = false;
+  schedule = false;
+  certificate = false;
+  other_form = false;
+}
 given_by (Some found) = given_in found.1
 
 -- ---- a replay
@@ -95,7 +108,19 @@ clash_of_chance None searches seeds = if seeds then Some SeedAlone else None
 
 abbrev pub clash_of_search : ExploreOptions → Given → Option Clash
 clash_of_search options given =
-    clash_of_chance options.random (given.states || (options.first || options.progress)) given.seed
+    clash_of_chance options.random
+    (given.states || (options.first || (options.progress || is_some options.seconds))) given.seed
+
+-- ---- an audit
+
+-- its answer is to have a form that there is not; or standard input is read twice
+abbrev pub clash_of_audit : AuditOptions → Bool → Option Clash
+clash_of_audit options other_form =
+    if other_form
+    then Some NoSuchForm
+    else clash_of_inputs
+    (options.input.now ∷ path_if options.names ++ path_if options.sites
+    ++ path_if options.ignored.known)
 
 -- ---- an endless watch
 
@@ -115,7 +140,9 @@ clash_of (Replay options) given = clash_of_replay options given.schedule
 clash_of (Run options) given = clash_of_targets options.target options.names_target
 clash_of (Explain options) given =
     option_or
-    (clash_of_inputs (options.input.now ∷ path_if options.names ++ path_if options.sites))
+    (clash_of_inputs
+    (options.input.now ∷ path_if options.names ++ path_if options.sites
+    ++ path_if options.ignored.known))
     (clash_of_drawing options.target options.drawing)
 clash_of (Carry options) given = None
 clash_of (Explore options) given =
@@ -123,11 +150,12 @@ clash_of (Explore options) given =
     (clash_of_targets options.target options.names_target)
 clash_of (Watch options) given = clash_of_inputs (options.input.now ∷ path_if options.names)
 clash_of (WatchEndless options) given = clash_of_endless options given.certificate
-clash_of (Audit options) given =
-    clash_of_inputs (options.input.now ∷ path_if options.names ++ path_if options.known)
+clash_of (Audit options) given = clash_of_audit options given.other_form
 clash_of (Thin options) given = clash_of_map options.target.now options.map
 clash_of (Predict options) given =
-    clash_of_inputs (options.input.now ∷ path_if options.names ++ path_if options.known)
+    clash_of_inputs
+    (options.input.now ∷ path_if options.names ++ path_if options.sites
+    ++ path_if options.ignored.known)
 clash_of (Verify options) given = clash_of_inputs (options.input.now ∷ options.report.now ∷ [])
 
 -- the request that is asked for, whose options go together
@@ -144,9 +172,10 @@ pub record IsApart (asked : Asked) (clash : Clash) : Type 0 where
 abbrev pub line_of_clash : Clash → List ℕ
 line_of_clash InputTwice = codes "error: standard input can be read once\n"
 line_of_clash NamesWithoutLog = codes "error: --names-out goes only with --log\n"
+line_of_clash NoSuchForm = codes "error: --format takes text, json, sarif or junit\n"
 line_of_clash OnePath = codes "error: OUT and NAMES are one file\n"
 line_of_clash SearchByChance =
-    codes "error: --random goes with neither --states nor --first nor --progress\n"
+    codes "error: --random goes with neither --states nor --seconds nor --first nor --progress\n"
 line_of_clash TwoSchedules = codes "error: --schedule does not go with --turns\n"
 line_of_clash SeedAlone = codes "error: --seed goes only with --random\n"
 line_of_clash MapIsLog = codes "error: OUT and MAP are one file\n"

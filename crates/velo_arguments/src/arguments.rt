@@ -8,10 +8,10 @@ use crate::growth::{with_argument, with_subcommand};
 use crate::help;
 use crate::options::{
     ALL_EVENTS, ALL_NODES, Argument, BY_COUNT, CARRIED_LOG, CERTIFICATE, COUNTS, DELAY_SEED, DOT,
-    ENDLESS, EVENTS, FILE, FIRST, FOUND_LOG, IGNORE_LOCK, IGNORE_VARIABLE, INNERMOST, LOG, MAP,
-    NAMES, NAMES_OUT, NO_WITNESS, NODES, NOT_ATOMIC, PREDICTED_LOG, PROGRESS, RANDOM, REPORT,
-    RUN_LOG, RUN_SEED, SCHEDULE, SITES, STATES, STOP, STOP_WATCH, SVG, TRIES, TURNS, VALUES, WHY,
-    argument_of,
+    ENDLESS, EVENTS, FILE, FIRST, FORMAT, FOUND_LOG, IGNORE_LABEL, IGNORE_LOCK, IGNORE_LOCKS,
+    IGNORE_VARIABLE, INNERMOST, LOG, MAP, NAMES, NAMES_OUT, NO_WITNESS, NODES, NOT_ATOMIC,
+    PREDICTED_LOG, PROGRESS, RANDOM, REPORT, RUN_LOG, RUN_SEED, SCHEDULE, SECONDS, SITES, STATES,
+    STOP, STOP_WATCH, SVG, TRIES, TURNS, VALUES, WHY, argument_of,
 };
 use clap::Command;
 use std::alloc::Global;
@@ -23,6 +23,7 @@ use velo_events::Memory;
 /// usage. Numbers begin at 1, and go up to [`MAX_EVENTS`](velo_events::MAX_EVENTS) and
 /// [`MAX_NODES`](velo_events::MAX_NODES), by default 1,048,576 and 1,024 (for `audit` and `predict`
 /// the greatest); to [`MAX_STATES`](velo_request::MAX_STATES), by default 2,097,152; to
+/// [`MAX_SECONDS`](velo_request::MAX_SECONDS); to
 /// [`MAX_TRIES`](velo_request::MAX_TRIES), by default
 /// [`DEFAULT_TRIES`](velo_request::DEFAULT_TRIES); and to [`MAX_RUNS`](velo_request::MAX_RUNS). A
 /// seed is any number of 64 bits.
@@ -123,6 +124,7 @@ fn explore<'a>(alloc: Global) -> Result<Command<'a>, Memory>
     let arguments = [
         FILE,
         STATES,
+        SECONDS,
         FIRST,
         PROGRESS,
         RANDOM,
@@ -154,9 +156,13 @@ fn audit<'a>(alloc: Global) -> Result<Command<'a>, Memory>
         COUNTS,
         BY_COUNT,
         INNERMOST,
+        FORMAT,
         NAMES,
+        SITES,
         NOT_ATOMIC,
+        IGNORE_LABEL,
         IGNORE_LOCK,
+        IGNORE_LOCKS,
         IGNORE_VARIABLE,
         ALL_EVENTS,
         ALL_NODES,
@@ -183,8 +189,11 @@ fn predict<'a>(alloc: Global) -> Result<Command<'a>, Memory>
         TRIES,
         DELAY_SEED,
         NAMES,
+        SITES,
         NOT_ATOMIC,
+        IGNORE_LABEL,
         IGNORE_LOCK,
+        IGNORE_LOCKS,
         IGNORE_VARIABLE,
         ALL_EVENTS,
         ALL_NODES,

@@ -1,5 +1,9 @@
 //! The text of help after the options.
 
+mod labels;
+
+pub use labels::{OF_AUDIT, OF_PREDICT};
+
 /// The version of the program.
 pub const VERSION: &str = "0.1.0";
 
@@ -240,18 +244,20 @@ looked at. Then come three findings:
   'alarm none', 'stuck none', 'refused none'
                   no schedule leads there
   'alarm open', 'stuck open', 'refused open'
-                  undecided: --states or --first cut the search short
+                  undecided: --states, --seconds or --first cut the search short
 After an alarm, except with --first, 'to blame NAME (K of N alarms)' says that K of the N alarms that
 were found and replayed, at most 100 of a search, blame a block with this label.
 
 If a schedule was found, the report of its replay follows, as 'velodrome replay' prints it: of the
 alarm's, else of the deadlock's, else of the refusal's. --certificate, --log and --names-out apply to
 that replay. If none was found, there is no report, and OUT and NAMES are not opened. A workload with
-more events than --events is not searched: 'states 0', and all three findings are open.
+more events than --events is not searched: 'states 0', and all three findings are open. With --seconds no
+more states are looked at when so many seconds have passed; how many that are differs from run to run.
 
 --random N makes N random runs in place of the search; the same seed gives the same runs. 'seed S' and
 'runs N' are then printed in place of 'events N' and 'states N', and 'none' means that none of these
-runs has it. --random goes with neither --states nor --first nor --progress. --seed needs --random.
+runs has it. --random goes with neither --states nor --seconds nor --first nor --progress. --seed needs
+--random.
 
 If standard error is a terminal, a search of more than two seconds shows its progress in one line, and
 clears it at the end. With --progress the lines begin at once, also where standard error is no terminal;
@@ -264,7 +270,7 @@ Standard input is not compared with OUT and NAMES.
 
 Statuses, each with the lines on standard error:
   0  every schedule was tried, or every run made, and nothing was found; or help
-  2  usage; 'error: --random goes with neither --states nor --first nor --progress';
+  2  usage; 'error: --random goes with neither --states nor --seconds nor --first nor --progress';
      'error: --seed goes only with --random'; 'error: --names-out goes only with --log';
      'error: FILE and OUT are one file', the same of FILE and NAMES, and of OUT and NAMES; the text is
      no workload: 'workload fault K line N'
@@ -311,59 +317,6 @@ Statuses, each with the lines on standard error:
 
 Log, names, faults and refusals: see 'velodrome check --help'.";
 
-/// After the help of `audit`.
-pub const OF_AUDIT: &str = "\
-Example, a lost update:
-  printf 'vlog 1 2 1 0\\n0 fork 1\\n0 begin 7\\n0 rd 0 0\\n1 wr 0 5\\n0 wr 0 1\\n' | velodrome audit -
-It reports that label 7 is not atomic, with a witness and status 3.
-
-It reads and judges the whole log first, as 'velodrome check' does, and leaves out what the options
-name. Then it goes round by round. A round checks what is left. The labels of the blocks to blame at
-its first alarm are not atomic. If no block is to blame, it is the label of the outermost open block of
-the closing event's thread. The next rounds leave out the begins and ends of these labels too. The last
-round has no alarm. All positions and lines are those of the log as it was read.
-
-It prints 'left out label L', 'left out lock N', 'left out variable N' for what the options leave out;
-'not atomic L' for each label found, and after the labels of a round its witness, unless --no-witness
-is given; then 'atomic N labels' and 'rounds R'. With --names each number has its name after it.
-
---counts prints '  B of N blocks' after each label: of its N blocks, B are to blame somewhere in the log,
-not only at an alarm. --by-count prints the labels with the greatest B first. --innermost leaves out a
-label if each of its blocks to blame has another one inside it, and prints how many were left out:
-'  and N labels around these'. A function that calls one that is not atomic is not atomic either, so
-begin with the innermost ones. With these options a witness comes after the labels of its round that
-are next to one another, and may come again.
-
---not-atomic reads the known labels, one a line: a number, a name, or a line that an audit printed. So
-the output of one audit can be the list of the next. If number and name of such a line no longer belong
-together, it means the labels of the name. Other lines of an audit, empty lines, and comments that
-begin with '#' are ignored. A name that no label has is allowed.
-
---ignore-lock and --ignore-variable take a number, or a name in which '*' stands for any characters, and
-may be repeated. Only one of LOG and the FILEs can be -.
-
-List faults, line 0 for the whole text:
-   1  bad line
-   3  too many
-   4  not UTF-8
-
-Ignored faults, where a word of these two options is no number up to 65535 and no name:
-   1  no such lock
-   2  no such variable
-
-Statuses, each with the lines on standard error:
-  0  no label was found, or help
-  2  usage; 'error: standard input can be read once'; the text is no log: 'log fault K',
-     'log fault K line N'; an event cannot happen: 'refused K at P', 'wrong value at P'; the text of
-     --names is no file of names: 'names fault K line N'; the text of --not-atomic is no list:
-     'list fault K line N'; a word of --ignore-lock or --ignore-variable means nothing:
-     'ignored fault K'
-  3  a label was found whose blocks are not atomic
-  4  a limit was met: 'refused 17 at P', 'refused 18 at P'
-  5  memory or a device failed: 'out of memory', 'read failed', 'write failed', 'cannot open'
-
-Log, names, faults and refusals: see 'velodrome check --help'.";
-
 /// After the help of `thin`.
 pub const OF_THIN: &str = "\
 Example, a variable that one thread uses:
@@ -394,54 +347,6 @@ Statuses, each with the lines on standard error:
   5  memory or a device failed: 'out of memory', 'read failed', 'write failed', 'cannot open'
 
 Log, faults and refusals: see 'velodrome check --help'.";
-
-/// After the help of `predict`.
-pub const OF_PREDICT: &str = "\
-Example, two threads that take one lock twice in a block, one thread after the other:
-  printf 'vlog 2 2 1 1\\n0 fork 1\\n0 begin 7\\n0 acq 0\\n0 rd 0 0\\n0 rel 0\\n0 acq 0\\n0 wr 0 5\\n0 rel 0\\n0 end\\n' > log
-  printf '1 begin 7\\n1 acq 0\\n1 rd 0 5\\n1 rel 0\\n1 acq 0\\n1 wr 0 6\\n1 rel 0\\n1 end\\n' >> log
-  velodrome predict log --log witness.log
-'velodrome check' has no alarm for this log. This command reports that label 7 is not atomic in another
-run, with status 3. 'velodrome explain witness.log' shows how.
-
-It reads and judges the whole log first, and finds the labels that are not atomic in this run, as
-'velodrome audit' does. Then it looks for more that are not atomic in other runs of the same program: it
-delays one thread within a block, or two, and lets the others go on. It also stops one where it has a
-lock and acquires another, in search of deadlocks. A witness is such an order that the
-program is known to have: each thread does what it did in the log while it reads what it read there;
-after a read of another value it is only known to release the locks that it holds. The labels that a
-witness blames are left out in the next round. The last round finds nothing.
-
-It prints what 'velodrome audit' prints, up to the last witness. Then come for each prediction
-'not atomic? L' for each block to blame, 'witness N events', a line for each read that had another value
-in the log, and the cycle. Lines are those of the witness. 'deadlock? N threads wait in a circle' is
-followed by such lines, too, and by what each thread waits to do. The last line is
-'nothing found in N tries', or 'nothing else found in N tries': it never says that there is nothing.
-
-Predictions are right for a program whose threads do what follows from what they read, whose critical
-sections end, and of which the log has every read. So do not thin the log. Without --values two reads
-have the same value where they read from the same write, and values in the witness are lines of the log.
-Give --values if the values in the log are those of the program.
-
---names, --not-atomic, --ignore-lock and --ignore-variable are those of 'velodrome audit'. Only one of
-LOG and the FILEs can be -. The same seed tries the same delays.
-
-LOG and OUT must be different files; otherwise the command stops before it writes. Standard input is
-not compared with OUT. If nothing is predicted, OUT is not opened.
-
-Statuses, each with the lines on standard error:
-  0  nothing was found, or help
-  2  usage; 'error: standard input can be read once'; 'error: LOG and OUT are one file'; the text is
-     no log: 'log fault K', 'log fault K line N'; an event cannot happen: 'refused K at P',
-     'wrong value at P'; the text of --names is no file of names: 'names fault K line N'; the text of
-     --not-atomic is no list: 'list fault K line N'; a word of --ignore-lock or --ignore-variable means
-     nothing: 'ignored fault K'
-  3  a label was found whose blocks are not atomic, in this run or in another, or a deadlock in another
-  4  a limit was met: 'refused 17 at P', 'refused 18 at P'
-  5  memory or a device failed: 'out of memory', 'read failed', 'write failed', 'cannot open'
-
-Lists, ignored words: see 'velodrome audit --help'. Log, names, faults and refusals: see
-'velodrome check --help'.";
 
 /// After the help of `verify`.
 pub const OF_VERIFY: &str = "\

@@ -5,7 +5,7 @@ ghost use Rattle.velo_arguments.specs.Options.{rule_for};
 use clap::{Arg, ArgAction, value_parser};
 use std::alloc::Global;
 use velo_events::{MAX_EVENTS, MAX_NODES};
-use velo_request::{MAX_RUNS, MAX_STATES, MAX_TRIES};
+use velo_request::{MAX_RUNS, MAX_SECONDS, MAX_STATES, MAX_TRIES};
 
 /// What an argument takes.
 #[derive(Clone, Copy)]
@@ -177,6 +177,12 @@ pub const STATES: Argument<'static> = Argument {
     help: "The most states that the search may look at, 1 to 16777216",
 };
 
+pub const SECONDS: Argument<'static> = Argument {
+    name: "seconds",
+    takes: Takes::Number(MAX_SECONDS),
+    help: "The most seconds that the search may take, 1 to 1000000",
+};
+
 pub const RANDOM: Argument<'static> = Argument {
     name: "random",
     takes: Takes::Number(MAX_RUNS),
@@ -213,10 +219,22 @@ pub const NOT_ATOMIC: Argument<'static> = Argument {
     help: "Read known labels, and leave out their begins and ends; - is standard input",
 };
 
+pub const IGNORE_LABEL: Argument<'static> = Argument {
+    name: "ignore-label",
+    takes: Takes::Values("N"),
+    help: "Leave out the begins and ends of this label, a number or a name; may be repeated",
+};
+
 pub const IGNORE_LOCK: Argument<'static> = Argument {
     name: "ignore-lock",
     takes: Takes::Values("N"),
     help: "Leave out the events on this lock, a number or a name; may be repeated",
+};
+
+pub const IGNORE_LOCKS: Argument<'static> = Argument {
+    name: "ignore-locks",
+    takes: Takes::Nothing,
+    help: "Leave out the events on all locks",
 };
 
 pub const IGNORE_VARIABLE: Argument<'static> = Argument {
@@ -229,6 +247,12 @@ pub const NO_WITNESS: Argument<'static> = Argument {
     name: "no-witness",
     takes: Takes::Nothing,
     help: "Print no witnesses",
+};
+
+pub const FORMAT: Argument<'static> = Argument {
+    name: "format",
+    takes: Takes::Value("FORM"),
+    help: "Print the answer as text, json, sarif or junit [default: text]",
 };
 
 pub const COUNTS: Argument<'static> = Argument {

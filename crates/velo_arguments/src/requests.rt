@@ -1,5 +1,5 @@
 //! What the matches of the command line ask for.
-ghost use Rattle.std.specs.Prelude.{◌≤◌, ℕ, Option, Some, codes, IfNone, IfSome};
+ghost use Rattle.std.specs.Prelude.{◌≡◌, ◌≤◌, ℕ, Option, Some, codes, option_map, IfNone, IfSome};
 ghost use Rattle.clap.specs.Words.{first_of, found_of, one_of, rows_of, subcommand_rows_of};
 ghost use Rattle.velo_request.specs.declared.request.Limits.{Limits};
 ghost use Rattle.velo_request.specs.declared.request.AuditOptions.{AuditOptions};
@@ -15,14 +15,15 @@ ghost use Rattle.velo_request.specs.declared.request.RunOptions.{RunOptions};
 ghost use Rattle.velo_request.specs.declared.request.ThinOptions.{ThinOptions};
 ghost use Rattle.velo_request.specs.declared.request.VerifyOptions.{VerifyOptions};
 ghost use Rattle.velo_request.specs.declared.request.WatchOptions.{WatchOptions};
-ghost use Rattle.velo_arguments.specs.Asked.{AreLeftOut, AreLimits, AreRandomRuns, AreTurns, AsksFor, AsksForNothing, IsAudit, IsCarrying, IsCheck, IsEndless, IsExplanation, IsExploring, IsPredicting, IsReplay, IsRun, IsSchedule, IsSeed, IsThinning, IsVerifying, IsWatch, WritesNumber};
+ghost use Rattle.velo_arguments.specs.Asked.{AreLeftOut, AreLimits, AreRandomRuns, AreSeconds, AreTurns, AsksFor, AsksForNothing, IsAudit, IsCarrying, IsCheck, IsEndless, IsExplanation, IsExploring, IsPredicting, IsReplay, IsRun, IsSchedule, IsSeed, IsThinning, IsVerifying, IsWatch, WritesNumber, form_named, form_of};
 
 use clap::ArgMatches;
 use velo_events::{MAX_EVENTS, MAX_NODES};
 use velo_request::{
     AuditOptions, CarryOptions, CheckOptions, DEFAULT_SEED, EndlessOptions, ExplainOptions,
-    ExploreOptions, Limits, MAX_RUNS, MAX_STATES, MAX_TRIES, PredictOptions, RandomRuns,
-    ReplayOptions, Request, RunOptions, ScheduleSource, ThinOptions, VerifyOptions, WatchOptions,
+    ExploreOptions, Ignored, Limits, MAX_RUNS, MAX_SECONDS, MAX_STATES, MAX_TRIES, OutputFormat,
+    PredictOptions, RandomRuns, ReplayOptions, Request, RunOptions, ScheduleSource, ThinOptions,
+    VerifyOptions, WatchOptions,
 };
 
 /// Reads a number from 1 to `most`; none where it is missing or out of this range.
@@ -115,7 +116,7 @@ fn run_options<'a>(found: &ArgMatches<'a>) -> Option<RunOptions<'a>>
     })
 }
 
-fn explain_options<'a>(found: &ArgMatches<'a>) -> Option<ExplainOptions<'a>>
+fn explain_options<'a>(found: &'a ArgMatches) -> Option<ExplainOptions<'a>>
     ensures some { IfSome result (IsExplanation (rows_of (found_of found.now))) }
     ensures none { IfNone result ((options : ExplainOptions)
         → ¬ IsExplanation (rows_of (found_of found.now)) options) }
@@ -126,6 +127,7 @@ fn explain_options<'a>(found: &ArgMatches<'a>) -> Option<ExplainOptions<'a>>
         drawing: found.get_str("svg"),
         names: found.get_str("names"),
         sites: found.get_str("sites"),
+        ignored: left_out(found),
     })
 }
 
@@ -178,6 +180,18 @@ fn random_if(found: &ArgMatches) -> Option<Option<RandomRuns>>
     }
 }
 
+/// Reads the seconds of a search, if they are asked for; none where they are out of their range.
+fn seconds_if(found: &ArgMatches) -> Option<Option<u32>>
+    ensures some { IfSome result (AreSeconds (rows_of (found_of found.now))) }
+    ensures none { IfNone result ((seconds : Option ℕ)
+        → ¬ AreSeconds (rows_of (found_of found.now)) seconds) }
+{
+    match found.get_str("seconds") {
+        Some(_) => Some(Some(number_of(found, "seconds", MAX_SECONDS)?)),
+        None => Some(None),
+    }
+}
+
 fn explore_options<'a>(found: &ArgMatches<'a>) -> Option<ExploreOptions<'a>>
     ensures some { IfSome result (IsExploring (rows_of (found_of found.now))) }
     ensures none { IfNone result ((options : ExploreOptions)
@@ -186,6 +200,7 @@ fn explore_options<'a>(found: &ArgMatches<'a>) -> Option<ExploreOptions<'a>>
     Some(ExploreOptions {
         input: found.get_str("FILE")?,
         states: number_of(found, "states", MAX_STATES)?,
+        seconds: seconds_if(found)?,
         first: found.get_flag("first"),
         progress: found.get_flag("progress"),
         random: random_if(found)?,
@@ -226,24 +241,37 @@ fn watch_request<'a>(found: &ArgMatches<'a>) -> Option<Request<'a>>
     }))
 }
 
-/// The labels that are known already, and the locks and variables that are left out.
-#[derive(Clone, Copy)]
-struct LeftOut<'a> {
-    known: Option<&'a str>,
-    locks: &'a [&'a str],
-    variables: &'a [&'a str],
-}
-
-/// What is known and left out where a command goes by labels.
-fn left_out<'a>(found: &'a ArgMatches) -> LeftOut<'a>
-    ensures { AreLeftOut (rows_of (found_of found.now))
-        result.known result.locks.now result.variables.now }
+/// What is left out of a log.
+fn left_out<'a>(found: &'a ArgMatches) -> Ignored<'a>
+    ensures { AreLeftOut (rows_of (found_of found.now)) result }
 {
-    LeftOut {
+    Ignored {
         known: found.get_str("not-atomic"),
+        labels: found.get_strs("ignore-label").unwrap_or(&[]),
         locks: found.get_strs("ignore-lock").unwrap_or(&[]),
         variables: found.get_strs("ignore-variable").unwrap_or(&[]),
+        all_locks: found.get_flag("ignore-locks"),
     }
+}
+
+/// The form of an answer that a word names, if it names one.
+pub fn form_named(word: &str) -> Option<OutputFormat>
+    ensures { result ≡ form_named word.now }
+{
+    match word {
+        "text" => Some(OutputFormat::Text),
+        "json" => Some(OutputFormat::Json),
+        "sarif" => Some(OutputFormat::Sarif),
+        "junit" => Some(OutputFormat::Junit),
+        _ => None,
+    }
+}
+
+/// The form that is asked for: text, where no other one is named.
+fn form_of(word: Option<&str>) -> OutputFormat
+    ensures { result ≡ form_of (option_map (λ w. w.now) word.entry) }
+{
+    word.and_then(form_named).unwrap_or(OutputFormat::Text)
 }
 
 fn audit_options<'a>(found: &'a ArgMatches) -> Option<AuditOptions<'a>>
@@ -251,17 +279,16 @@ fn audit_options<'a>(found: &'a ArgMatches) -> Option<AuditOptions<'a>>
     ensures none { IfNone result ((options : AuditOptions)
         → ¬ IsAudit (rows_of (found_of found.now)) options) }
 {
-    let left = left_out(found);
     Some(AuditOptions {
         input: found.get_str("LOG")?,
         names: found.get_str("names"),
-        known: left.known,
-        ignored_locks: left.locks,
-        ignored_variables: left.variables,
+        sites: found.get_str("sites"),
+        ignored: left_out(found),
         witness: !found.get_flag("no-witness"),
         counts: found.get_flag("counts"),
         by_count: found.get_flag("by-count"),
         innermost: found.get_flag("innermost"),
+        format: form_of(found.get_str("format")),
         limits: limits_of(found)?,
     })
 }
@@ -295,13 +322,11 @@ fn predict_options<'a>(found: &'a ArgMatches) -> Option<PredictOptions<'a>>
     ensures none { IfNone result ((options : PredictOptions)
         → ¬ IsPredicting (rows_of (found_of found.now)) options) }
 {
-    let left = left_out(found);
     Some(PredictOptions {
         input: found.get_str("LOG")?,
         names: found.get_str("names"),
-        known: left.known,
-        ignored_locks: left.locks,
-        ignored_variables: left.variables,
+        sites: found.get_str("sites"),
+        ignored: left_out(found),
         values: found.get_flag("values"),
         tries: number_of(found, "tries", MAX_TRIES)?,
         seed: seed_of(found)?,

@@ -1,17 +1,18 @@
 //! Options of a request that do not go together.
-ghost use Rattle.std.specs.Prelude.{◌≡◌, ◌∷◌, ◌++◌, IfErr, IfOk, codes, false};
+ghost use Rattle.std.specs.Prelude.{◌≡◌, ◌∷◌, ◌++◌, IfErr, IfOk, codes, false, option_map};
 ghost use Rattle.std.specs.Option.{option_map_or};
 ghost use Rattle.std.specs.Str.{bytes_eq};
 ghost use Rattle.clap.specs.Takes.{is_given};
 ghost use Rattle.clap.specs.Words.{found_of, rows_of, subcommand_rows_of};
 ghost use Rattle.velo_arguments.specs.Asked.{AsksForNothing};
-ghost use Rattle.velo_arguments.specs.Together.{IsApart, IsTogether, clash_of, clash_of_chance, clash_of_drawing, clash_of_endless, clash_of_inputs, clash_of_map, clash_of_replay, clash_of_schedule, clash_of_search, clash_of_targets, given_by, given_in, line_of_clash, path_if, schedule_path_if};
+ghost use Rattle.velo_arguments.specs.Together.{IsApart, IsTogether, clash_of, clash_of_audit, clash_of_chance, clash_of_drawing, clash_of_endless, clash_of_inputs, clash_of_map, clash_of_replay, clash_of_schedule, clash_of_search, clash_of_targets, given_by, given_in, is_other_form, line_of_clash, path_if, schedule_path_if};
 
-use crate::requests::request_of;
+use crate::requests::{form_named, request_of};
 use clap::ArgMatches;
 use clap::parser::ValueSource;
 use velo_request::{
-    EndlessOptions, ExploreOptions, RandomRuns, ReplayOptions, Request, ScheduleSource,
+    AuditOptions, EndlessOptions, ExploreOptions, RandomRuns, ReplayOptions, Request,
+    ScheduleSource,
 };
 
 /// Why the options of a request do not go together.
@@ -27,6 +28,8 @@ pub enum Clash {
     MapIsLog,
     /// The names of a run are to be saved, and its log is not.
     NamesWithoutLog,
+    /// No form of an answer has this name.
+    NoSuchForm,
     /// The log and the names of a run are to be saved at one path.
     OnePath,
     /// Random runs are asked for, and what a search alone has.
@@ -48,6 +51,8 @@ pub struct Given {
     pub schedule: bool,
     /// `--certificate`.
     pub certificate: bool,
+    /// `--format`, with a word that names no form.
+    pub other_form: bool,
 }
 
 /// Whether the words give this option: a value by default does not count.
@@ -61,6 +66,16 @@ fn is_given(found: &ArgMatches, option: &str) -> bool
     }
 }
 
+/// Whether a word is given that names no form of an answer.
+fn is_other_form(word: Option<&str>) -> bool
+    ensures { result ≡ is_other_form (option_map (λ w. w.now) word.entry) }
+{
+    match word {
+        Some(word) => form_named(word).is_none(),
+        None => false,
+    }
+}
+
 /// Which of the options a subcommand is given that a request does not show.
 fn given_in(found: &ArgMatches) -> Given
     ensures { result ≡ given_in (rows_of (found_of found.now)) }
@@ -70,6 +85,7 @@ fn given_in(found: &ArgMatches) -> Given
         seed: is_given(found, "seed"),
         schedule: is_given(found, "schedule"),
         certificate: is_given(found, "certificate"),
+        other_form: is_other_form(found.get_str("format")),
     }
 }
 
@@ -84,6 +100,7 @@ fn given_by(matches: &ArgMatches) -> Given
             seed: false,
             schedule: false,
             certificate: false,
+            other_form: false,
         },
     }
 }
@@ -96,9 +113,15 @@ fn clash_of(request: &Request, given: Given) -> Option<Clash>
         Request::Check(options) => clash_of_inputs(options.input, options.names),
         Request::Replay(options) => clash_of_replay(options, given.schedule),
         Request::Run(options) => clash_of_targets(options.target, options.names_target),
-        Request::Explain(options) => clash_of_three(options.input, options.names, options.sites).or(
-            clash_of_drawing(options.target, options.drawing),
-        ),
+        Request::Explain(options) => {
+            clash_of_files(
+                options.input,
+                options.names,
+                options.sites,
+                options.ignored.known,
+            )
+            .or(clash_of_drawing(options.target, options.drawing))
+        }
         Request::Carry(_) => None,
         Request::Explore(options) => clash_of_search(options, given).or(clash_of_targets(
             options.target,
@@ -106,9 +129,16 @@ fn clash_of(request: &Request, given: Given) -> Option<Clash>
         )),
         Request::Watch(options) => clash_of_inputs(options.input, options.names),
         Request::WatchEndless(options) => clash_of_endless(options, given.certificate),
-        Request::Audit(options) => clash_of_three(options.input, options.names, options.known),
+        Request::Audit(options) => clash_of_audit(options, given.other_form),
         Request::Thin(options) => clash_of_map(options.target, options.map),
-        Request::Predict(options) => clash_of_three(options.input, options.names, options.known),
+        Request::Predict(options) => {
+            clash_of_files(
+                options.input,
+                options.names,
+                options.sites,
+                options.ignored.known,
+            )
+        }
         Request::Verify(options) => clash_of_inputs(options.input, Some(options.report)),
     }
 }
@@ -153,20 +183,38 @@ fn path_of_schedule<'a>(schedule: ScheduleSource<'a>) -> Option<&'a str>
     }
 }
 
-/// A log, its names and one file more are not to be there twice either.
-fn clash_of_three(log: &str, names: Option<&str>, other: Option<&str>) -> Option<Clash>
-    ensures { result ≡ clash_of_inputs (log.now ∷ path_if names.entry ++ path_if other.entry) }
+/// A log, its names, its sites and the labels that are known are not to be there twice either.
+fn clash_of_files(
+    log: &str,
+    names: Option<&str>,
+    sites: Option<&str>,
+    known: Option<&str>,
+) -> Option<Clash>
+    ensures { result ≡ clash_of_inputs
+        (log.now ∷ path_if names.entry ++ path_if sites.entry ++ path_if known.entry) }
 {
-    let (log, names, other) = (
-        log == "-",
-        is_standard_input(names),
-        is_standard_input(other),
-    );
-    if log && names || log && other || names && other {
+    let (log, names) = (log == "-", is_standard_input(names));
+    let (sites, known) = (is_standard_input(sites), is_standard_input(known));
+    if log && names || sites && known || (log || names) && (sites || known) {
         Some(Clash::InputTwice)
     } else {
         None
     }
+}
+
+/// An audit has a form that there is, and no clash of its paths.
+fn clash_of_audit(options: &AuditOptions, other_form: bool) -> Option<Clash>
+    ensures { result ≡ clash_of_audit options.now other_form }
+{
+    if other_form {
+        return Some(Clash::NoSuchForm);
+    }
+    clash_of_files(
+        options.input,
+        options.names,
+        options.sites,
+        options.ignored.known,
+    )
 }
 
 /// Whether this is the path of standard input.
@@ -222,7 +270,7 @@ fn clash_of_endless(options: &EndlessOptions, has_certificate: bool) -> Option<C
 fn clash_of_search(options: &ExploreOptions, given: Given) -> Option<Clash>
     ensures { result ≡ clash_of_search options.now given }
 {
-    let searches = given.states || options.first || options.progress;
+    let searches = given.states || options.first || options.progress || options.seconds.is_some();
     clash_of_chance(options.random, searches, given.seed)
 }
 
@@ -266,9 +314,10 @@ pub fn line_of_clash(clash: Clash) -> &'static [u8]
         Clash::InputTwice => b"error: standard input can be read once\n",
         Clash::MapIsLog => b"error: OUT and MAP are one file\n",
         Clash::NamesWithoutLog => b"error: --names-out goes only with --log\n",
+        Clash::NoSuchForm => b"error: --format takes text, json, sarif or junit\n",
         Clash::OnePath => b"error: OUT and NAMES are one file\n",
         Clash::SearchByChance => {
-            b"error: --random goes with neither --states nor --first nor --progress\n"
+            b"error: --random goes with neither --states nor --seconds nor --first nor --progress\n"
         }
         Clash::SeedAlone => b"error: --seed goes only with --random\n",
         Clash::TwoSchedules => b"error: --schedule does not go with --turns\n",

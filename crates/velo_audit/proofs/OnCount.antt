@@ -12,8 +12,8 @@ use Rattle.velo_events.specs.declared.event.Kind.TheVariants.{Begin}
 use Rattle.velo_events.specs.declared.event.Label.{Label}
 use Rattle.velo_events.proofs.OnScans.{take-next}
 use Rattle.velo_traces.proofs.Past.{past}
-use Rattle.velo_filter.specs.Left.{Left, nothing, label_begun, is_listed, with_labels}
-use Rattle.velo_filter.proofs.OnTables.{is_listed-nil, is_listed-append}
+use Rattle.velo_filter.specs.Left.{Left, nothing, label_begun, is_listed, with_number}
+use Rattle.velo_filter.proofs.OnTables.{is_listed-nil, is_listed-append, is_listed-one}
 use Rattle.velo_audit.specs.Rounds.{each_once}
 use Rattle.velo_audit.specs.Count.{labels_begun, IsCountedTo}
 use Rattle.velo_audit.proofs.OnRounds.{is_listed-cases}
@@ -50,13 +50,13 @@ count-push p xs x =
 
 -- ---- no event yet
 
-pub IsCountedTo-start : (left : Left) (log : List Event) → IsCountedTo left log 0 nothing 0
+pub IsCountedTo-start : (left : Left) (log : List Event) → IsCountedTo left log 0 nothing.labels 0
 unfolding is_listed each_once
 IsCountedTo-start left log = record { few = omega arith; are_seen = λ l. refl; is_count = refl }
 
 -- ---- one event more
 
-module _ (left : Left) (log : List Event) (k : ℕ) (within : k < length log) (seen : Left) (count : ℕ) (w : IsCountedTo left log k seen count) where
+module _ (left : Left) (log : List Event) (k : ℕ) (within : k < length log) (seen : ℕ → Bool) (count : ℕ) (w : IsCountedTo left log k seen count) where
   abbrev event : Event
   event = get_or log k past
 
@@ -81,7 +81,7 @@ module _ (left : Left) (log : List Event) (k : ℕ) (within : k < length log) (s
     next : labels_begun (take (k + 1) log) ≡ before ++ l.0 ∷ []
     next = more (Some l.0) (ap label_begun is)
 
-    pub IsCountedTo-again : IsTrue (seen.labels l.0) → IsCountedTo left log (k + 1) seen count
+    pub IsCountedTo-again : IsTrue (seen l.0) → IsCountedTo left log (k + 1) seen count
     unfolding is_listed
     IsCountedTo-again there = record {
       few = let few = w.few in omega (arith, few);
@@ -103,10 +103,11 @@ module _ (left : Left) (log : List Event) (k : ℕ) (within : k < length log) (s
             (λ differ. ap (λ b. is_listed before m || (b || false)) (ne_eqb m l.0 differ) ∙ none (is_listed before m))
             (cases_eq m l.0))
 
-    pub IsCountedTo-new : IsFalse (seen.labels l.0) → (seen' : Left) → seen' ≡ with_labels seen (l.0 ∷ []) → (count' : ℕ) → count' ≡ count + (if left.labels l.0 then 0 else 1) → IsCountedTo left log (k + 1) seen' count'
+    pub IsCountedTo-new : IsFalse (seen l.0) → (seen' : ℕ → Bool) → seen' ≡ with_number seen l.0 → (count' : ℕ) → count' ≡ count + (if left.labels l.0 then 0 else 1) → IsCountedTo left log (k + 1) seen' count'
     IsCountedTo-new new seen' sees count' counts = record {
       few = let few = w.few in let one = at_most (left.labels l.0) in omega (arith, few, counts, one);
-      are_seen = λ m. ap (λ (s : Left). s.labels m) sees ∙ (ap (λ b. b || is_listed (l.0 ∷ []) m) (w.are_seen m) ∙ (sym (is_listed-append before (l.0 ∷ []) m) ∙ ap (λ xs. is_listed xs m) (sym next)));
+      are_seen = λ m. ap (λ (s : ℕ → Bool). s m) sees ∙ (ap (λ b. b || (m == l.0)) (w.are_seen m)
+          ∙ (ap (λ b. is_listed before m || b) (sym (is_listed-one l.0 m)) ∙ (sym (is_listed-append before (l.0 ∷ []) m) ∙ ap (λ xs. is_listed xs m) (sym next))));
       is_count = counts ∙ (added ∙ ap (count_by (λ m. not (left.labels m))) (sym (ap each_once next ∙ each_once-new before l.0 (sym (w.are_seen l.0) ∙ new))));
     }
       where

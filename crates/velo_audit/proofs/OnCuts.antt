@@ -15,10 +15,10 @@ use Rattle.velo_events.proofs.OnOwners.{passes_at-within}
 use Rattle.velo_events.proofs.OnScans.{event_at, passes_at-is}
 use Rattle.velo_traces.proofs.Past.{past}
 use Rattle.velo_traces.specs.declared.block.Block.{Block}
-use Rattle.velo_filter.specs.Left.{Left, is_among, label_begun, begins_such, is_on_such, is_dissolved, ends_at, is_left_out, is_listed, with_labels, rest_of, places_of}
+use Rattle.velo_filter.specs.Left.{Left, is_among, label_begun, begins_such, is_on_such, is_dissolved, ends_at, is_left_out, is_listed, with_labels, with_number, rest_of, places_of}
 use Rattle.velo_filter.specs.Marks.{AreMarks, number_of}
 use Rattle.velo_filter.specs.Stacks.{stack}
-use Rattle.velo_filter.specs.Tables.{left_of}
+use Rattle.velo_filter.specs.Tables.{members}
 use Rattle.velo_filter.specs.Thinned.{first_places, first_of_rest}
 use Rattle.velo_filter.proofs.OnLeft.{stays, rest_of-is}
 use Rattle.velo_filter.proofs.OnRanks.{rank, staying, staying-stays, staying-goes, take-staying, length-staying, take-events_staying, length-events_staying}
@@ -100,7 +100,7 @@ module _ (left : Left) (labels : List ℕ) (log : List Event) (n : ℕ) (most : 
         (λ b c. same b ((IsStack-stack log t n most).below c.0 b (slice_get-get_or (stack log t n) c.0 b c.1 ∙ ap Some c.2)))));
   }
 
-module _ (left : Left) (log : List Event) (cut : Cut) (w : IsCut left log cut) (blocks : List Block) (new : All (λ (b : Block). IsFalse ((left_of cut.begun).labels b.label.0)) blocks) where
+module _ (left : Left) (log : List Event) (cut : Cut) (w : IsCut left log cut) (blocks : List Block) (new : All (λ (b : Block). IsFalse (members cut.begun b.label.0)) blocks) where
   abbrev labels : List ℕ
   labels = map (λ (b : Block). b.label.0) blocks
 
@@ -112,9 +112,9 @@ module _ (left : Left) (log : List Event) (cut : Cut) (w : IsCut left log cut) (
       ∙ (by_label (label_begun e.0.kind) (λ n label. w.begun.each b e.0 n l e.1 label)
       ∙ sym (passes_at-is log (begins_such left) b e.0 e.1))
     where
-      by_label : (o : Option ℕ) → ((n : ℕ) → o ≡ Some n → IsTrue ((left_of cut.begun).labels n)) → is_among (with_labels left labels).labels o ≡ is_among left.labels o
+      by_label : (o : Option ℕ) → ((n : ℕ) → o ≡ Some n → IsTrue (members cut.begun n)) → is_among (with_labels left labels).labels o ≡ is_among left.labels o
       by_label None h = refl
-      by_label (Some n) h = or_false (left.labels n) (is_listed labels n) (not_listed (left_of cut.begun).labels blocks n new (h n refl))
+      by_label (Some n) h = or_false (left.labels n) (is_listed labels n) (not_listed (members cut.begun) blocks n new (h n refl))
 
   pub IsCut-follow : IsCut (with_labels left labels) log cut
   IsCut-follow = record {
@@ -129,8 +129,8 @@ module _ (left : Left) (log : List Event) (cut : Cut) (w : IsCut left log cut) (
 
 -- ---- labels that are begun, one position more
 
-AreBegun-more : (begun begun' : Left) (log : List Event) (n : ℕ) → n < length log → AreBegun begun log n → ((l : ℕ) → IsTrue (begun.labels l) → IsTrue (begun'.labels l))
-    → ((l : ℕ) → label_begun (get_or log n past).kind ≡ Some l → IsTrue (begun'.labels l)) → AreBegun begun' log (n + 1)
+AreBegun-more : (begun begun' : ℕ → Bool) (log : List Event) (n : ℕ) → n < length log → AreBegun begun log n → ((l : ℕ) → IsTrue (begun l) → IsTrue (begun' l))
+    → ((l : ℕ) → label_begun (get_or log n past).kind ≡ Some l → IsTrue (begun' l)) → AreBegun begun' log (n + 1)
 AreBegun-more begun begun' log n within w keeps last = record {
   each = λ b e l below here label. ⊎_elim
       (λ before. keeps l (w.each b e l before here label))
@@ -141,16 +141,15 @@ AreBegun-more begun begun' log n within w keeps last = record {
       (cases_lt b n);
 }
 
-pub AreBegun-none : (begun : Left) (log : List Event) (n : ℕ) → n < length log → AreBegun begun log n → label_begun (get_or log n past).kind ≡ None → AreBegun begun log (n + 1)
+pub AreBegun-none : (begun : ℕ → Bool) (log : List Event) (n : ℕ) → n < length log → AreBegun begun log n → label_begun (get_or log n past).kind ≡ None → AreBegun begun log (n + 1)
 AreBegun-none begun log n within w none = AreBegun-more begun begun log n within w (λ l h. h) (λ l label. absurd (none-some l (sym none ∙ label)))
 
-pub AreBegun-label : (begun begun' : Left) (log : List Event) (n : ℕ) → n < length log → AreBegun begun log n → (l : Label) → (get_or log n past).kind ≡ Begin l → begun' ≡ with_labels begun (l.0 ∷ []) → AreBegun begun' log (n + 1)
-unfolding is_listed
+pub AreBegun-label : (begun begun' : ℕ → Bool) (log : List Event) (n : ℕ) → n < length log → AreBegun begun log n → (l : Label) → (get_or log n past).kind ≡ Begin l → begun' ≡ with_number begun l.0 → AreBegun begun' log (n + 1)
 AreBegun-label begun begun' log n within w l is more = AreBegun-more begun begun' log n within w
-    (λ k h. ap (λ (x : Left). x.labels k) more ∙ or_left (begun.labels k) _ h)
+    (λ k h. ap (λ (f : ℕ → Bool). f k) more ∙ or_left (begun k) _ h)
     (λ k label.
     let same : l.0 ≡ k = same_Some l.0 k (sym (ap label_begun is) ∙ label) in
-    ap (λ (x : Left). x.labels k) more ∙ or_right (begun.labels k) _ (or_left (k == l.0) _ (eq-eqb k l.0 (sym same))))
+    ap (λ (f : ℕ → Bool). f k) more ∙ or_right (begun k) _ (eq-eqb k l.0 (sym same)))
 
 -- ---- pieces
 
@@ -239,7 +238,7 @@ module _ (left : Left) (log : List Event) (cut : Cut) (w : IsCut left log cut) (
   RoundTells-none asked last h = subst (λ es. ¬ HasCycle es) (ap (first_of_rest left log) last ∙ first_of_rest-all left log) (no_cycle h)
 
   -- another has none, and leaves no block open
-  pub IsCut-moved : ¬ HasCycle trace → IsQuiet trace → (cut' : Cut) → cut'.place ≡ end → cut'.marks.items ≡ marks → HasNoBegin cut'.prologue.events → AreBegun (left_of cut'.begun) log end → IsCut left log cut'
+  pub IsCut-moved : ¬ HasCycle trace → IsQuiet trace → (cut' : Cut) → cut'.place ≡ end → cut'.marks.items ≡ marks → HasNoBegin cut'.prologue.events → AreBegun (members cut'.begun) log end → IsCut left log cut'
   IsCut-moved h ended cut' at same no_begin begun = record {
     within = let m = v.within in omega (arith, at, m);
     quiet = subst (λ n. IsQuiet (first_of_rest left log n)) (sym at) (subst IsQuiet (sym v.goes.events_are)
@@ -248,7 +247,7 @@ module _ (left : Left) (log : List Event) (cut : Cut) (w : IsCut left log cut) (
     as_many = ap length same ∙ v.as_many;
     marks = subst (λ n. AreMarks left log n cut'.marks.items) (sym at) (subst (AreMarks left log end) (sym same) v.marks_are);
     no_begin = no_begin;
-    begun = subst (AreBegun (left_of cut'.begun) log) (sym at) begun;
+    begun = subst (AreBegun (members cut'.begun) log) (sym at) begun;
   }
 
   -- what is left goes on behind it

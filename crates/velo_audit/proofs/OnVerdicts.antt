@@ -6,7 +6,7 @@ use Rattle.velo_events.specs.declared.event.Event.{Event}
 use Rattle.velo_events.specs.Graph.{HasCycle}
 use Rattle.velo_filter.specs.Left.{Left}
 use Rattle.velo_filter.specs.Marks.{AreMarks}
-use Rattle.velo_filter.specs.Tables.{left_of}
+use Rattle.velo_filter.specs.Tables.{members}
 use Rattle.velo_filter.specs.Thinned.{first_of_rest}
 use Rattle.velo_filter.proofs.OnThinned.{first_of_rest-all}
 use Rattle.velo_laws.specs.Cut.{IsQuiet}
@@ -45,7 +45,7 @@ module _ (asked : Bool) (log : List Event) (left : Left) (cut : Cut) (end : ℕ)
   pub Judges-unknown : Judges asked log left cut.place cut (Some verdict.Unknown)
   Judges-unknown = Judges-verdict asked log left cut.place cut verdict.Unknown is tt
 
-  pub Judges-moved : (o : Option Told) → o ≡ None → CheckTells asked trace places o → IsQuiet trace → (cut' : Cut) → cut'.place ≡ end → cut'.marks.items ≡ marks → HasNoBegin cut'.prologue.events → AreBegun (left_of cut'.begun) log end → Judges asked log left cut.place cut' None
+  pub Judges-moved : (o : Option Told) → o ≡ None → CheckTells asked trace places o → IsQuiet trace → (cut' : Cut) → cut'.place ≡ end → cut'.marks.items ≡ marks → HasNoBegin cut'.prologue.events → AreBegun (members cut'.begun) log end → Judges asked log left cut.place cut' None
   Judges-moved o none h quiet cut' at same no_begin begun = record {
     is_cut = IsCut-moved left log cut is end marks trace places ends (subst (CheckTells asked trace places) none h) quiet cut' at same no_begin begun;
     verdict = λ v some. absurd (none-some v some);

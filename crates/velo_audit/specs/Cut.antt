@@ -1,10 +1,10 @@
 -- A place in the log from which a round may go on: what is left before it is judged already. Private contracts cite these words.
-use Rattle.std.specs.Prelude.{◌≡◌, ℕ, ◌<◌, ◌≤◌, ◌++◌, List, length, IsTrue, Some, slice_get}
+use Rattle.std.specs.Prelude.{◌≡◌, ℕ, ◌<◌, ◌≤◌, ◌++◌, Bool, List, length, IsTrue, Some, slice_get}
 use Rattle.velo_events.specs.declared.event.Event.{Event}
 use Rattle.velo_events.specs.Graph.{HasCycle}
 use Rattle.velo_filter.specs.Left.{Left, label_begun}
 use Rattle.velo_filter.specs.Marks.{AreMarks}
-use Rattle.velo_filter.specs.Tables.{left_of}
+use Rattle.velo_filter.specs.Tables.{members}
 use Rattle.velo_filter.specs.Thinned.{first_of_rest, first_places}
 use Rattle.velo_laws.specs.Cut.{IsQuiet}
 use Rattle.velo_laws.specs.Restart.{HasNoBegin}
@@ -12,8 +12,8 @@ use Rattle.velo_audit.specs.declared.cut.Cut.{Cut}
 use Rattle.velo_audit.specs.declared.piece.Piece.{Piece}
 
 -- each label that is begun before position n is one of these
-pub record AreBegun (begun : Left) (log : List Event) (n : ℕ) : Type 0 where
-  pub each : (b : ℕ) (e : Event) (l : ℕ) → b < n → slice_get log b ≡ Some e → label_begun e.kind ≡ Some l → IsTrue (begun.labels l)
+pub record AreBegun (begun : ℕ → Bool) (log : List Event) (n : ℕ) : Type 0 where
+  pub each : (b : ℕ) (e : Event) (l : ℕ) → b < n → slice_get log b ≡ Some e → label_begun e.kind ≡ Some l → IsTrue (begun l)
 
 -- at the cut no block of what is left is open, and what is left before it has no cycle
 pub record IsCut (left : Left) (log : List Event) (cut : Cut) : Type 0 where
@@ -23,7 +23,7 @@ pub record IsCut (left : Left) (log : List Event) (cut : Cut) : Type 0 where
   pub as_many : length cut.marks.items ≡ 256
   pub marks : AreMarks left log cut.place cut.marks.items
   pub no_begin : HasNoBegin cut.prologue.events
-  pub begun : AreBegun (left_of cut.begun) log cut.place
+  pub begun : AreBegun (members cut.begun) log cut.place
 
 -- The trace is the prologue, and then what is left between a place and position n. Each of these events has its place in the log
 pub record GoesTo (left : Left) (log : List Event) (place n : ℕ) (prologue trace : List Event) (places : List ℕ) : Type 0 where

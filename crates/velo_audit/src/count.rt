@@ -1,12 +1,12 @@
 //! How many labels are atomic.
 ghost use Rattle.std.specs.Prelude.{◌≡◌, ◌<◌, ◌+◌, length, IfOk, OnOk};
-ghost use Rattle.velo_filter.specs.Tables.{left_of};
+ghost use Rattle.velo_filter.specs.Tables.{left_of, members};
 ghost use Rattle.velo_audit.specs.Count.{IsCountedTo};
 ghost use Rattle.velo_audit.specs.Rounds.{atomic_labels};
 
 use std::alloc::Global;
 use velo_events::{Event, Kind, Memory};
-use velo_filter::LeftOut;
+use velo_filter::{LabelSet, LeftOut};
 use velo_traces::Trace;
 
 /// How many labels have a begin in the log and are not left out. Behind an audit these are the atomic ones.
@@ -17,7 +17,7 @@ pub fn count_atomic(alloc: Global, log: &Trace, left: &LeftOut) -> Result<usize,
     ensures { IfOk result (λ count. count ≡ atomic_labels (left_of left.now) log.now.events) }
 {
     let events = log.as_slice();
-    let mut seen = LeftOut::new(alloc);
+    let mut seen = LabelSet::new(alloc);
     let mut count = 0;
     for position in 0..events.len() {
         count_in(&mut seen, &mut count, left, events, position)?;
@@ -27,23 +27,23 @@ pub fn count_atomic(alloc: Global, log: &Trace, left: &LeftOut) -> Result<usize,
 
 /// Counts the label that the event at the position begins, if it is the first time and the label is not left out.
 fn count_in(
-    seen: &mut LeftOut,
+    seen: &mut LabelSet,
     count: &mut usize,
     left: &LeftOut,
     events: &[Event],
     position: usize,
 ) -> Result<(), Memory>
     requires within { position < length events.now }
-    requires stands { IsCountedTo (left_of left.now) events.now position (left_of seen.old) count.old }
-    ensures { OnOk result (IsCountedTo (left_of left.now) events.now (position + 1) (left_of seen.new) count.new) }
+    requires stands { IsCountedTo (left_of left.now) events.now position (members seen.old) count.old }
+    ensures { OnOk result (IsCountedTo (left_of left.now) events.now (position + 1) (members seen.new) count.new) }
 {
     let Kind::Begin(label) = events[position].kind else {
         return Ok(());
     };
-    if seen.has_label(label) {
+    if seen.contains(label) {
         return Ok(());
     }
-    seen.leave_out_label(label)?;
+    seen.insert(label)?;
     if !left.has_label(label) {
         *count += 1;
     }

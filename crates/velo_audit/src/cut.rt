@@ -3,12 +3,12 @@ ghost use Rattle.std.specs.Prelude.{◌≡◌, ◌<◌, ◌≤◌, ◌+◌, List
 ghost use Rattle.velo_events.specs.declared.event.Event.{Event as EventOf};
 ghost use Rattle.velo_traces.specs.declared.block.Block.{Block as BlockOf};
 ghost use Rattle.velo_filter.specs.Left.{Left, with_labels};
-ghost use Rattle.velo_filter.specs.Tables.{left_of};
+ghost use Rattle.velo_filter.specs.Tables.{members};
 ghost use Rattle.velo_audit.specs.Cut.{AreBegun, IsCut};
 
 use std::alloc::Global;
 use velo_events::{Event, Kind, Memory};
-use velo_filter::{LeftOut, no_marks};
+use velo_filter::{LabelSet, no_marks};
 use velo_traces::{Block, Trace};
 
 /// A place in the log where no block of the rest is open, and before which the rest has no cycle.
@@ -21,7 +21,7 @@ pub struct Cut {
     /// A log without a block, after which the events of the rest after the cut may happen.
     pub prologue: Trace,
     /// The labels that are begun before it.
-    pub begun: LeftOut,
+    pub begun: LabelSet,
 }
 
 impl Cut {
@@ -34,7 +34,7 @@ impl Cut {
             place: 0,
             marks,
             prologue: Trace::new(alloc),
-            begun: LeftOut::new(alloc),
+            begun: LabelSet::new(alloc),
         })
     }
 
@@ -53,10 +53,10 @@ impl Cut {
     /// Whether a label of these blocks is begun before the cut.
     fn has_begun(&self, blocks: &[Block]) -> bool
         ensures { IsFalse result
-            → All (λ (b : BlockOf). IsFalse ((left_of self.now.begun).labels b.label.0)) blocks.now }
+            → All (λ (b : BlockOf). IsFalse (members self.now.begun b.label.0)) blocks.now }
     {
         for block in blocks {
-            if self.begun.has_label(block.label) {
+            if self.begun.contains(block.label) {
                 return true;
             }
         }
@@ -66,15 +66,15 @@ impl Cut {
 
 /// Adds the labels that are begun from a place to a later one to those begun before it.
 pub fn add_begun(
-    begun: &mut LeftOut,
+    begun: &mut LabelSet,
     events: &[Event],
     from: usize,
     to: usize,
 ) -> Result<(), Memory>
     requires rising { from ≤ to }
     requires within { to ≤ length events.now }
-    requires begun { AreBegun (left_of begun.old) events.now from }
-    ensures { OnOk result (AreBegun (left_of begun.new) events.now to) }
+    requires begun { AreBegun (members begun.old) events.now from }
+    ensures { OnOk result (AreBegun (members begun.new) events.now to) }
 {
     for position in from..to {
         add_label(begun, events, position)?;
@@ -83,14 +83,14 @@ pub fn add_begun(
 }
 
 /// Adds the label that is begun at the position, if one is.
-fn add_label(begun: &mut LeftOut, events: &[Event], position: usize) -> Result<(), Memory>
+fn add_label(begun: &mut LabelSet, events: &[Event], position: usize) -> Result<(), Memory>
     requires within { position < length events.now }
-    requires begun { AreBegun (left_of begun.old) events.now position }
-    ensures { OnOk result (AreBegun (left_of begun.new) events.now (position + 1)) }
+    requires begun { AreBegun (members begun.old) events.now position }
+    ensures { OnOk result (AreBegun (members begun.new) events.now (position + 1)) }
 {
     let Kind::Begin(label) = events[position].kind else {
         return Ok(());
     };
-    begun.leave_out_label(label)?;
+    begun.insert(label)?;
     Ok(())
 }

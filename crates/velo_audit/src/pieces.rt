@@ -2,7 +2,7 @@
 ghost use Rattle.std.specs.Prelude.{◌≡◌, ◌≤◌, false, length, IfOk, IfErr, OnOk, OnErr, IsTrue};
 ghost use Rattle.velo_events.specs.Refusals.{GrowthRefused};
 ghost use Rattle.velo_events.specs.WellFormed.{IsWellFormed};
-ghost use Rattle.velo_filter.specs.Tables.{left_of};
+ghost use Rattle.velo_filter.specs.Tables.{left_of, members};
 ghost use Rattle.velo_laws.specs.Cut.{IsQuiet};
 ghost use Rattle.velo_filter.specs.Left.{Left};
 ghost use Rattle.velo_laws.specs.Restart.{HasNoBegin};
@@ -152,11 +152,11 @@ fn move_to(
 ) -> Result<(), Memory>
     requires later { cut.old.place ≤ end }
     requires within { end ≤ length log.now.events }
-    requires begun { AreBegun (left_of cut.old.begun) log.now.events cut.old.place }
+    requires begun { AreBegun (members cut.old.begun) log.now.events cut.old.place }
     ensures place { OnOk result (cut.new.place ≡ end) }
     ensures marks { OnOk result (cut.new.marks.items ≡ marks.items) }
     ensures no_begin { OnOk result (HasNoBegin cut.new.prologue.events) }
-    ensures begun { OnOk result (AreBegun (left_of cut.new.begun) log.now.events end) }
+    ensures begun { OnOk result (AreBegun (members cut.new.begun) log.now.events end) }
 {
     let made = prologue(alloc, closed.bounds(), closed.heap())?;
     add_begun(&mut cut.begun, log.as_slice(), cut.place, end)?;

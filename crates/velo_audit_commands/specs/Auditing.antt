@@ -1,15 +1,17 @@
 -- What an audit has to say, by the bytes of its input and by the definitions.
-use Rattle.std.specs.Prelude.{◌≡◌, ◌⊎◌, ◌||◌, ◌+◌, ◌≤◌, ℕ, Bool, true, false, All, List, [], ◌∷◌, length, map, Option, Some, None}
+use Rattle.std.specs.Prelude.{◌≡◌, ◌⊎◌, ◌||◌, ◌&&◌, ◌+◌, ◌≤◌, nat_lt, ℕ, Bool, true, false, All, List, [], ◌∷◌, length, map, Option, Some, None}
 use Rattle.velo_events.specs.declared.config.Bounds.{Bounds}
 use Rattle.velo_events.specs.declared.config.Config.{Config}
 use Rattle.velo_events.specs.declared.event.Event.{Event}
 use Rattle.velo_events.specs.declared.event.Label.{Label}
 use Rattle.velo_events.specs.declared.event.LockId.{LockId}
 use Rattle.velo_events.specs.declared.event.VarId.{VarId}
+use Rattle.velo_events.specs.declared.limits.TheConstants.{MAX_LOCKS}
 use Rattle.velo_events.specs.declared.refusal.Refusal.TheVariants.{GraphFull}
 use Rattle.velo_events.specs.Refusals.{GrowthRefused}
 use Rattle.velo_events.specs.Reordering.{IsSerializable}
 use Rattle.velo_names.specs.Names.{NameLists}
+use Rattle.velo_sites.specs.Sites.{Table}
 use Rattle.velo_filter.specs.Left.{Left, is_listed, rest_of, with_labels}
 use Rattle.velo_audit.specs.declared.told.Told.{Told}
 use Rattle.velo_audit.specs.Audit.{AreWitnessed, IsFullAfter, TellsTruly}
@@ -22,9 +24,15 @@ use Rattle.velo_audit_text.specs.Text.{audit_text}
 use Rattle.velo_worker.specs.declared.ending.Ending.TheVariants.{Done}
 use Rattle.velo_fate.specs.declared.fault.CheckFault.TheVariants.{Refused}
 use Rattle.velo_fate.specs.declared.fate.Fate.{Fate}
-use Rattle.velo_fate.specs.declared.fate.Fate.TheVariants.{Check, Finished, Memory}
+use Rattle.velo_fate.specs.declared.fate.Fate.TheVariants.{Check, Finished, Memory, OtherSites}
 use Rattle.velo_request.specs.declared.request.AuditOptions.{AuditOptions}
+use Rattle.velo_request.specs.declared.request.OutputFormat.{OutputFormat}
+use Rattle.velo_request.specs.declared.request.OutputFormat.TheVariants.{Json, Junit, Sarif, Text}
+use Rattle.velo_audit_forms.specs.Answer.{IsJsonText}
+use Rattle.velo_audit_findings.specs.Junit.{junit_text}
+use Rattle.velo_audit_findings.specs.Sarif.{sarif_text}
 use Rattle.velo_inputs.specs.Input.{ComesAbout, IsUnchecked}
+use Rattle.velo_inputs.specs.Siting.{AreOfLog}
 use Rattle.velo_fate.specs.Delivery.{Answer, IsPrinted, LacksMemory, printing, silent}
 use Rattle.velo_fate.specs.Failures.{FailuresAsTold}
 use Rattle.velo_delivery.specs.Reading.{Reading}
@@ -32,12 +40,14 @@ use Rattle.velo_delivery.specs.Writing.{Writing, WritesNothing}
 
 -- ---- what is left out
 
--- at first: the labels, the locks and the variables that were asked for
+-- at first: the labels, the locks and the variables that were asked for. Where all locks were, so is
+-- each that a log can have: its number is below the most
 abbrev pub left_at_first : Asked → Left
 left_at_first asked =
     record {
       labels = is_listed (map (λ (l : Label). l.0) asked.labels.now);
-      locks = is_listed (map (λ (m : LockId). m.0) asked.locks.now);
+      locks = λ m. is_listed (map (λ (l : LockId). l.0) asked.locks.now) m
+          || (asked.all_locks && nat_lt m MAX_LOCKS);
       variables = is_listed (map (λ (x : VarId). x.0) asked.variables.now);
     }
 
@@ -88,21 +98,40 @@ listing_of options =
 
 -- The text of the rounds by these names, where so many labels are atomic: one after another, or
 -- their labels listed as was asked for. Blocks are counted in what is left of the log at first.
-abbrev pub IsAuditText : NameLists → List Event → Asked → Option Listing → List Told → ℕ → List ℕ
+abbrev pub IsAuditText : NameLists → Option Table → List Event → Asked → Option Listing → List Told → ℕ → List ℕ
     → Type 0
-IsAuditText names log asked None rounds atomic page =
-    page ≡ audit_text names log asked rounds atomic
-IsAuditText names log asked (Some listing) rounds atomic page =
-    IsListingText names log asked listing (rest_of (left_at_first asked) log) rounds atomic page
+IsAuditText names sites log asked None rounds atomic page =
+    page ≡ audit_text names sites log asked rounds atomic
+IsAuditText names sites log asked (Some listing) rounds atomic page =
+    IsListingText names sites log asked listing (rest_of (left_at_first asked) log) rounds atomic page
+
+-- The page in the form that was asked for: that text, or one JSON object; or the blocks that the
+-- rounds report as a SARIF log or a JUnit report. All but the text have the path of the log
+abbrev pub IsPageIn : OutputFormat → NameLists → Option Table → List Event → List ℕ → Asked
+    → Option Listing → List Told → ℕ → List ℕ → Type 0
+IsPageIn Text names sites log path asked listing rounds atomic page =
+    IsAuditText names sites log asked listing rounds atomic page
+IsPageIn Json names sites log path asked listing rounds atomic page =
+    IsJsonText (record { log = log; names = names; sites = sites }) path asked listing
+    (rest_of (left_at_first asked) log) rounds atomic page
+IsPageIn Sarif names sites log path asked listing rounds atomic page =
+    page ≡ sarif_text names log path rounds
+IsPageIn Junit names sites log path asked listing rounds atomic page =
+    page ≡ junit_text names log path rounds
+
+abbrev pub IsAuditPage : NameLists → Option Table → List Event → Asked → AuditOptions → List Told → ℕ
+    → List ℕ → Type 0
+IsAuditPage names sites log asked options rounds atomic page =
+    IsPageIn options.format names sites log options.input.now asked (listing_of options) rounds atomic
+    page
 
 -- its rounds are printed
-pub record TellsRounds (names : NameLists) (asked : Asked) (options : AuditOptions)
-    (log : List Event) (answer : Answer) : Type 0 where
+pub record TellsRounds (names : NameLists) (sites : Option Table) (asked : Asked)
+    (options : AuditOptions) (log : List Event) (answer : Answer) : Type 0 where
   pub rounds : List Told
   pub are_rounds : AreRoundsOf options.witness log (left_at_first asked) rounds
   pub page : List ℕ
-  pub is_text :
-      IsAuditText names log asked (listing_of options) rounds (atomic_of log asked rounds) page
+  pub is_page : IsAuditPage names sites log asked options rounds (atomic_of log asked rounds) page
   pub said : answer ≡ printing page (Finished Done (is_found rounds))
 
 -- A round needs more nodes than there may be: the event at this position of the log as read finds
@@ -116,25 +145,39 @@ pub record HasFullGraph (asked : Asked) (nodes : ℕ) (bounds : Bounds) (log : L
   pub is_full : IsFullAfter config log (left_at_first asked) position
   pub said : answer ≡ silent (Check (Refused position GraphFull))
 
-abbrev pub AuditsEvents : NameLists → Asked → AuditOptions → Bounds → List Event → Answer → Type 0
-AuditsEvents names asked options bounds log answer =
-    TellsRounds names asked options log answer
+abbrev pub AuditsEvents : NameLists → Option Table → Asked → AuditOptions → Bounds → List Event → Answer
+    → Type 0
+AuditsEvents names sites asked options bounds log answer =
+    TellsRounds names sites asked options log answer
     ⊎ HasFullGraph asked options.limits.nodes bounds log answer
+
+-- nothing is said of the log: the sites are of another number of events
+pub record IsOfOther (sites : Option Table) (log : List Event) (answer : Answer) : Type 0 where
+  pub of_other : ¬ AreOfLog sites log
+  pub said : answer ≡ silent OtherSites
+
+-- that much is said where the sites are of the log
+abbrev pub AuditsSited : NameLists → Option Table → Asked → AuditOptions → Bounds → List Event → Answer
+    → Type 0
+AuditsSited names sites asked options bounds log answer =
+    (AreOfLog sites log × AuditsEvents names sites asked options bounds log answer)
+    ⊎ IsOfOther sites log answer
 
 -- ---- the answer
 
 -- what is said of the log of the input
-pub record IsAudited (names : NameLists) (asked : Asked) (options : AuditOptions)
-    (read : Option (List ℕ)) (answer : Answer) : Type 0 where
+pub record IsAudited (names : NameLists) (sites : Option Table) (asked : Asked)
+    (options : AuditOptions) (read : Option (List ℕ)) (answer : Answer) : Type 0 where
   pub bounds : Bounds
   pub log : List Event
   pub comes_about : ComesAbout options.limits.events read bounds log
-  pub verdict : AuditsEvents names asked options bounds log answer
+  pub verdict : AuditsSited names sites asked options bounds log answer
 
--- What an audit has to say: the rounds in words; or nothing, for a reason.
-abbrev pub IsAuditAnswer : NameLists → Asked → AuditOptions → Option (List ℕ) → Answer → Type 0
-IsAuditAnswer names asked options read answer =
-    IsAudited names asked options read answer
+-- What an audit has to say: the rounds, in the form that was asked for; or nothing, for a reason.
+abbrev pub IsAuditAnswer : NameLists → Option Table → Asked → AuditOptions → Option (List ℕ) → Answer
+    → Type 0
+IsAuditAnswer names sites asked options read answer =
+    IsAudited names sites asked options read answer
     ⊎ (IsUnchecked options.limits.events options.limits.nodes read answer ⊎ LacksMemory answer)
 
 -- ---- on the way. Contracts within the crate cite these words
@@ -145,31 +188,45 @@ LacksRounds asked nodes bounds log f =
     HasFullGraph asked nodes bounds log (silent f) ⊎ LacksMemory (silent f)
 
 -- the rounds were printed, or memory was wanting
-abbrev pub PrintsRounds : NameLists → List Event → Asked → Option Listing → List Told → Writing → Fate
-    → Type 0
-PrintsRounds names log asked listing rounds stdout f =
+abbrev pub PrintsRounds : NameLists → Option Table → List Event → Asked → AuditOptions → List Told
+    → Writing → Fate → Type 0
+PrintsRounds names sites log asked options rounds stdout f =
     ((page : List ℕ)
-    × IsAuditText names log asked listing rounds (atomic_of log asked rounds) page
+    × IsAuditPage names sites log asked options rounds (atomic_of log asked rounds) page
     × IsPrinted stdout (printing page (Finished Done (is_found rounds))) f)
     ⊎ (GrowthRefused × (f ≡ Memory) × WritesNothing stdout)
 
--- these locks, these variables are left out as well
+-- these locks, all locks below n, these variables are left out as well
 abbrev pub with_locks : Left → List ℕ → Left
 with_locks left locks = record left { locks = λ m. left.locks m || is_listed locks m }
+
+abbrev pub with_locks_below : Left → Bool → ℕ → Left
+with_locks_below left all n = record left { locks = λ m. left.locks m || (all && nat_lt m n) }
 
 abbrev pub with_variables : Left → List ℕ → Left
 with_variables left variables =
     record left { variables = λ x. left.variables x || is_listed variables x }
 
 -- what was made of a log was printed: its audit, or that memory was wanting
-abbrev pub Audits : NameLists → Asked → AuditOptions → Bounds → List Event → Writing → Fate → Type 0
-Audits names asked options bounds log stdout f =
-    (answer : Answer) × (AuditsEvents names asked options bounds log answer ⊎ LacksMemory answer)
+abbrev pub Audits : NameLists → Option Table → Asked → AuditOptions → Bounds → List Event → Writing → Fate
+    → Type 0
+Audits names sites asked options bounds log stdout f =
+    (answer : Answer)
+    × (AuditsEvents names sites asked options bounds log answer ⊎ LacksMemory answer)
+    × IsPrinted stdout answer f
+
+-- the same where the sites are of the log
+abbrev pub AuditsIfOf : NameLists → Option Table → Asked → AuditOptions → Bounds → List Event → Writing
+    → Fate → Type 0
+AuditsIfOf names sites asked options bounds log stdout f =
+    (answer : Answer)
+    × (AuditsSited names sites asked options bounds log answer ⊎ LacksMemory answer)
     × IsPrinted stdout answer f
 
 -- what was made of an input was printed
-abbrev pub AuditsInput : NameLists → Asked → AuditOptions → Reading → Writing → Fate → Type 0
-AuditsInput names asked options read stdout f =
+abbrev pub AuditsInput : NameLists → Option Table → Asked → AuditOptions → Reading → Writing → Fate
+    → Type 0
+AuditsInput names sites asked options read stdout f =
     FailuresAsTold read f
-    × ((answer : Answer) × IsAuditAnswer names asked options read.bytes answer
+    × ((answer : Answer) × IsAuditAnswer names sites asked options read.bytes answer
     × IsPrinted stdout answer f)

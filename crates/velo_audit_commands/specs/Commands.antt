@@ -3,14 +3,14 @@
 -- The store is the files that the command finds and leaves, stdout is standard output before and
 -- after, and f is the command's fate. Each command names in parentheses the page that says what it
 -- answers to the bytes of its input.
-use Rattle.std.specs.Prelude.{◌⊎◌, None}
+use Rattle.std.specs.Prelude.{◌⊎◌, Option, None}
 use Rattle.velo_names.specs.Names.{NameLists}
+use Rattle.velo_sites.specs.Sites.{Table}
 use Rattle.velo_audit_text.specs.declared.words.Asked.{Asked}
 use Rattle.velo_fate.specs.declared.fate.Fate.{Fate}
 use Rattle.velo_request.specs.declared.request.AuditOptions.{AuditOptions}
 use Rattle.velo_request.specs.declared.request.PredictOptions.{PredictOptions}
 use Rattle.velo_delivery.specs.declared.failure.Operand.TheVariants.{Log}
-use Rattle.velo_inputs.specs.declared.asking.AskedWords.{AskedWords}
 use Rattle.velo_audit_commands.specs.Auditing.{IsAuditAnswer}
 use Rattle.velo_fate.specs.Delivery.{Answer, IsDelivered}
 use Rattle.velo_fate.specs.Barred.{DoesNotRead}
@@ -19,65 +19,58 @@ use Rattle.velo_audit_commands.specs.Predicting.{IsPredictAnswer}
 use Rattle.velo_fate.specs.Failures.{FailuresAsTold}
 use Rattle.velo_delivery.specs.Reading.{Reading}
 use Rattle.velo_delivery.specs.Writing.{Writing}
-use Rattle.velo_inputs.specs.Before.{DoesAsked, DoesByNames}
+use Rattle.velo_inputs.specs.Before.{DoesAsked, DoesByNames, DoesBySites}
 
--- ---- velodrome audit LOG [--names FILE] [--not-atomic FILE] [--ignore-lock N].. [--ignore-variable N]..
--- ---- [--no-witness] [--events N] [--nodes N]
+-- ---- velodrome audit LOG [--names FILE] [--sites FILE] [--not-atomic FILE] [--ignore-label N]..
+-- ---- [--ignore-lock N].. [--ignore-locks] [--ignore-variable N].. [--format FORM] [--no-witness]
+-- ---- [--counts] [--by-count] [--innermost] [--events N] [--nodes N]
 
--- LOG is read whole and judged as by a check, and then audited, where this is left out. The text of
--- the rounds goes to standard output, by these names; or nothing, for a reason (`Auditing`).
-abbrev pub AuditsLog : NameLists → Asked → AuditOptions → Store → Writing → Fate → Type 0
-AuditsLog names asked options store stdout f =
+-- LOG is read whole and judged as by a check, and then audited, where this is left out. The page of
+-- the rounds goes to standard output, in the form that was asked for, by these names and with these
+-- sites; or nothing, for a reason (`Auditing`).
+abbrev pub AuditsLog : NameLists → Option Table → Asked → AuditOptions → Store → Writing → Fate → Type 0
+AuditsLog names sites asked options store stdout f =
     DoesNotRead store Log options.input.now None stdout f
     ⊎ ((read : Reading) × (answer : Answer)
     × store.disk.gives options.input.now read × FailuresAsTold read f
-    × IsAuditAnswer names asked options read.bytes answer
+    × IsAuditAnswer names sites asked options read.bytes answer
     × IsDelivered store None stdout answer f)
 
--- what it is asked to leave out
-abbrev pub audit_words : AuditOptions → AskedWords
-audit_words options =
-    record {
-      known = options.known;
-      locks = options.ignored_locks;
-      variables = options.ignored_variables;
-    }
+abbrev pub AuditsAsked : NameLists → Asked → AuditOptions → Store → Writing → Fate → Type 0
+AuditsAsked names asked options store stdout f =
+    DoesBySites (λ sites. AuditsLog names sites asked options) options.sites store stdout f
 
 abbrev pub AuditsNamed : NameLists → AuditOptions → Store → Writing → Fate → Type 0
 AuditsNamed names options store stdout f =
-    DoesAsked (λ asked. AuditsLog names asked options) names (audit_words options) store stdout f
+    DoesAsked (λ asked. AuditsAsked names asked options) names options.ignored store stdout f
 
 abbrev pub DoesAudit : AuditOptions → Store → Writing → Fate → Type 0
 DoesAudit options store stdout f =
     DoesByNames (λ names. AuditsNamed names options) options.names store stdout f
 
--- ---- velodrome predict LOG [--names FILE] [--not-atomic FILE] [--ignore-lock N].. [--ignore-variable N]..
--- ---- [--values] [--tries N] [--seed S] [--log OUT] [--events N] [--nodes N]
+-- ---- velodrome predict LOG [--names FILE] [--sites FILE] [--not-atomic FILE] [--ignore-label N]..
+-- ---- [--ignore-lock N].. [--ignore-locks] [--ignore-variable N].. [--values] [--tries N] [--seed S]
+-- ---- [--log OUT] [--events N] [--nodes N]
 
 -- LOG is read whole and judged as by a check. Where this is left out it is audited, and then searched
 -- for what other runs can show. The trace of the first prediction is saved at OUT, if there is one,
--- and then the text goes to standard output, by these names; or nothing, for a reason
--- (`Predicting`). Where nothing is predicted OUT is untouched.
-abbrev pub PredictsLog : NameLists → Asked → PredictOptions → Store → Writing → Fate → Type 0
-PredictsLog names asked options store stdout f =
+-- and then the text goes to standard output, by these names and with these sites; or nothing, for a
+-- reason (`Predicting`). Where nothing is predicted OUT is untouched.
+abbrev pub PredictsLog : NameLists → Option Table → Asked → PredictOptions → Store → Writing → Fate → Type 0
+PredictsLog names sites asked options store stdout f =
     DoesNotRead store Log options.input.now options.target stdout f
     ⊎ ((read : Reading) × (answer : Answer)
     × store.disk.gives options.input.now read × FailuresAsTold read f
-    × IsPredictAnswer names asked options read.bytes answer
+    × IsPredictAnswer names sites asked options read.bytes answer
     × IsDelivered store options.target stdout answer f)
 
--- what it is asked to leave out
-abbrev pub predict_words : PredictOptions → AskedWords
-predict_words options =
-    record {
-      known = options.known;
-      locks = options.ignored_locks;
-      variables = options.ignored_variables;
-    }
+abbrev pub PredictsAsked : NameLists → Asked → PredictOptions → Store → Writing → Fate → Type 0
+PredictsAsked names asked options store stdout f =
+    DoesBySites (λ sites. PredictsLog names sites asked options) options.sites store stdout f
 
 abbrev pub PredictsNamed : NameLists → PredictOptions → Store → Writing → Fate → Type 0
 PredictsNamed names options store stdout f =
-    DoesAsked (λ asked. PredictsLog names asked options) names (predict_words options) store stdout f
+    DoesAsked (λ asked. PredictsAsked names asked options) names options.ignored store stdout f
 
 abbrev pub DoesPredict : PredictOptions → Store → Writing → Fate → Type 0
 DoesPredict options store stdout f =

@@ -5,10 +5,11 @@ use Rattle.velo_events.specs.declared.config.Bounds.{Bounds}
 use Rattle.velo_events.specs.declared.event.Event.{Event}
 use Rattle.velo_logtext.specs.Text.{log_text}
 use Rattle.velo_names.specs.Names.{NameLists}
+use Rattle.velo_sites.specs.Sites.{Table}
 use Rattle.velo_filter.specs.Left.{Left}
 use Rattle.velo_audit.specs.declared.told.Told.{Told}
 use Rattle.velo_audit_text.specs.declared.words.Asked.{Asked}
-use Rattle.velo_delays.specs.declared.judged.Found.{Found}
+use Rattle.velo_delays.specs.declared.judged.PredictedCycle.{PredictedCycle}
 use Rattle.velo_delays.specs.declared.stuck.Deadlock.{Deadlock}
 use Rattle.velo_delays.specs.Anew.{IsAnew}
 use Rattle.velo_delays.specs.Deadlock.{IsDeadlockIn}
@@ -23,9 +24,10 @@ use Rattle.velo_delivery.specs.Disk.{Store}
 use Rattle.velo_delivery.specs.Reading.{Reading}
 use Rattle.velo_delivery.specs.Writing.{Writing}
 use Rattle.velo_request.specs.declared.request.PredictOptions.{PredictOptions}
-use Rattle.velo_audit_commands.specs.declared.predicting.Findings.{Findings}
-use Rattle.velo_audit_commands.specs.Auditing.{AreRoundsOf, HasFullGraph, left_at_first, left_at_last}
+use Rattle.velo_audit_commands.specs.declared.predicting.PredictedFindings.{PredictedFindings}
+use Rattle.velo_audit_commands.specs.Auditing.{AreRoundsOf, HasFullGraph, IsOfOther, left_at_first, left_at_last}
 use Rattle.velo_inputs.specs.Input.{ComesAbout, IsUnchecked}
+use Rattle.velo_inputs.specs.Siting.{AreOfLog}
 
 -- ---- what is looked for
 
@@ -39,7 +41,7 @@ IsSearched false log searched = IsAnew log searched
 -- foretold, and the reads told are those that have another value than in the log. That there are no
 -- others is not claimed.
 pub record ArePredictionsOf (values : Bool) (bounds : Bounds) (log : List Event) (left : Left)
-    (findings : Findings) : Type 0 where
+    (findings : PredictedFindings) : Type 0 where
   pub searched : List Event
   pub is_searched : IsSearched values log searched
   -- The blocks of some more labels dissolved (`IsFound`): the trace has a cycle, and the blocks told
@@ -51,67 +53,86 @@ pub record ArePredictionsOf (values : Bool) (bounds : Bounds) (log : List Event)
 -- ---- what is said of it
 
 -- the trace that is told first, if there is one
-abbrev pub first_trace : List Found → List Deadlock → Option (List Event)
+abbrev pub first_trace : List PredictedCycle → List Deadlock → Option (List Event)
 first_trace (found ∷ founds) deadlocks = Some found.trace.events
 first_trace [] (deadlock ∷ deadlocks) = Some deadlock.trace.events
 first_trace [] [] = None
 
 -- this trace is to be saved as a log, and the rounds of the log itself and the predictions are to be
 -- printed; it is an alarm where something is told
-abbrev pub predicted : NameLists → Bounds → List Event → Asked → List Told → Findings → Answer
-predicted names bounds log asked rounds findings =
+abbrev pub predicted : NameLists → Option Table → Bounds → List Event → Asked → List Told → PredictedFindings → Answer
+predicted names sites bounds log asked rounds findings =
     record {
       saved = option_map (log_text bounds) (first_trace findings.labels.items findings.deadlocks.items);
-      printed = Some (predictions_text names log asked rounds findings.labels.items
+      printed = Some (predictions_text names sites log asked rounds findings.labels.items
           findings.deadlocks.items findings.tries);
       fate = Finished Done (is_something_told rounds findings.labels.items findings.deadlocks.items);
     }
 
 -- The rounds of the log are told, as by an audit with witnesses. Their labels are left out, and then
 -- predictions are told. Of the number of tries nothing is claimed.
-pub record TellsPredictions (names : NameLists) (asked : Asked) (values : Bool) (bounds : Bounds)
-    (log : List Event) (answer : Answer) : Type 0 where
+pub record TellsPredictions (names : NameLists) (sites : Option Table) (asked : Asked)
+    (values : Bool) (bounds : Bounds) (log : List Event) (answer : Answer) : Type 0 where
   pub rounds : List Told
   pub are_rounds : AreRoundsOf true log (left_at_first asked) rounds
-  pub findings : Findings
+  pub findings : PredictedFindings
   pub are_predictions : ArePredictionsOf values bounds log
       (left_at_last log (left_at_first asked) rounds) findings
-  pub said : answer ≡ predicted names bounds log asked rounds findings
+  pub said : answer ≡ predicted names sites bounds log asked rounds findings
 
-abbrev pub PredictsEvents : NameLists → Asked → PredictOptions → Bounds → List Event → Answer → Type 0
-PredictsEvents names asked options bounds log answer =
-    TellsPredictions names asked options.values bounds log answer
+abbrev pub PredictsEvents : NameLists → Option Table → Asked → PredictOptions → Bounds → List Event
+    → Answer → Type 0
+PredictsEvents names sites asked options bounds log answer =
+    TellsPredictions names sites asked options.values bounds log answer
     ⊎ HasFullGraph asked options.limits.nodes bounds log answer
+
+-- that much is said where the sites are of the log
+abbrev pub PredictsSited : NameLists → Option Table → Asked → PredictOptions → Bounds → List Event
+    → Answer → Type 0
+PredictsSited names sites asked options bounds log answer =
+    (AreOfLog sites log × PredictsEvents names sites asked options bounds log answer)
+    ⊎ IsOfOther sites log answer
 
 -- ---- the answer
 
 -- what is said of the log of the input
-pub record IsPredicted (names : NameLists) (asked : Asked) (options : PredictOptions)
-    (read : Option (List ℕ)) (answer : Answer) : Type 0 where
+pub record IsPredicted (names : NameLists) (sites : Option Table) (asked : Asked)
+    (options : PredictOptions) (read : Option (List ℕ)) (answer : Answer) : Type 0 where
   pub bounds : Bounds
   pub log : List Event
   pub comes_about : ComesAbout options.limits.events read bounds log
-  pub verdict : PredictsEvents names asked options bounds log answer
+  pub verdict : PredictsSited names sites asked options bounds log answer
 
 -- What a search for predictions has to say: what the log shows and foretells, in words; or nothing,
 -- for a reason.
-abbrev pub IsPredictAnswer : NameLists → Asked → PredictOptions → Option (List ℕ) → Answer → Type 0
-IsPredictAnswer names asked options read answer =
-    IsPredicted names asked options read answer
+abbrev pub IsPredictAnswer : NameLists → Option Table → Asked → PredictOptions → Option (List ℕ)
+    → Answer → Type 0
+IsPredictAnswer names sites asked options read answer =
+    IsPredicted names sites asked options read answer
     ⊎ (IsUnchecked options.limits.events options.limits.nodes read answer ⊎ LacksMemory answer)
 
 -- ---- on the way. Contracts within the crate cite these words
 
 -- what was made of a log was delivered: what it shows and foretells, or that memory was wanting
-abbrev pub Predicts : NameLists → Asked → PredictOptions → Bounds → List Event → Store → Writing → Fate
-    → Type 0
-Predicts names asked options bounds log store stdout f =
-    (answer : Answer) × (PredictsEvents names asked options bounds log answer ⊎ LacksMemory answer)
+abbrev pub Predicts : NameLists → Option Table → Asked → PredictOptions → Bounds → List Event → Store
+    → Writing → Fate → Type 0
+Predicts names sites asked options bounds log store stdout f =
+    (answer : Answer)
+    × (PredictsEvents names sites asked options bounds log answer ⊎ LacksMemory answer)
+    × IsDelivered store options.target stdout answer f
+
+-- the same where the sites are of the log
+abbrev pub PredictsIfOf : NameLists → Option Table → Asked → PredictOptions → Bounds → List Event → Store
+    → Writing → Fate → Type 0
+PredictsIfOf names sites asked options bounds log store stdout f =
+    (answer : Answer)
+    × (PredictsSited names sites asked options bounds log answer ⊎ LacksMemory answer)
     × IsDelivered store options.target stdout answer f
 
 -- what was made of an input was delivered
-abbrev pub PredictsInput : NameLists → Asked → PredictOptions → Store → Reading → Writing → Fate → Type 0
-PredictsInput names asked options store read stdout f =
+abbrev pub PredictsInput : NameLists → Option Table → Asked → PredictOptions → Store → Reading → Writing
+    → Fate → Type 0
+PredictsInput names sites asked options store read stdout f =
     FailuresAsTold read f
-    × ((answer : Answer) × IsPredictAnswer names asked options read.bytes answer
+    × ((answer : Answer) × IsPredictAnswer names sites asked options read.bytes answer
     × IsDelivered store options.target stdout answer f)

@@ -1,35 +1,36 @@
 //! `velodrome audit`.
-ghost use Rattle.std.specs.Prelude.{◌≡◌, ◌≤◌, All, false, length, map, IfErr, IfOk, OnOk, IsTrue};
+ghost use Rattle.std.specs.Prelude.{◌≡◌, ◌≤◌, All, false, true, length, map, IfErr, IfOk, OnOk, IsTrue};
 ghost use Rattle.velo_events.specs.declared.event.Label.{Label as LabelOf};
 ghost use Rattle.velo_events.specs.declared.event.LockId.{LockId as LockOf};
 ghost use Rattle.velo_events.specs.declared.event.VarId.{VarId as VariableOf};
-ghost use Rattle.velo_events.specs.declared.limits.TheConstants.{MAX_EVENTS};
+ghost use Rattle.velo_events.specs.declared.limits.TheConstants.{MAX_EVENTS, MAX_LOCKS};
 ghost use Rattle.velo_events.specs.Graph.{HasCycle};
 ghost use Rattle.velo_events.specs.WellFormed.{IsWellFormed};
-ghost use Rattle.velo_filter.specs.Left.{rest_of, with_labels};
+ghost use Rattle.velo_filter.specs.Left.{with_labels};
 ghost use Rattle.velo_filter.specs.Tables.{left_of};
 ghost use Rattle.velo_audit.specs.Audit.{TellsTruly};
-ghost use Rattle.velo_audit_commands.specs.Auditing.{AreRoundsOf, Audits, AuditsInput, IsAuditText, LacksRounds, PrintsRounds, is_found, left_at_first, left_at_last, listing_of, with_locks, with_variables};
-ghost use Rattle.velo_audit_text.specs.Listing.{IsListingText};
+ghost use Rattle.velo_audit_commands.specs.Auditing.{AreRoundsOf, Audits, AuditsIfOf, AuditsInput, LacksRounds, PrintsRounds, is_found, left_at_first, left_at_last, with_locks, with_locks_below, with_variables};
 ghost use Rattle.velo_delivery.specs.Disk.{store};
-ghost use Rattle.velo_audit_commands.specs.Commands.{AuditsLog, AuditsNamed, DoesAudit};
+ghost use Rattle.velo_audit_commands.specs.Commands.{AuditsAsked, AuditsLog, AuditsNamed, DoesAudit};
 ghost use Rattle.velo_delivery.specs.Reading.{reading};
 ghost use Rattle.velo_delivery.specs.Writing.{writing};
 
-use crate::command::Command;
+use crate::command::{Command, Inquiry};
+use crate::page::page_of;
 use std::alloc::Global;
 use velo_audit::{AuditFault, Told, audit_checked, count_atomic};
-use velo_audit_text::{Asked, Listing, audit_text, listing_text};
+use velo_audit_text::Asked;
 use velo_bytes::{Sink, Source};
 use velo_delivery::{Files, Operand};
-use velo_events::{Bounds, Config, Label, LockId, Memory, Refusal, VarId};
-use velo_explain::Page;
+use velo_events::{Bounds, Config, Label, LockId, MAX_LOCKS, Memory, Refusal, VarId};
 use velo_fate::{CheckFault, Fate, open_input};
-use velo_filter::{LeftOut, thin};
-use velo_inputs::{AskedWords, ByAsked, ByNames, do_by_asked, do_by_names, do_input, print};
+use velo_filter::LeftOut;
+use velo_inputs::{
+    ByAsked, ByNames, BySites, are_of_log, do_by_asked, do_by_names, do_by_sites, do_input, print,
+};
 use velo_names::Names;
 use velo_request::{AuditOptions, Limits};
-use velo_tally::marks_of;
+use velo_sites::Sites;
 use velo_traces::Trace;
 use velo_world::Closed;
 
@@ -55,6 +56,26 @@ fn leave_out_locks(left: &mut LeftOut, locks: &[LockId]) -> Result<(), Memory>
     Ok(())
 }
 
+/// Leaves out all locks that a log can have.
+fn leave_out_all_locks(left: &mut LeftOut) -> Result<(), Memory>
+    ensures { OnOk result (left_of left.new ≡ with_locks_below (left_of left.old) true MAX_LOCKS) }
+{
+    for number in 0..MAX_LOCKS {
+        left.leave_out_lock(LockId(number))?;
+    }
+    Ok(())
+}
+
+/// Leaves them out, if this was asked for.
+fn leave_out_all_locks_if(left: &mut LeftOut, all: bool) -> Result<(), Memory>
+    ensures { OnOk result (left_of left.new ≡ with_locks_below (left_of left.old) all MAX_LOCKS) }
+{
+    if !all {
+        return Ok(());
+    }
+    leave_out_all_locks(left)
+}
+
 /// Leaves out the variables.
 fn leave_out_variables(left: &mut LeftOut, variables: &[VarId]) -> Result<(), Memory>
     ensures { OnOk result (left_of left.new
@@ -73,6 +94,7 @@ pub fn left_out(alloc: Global, asked: &Asked) -> Result<LeftOut, Memory>
     let mut left = LeftOut::new(alloc);
     leave_out_labels(&mut left, asked.labels)?;
     leave_out_locks(&mut left, asked.locks)?;
+    leave_out_all_locks_if(&mut left, asked.all_locks)?;
     leave_out_variables(&mut left, asked.variables)?;
     Ok(left)
 }
@@ -110,84 +132,15 @@ fn is_found(rounds: &[Told]) -> bool
     }
 }
 
-/// How the labels are to be listed, if this was asked for.
-fn listing_of(options: &AuditOptions) -> Option<Listing>
-    ensures { result ≡ listing_of options.now }
-{
-    if !(options.counts || options.by_count || options.innermost) {
-        return None;
-    }
-    Some(Listing {
-        counts: options.counts,
-        by_count: options.by_count,
-        innermost: options.innermost,
-    })
-}
-
-/// The text of the rounds where their labels are listed as was asked for.
-fn listed(
-    alloc: Global,
-    bounds: Bounds,
-    log: &Trace,
-    names: &Names,
-    asked: &Asked,
-    listing: Listing,
-    rounds: &[Told],
-    atomic: usize,
-) -> Result<Page, Memory>
-    requires few { length log.now.events ≤ MAX_EVENTS }
-    requires well_formed { IsWellFormed bounds log.now.events }
-    requires truly { All (TellsTruly log.now.events) rounds.now }
-    ensures { IfOk result (λ page. IsListingText names.now log.now.events asked.now listing
-        (rest_of (left_at_first asked.now) log.now.events) rounds.now atomic page) }
-{
-    let left = left_out(alloc, asked)?;
-    let first = thin(alloc, log, &left)?;
-    let marks = marks_of(alloc, bounds, &first.trace)?;
-    listing_text(
-        alloc,
-        names,
-        log,
-        asked,
-        listing,
-        &first.trace,
-        &marks,
-        rounds,
-        atomic,
-    )
-}
-
-/// The text of the rounds.
-fn text_of(
-    alloc: Global,
-    bounds: Bounds,
-    log: &Trace,
-    names: &Names,
-    asked: &Asked,
-    listing: Option<Listing>,
-    rounds: &[Told],
-    atomic: usize,
-) -> Result<Page, Memory>
-    requires few { length log.now.events ≤ MAX_EVENTS }
-    requires well_formed { IsWellFormed bounds log.now.events }
-    requires truly { All (TellsTruly log.now.events) rounds.now }
-    ensures { IfOk result (λ page.
-        IsAuditText names.now log.now.events asked.now listing rounds.now atomic page) }
-{
-    match listing {
-        None => audit_text(alloc, names, log, asked, rounds, atomic),
-        Some(listing) => listed(alloc, bounds, log, names, asked, listing, rounds, atomic),
-    }
-}
-
-/// Prints the text of the rounds, as a whole.
+/// Prints the rounds, as a whole.
 fn tell_rounds<O: Sink>(
     alloc: Global,
     bounds: Bounds,
     log: &Trace,
     names: &Names,
+    sites: &Option<Sites>,
     asked: &Asked,
-    listing: Option<Listing>,
+    options: &AuditOptions,
     rounds: &[Told],
     left: &LeftOut,
     out: &mut O,
@@ -197,14 +150,16 @@ fn tell_rounds<O: Sink>(
     requires truly { All (TellsTruly log.now.events) rounds.now }
     requires left { left_of left.now
         ≡ left_at_last log.now.events (left_at_first asked.now) rounds.now }
-    ensures { PrintsRounds names.now log.now.events asked.now listing rounds.now
+    ensures { PrintsRounds names.now sites.now log.now.events asked.now options.now rounds.now
         (writing O.contents O.failures out.old out.new) result }
 {
     let atomic = match count_atomic(alloc, log, left) {
         Ok(atomic) => atomic,
         Err(Memory) => return Fate::Memory,
     };
-    match text_of(alloc, bounds, log, names, asked, listing, rounds, atomic) {
+    match page_of(
+        alloc, bounds, log, names, sites, asked, options, rounds, atomic,
+    ) {
         Ok(text) => print(text.as_slice(), is_found(rounds), out),
         Err(Memory) => Fate::Memory,
     }
@@ -250,6 +205,7 @@ fn audit_rest<O: Sink>(
     alloc: Global,
     closed: &Closed,
     names: &Names,
+    sites: &Option<Sites>,
     asked: &Asked,
     options: &AuditOptions,
     left: &mut LeftOut,
@@ -257,8 +213,8 @@ fn audit_rest<O: Sink>(
 ) -> Fate
     requires short { length closed.now.log ≤ options.now.limits.events }
     requires left { left_of left.old ≡ left_at_first asked.now }
-    ensures { Audits names.now asked.now options.now closed.now.config.bounds closed.now.log
-        (writing O.contents O.failures out.old out.new) result }
+    ensures { Audits names.now sites.now asked.now options.now closed.now.config.bounds
+        closed.now.log (writing O.contents O.failures out.old out.new) result }
 {
     let config = config_of_rounds(closed, options.limits);
     let log = closed.log();
@@ -272,10 +228,9 @@ fn audit_rest<O: Sink>(
         left,
     ) {
         Ok(rounds) => {
-            let listing = listing_of(options);
             let bounds = config.bounds;
             let fate = tell_rounds(
-                alloc, bounds, log, names, asked, listing, &rounds, left, out,
+                alloc, bounds, log, names, sites, asked, options, &rounds, left, out,
             );
             drop(rounds);
             fate
@@ -289,17 +244,18 @@ fn audit_closed<O: Sink>(
     alloc: Global,
     closed: &Closed,
     names: &Names,
+    sites: &Option<Sites>,
     asked: &Asked,
     options: &AuditOptions,
     out: &mut O,
 ) -> Fate
     requires short { length closed.now.log ≤ options.now.limits.events }
-    ensures { Audits names.now asked.now options.now closed.now.config.bounds closed.now.log
-        (writing O.contents O.failures out.old out.new) result }
+    ensures { Audits names.now sites.now asked.now options.now closed.now.config.bounds
+        closed.now.log (writing O.contents O.failures out.old out.new) result }
 {
     match left_out(alloc, asked) {
         Ok(mut left) => {
-            let fate = audit_rest(alloc, closed, names, asked, options, &mut left, out);
+            let fate = audit_rest(alloc, closed, names, sites, asked, options, &mut left, out);
             drop(left);
             fate
         }
@@ -307,22 +263,43 @@ fn audit_closed<O: Sink>(
     }
 }
 
+/// Audits the log of a closed world, if the sites are of it.
+fn audit_if_of<O: Sink>(
+    alloc: Global,
+    closed: &Closed,
+    names: &Names,
+    sites: &Option<Sites>,
+    asked: &Asked,
+    options: &AuditOptions,
+    out: &mut O,
+) -> Fate
+    requires short { length closed.now.log ≤ options.now.limits.events }
+    ensures { AuditsIfOf names.now sites.now asked.now options.now closed.now.config.bounds
+        closed.now.log (writing O.contents O.failures out.old out.new) result }
+{
+    if !are_of_log(sites, closed.log()) {
+        return Fate::OtherSites;
+    }
+    audit_closed(alloc, closed, names, sites, asked, options, out)
+}
+
 /// Reads a whole log, does its events, and audits it.
 fn audit_log<I: Source, O: Sink>(
     alloc: Global,
     options: &AuditOptions,
     names: &Names,
+    sites: &Option<Sites>,
     asked: &Asked,
     source: &mut I,
     out: &mut O,
 ) -> Fate
-    ensures { AuditsInput names.now asked.now options.now
+    ensures { AuditsInput names.now sites.now asked.now options.now
         (reading I.remaining I.failures source.old source.new)
         (writing O.contents O.failures out.old out.new) result }
 {
     match do_input(alloc, source, options.limits.events, options.limits.nodes) {
         Ok(closed) => {
-            let fate = audit_closed(alloc, &closed, names, asked, options, out);
+            let fate = audit_if_of(alloc, &closed, names, sites, asked, options, out);
             drop(closed);
             fate
         }
@@ -330,26 +307,49 @@ fn audit_log<I: Source, O: Sink>(
     }
 }
 
-/// Audits the log that was asked for, and reports it by the names.
+/// Audits the log that was asked for, and reports it by the names and with the sites.
 fn audit_input<F: Files, O: Sink>(
     alloc: Global,
     options: &AuditOptions,
     names: &Names,
+    sites: &Option<Sites>,
     asked: &Asked,
     files: &F,
     out: &mut O,
 ) -> Fate
-    ensures { AuditsLog names.now asked.now options.now (store F.disk files.now files.now)
+    ensures { AuditsLog names.now sites.now asked.now options.now (store F.disk files.now files.now)
         (writing O.contents O.failures out.old out.new) result }
 {
     match open_input(files, Operand::Log, options.input, None) {
-        Ok(mut log) => audit_log(alloc, options, names, asked, &mut log, out),
+        Ok(mut log) => audit_log(alloc, options, names, sites, asked, &mut log, out),
         Err(fate) => fate,
     }
 }
 
+impl BySites for Inquiry<'_, '_, '_, AuditOptions<'_>> {
+    ghost does = { λ inquiry sites. AuditsLog inquiry.names.now sites inquiry.asked.now inquiry.options.now };
+
+    fn do_by_sites<F: Files, O: Sink>(
+        &self,
+        alloc: Global,
+        sites: &Option<Sites>,
+        files: &mut F,
+        out: &mut O,
+    ) -> Fate {
+        audit_input(
+            alloc,
+            self.options,
+            self.names,
+            sites,
+            self.asked,
+            files,
+            out,
+        )
+    }
+}
+
 impl ByAsked for Command<'_, AuditOptions<'_>> {
-    ghost does = { λ command names asked. AuditsLog names asked command.options.now };
+    ghost does = { λ command names asked. AuditsAsked names asked command.options.now };
 
     fn do_asked<F: Files, O: Sink>(
         &self,
@@ -359,7 +359,12 @@ impl ByAsked for Command<'_, AuditOptions<'_>> {
         files: &mut F,
         out: &mut O,
     ) -> Fate {
-        audit_input(alloc, self.options, names, asked, files, out)
+        let inquiry = Inquiry {
+            names,
+            asked,
+            options: self.options,
+        };
+        do_by_sites(alloc, &inquiry, self.options.sites, files, out)
     }
 }
 
@@ -373,12 +378,7 @@ impl ByNames for Command<'_, AuditOptions<'_>> {
         files: &mut F,
         out: &mut O,
     ) -> Fate {
-        let words = AskedWords {
-            known: self.options.known,
-            locks: self.options.ignored_locks,
-            variables: self.options.ignored_variables,
-        };
-        do_by_asked(alloc, self, names, &words, files, out)
+        do_by_asked(alloc, self, names, &self.options.ignored, files, out)
     }
 }
 

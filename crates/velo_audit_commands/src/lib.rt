@@ -3,6 +3,7 @@
 
 mod auditing;
 mod command;
+mod page;
 mod predicting;
 
 pub use auditing::audit_file;

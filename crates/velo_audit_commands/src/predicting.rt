@@ -13,43 +13,37 @@ ghost use Rattle.velo_delivery.specs.Reading.{reading};
 ghost use Rattle.velo_delivery.specs.Writing.{writing};
 ghost use Rattle.velo_fate.specs.declared.fate.Fate.TheVariants.{Finished};
 ghost use Rattle.velo_audit_commands.specs.Auditing.{AreRoundsOf, left_at_first, left_at_last};
-ghost use Rattle.velo_audit_commands.specs.Commands.{DoesPredict, PredictsLog, PredictsNamed};
-ghost use Rattle.velo_audit_commands.specs.Predicting.{ArePredictionsOf, Predicts, PredictsInput, first_trace, predicted};
+ghost use Rattle.velo_audit_commands.specs.Commands.{DoesPredict, PredictsAsked, PredictsLog, PredictsNamed};
+ghost use Rattle.velo_audit_commands.specs.Predicting.{ArePredictionsOf, Predicts, PredictsIfOf, PredictsInput, first_trace, predicted};
 ghost use Rattle.velo_inputs.specs.Sending.{DeliversOrLacks};
 
 use crate::auditing::{config_of_rounds, is_clean, left_out, rounds_of};
-use crate::command::Command;
+use crate::command::{Command, Inquiry};
 use std::alloc::Global;
 use velo_audit::Told;
 use velo_audit_text::Asked;
 use velo_bytes::{Sink, Source};
-use velo_delays::{Deadlock, Draws, Found, search, search_deadlocks, with_lines};
+use velo_delays::{Deadlock, Draws, PredictedCycle, search, search_deadlocks, with_lines};
 use velo_delivery::{Files, Operand};
 use velo_events::{Bounds, Config, Event, Memory};
 use velo_fate::{Fate, open_input};
 use velo_filter::LeftOut;
 use velo_inputs::{
-    AskedWords, ByAsked, ByNames, do_by_asked, do_by_names, do_input, print, save_text,
+    ByAsked, ByNames, BySites, are_of_log, do_by_asked, do_by_names, do_by_sites, do_input, print,
+    save_text,
 };
 use velo_names::Names;
 use velo_predict_text::{is_something_told, predictions_text, trace_text};
 use velo_request::PredictOptions;
+use velo_sites::Sites;
 use velo_traces::Trace;
 use velo_world::Closed;
 
-/// What is asked for, by which names, and without what.
-#[derive(Clone, Copy)]
-struct Inquiry<'i, 'n, 'a, 'o> {
-    names: &'i Names<'n>,
-    asked: &'i Asked<'a>,
-    options: &'i PredictOptions<'o>,
-}
-
 /// What the search found.
 #[derive(Drop)]
-pub struct Findings {
+pub struct PredictedFindings {
     /// Labels that may not be atomic.
-    pub labels: Vec<Found>,
+    pub labels: Vec<PredictedCycle>,
     /// Deadlocks.
     pub deadlocks: Vec<Deadlock>,
     /// How many delays were tried.
@@ -63,7 +57,7 @@ fn search_in(
     log: &Trace,
     options: &PredictOptions,
     left: &mut LeftOut,
-) -> Result<Findings, Memory>
+) -> Result<PredictedFindings, Memory>
     requires goes_on { config.now.stop ≡ false }
     requires few { length log.now.events ≤ MAX_EVENTS }
     requires well_formed { IsWellFormed config.now.bounds log.now.events }
@@ -78,7 +72,7 @@ fn search_in(
     };
     let stuck = search_deadlocks(alloc, config, log, options.tries, left)?;
     let cyclic = search(alloc, config, log, draws, left)?;
-    Ok(Findings {
+    Ok(PredictedFindings {
         labels: cyclic.found,
         deadlocks: stuck.found,
         tries: cyclic.tries.saturating_add(stuck.tries),
@@ -93,7 +87,7 @@ fn search_log(
     log: &Trace,
     options: &PredictOptions,
     left: &mut LeftOut,
-) -> Result<Findings, Memory>
+) -> Result<PredictedFindings, Memory>
     requires goes_on { config.now.stop ≡ false }
     requires few { length log.now.events ≤ MAX_EVENTS }
     requires well_formed { IsWellFormed config.now.bounds log.now.events }
@@ -108,7 +102,7 @@ fn search_log(
 }
 
 /// The trace that is told first, if there is one.
-fn first_trace<'f>(founds: &'f [Found], deadlocks: &'f [Deadlock]) -> Option<&'f [Event]>
+fn first_trace<'f>(founds: &'f [PredictedCycle], deadlocks: &'f [Deadlock]) -> Option<&'f [Event]>
     ensures { option_copied result ≡ first_trace founds.now deadlocks.now }
 {
     match (founds.first(), deadlocks.first()) {
@@ -159,9 +153,10 @@ fn tell<F: Files, O: Sink>(
     alloc: Global,
     bounds: Bounds,
     log: &Trace,
-    inquiry: &Inquiry,
+    inquiry: &Inquiry<PredictOptions>,
+    sites: &Option<Sites>,
     rounds: &[Told],
-    findings: &Findings,
+    findings: &PredictedFindings,
     files: &mut F,
     out: &mut O,
 ) -> Fate
@@ -171,7 +166,7 @@ fn tell<F: Files, O: Sink>(
     requires found { ArePredictionsOf inquiry.now.options.now.values bounds log.now.events
         (left_at_last log.now.events (left_at_first inquiry.now.asked.now) rounds.now)
         findings.now }
-    ensures { DeliversOrLacks (predicted inquiry.now.names.now bounds log.now.events
+    ensures { DeliversOrLacks (predicted inquiry.now.names.now sites.now bounds log.now.events
         inquiry.now.asked.now rounds.now findings.now)
         (store F.disk files.old files.new) inquiry.now.options.now.target
         (writing O.contents O.failures out.old out.new) result }
@@ -181,6 +176,7 @@ fn tell<F: Files, O: Sink>(
     let made = predictions_text(
         alloc,
         inquiry.names,
+        sites,
         log,
         inquiry.asked,
         rounds,
@@ -212,7 +208,8 @@ fn predict_after<F: Files, O: Sink>(
     alloc: Global,
     config: &Config,
     log: &Trace,
-    inquiry: &Inquiry,
+    inquiry: &Inquiry<PredictOptions>,
+    sites: &Option<Sites>,
     rounds: &[Told],
     left: &mut LeftOut,
     files: &mut F,
@@ -224,14 +221,16 @@ fn predict_after<F: Files, O: Sink>(
     requires rounds { AreRoundsOf true log.now.events (left_at_first inquiry.now.asked.now) rounds.now }
     requires left { left_of left.old
         ≡ left_at_last log.now.events (left_at_first inquiry.now.asked.now) rounds.now }
-    ensures { Predicts inquiry.now.names.now inquiry.now.asked.now inquiry.now.options.now
+    ensures { Predicts inquiry.now.names.now sites.now inquiry.now.asked.now inquiry.now.options.now
         config.now.bounds log.now.events (store F.disk files.old files.new)
         (writing O.contents O.failures out.old out.new) result }
 {
     match search_log(alloc, config, log, inquiry.options, left) {
         Ok(findings) => {
             let bounds = config.bounds;
-            let fate = tell(alloc, bounds, log, inquiry, rounds, &findings, files, out);
+            let fate = tell(
+                alloc, bounds, log, inquiry, sites, rounds, &findings, files, out,
+            );
             drop(findings);
             fate
         }
@@ -243,14 +242,15 @@ fn predict_after<F: Files, O: Sink>(
 fn predict_rest<F: Files, O: Sink>(
     alloc: Global,
     closed: &Closed,
-    inquiry: &Inquiry,
+    inquiry: &Inquiry<PredictOptions>,
+    sites: &Option<Sites>,
     left: &mut LeftOut,
     files: &mut F,
     out: &mut O,
 ) -> Fate
     requires short { length closed.now.log ≤ inquiry.now.options.now.limits.events }
     requires left { left_of left.old ≡ left_at_first inquiry.now.asked.now }
-    ensures { Predicts inquiry.now.names.now inquiry.now.asked.now inquiry.now.options.now
+    ensures { Predicts inquiry.now.names.now sites.now inquiry.now.asked.now inquiry.now.options.now
         closed.now.config.bounds closed.now.log (store F.disk files.old files.new)
         (writing O.contents O.failures out.old out.new) result }
 {
@@ -266,7 +266,9 @@ fn predict_rest<F: Files, O: Sink>(
         left,
     ) {
         Ok(rounds) => {
-            let fate = predict_after(alloc, &config, log, inquiry, &rounds, left, files, out);
+            let fate = predict_after(
+                alloc, &config, log, inquiry, sites, &rounds, left, files, out,
+            );
             drop(rounds);
             fate
         }
@@ -278,18 +280,19 @@ fn predict_rest<F: Files, O: Sink>(
 fn predict_closed<F: Files, O: Sink>(
     alloc: Global,
     closed: &Closed,
-    inquiry: &Inquiry,
+    inquiry: &Inquiry<PredictOptions>,
+    sites: &Option<Sites>,
     files: &mut F,
     out: &mut O,
 ) -> Fate
     requires short { length closed.now.log ≤ inquiry.now.options.now.limits.events }
-    ensures { Predicts inquiry.now.names.now inquiry.now.asked.now inquiry.now.options.now
+    ensures { Predicts inquiry.now.names.now sites.now inquiry.now.asked.now inquiry.now.options.now
         closed.now.config.bounds closed.now.log (store F.disk files.old files.new)
         (writing O.contents O.failures out.old out.new) result }
 {
     match left_out(alloc, inquiry.asked) {
         Ok(mut left) => {
-            let fate = predict_rest(alloc, closed, inquiry, &mut left, files, out);
+            let fate = predict_rest(alloc, closed, inquiry, sites, &mut left, files, out);
             drop(left);
             fate
         }
@@ -297,15 +300,36 @@ fn predict_closed<F: Files, O: Sink>(
     }
 }
 
+/// Predicts by the log of a closed world, if the sites are of it.
+fn predict_if_of<F: Files, O: Sink>(
+    alloc: Global,
+    closed: &Closed,
+    inquiry: &Inquiry<PredictOptions>,
+    sites: &Option<Sites>,
+    files: &mut F,
+    out: &mut O,
+) -> Fate
+    requires short { length closed.now.log ≤ inquiry.now.options.now.limits.events }
+    ensures { PredictsIfOf inquiry.now.names.now sites.now inquiry.now.asked.now
+        inquiry.now.options.now closed.now.config.bounds closed.now.log
+        (store F.disk files.old files.new) (writing O.contents O.failures out.old out.new) result }
+{
+    if !are_of_log(sites, closed.log()) {
+        return Fate::OtherSites;
+    }
+    predict_closed(alloc, closed, inquiry, sites, files, out)
+}
+
 /// Reads a whole log, does its events, and predicts by it.
 fn predict_log<I: Source, F: Files, O: Sink>(
     alloc: Global,
-    inquiry: &Inquiry,
+    inquiry: &Inquiry<PredictOptions>,
+    sites: &Option<Sites>,
     source: &mut I,
     files: &mut F,
     out: &mut O,
 ) -> Fate
-    ensures { PredictsInput inquiry.now.names.now inquiry.now.asked.now inquiry.now.options.now
+    ensures { PredictsInput inquiry.now.names.now sites.now inquiry.now.asked.now inquiry.now.options.now
         (store F.disk files.old files.new)
         (reading I.remaining I.failures source.old source.new)
         (writing O.contents O.failures out.old out.new) result }
@@ -313,7 +337,7 @@ fn predict_log<I: Source, F: Files, O: Sink>(
     let limits = inquiry.options.limits;
     match do_input(alloc, source, limits.events, limits.nodes) {
         Ok(closed) => {
-            let fate = predict_closed(alloc, &closed, inquiry, files, out);
+            let fate = predict_if_of(alloc, &closed, inquiry, sites, files, out);
             drop(closed);
             fate
         }
@@ -324,22 +348,37 @@ fn predict_log<I: Source, F: Files, O: Sink>(
 /// Predicts by the log that was asked for.
 fn predict_input<F: Files, O: Sink>(
     alloc: Global,
-    inquiry: &Inquiry,
+    inquiry: &Inquiry<PredictOptions>,
+    sites: &Option<Sites>,
     files: &mut F,
     out: &mut O,
 ) -> Fate
-    ensures { PredictsLog inquiry.now.names.now inquiry.now.asked.now inquiry.now.options.now
+    ensures { PredictsLog inquiry.now.names.now sites.now inquiry.now.asked.now inquiry.now.options.now
         (store F.disk files.old files.new) (writing O.contents O.failures out.old out.new) result }
 {
     let options = inquiry.options;
     match open_input(files, Operand::Log, options.input, options.target) {
-        Ok(mut log) => predict_log(alloc, inquiry, &mut log, files, out),
+        Ok(mut log) => predict_log(alloc, inquiry, sites, &mut log, files, out),
         Err(fate) => fate,
     }
 }
 
+impl BySites for Inquiry<'_, '_, '_, PredictOptions<'_>> {
+    ghost does = { λ inquiry sites. PredictsLog inquiry.names.now sites inquiry.asked.now inquiry.options.now };
+
+    fn do_by_sites<F: Files, O: Sink>(
+        &self,
+        alloc: Global,
+        sites: &Option<Sites>,
+        files: &mut F,
+        out: &mut O,
+    ) -> Fate {
+        predict_input(alloc, self, sites, files, out)
+    }
+}
+
 impl ByAsked for Command<'_, PredictOptions<'_>> {
-    ghost does = { λ command names asked. PredictsLog names asked command.options.now };
+    ghost does = { λ command names asked. PredictsAsked names asked command.options.now };
 
     fn do_asked<F: Files, O: Sink>(
         &self,
@@ -354,7 +393,7 @@ impl ByAsked for Command<'_, PredictOptions<'_>> {
             asked,
             options: self.options,
         };
-        predict_input(alloc, &inquiry, files, out)
+        do_by_sites(alloc, &inquiry, self.options.sites, files, out)
     }
 }
 
@@ -368,12 +407,7 @@ impl ByNames for Command<'_, PredictOptions<'_>> {
         files: &mut F,
         out: &mut O,
     ) -> Fate {
-        let words = AskedWords {
-            known: self.options.known,
-            locks: self.options.ignored_locks,
-            variables: self.options.ignored_variables,
-        };
-        do_by_asked(alloc, self, names, &words, files, out)
+        do_by_asked(alloc, self, names, &self.options.ignored, files, out)
     }
 }
 

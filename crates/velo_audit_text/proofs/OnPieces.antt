@@ -4,6 +4,7 @@ use Rattle.std.specs.Prelude.{OnOk, Result, Ok, Err}
 use Rattle.std.specs.List.{flat_map}
 use Rattle.std.proofs.lemmas.Grind.{flat_map-append}
 use Rattle.std.proofs.lemmas.List.{append-nil}
+use Rattle.velo_explain.specs.Pieces.{joined}
 
 -- a text for each of some things
 pub texts-more : {X : Type 0} (text : X → List ℕ) (xs : List X) (i : ℕ) (x : X) → take (i + 1) xs ≡ take i xs ++ x ∷ [] → flat_map text (take i xs) ++ text x ≡ flat_map text (take (i + 1) xs)
@@ -36,3 +37,15 @@ two_parts start one two a b is1 is2 = is2 ∙ ap (λ (t : List ℕ). t ++ b) is1
 pub on_ok : {A E : Type 0} {P Q : Type 0} (r : Result A E) → (P → Q) → OnOk r P → OnOk r Q
 on_ok (Ok x) f h = f h
 on_ok (Err e) f h = tt
+
+-- a line of some pieces, and what it ends in
+pub joined-last : (texts : List (List ℕ)) (last : List ℕ) → joined texts ++ last ≡ joined (texts ++ last ∷ [])
+joined-last [] last = sym (append-nil last)
+joined-last (text ∷ texts) last = append_assoc text (joined texts) last ∙ ap (λ (t : List ℕ). text ++ t) (joined-last texts last)
+
+pub longer : (texts : List (List ℕ)) (last old line new : List ℕ) → line ≡ old ++ joined texts → new ≡ line ++ last → new ≡ old ++ joined (texts ++ last ∷ [])
+longer texts last old line new is more =
+    more ∙ ap (λ (t : List ℕ). t ++ last) is ∙ append_assoc old (joined texts) last ∙ ap (λ (t : List ℕ). old ++ t) (joined-last texts last)
+
+pub ended : {A E : Type 0} (r : Result A E) (texts : List (List ℕ)) (last old line new : List ℕ) → line ≡ old ++ joined texts → OnOk r (new ≡ line ++ last) → OnOk r (new ≡ old ++ joined (texts ++ last ∷ []))
+ended r texts last old line new is more = on_ok r (λ so. longer texts last old line new is so) more

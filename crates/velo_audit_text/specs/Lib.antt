@@ -1,4 +1,5 @@
 pub mod Names
+pub mod Places
 pub mod Words
 pub mod Witness
 pub mod Text

@@ -1,5 +1,5 @@
 -- The witness of a round, in words.
-use Rattle.std.specs.Prelude.{ℕ, ◌+◌, ◌≤◌, List, [], ◌∷◌, ◌++◌, length, take, map, codes, decimal}
+use Rattle.std.specs.Prelude.{ℕ, ◌+◌, ◌≤◌, List, [], ◌∷◌, ◌++◌, length, take, map, codes, decimal, Option}
 use Rattle.std.specs.List.{flat_map}
 use Rattle.velo_events.specs.declared.event.Event.{Event}
 use Rattle.velo_events.specs.declared.limits.TheConstants.{MAX_OPEN_BLOCKS}
@@ -13,7 +13,9 @@ use Rattle.velo_certify.specs.Owners.{event_at}
 use Rattle.velo_explain.specs.declared.evidence.Evidence.{Evidence}
 use Rattle.velo_explain.specs.Pieces.{event_text, joined, name_about, name_text}
 use Rattle.velo_explain.specs.Text.{line_of, numbered, next_number, heading_text, member_text, blame_text}
+use Rattle.velo_sites.specs.Sites.{Table}
 use Rattle.velo_audit_text.specs.Names.{named}
+use Rattle.velo_audit_text.specs.Places.{line_end, reason_place_text}
 
 -- "  Line 6 `0 wr 0 1` closes a cycle of 2 transactions:"
 abbrev pub closing_text : NameLists → List Event → ℕ → ℕ → List ℕ
@@ -23,36 +25,40 @@ closing_text names log p count = codes "  " ++ heading_text names log p count
 abbrev pub stack_at : List Event → ℕ → List Block
 stack_at log p = map (block_at (take p log)) (open_blocks (take p log) (event_at log p).thread.0)
 
--- "      in block 7 flush"
-unfoldable pub in_block_text : NameLists → Block → List ℕ
-in_block_text names block = joined (
-    codes "      in block " ∷ decimal block.label.0 ∷ named names kind.Label block.label.0 ∷ codes "\n" ∷ [])
+-- "      in block 7 flush", and the place of its begin
+unfoldable pub in_block_text : NameLists → Option Table → Block → List ℕ
+in_block_text names sites block = joined (
+    codes "      in block " ∷ decimal block.label.0 ∷ named names kind.Label block.label.0
+    ∷ line_end sites block.first ∷ [])
 
--- "    line 4 `0 rd 0 0`", and the blocks around it
-unfoldable pub event_line_text : NameLists → List Event → ℕ → List ℕ
-event_line_text names log p = joined (
+-- "    line 4 `0 rd 0 0`" and its place, and the blocks around it
+unfoldable pub event_line_text : NameLists → Option Table → List Event → ℕ → List ℕ
+event_line_text names sites log p = joined (
     codes "    line " ∷ decimal (line_of p) ∷ codes " `" ∷ event_text (event_at log p) ∷ codes "`"
-    ∷ name_text (name_about names (event_at log p).kind) ∷ codes "\n" ∷ [])
+    ∷ name_text (name_about names (event_at log p).kind) ∷ line_end sites p ∷ [])
 
-abbrev pub event_in_blocks_text : NameLists → List Event → ℕ → List ℕ
-event_in_blocks_text names log p = event_line_text names log p ++ flat_map (in_block_text names) (stack_at log p)
+abbrev pub event_in_blocks_text : NameLists → Option Table → List Event → ℕ → List ℕ
+event_in_blocks_text names sites log p =
+    event_line_text names sites log p ++ flat_map (in_block_text names sites) (stack_at log p)
 
 -- "  T1 before T2:"
 unfoldable pub order_text : ℕ → ℕ → List ℕ
 order_text count k = joined (codes "  T" ∷ decimal (k + 1) ∷ codes " before T" ∷ decimal (next_number count k) ∷ codes ":\n" ∷ [])
 
-abbrev pub edge_text : NameLists → List Event → ℕ → ℕ → EdgeEvents → List ℕ
-edge_text names log count k edge =
-    order_text count k ++ (event_in_blocks_text names log edge.from ++ event_in_blocks_text names log edge.to)
+abbrev pub edge_text : NameLists → Option Table → List Event → ℕ → ℕ → EdgeEvents → List ℕ
+edge_text names sites log count k edge =
+    order_text count k
+    ++ (event_in_blocks_text names sites log edge.from ++ event_in_blocks_text names sites log edge.to)
 
--- the closing event, the transactions of the cycle, the events of its edges, and why the blocks are
--- to blame
-abbrev pub witness_text : NameLists → List Event → ℕ → Evidence → List ℕ
-witness_text names log p evidence =
+-- the closing event, the transactions of the cycle, the events of its edges, why the blocks are to
+-- blame, and the places of the events that say so
+abbrev pub witness_text : NameLists → Option Table → List Event → ℕ → Evidence → List ℕ
+witness_text names sites log p evidence =
     closing_text names log p (length evidence.spans.items)
     ++ (numbered (member_text names log) 0 evidence.spans.items
-    ++ (numbered (edge_text names log (length evidence.edges.items)) 0 evidence.edges.items
-    ++ flat_map (blame_text names log p) evidence.blames.items))
+    ++ (numbered (edge_text names sites log (length evidence.edges.items)) 0 evidence.edges.items
+    ++ (flat_map (blame_text names log p) evidence.blames.items
+    ++ flat_map (reason_place_text sites) evidence.blames.items)))
 
 -- so few blocks are open before each position that they can be listed. Private contracts cite this
 -- word

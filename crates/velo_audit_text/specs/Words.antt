@@ -23,10 +23,18 @@ left_out_lock_text names m = joined (codes "left out lock " ∷ decimal m.0 ∷ 
 unfoldable pub left_out_variable_text : NameLists → VarId → List ℕ
 left_out_variable_text names x = joined (codes "left out variable " ∷ decimal x.0 ∷ named names kind.Variable x.0 ∷ codes "\n" ∷ [])
 
+unfoldable pub all_locks_text : List ℕ
+all_locks_text = codes "left out all locks\n"
+
+-- all, or these
+abbrev pub left_out_locks_text : NameLists → Bool → List LockId → List ℕ
+left_out_locks_text names true locks = all_locks_text
+left_out_locks_text names false locks = flat_map (left_out_lock_text names) locks
+
 abbrev pub asked_text : NameLists → Asked → List ℕ
 asked_text names asked =
     flat_map (left_out_label_text names) asked.labels.now
-    ++ (flat_map (left_out_lock_text names) asked.locks.now
+    ++ (left_out_locks_text names asked.all_locks asked.locks.now
     ++ flat_map (left_out_variable_text names) asked.variables.now)
 
 -- ---- labels

@@ -4,11 +4,12 @@
 
 mod entries;
 mod listing;
+mod places;
 mod whole;
 mod witness;
 mod words;
 
-pub use entries::Listing;
+pub use entries::{Entry, Listed, Listing, listed_of};
 pub use listing::listing_text;
 pub use whole::{add_rounds, add_witness_if_any, audit_text};
 pub use words::{Asked, add_asked};

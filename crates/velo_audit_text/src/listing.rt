@@ -9,19 +9,20 @@ ghost use Rattle.velo_audit_text.specs.Listing.{IsListingText, end_text, entry_t
 ghost use Rattle.velo_audit_text.specs.Witness.{FewAreOpen};
 
 use crate::entries::{Entry, Listing, listed_of};
-use crate::whole::add_witness_if_any;
-use crate::words::{Asked, add_asked, add_counts, add_mark, add_not_atomic};
+use crate::whole::add_behind_labels;
+use crate::words::{Asked, add_asked, add_counts, add_not_atomic};
 use std::alloc::Global;
 use velo_audit::Told;
 use velo_events::{Event, Memory};
 use velo_explain::{Page, Piece};
 use velo_names::Names;
-use velo_tally::{Marks, Tally};
+use velo_sites::Sites;
+use velo_tally::{BlameMarks, LabelTally};
 use velo_traces::Trace;
 
 /// Adds the counts of a label's blocks.
 #[tactic(auto, unfolding(crate::specs::Listing::tally_text))]
-fn add_tally(page: &mut Page, tally: Tally) -> Result<(), Memory>
+fn add_tally(page: &mut Page, tally: LabelTally) -> Result<(), Memory>
     ensures { OnOk result (page.new ≡ page.old ++ tally_text tally) }
 {
     page.add(&[
@@ -34,7 +35,7 @@ fn add_tally(page: &mut Page, tally: Tally) -> Result<(), Memory>
 }
 
 /// Adds them if they are asked for.
-fn add_tally_if(page: &mut Page, counts: bool, tally: Tally) -> Result<(), Memory>
+fn add_tally_if(page: &mut Page, counts: bool, tally: LabelTally) -> Result<(), Memory>
     ensures { OnOk result (page.new ≡ page.old ++ tally_text_if counts tally) }
 {
     if !counts {
@@ -47,6 +48,7 @@ fn add_tally_if(page: &mut Page, counts: bool, tally: Tally) -> Result<(), Memor
 fn add_round(
     page: &mut Page,
     names: &Names,
+    sites: &Option<Sites>,
     alloc: Global,
     events: &[Event],
     rounds: &[Told],
@@ -55,13 +57,12 @@ fn add_round(
     requires truly { All (TellsTruly events.now) rounds.now }
     requires few { length events.now ≤ MAX_EVENTS }
     requires open { FewAreOpen events.now }
-    ensures { OnOk result (page.new ≡ page.old ++ round_text names.now events.now (slice_get rounds.now round)) }
+    ensures { OnOk result (page.new ≡ page.old ++ round_text names.now sites.now events.now (slice_get rounds.now round)) }
 {
     let Some(told) = rounds.get(round) else {
         return Ok(());
     };
-    add_mark(page, told.to_blame)?;
-    add_witness_if_any(page, names, alloc, events, told.closing, &told.witness)
+    add_behind_labels(page, names, sites, alloc, events, told)
 }
 
 /// Whether the next entry is of its round too.
@@ -78,6 +79,7 @@ fn is_followed(entry: Entry, next: Option<Entry>) -> bool
 fn add_end(
     page: &mut Page,
     names: &Names,
+    sites: &Option<Sites>,
     alloc: Global,
     events: &[Event],
     rounds: &[Told],
@@ -87,18 +89,19 @@ fn add_end(
     requires truly { All (TellsTruly events.now) rounds.now }
     requires few { length events.now ≤ MAX_EVENTS }
     requires open { FewAreOpen events.now }
-    ensures { OnOk result (page.new ≡ page.old ++ end_text names.now events.now rounds.now entry next) }
+    ensures { OnOk result (page.new ≡ page.old ++ end_text names.now sites.now events.now rounds.now entry next) }
 {
     if is_followed(entry, next) {
         return Ok(());
     }
-    add_round(page, names, alloc, events, rounds, entry.round)
+    add_round(page, names, sites, alloc, events, rounds, entry.round)
 }
 
 /// Adds an entry.
 fn add_entry(
     page: &mut Page,
     names: &Names,
+    sites: &Option<Sites>,
     alloc: Global,
     events: &[Event],
     rounds: &[Told],
@@ -110,11 +113,11 @@ fn add_entry(
     requires few { length events.now ≤ MAX_EVENTS }
     requires open { FewAreOpen events.now }
     ensures { OnOk result (page.new ≡ page.old
-        ++ entry_text_by names.now events.now rounds.now counts entry next) }
+        ++ entry_text_by names.now sites.now events.now rounds.now counts entry next) }
 {
     add_not_atomic(page, names, entry.label.0)?;
     add_tally_if(page, counts, entry.tally)?;
-    add_end(page, names, alloc, events, rounds, entry, next)
+    add_end(page, names, sites, alloc, events, rounds, entry, next)
 }
 
 /// The entry after one.
@@ -133,6 +136,7 @@ fn next_of(entries: &[Entry], k: usize) -> Option<Entry>
 fn add_entries(
     page: &mut Page,
     names: &Names,
+    sites: &Option<Sites>,
     alloc: Global,
     events: &[Event],
     rounds: &[Told],
@@ -143,11 +147,13 @@ fn add_entries(
     requires few { length events.now ≤ MAX_EVENTS }
     requires open { FewAreOpen events.now }
     ensures { OnOk result (page.new ≡ page.old
-        ++ numbered (entry_text names.now events.now rounds.now counts entries.now) 0 entries.now) }
+        ++ numbered (entry_text names.now sites.now events.now rounds.now counts entries.now) 0 entries.now) }
 {
     for k in 0..entries.len() {
         let next = next_of(entries, k);
-        add_entry(page, names, alloc, events, rounds, counts, entries[k], next)?;
+        add_entry(
+            page, names, sites, alloc, events, rounds, counts, entries[k], next,
+        )?;
     }
     Ok(())
 }
@@ -182,11 +188,12 @@ fn add_outer_if(page: &mut Page, innermost: bool, others: usize) -> Result<(), M
 pub fn listing_text(
     alloc: Global,
     names: &Names,
+    sites: &Option<Sites>,
     log: &Trace,
     asked: &Asked,
     listing: Listing,
     first: &Trace,
-    marks: &Marks,
+    marks: &BlameMarks,
     rounds: &[Told],
     atomic: usize,
 ) -> Result<Page, Memory>
@@ -194,7 +201,7 @@ pub fn listing_text(
     requires can_come_about { CanComeAbout log.now.events }
     requires truly { All (TellsTruly log.now.events) rounds.now }
     requires marks { AreMarks first.now.events marks.now }
-    ensures { IfOk result (λ page. IsListingText names.now log.now.events asked.now listing first.now.events rounds.now atomic page) }
+    ensures { IfOk result (λ page. IsListingText names.now sites.now log.now.events asked.now listing first.now.events rounds.now atomic page) }
 {
     let listed = listed_of(alloc, listing, rounds, first, marks)?;
     let mut page = Page::new(alloc);
@@ -202,6 +209,7 @@ pub fn listing_text(
     add_entries(
         &mut page,
         names,
+        sites,
         alloc,
         log.as_slice(),
         rounds,

@@ -7,10 +7,11 @@ ghost use Rattle.velo_filter.specs.Thinned.{CanComeAbout};
 ghost use Rattle.velo_audit.specs.Audit.{TellsTruly};
 ghost use Rattle.velo_audit.specs.Rounds.{each_once};
 ghost use Rattle.velo_audit.specs.Witness.{IsWitnessWithin};
-ghost use Rattle.velo_audit_text.specs.Text.{optional_witness_text, told_text, audit_text};
+ghost use Rattle.velo_audit_text.specs.Text.{audit_text, behind_labels_text, optional_witness_text, told_text};
 ghost use Rattle.velo_audit_text.specs.Witness.{FewAreOpen};
 ghost use Rattle.velo_audit_text.specs.Words.{not_atomic_text};
 
+use crate::places::add_begins;
 use crate::witness::add_witness;
 use crate::words::{Asked, add_asked, add_counts, add_mark, add_not_atomic};
 use std::alloc::Global;
@@ -18,6 +19,7 @@ use velo_audit::Told;
 use velo_events::{Event, Label, Memory};
 use velo_explain::{Evidence, Page};
 use velo_names::Names;
+use velo_sites::Sites;
 use velo_traces::{Block, Trace};
 
 /// Whether one of the blocks has the label.
@@ -48,6 +50,7 @@ fn add_labels(page: &mut Page, names: &Names, blocks: &[Block]) -> Result<(), Me
 pub fn add_witness_if_any(
     page: &mut Page,
     names: &Names,
+    sites: &Option<Sites>,
     alloc: Global,
     events: &[Event],
     closing: usize,
@@ -56,18 +59,19 @@ pub fn add_witness_if_any(
     requires within { IsWitnessWithin (length events.now) closing witness.now }
     requires few { length events.now ≤ MAX_EVENTS }
     requires open { FewAreOpen events.now }
-    ensures { OnOk result (page.new ≡ page.old ++ optional_witness_text names.now events.now closing witness.now) }
+    ensures { OnOk result (page.new ≡ page.old ++ optional_witness_text names.now sites.now events.now closing witness.now) }
 {
     match witness {
         None => Ok(()),
-        Some(evidence) => add_witness(page, names, alloc, events, closing, evidence),
+        Some(evidence) => add_witness(page, names, sites, alloc, events, closing, evidence),
     }
 }
 
-/// Adds the text of a round.
-fn add_told(
+/// Adds what a round tells behind its labels.
+pub(crate) fn add_behind_labels(
     page: &mut Page,
     names: &Names,
+    sites: &Option<Sites>,
     alloc: Global,
     events: &[Event],
     told: &Told,
@@ -75,11 +79,38 @@ fn add_told(
     requires within { IsWitnessWithin (length events.now) told.now.closing told.now.witness }
     requires few { length events.now ≤ MAX_EVENTS }
     requires open { FewAreOpen events.now }
-    ensures { OnOk result (page.new ≡ page.old ++ told_text names.now events.now told.now) }
+    ensures { OnOk result (page.new
+        ≡ page.old ++ behind_labels_text names.now sites.now events.now told.now) }
+{
+    add_mark(page, told.to_blame)?;
+    add_begins(page, names, sites, &told.blocks)?;
+    add_witness_if_any(
+        page,
+        names,
+        sites,
+        alloc,
+        events,
+        told.closing,
+        &told.witness,
+    )
+}
+
+/// Adds the text of a round.
+fn add_told(
+    page: &mut Page,
+    names: &Names,
+    sites: &Option<Sites>,
+    alloc: Global,
+    events: &[Event],
+    told: &Told,
+) -> Result<(), Memory>
+    requires within { IsWitnessWithin (length events.now) told.now.closing told.now.witness }
+    requires few { length events.now ≤ MAX_EVENTS }
+    requires open { FewAreOpen events.now }
+    ensures { OnOk result (page.new ≡ page.old ++ told_text names.now sites.now events.now told.now) }
 {
     add_labels(page, names, &told.blocks)?;
-    add_mark(page, told.to_blame)?;
-    add_witness_if_any(page, names, alloc, events, told.closing, &told.witness)
+    add_behind_labels(page, names, sites, alloc, events, told)
 }
 
 /// Adds the text of all rounds: the labels and the witness of each.
@@ -89,6 +120,7 @@ fn add_told(
 pub fn add_rounds(
     page: &mut Page,
     names: &Names,
+    sites: &Option<Sites>,
     alloc: Global,
     events: &[Event],
     rounds: &[Told],
@@ -96,23 +128,25 @@ pub fn add_rounds(
     requires truly { All (TellsTruly events.now) rounds.now }
     requires few { length events.now ≤ MAX_EVENTS }
     requires open { FewAreOpen events.now }
-    ensures { OnOk result (page.new ≡ page.old ++ flat_map (told_text names.now events.now) rounds.now) }
+    ensures { OnOk result (page.new ≡ page.old ++ flat_map (told_text names.now sites.now events.now) rounds.now) }
 {
     for told in rounds {
-        add_told(page, names, alloc, events, told)?;
+        add_told(page, names, sites, alloc, events, told)?;
     }
     Ok(())
 }
 
 /// What an audit prints: what was to be left out, the labels and the witness of each round, how
 /// many labels are atomic, and how many rounds there were, the last one without an alarm. The
-/// rounds are as `audit` gives them for the log. A number that has a name comes before it.
+/// rounds are as `audit` gives them for the log. A number that has a name comes before it. Behind an
+/// event whose place in the source the sites give comes this place.
 ///
 /// # Errors
 /// `Memory` if an allocation failed.
 pub fn audit_text(
     alloc: Global,
     names: &Names,
+    sites: &Option<Sites>,
     log: &Trace,
     asked: &Asked,
     rounds: &[Told],
@@ -121,11 +155,11 @@ pub fn audit_text(
     requires few { length log.now.events ≤ MAX_EVENTS }
     requires can_come_about { CanComeAbout log.now.events }
     requires truly { All (TellsTruly log.now.events) rounds.now }
-    ensures { IfOk result (λ page. page ≡ audit_text names.now log.now.events asked.now rounds.now atomic) }
+    ensures { IfOk result (λ page. page ≡ audit_text names.now sites.now log.now.events asked.now rounds.now atomic) }
 {
     let mut page = Page::new(alloc);
     add_asked(&mut page, names, asked)?;
-    add_rounds(&mut page, names, alloc, log.as_slice(), rounds)?;
+    add_rounds(&mut page, names, sites, alloc, log.as_slice(), rounds)?;
     add_counts(&mut page, atomic, rounds.len() + 1)?;
     Ok(page)
 }

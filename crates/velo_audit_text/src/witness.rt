@@ -6,6 +6,7 @@ ghost use Rattle.velo_explain.specs.Evidence.{AreEdgesWithin, IsWithin};
 ghost use Rattle.velo_explain.specs.Text.{line_of, numbered, next_number};
 ghost use Rattle.velo_audit_text.specs.Witness.{closing_text, stack_at, in_block_text, event_line_text, event_in_blocks_text, order_text, edge_text, witness_text, FewAreOpen};
 
+use crate::places::{add_reason_places, end_line};
 use std::alloc::Global;
 use velo_certify::EdgeEvents;
 use velo_events::{Event, MAX_EVENTS, Memory};
@@ -13,6 +14,7 @@ use velo_explain::{
     Evidence, Page, Piece, add_heading, add_members, add_reasons, line_of, next_number,
 };
 use velo_names::{NameKind, Names};
+use velo_sites::Sites;
 use velo_traces::{Block, open_blocks_in};
 
 /// Adds the closing event.
@@ -33,23 +35,34 @@ fn add_closing(
 
 /// Adds a block around an event.
 #[tactic(auto, unfolding(crate::specs::Witness::in_block_text))]
-fn add_in_block(page: &mut Page, names: &Names, block: Block) -> Result<(), Memory>
-    ensures { OnOk result (page.new ≡ page.old ++ in_block_text names.now block) }
+fn add_in_block(
+    page: &mut Page,
+    names: &Names,
+    sites: &Option<Sites>,
+    block: Block,
+) -> Result<(), Memory>
+    ensures { OnOk result (page.new ≡ page.old ++ in_block_text names.now sites.now block) }
 {
     page.add(&[
         Piece::Text("      in block "),
         Piece::Number(u64::from(block.label.0)),
         Piece::Name(names.name_of(NameKind::Label, block.label.0)),
-        Piece::Text("\n"),
-    ])
+    ])?;
+    end_line(page, sites, block.first)
 }
 
 /// Adds blocks around an event.
-fn add_in_blocks(page: &mut Page, names: &Names, blocks: &[Block]) -> Result<(), Memory>
-    ensures { OnOk result (page.new ≡ page.old ++ flat_map (in_block_text names.now) blocks.now) }
+fn add_in_blocks(
+    page: &mut Page,
+    names: &Names,
+    sites: &Option<Sites>,
+    blocks: &[Block],
+) -> Result<(), Memory>
+    ensures { OnOk result (page.new
+        ≡ page.old ++ flat_map (in_block_text names.now sites.now) blocks.now) }
 {
     for block in blocks {
-        add_in_block(page, names, *block)?;
+        add_in_block(page, names, sites, *block)?;
     }
     Ok(())
 }
@@ -58,16 +71,17 @@ fn add_in_blocks(page: &mut Page, names: &Names, blocks: &[Block]) -> Result<(),
 fn add_stack(
     page: &mut Page,
     names: &Names,
+    sites: &Option<Sites>,
     alloc: Global,
     events: &[Event],
     position: usize,
 ) -> Result<(), Memory>
     requires within { position < length events.now }
     requires open { FewAreOpen events.now }
-    ensures { OnOk result (page.new ≡ page.old ++ flat_map (in_block_text names.now) (stack_at events.now position)) }
+    ensures { OnOk result (page.new ≡ page.old ++ flat_map (in_block_text names.now sites.now) (stack_at events.now position)) }
 {
     let blocks = open_blocks_in(&events[..position], events[position].thread, alloc);
-    add_in_blocks(page, names, blocks.as_slice())
+    add_in_blocks(page, names, sites, blocks.as_slice())
 }
 
 /// Adds the line of an event.
@@ -75,12 +89,13 @@ fn add_stack(
 fn add_event_line(
     page: &mut Page,
     names: &Names,
+    sites: &Option<Sites>,
     events: &[Event],
     position: usize,
 ) -> Result<(), Memory>
     requires within { position < length events.now }
     requires few { length events.now ≤ MAX_EVENTS }
-    ensures { OnOk result (page.new ≡ page.old ++ event_line_text names.now events.now position) }
+    ensures { OnOk result (page.new ≡ page.old ++ event_line_text names.now sites.now events.now position) }
 {
     page.add(&[
         Piece::Text("    line "),
@@ -89,14 +104,15 @@ fn add_event_line(
         Piece::Words(events[position]),
         Piece::Text("`"),
         Piece::KindName(names, events[position].kind),
-        Piece::Text("\n"),
-    ])
+    ])?;
+    end_line(page, sites, position)
 }
 
 /// Adds an event with the blocks around it.
 fn add_event(
     page: &mut Page,
     names: &Names,
+    sites: &Option<Sites>,
     alloc: Global,
     events: &[Event],
     position: usize,
@@ -104,10 +120,10 @@ fn add_event(
     requires within { position < length events.now }
     requires few { length events.now ≤ MAX_EVENTS }
     requires open { FewAreOpen events.now }
-    ensures { OnOk result (page.new ≡ page.old ++ event_in_blocks_text names.now events.now position) }
+    ensures { OnOk result (page.new ≡ page.old ++ event_in_blocks_text names.now sites.now events.now position) }
 {
-    add_event_line(page, names, events, position)?;
-    add_stack(page, names, alloc, events, position)
+    add_event_line(page, names, sites, events, position)?;
+    add_stack(page, names, sites, alloc, events, position)
 }
 
 /// Adds which transaction comes before which.
@@ -129,6 +145,7 @@ fn add_order(page: &mut Page, count: usize, k: usize) -> Result<(), Memory>
 fn add_edge(
     page: &mut Page,
     names: &Names,
+    sites: &Option<Sites>,
     alloc: Global,
     events: &[Event],
     count: usize,
@@ -140,17 +157,18 @@ fn add_edge(
     requires few { length events.now ≤ MAX_EVENTS }
     requires open { FewAreOpen events.now }
     requires place { k < count }
-    ensures { OnOk result (page.new ≡ page.old ++ edge_text names.now events.now count k edge) }
+    ensures { OnOk result (page.new ≡ page.old ++ edge_text names.now sites.now events.now count k edge) }
 {
     add_order(page, count, k)?;
-    add_event(page, names, alloc, events, edge.from)?;
-    add_event(page, names, alloc, events, edge.to)
+    add_event(page, names, sites, alloc, events, edge.from)?;
+    add_event(page, names, sites, alloc, events, edge.to)
 }
 
 /// Adds the events of the edges of the cycle.
 fn add_edges(
     page: &mut Page,
     names: &Names,
+    sites: &Option<Sites>,
     alloc: Global,
     events: &[Event],
     edges: &[EdgeEvents],
@@ -158,10 +176,10 @@ fn add_edges(
     requires within { AreEdgesWithin (length events.now) edges.now }
     requires few { length events.now ≤ MAX_EVENTS }
     requires open { FewAreOpen events.now }
-    ensures { OnOk result (page.new ≡ page.old ++ numbered (edge_text names.now events.now (length edges.now)) 0 edges.now) }
+    ensures { OnOk result (page.new ≡ page.old ++ numbered (edge_text names.now sites.now events.now (length edges.now)) 0 edges.now) }
 {
     for k in 0..edges.len() {
-        add_edge(page, names, alloc, events, edges.len(), k, edges[k])?;
+        add_edge(page, names, sites, alloc, events, edges.len(), k, edges[k])?;
     }
     Ok(())
 }
@@ -170,6 +188,7 @@ fn add_edges(
 pub(crate) fn add_witness(
     page: &mut Page,
     names: &Names,
+    sites: &Option<Sites>,
     alloc: Global,
     events: &[Event],
     position: usize,
@@ -178,10 +197,11 @@ pub(crate) fn add_witness(
     requires within { IsWithin (length events.now) position evidence.now }
     requires few { length events.now ≤ MAX_EVENTS }
     requires open { FewAreOpen events.now }
-    ensures { OnOk result (page.new ≡ page.old ++ witness_text names.now events.now position evidence.now) }
+    ensures { OnOk result (page.new ≡ page.old ++ witness_text names.now sites.now events.now position evidence.now) }
 {
     add_closing(page, names, events, position, evidence.spans.len())?;
     add_members(page, names, events, &evidence.spans)?;
-    add_edges(page, names, alloc, events, &evidence.edges)?;
-    add_reasons(page, names, events, position, &evidence.blames)
+    add_edges(page, names, sites, alloc, events, &evidence.edges)?;
+    add_reasons(page, names, events, position, &evidence.blames)?;
+    add_reason_places(page, sites, events, &evidence.blames)
 }

@@ -1,7 +1,7 @@
 //! The lines of what was asked for, and of the counts.
 ghost use Rattle.std.specs.Prelude.{◌≡◌, ◌++◌, OnOk};
 ghost use Rattle.std.specs.List.{flat_map};
-ghost use Rattle.velo_audit_text.specs.Words.{left_out_label_text, left_out_lock_text, left_out_variable_text, asked_text, count_text, not_atomic_text, nobody_text, mark_text};
+ghost use Rattle.velo_audit_text.specs.Words.{all_locks_text, left_out_label_text, left_out_lock_text, left_out_locks_text, left_out_variable_text, asked_text, count_text, not_atomic_text, nobody_text, mark_text};
 
 use velo_events::{Label, LockId, Memory, VarId};
 use velo_explain::{Page, Piece};
@@ -16,6 +16,8 @@ pub struct Asked<'a> {
     pub locks: &'a [LockId],
     /// The variables.
     pub variables: &'a [VarId],
+    /// Whether all locks are.
+    pub all_locks: bool,
 }
 
 /// Adds a label that was to be left out.
@@ -67,14 +69,37 @@ fn add_left_out_labels(page: &mut Page, names: &Names, labels: &[Label]) -> Resu
     Ok(())
 }
 
-/// Adds the locks that were to be left out.
-fn add_left_out_locks(page: &mut Page, names: &Names, locks: &[LockId]) -> Result<(), Memory>
+/// Adds these locks, which were to be left out.
+fn add_these_locks(page: &mut Page, names: &Names, locks: &[LockId]) -> Result<(), Memory>
     ensures { OnOk result (page.new ≡ page.old ++ flat_map (left_out_lock_text names.now) locks.now) }
 {
     for lock in locks {
         add_left_out_lock(page, names, *lock)?;
     }
     Ok(())
+}
+
+/// Adds that all locks were to be left out.
+#[tactic(auto, unfolding(crate::specs::Words::all_locks_text))]
+fn add_all_locks(page: &mut Page) -> Result<(), Memory>
+    ensures { OnOk result (page.new ≡ page.old ++ all_locks_text) }
+{
+    page.add(&[Piece::Text("left out all locks\n")])
+}
+
+/// Adds the locks that were to be left out: all, or these.
+fn add_left_out_locks(
+    page: &mut Page,
+    names: &Names,
+    all: bool,
+    locks: &[LockId],
+) -> Result<(), Memory>
+    ensures { OnOk result (page.new ≡ page.old ++ left_out_locks_text names.now all locks.now) }
+{
+    if all {
+        return add_all_locks(page);
+    }
+    add_these_locks(page, names, locks)
 }
 
 /// Adds the variables that were to be left out.
@@ -95,7 +120,7 @@ pub fn add_asked(page: &mut Page, names: &Names, asked: &Asked) -> Result<(), Me
     ensures { OnOk result (page.new ≡ page.old ++ asked_text names.now asked.now) }
 {
     add_left_out_labels(page, names, asked.labels)?;
-    add_left_out_locks(page, names, asked.locks)?;
+    add_left_out_locks(page, names, asked.all_locks, asked.locks)?;
     add_left_out_variables(page, names, asked.variables)
 }
 

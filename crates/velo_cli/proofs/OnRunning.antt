@@ -9,7 +9,7 @@ use Rattle.velo_arguments.specs.Asked.{Asked, AsksForNothing}
 use Rattle.velo_arguments.specs.CommandLine.{asked_by, command_line, faults_of}
 use Rattle.velo_cli.specs.Running.{Answers, Runs}
 use Rattle.velo_cli.specs.Usage.{Console, Tells, TellsError}
-use Rattle.velo_words.specs.declared.failing.Reason.{Reason}
+use Rattle.velo_words.specs.declared.failing.SystemReason.{SystemReason}
 use Rattle.velo_arguments.proofs.OnCommandLine.{line_is_simple, line_is_simple_and_free}
 use Rattle.velo_arguments.proofs.OnRequest.{faultless_asks}
 
@@ -24,7 +24,7 @@ matches_ask line words m is matches faultless nothing =
     (subst AsksForNothing same nothing)
 
 -- the words were taken, and what they ask for was answered
-pub runs_asked : (line : App) (words : List Text) (m : ArgMatches) (store : Store) (failed : List ℕ → Reason → Type 0) (console : Console)
+pub runs_asked : (line : App) (words : List Text) (m : ArgMatches) (store : Store) (failed : List ℕ → SystemReason → Type 0) (console : Console)
     → line ≡ command_line → HasMatchesOf line words m → (is_simple_and_free line ≡ true → fault_of line words ≡ [])
     → Answers (subcommand_rows_of m) store failed console → Runs words store failed console
 unfolding faults_of asked_by
@@ -37,7 +37,7 @@ runs_asked line words m store failed console is matches faultless does =
     )
 
 -- the words were refused, and the reason was told
-pub runs_told : (line : App) (words : List Text) (kind : ErrorKind) (store : Store) (failed : List ℕ → Reason → Type 0) (console : Console)
+pub runs_told : (line : App) (words : List Text) (kind : ErrorKind) (store : Store) (failed : List ℕ → SystemReason → Type 0) (console : Console)
     → line ≡ command_line → (is_simple_and_free line ≡ true → (kind ≡ OutOfMemory) ⊎ IsAmong kind (fault_of line words)) → store.is_kept
     → Tells kind console → Runs words store failed console
 unfolding faults_of asked_by

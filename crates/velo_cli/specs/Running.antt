@@ -12,14 +12,14 @@ use Rattle.velo_arguments.specs.Asked.{Asked}
 use Rattle.velo_arguments.specs.CommandLine.{asked_by, faults_of}
 use Rattle.velo_arguments.specs.Together.{IsApart, IsTogether, line_of_clash}
 use Rattle.velo_cli.specs.Usage.{Console, LacksMemory, TellsError, bad_usage}
-use Rattle.velo_words.specs.declared.failing.Reason.{Reason}
+use Rattle.velo_words.specs.declared.failing.SystemReason.{SystemReason}
 use Rattle.velo_words.specs.Saying.{EndsInWords}
 use Rattle.velo_arguments.specs.declared.together.Clash.{Clash}
 
 -- a request that was asked for, whose options go together, was done, and the end is that of its
 -- fate; what is wrong may be said in words before the line, by a file as it was left, or by the one
 -- that failed, as the files say
-pub record DoesRequest (asked : Asked) (store : Store) (failed : List ℕ → Reason → Type 0)
+pub record DoesRequest (asked : Asked) (store : Store) (failed : List ℕ → SystemReason → Type 0)
     (console : Console) : Type 0 where
   pub request : Request
   pub fate : Fate
@@ -37,7 +37,7 @@ pub record TellsClash (asked : Asked) (console : Console) : Type 0 where
   pub told : Closes bad_usage (line_of_clash clash) console.stderr console.status
 
 -- what was asked for was done; or its options do not go together, and the files are as they were
-abbrev pub Answers : Asked → Store → (List ℕ → Reason → Type 0) → Console → Type 0
+abbrev pub Answers : Asked → Store → (List ℕ → SystemReason → Type 0) → Console → Type 0
 Answers asked store failed console =
     DoesRequest asked store failed console ⊎ (store.is_kept × TellsClash asked console)
 
@@ -50,7 +50,7 @@ pub record TellsFault (words : List Text) (console : Console) : Type 0 where
 
 -- The words have no fault, and what they ask for was answered; or the files are as they were, and
 -- one of the faults was reported, or memory ran out before.
-abbrev pub Runs : List Text → Store → (List ℕ → Reason → Type 0) → Console → Type 0
+abbrev pub Runs : List Text → Store → (List ℕ → SystemReason → Type 0) → Console → Type 0
 Runs words store failed console =
     ((faults_of words ≡ []) × Answers (asked_by words) store failed console)
     ⊎ (store.is_kept × (TellsFault words console ⊎ LacksMemory console))

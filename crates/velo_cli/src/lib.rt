@@ -7,4 +7,4 @@ mod telling;
 
 pub use program::{end_without_words, run};
 pub use velo_arguments::{command, help};
-pub use velo_words::{Reason, Recall};
+pub use velo_words::{Recall, SystemReason};

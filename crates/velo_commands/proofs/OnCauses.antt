@@ -22,7 +22,8 @@ use Rattle.velo_fate.specs.declared.fate.Fate.TheVariants as fate
 use Rattle.velo_request.specs.declared.request.AuditOptions.{AuditOptions}
 use Rattle.velo_request.specs.declared.request.ExploreOptions.{ExploreOptions}
 use Rattle.velo_request.specs.declared.request.Ignorable.{Ignorable}
-use Rattle.velo_request.specs.declared.request.Ignorable.TheVariants.{Lock, Variable}
+use Rattle.velo_request.specs.declared.request.Ignorable.TheVariants.{Label, Lock, Variable}
+use Rattle.velo_request.specs.declared.request.Ignored.{Ignored}
 use Rattle.velo_delivery.specs.declared.failure.Operand.{Operand}
 use Rattle.velo_delivery.specs.declared.failure.Operand.TheVariants.{File, Log}
 use Rattle.velo_request.specs.declared.request.PredictOptions.{PredictOptions}
@@ -52,9 +53,8 @@ use Rattle.velo_fate.specs.declared.files.Beside.{Beside}
 use Rattle.velo_fate.specs.Barred.{IsBarred, IsBarredApart, IsBarredRun, names_beside}
 use Rattle.velo_log_commands.specs.Explaining.{IsExplanation}
 use Rattle.velo_workload_commands.specs.Exploring.{IsExploreAnswer}
-use Rattle.velo_inputs.specs.declared.asking.AskedWords.{AskedWords}
-use Rattle.velo_audit_commands.specs.Commands.{AuditsLog, PredictsLog, audit_words, predict_words}
-use Rattle.velo_inputs.specs.Before.{DoesAsked}
+use Rattle.velo_audit_commands.specs.Commands.{AuditsAsked, AuditsLog, PredictsAsked, PredictsLog}
+use Rattle.velo_inputs.specs.Before.{DoesAsked, DoesBySites}
 use Rattle.velo_inputs.specs.Ignoring.{AsksInVain, MeanNothing}
 use Rattle.velo_fate.specs.Format.{SaysNone}
 use Rattle.velo_inputs.specs.Listing.{HaveFaultOfList, LacksLabels, list_file}
@@ -106,17 +106,19 @@ module _ (needs : Needs) where
   of_explanation names sites read answer drawing done (inr (inr (inl f))) = said answer (silent (fate.Check f.0)) f.2 (of_fault _ _ read f.0 f.1)
   of_explanation names sites read answer drawing done (inr (inr (inr lacks))) = of_lack answer lacks
 
-  of_audit : (names : NameLists) (asked : Asked) (options : AuditOptions) (read : Option (List ℕ)) (answer : Answer) → EndsByRefusal needs ending.Done → IsAuditAnswer names asked options read answer
+  of_audit : (names : NameLists) (sites : Option Table) (asked : Asked) (options : AuditOptions) (read : Option (List ℕ)) (answer : Answer) → EndsByRefusal needs ending.Done → IsAuditAnswer names sites asked options read answer
       → HasCause answer
-  of_audit names asked options read answer done (inl is) = ⊎_elim (λ tells. said answer _ tells.said done) (λ full. said answer _ full.said tt) is.verdict
-  of_audit names asked options read answer done (inr (inl f)) = said answer (silent (fate.Check f.0)) f.2 (of_fault _ _ read f.0 f.1)
-  of_audit names asked options read answer done (inr (inr lacks)) = of_lack answer lacks
+  of_audit names sites asked options read answer done (inl is) =
+      ⊎_elim (λ of_log. ⊎_elim (λ tells. said answer _ tells.said done) (λ full. said answer _ full.said tt) of_log.1) (λ other. said answer (silent fate.OtherSites) other.said tt) is.verdict
+  of_audit names sites asked options read answer done (inr (inl f)) = said answer (silent (fate.Check f.0)) f.2 (of_fault _ _ read f.0 f.1)
+  of_audit names sites asked options read answer done (inr (inr lacks)) = of_lack answer lacks
 
-  of_prediction : (names : NameLists) (asked : Asked) (options : PredictOptions) (read : Option (List ℕ)) (answer : Answer) → EndsByRefusal needs ending.Done → IsPredictAnswer names asked options read answer
+  of_prediction : (names : NameLists) (sites : Option Table) (asked : Asked) (options : PredictOptions) (read : Option (List ℕ)) (answer : Answer) → EndsByRefusal needs ending.Done → IsPredictAnswer names sites asked options read answer
       → HasCause answer
-  of_prediction names asked options read answer done (inl is) = ⊎_elim (λ tells. said answer _ tells.said done) (λ full. said answer _ full.said tt) is.verdict
-  of_prediction names asked options read answer done (inr (inl f)) = said answer (silent (fate.Check f.0)) f.2 (of_fault _ _ read f.0 f.1)
-  of_prediction names asked options read answer done (inr (inr lacks)) = of_lack answer lacks
+  of_prediction names sites asked options read answer done (inl is) =
+      ⊎_elim (λ of_log. ⊎_elim (λ tells. said answer _ tells.said done) (λ full. said answer _ full.said tt) of_log.1) (λ other. said answer (silent fate.OtherSites) other.said tt) is.verdict
+  of_prediction names sites asked options read answer done (inr (inl f)) = said answer (silent (fate.Check f.0)) f.2 (of_fault _ _ read f.0 f.1)
+  of_prediction names sites asked options read answer done (inr (inr lacks)) = of_lack answer lacks
 
   of_carry : (read : Option (List ℕ)) (answer : Answer) → EndsByRefusal needs ending.Done → IsCarryAnswer read answer → HasCause answer
   of_carry read answer done (inl c) = said answer _ c.3 done
@@ -278,24 +280,31 @@ of_words needs names what words (fate.Ignored it) is = tt
 of_words needs names what words fate.Memory is = is
 of_words needs names what words f is = absurd is
 
-unmeant : (needs : Needs) (names : NameLists) (words : AskedWords) (f : Fate) → AsksInVain names words f → ComesByRefusal needs f
-unmeant needs names words f (inl locks) = of_words needs names Lock words.locks.now f locks
-unmeant needs names words f (inr variables) = of_words needs names Variable words.variables.now f variables.1
+unmeant : (needs : Needs) (names : NameLists) (ignored : Ignored) (f : Fate) → AsksInVain names ignored f → ComesByRefusal needs f
+unmeant needs names ignored f (inl labels) = of_words needs names Label ignored.labels.now f labels
+unmeant needs names ignored f (inr (labels, inl locks)) = of_words needs names Lock ignored.locks.now f locks
+unmeant needs names ignored f (inr (labels, inr variables)) = of_words needs names Variable ignored.variables.now f variables.1
 
 -- of a log of which something was left out
-of_asked : (does : Asked → Store → Writing → Fate → Type 0) (names : NameLists) (words : AskedWords) (store : Store) (stdout : Writing) (f : Fate) → ((asked : Asked) → does asked store stdout f → ComesByRefusal Growths f)
-    → DoesAsked does names words store stdout f → ComesByRefusal Growths f
-of_asked does names words store stdout f so (inl h) = unlisted names Growths store.disk words.known f h.0
-of_asked does names words store stdout f so (inr (known, list, inl h)) = unmeant Growths names words f h.0
-of_asked does names words store stdout f so (inr (known, list, inr (asked, asks, h))) = so asked h
+of_asked : (does : Asked → Store → Writing → Fate → Type 0) (names : NameLists) (ignored : Ignored) (store : Store) (stdout : Writing) (f : Fate) → ((asked : Asked) → does asked store stdout f → ComesByRefusal Growths f)
+    → DoesAsked does names ignored store stdout f → ComesByRefusal Growths f
+of_asked does names ignored store stdout f so (inl h) = unlisted names Growths store.disk ignored.known f h.0
+of_asked does names ignored store stdout f so (inr (known, list, inl h)) = unmeant Growths names ignored f h.0
+of_asked does names ignored store stdout f so (inr (known, list, inr (asked, asks, h))) = so asked h
 
-of_audited : (names : NameLists) (options : AuditOptions) (store : Store) (stdout : Writing) (f : Fate) (asked : Asked) → AuditsLog names asked options store stdout f → ComesByRefusal Growths f
-of_audited names options store stdout f asked (inl h) = unread Growths store.disk Log options.input.now None f h.0
-of_audited names options store stdout f asked (inr h) = of_delivered Growths store None stdout h.1 f (of_audit Growths names asked options h.0.bytes h.1 tt h.4) h.5
+-- and whose sites were read
+of_sited : (does : Option Table → Store → Writing → Fate → Type 0) (path : Option (Bor (List ℕ))) (store : Store) (stdout : Writing) (f : Fate) → ((sites : Option Table) → does sites store stdout f → ComesByRefusal Growths f)
+    → DoesBySites does path store stdout f → ComesByRefusal Growths f
+of_sited does path store stdout f so (inl h) = unsited Growths store.disk path f h.0
+of_sited does path store stdout f so (inr (sites, read, h)) = so sites h
 
-of_predicted : (names : NameLists) (options : PredictOptions) (store : Store) (stdout : Writing) (f : Fate) (asked : Asked) → PredictsLog names asked options store stdout f → ComesByRefusal Growths f
-of_predicted names options store stdout f asked (inl h) = unread Growths store.disk Log options.input.now options.target f h.0
-of_predicted names options store stdout f asked (inr h) = of_delivered Growths store options.target stdout h.1 f (of_prediction Growths names asked options h.0.bytes h.1 tt h.4) h.5
+of_audited : (names : NameLists) (asked : Asked) (options : AuditOptions) (store : Store) (stdout : Writing) (f : Fate) (sites : Option Table) → AuditsLog names sites asked options store stdout f → ComesByRefusal Growths f
+of_audited names asked options store stdout f sites (inl h) = unread Growths store.disk Log options.input.now None f h.0
+of_audited names asked options store stdout f sites (inr h) = of_delivered Growths store None stdout h.1 f (of_audit Growths names sites asked options h.0.bytes h.1 tt h.4) h.5
+
+of_predicted : (names : NameLists) (asked : Asked) (options : PredictOptions) (store : Store) (stdout : Writing) (f : Fate) (sites : Option Table) → PredictsLog names sites asked options store stdout f → ComesByRefusal Growths f
+of_predicted names asked options store stdout f sites (inl h) = unread Growths store.disk Log options.input.now options.target f h.0
+of_predicted names asked options store stdout f sites (inr h) = of_delivered Growths store options.target stdout h.1 f (of_prediction Growths names sites asked options h.0.bytes h.1 tt h.4) h.5
 
 -- of a workload whose schedules were tried
 of_exploration : (options : ExploreOptions) (read : Option (List ℕ)) (answer : Answer) (names : List ℕ) → IsExploreAnswer options read answer names → HasCause Growths answer
@@ -382,6 +391,8 @@ of_done store (request.Explore options) stdout f (inr h) =
 of_done store (request.Watch options) stdout f h = of_watch_by (terms_of_watch options) (of_fault_within options.limits) store stdout f h
 of_done store (request.WatchEndless options) stdout f h = of_watch_by (terms_of_endless options) (of_fault_of_whole options.limits) store stdout f h
 of_done store (request.Audit options) stdout f (inl h) = unnamed Growths store.disk options.names f h.0
-of_done store (request.Audit options) stdout f (inr (names, read, h)) = of_asked (λ asked. AuditsLog names asked options) names (audit_words options) store stdout f (of_audited names options store stdout f) h
+of_done store (request.Audit options) stdout f (inr (names, read, h)) = of_asked (λ asked. AuditsAsked names asked options) names options.ignored store stdout f
+    (λ asked. of_sited (λ sites. AuditsLog names sites asked options) options.sites store stdout f (of_audited names asked options store stdout f)) h
 of_done store (request.Predict options) stdout f (inl h) = unnamed Growths store.disk options.names f h.0
-of_done store (request.Predict options) stdout f (inr (names, read, h)) = of_asked (λ asked. PredictsLog names asked options) names (predict_words options) store stdout f (of_predicted names options store stdout f) h
+of_done store (request.Predict options) stdout f (inr (names, read, h)) = of_asked (λ asked. PredictsAsked names asked options) names options.ignored store stdout f
+    (λ asked. of_sited (λ sites. PredictsLog names sites asked options) options.sites store stdout f (of_predicted names asked options store stdout f)) h

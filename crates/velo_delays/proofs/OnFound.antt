@@ -14,7 +14,7 @@ use Rattle.velo_audit.specs.Witness.{HasWitness}
 use Rattle.velo_audit.specs.declared.told.Told.{Told}
 use Rattle.velo_predict.specs.declared.difference.Difference.{Difference}
 use Rattle.velo_predict.specs.Differences.{AreDifferences}
-use Rattle.velo_delays.specs.declared.judged.Found.{Found}
+use Rattle.velo_delays.specs.declared.judged.PredictedCycle.{PredictedCycle}
 use Rattle.velo_delays.specs.Found.{IsFound, IsFoundIn, SameButLabels, Adds, AddsAtMost}
 
 -- ---- lists that go on
@@ -54,10 +54,10 @@ SameButLabels-refl left = record { locks = refl; variables = refl }
 pub SameButLabels-more : (one two three : Left) → SameButLabels one two → SameButLabels two three → SameButLabels one three
 SameButLabels-more one two three first then = record { locks = then.locks ∙ first.locks; variables = then.variables ∙ first.variables }
 
-pub IsFoundIn-rest : (bounds : Bounds) (log : List Event) (left : Left) (found : Found) → IsFound bounds (rest_of left log) found → IsFoundIn bounds log left found
+pub IsFoundIn-rest : (bounds : Bounds) (log : List Event) (left : Left) (found : PredictedCycle) → IsFound bounds (rest_of left log) found → IsFoundIn bounds log left found
 IsFoundIn-rest bounds log left found is = record { labels = left.labels; is_found = is }
 
-pub IsFoundIn-same : (bounds : Bounds) (log : List Event) (old new : Left) → SameButLabels old new → (found : Found) → IsFoundIn bounds log new found → IsFoundIn bounds log old found
+pub IsFoundIn-same : (bounds : Bounds) (log : List Event) (old new : Left) → SameButLabels old new → (found : PredictedCycle) → IsFoundIn bounds log new found → IsFoundIn bounds log old found
 IsFoundIn-same bounds log old new same found is = record {
   labels = is.labels;
   is_found = subst (λ (left : Left). IsFound bounds (rest_of left log) found) equal is.is_found;

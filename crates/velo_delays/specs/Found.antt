@@ -9,11 +9,11 @@ use Rattle.velo_audit.specs.Rounds.{IsRound}
 use Rattle.velo_audit.specs.Tells.{told_as}
 use Rattle.velo_audit.specs.Witness.{HasWitness}
 use Rattle.velo_predict.specs.Predictions.{PredictsCycle}
-use Rattle.velo_delays.specs.declared.judged.Found.{Found}
+use Rattle.velo_delays.specs.declared.judged.PredictedCycle.{PredictedCycle}
 use Rattle.velo_delays.specs.Differing.{AreDiffering}
 
 -- a trace that the log foretells, with a cycle
-pub record IsFound (bounds : Bounds) (log : List Event) (found : Found) : Type 0 where
+pub record IsFound (bounds : Bounds) (log : List Event) (found : PredictedCycle) : Type 0 where
   pub foretold : PredictsCycle bounds log found.trace.events
   pub short : length found.trace.events ≤ MAX_EVENTS
   -- this an audit of the trace tells first: its closing event, and the blocks that are to blame there
@@ -25,7 +25,7 @@ pub record IsFound (bounds : Bounds) (log : List Event) (found : Found) : Type 0
   pub differing : AreDiffering log found.trace.events found.differing.items
 
 -- the same where the blocks of some more labels are dissolved
-pub record IsFoundIn (bounds : Bounds) (log : List Event) (left : Left) (found : Found) : Type 0 where
+pub record IsFoundIn (bounds : Bounds) (log : List Event) (left : Left) (found : PredictedCycle) : Type 0 where
   pub labels : ℕ → Bool
   pub is_found : IsFound bounds (rest_of (record left { labels = labels }) log) found
 

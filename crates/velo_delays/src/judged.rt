@@ -29,7 +29,7 @@ pub struct Differing {
 
 /// A prediction of a log with a cycle.
 #[derive(Drop)]
-pub struct Found {
+pub struct PredictedCycle {
     /// Its events.
     pub trace: Trace,
     /// What an audit of it tells first: its closing event, the blocks to blame, and why.
@@ -113,7 +113,7 @@ pub(crate) fn judge(
     config: &Config,
     log: &Trace,
     trace: Trace,
-) -> Result<Option<Found>, Memory>
+) -> Result<Option<PredictedCycle>, Memory>
     requires goes_on { config.now.stop ≡ false }
     ensures { IfOk result (λ found. IfSome found (λ found. IsFound config.now.bounds log.now.events found)) }
 {
@@ -132,7 +132,7 @@ pub(crate) fn judge(
     let Some(told) = round else {
         return Ok(None);
     };
-    Ok(Some(Found {
+    Ok(Some(PredictedCycle {
         trace,
         told,
         differing,

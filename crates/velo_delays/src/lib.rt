@@ -15,8 +15,8 @@ mod trying;
 
 pub use anew::with_lines;
 pub use deadlocks::{Deadlocks, search_deadlocks};
-pub use judged::{Differing, Found};
-pub use rounds::{Draws, Searched, search};
+pub use judged::{Differing, PredictedCycle};
+pub use rounds::{Draws, PredictedCycles, search};
 pub use stuck::Deadlock;
 
 #[cfg(test)]

@@ -7,7 +7,7 @@ ghost use Rattle.velo_delays.specs.Found.{Adds, AddsAtMost, IsFound, IsFoundIn, 
 ghost use Rattle.velo_delays.specs.Stands.{Stands};
 
 use crate::drawing::{Delay, draw_all};
-use crate::judged::{Found, judge};
+use crate::judged::{PredictedCycle, judge};
 use crate::lookup::Lookup;
 use crate::run::Run;
 use crate::trying::{joined, run_by};
@@ -16,7 +16,7 @@ use rand_xoshiro::Xoshiro256PlusPlus;
 use std::alloc::Global;
 use velo_events::growth::reserve;
 use velo_events::{Config, Label, Memory};
-use velo_filter::{LeftOut, thin};
+use velo_filter::{LabelSet, LeftOut, thin};
 use velo_traces::{Block, Trace};
 
 /// How delays are drawn.
@@ -30,9 +30,9 @@ pub struct Draws {
 
 /// What was found.
 #[derive(Drop)]
-pub struct Searched {
+pub struct PredictedCycles {
     /// The predictions.
-    pub found: Vec<Found>,
+    pub found: Vec<PredictedCycle>,
     /// How many delays were tried.
     pub tries: u64,
 }
@@ -102,7 +102,7 @@ fn find_by(
     log: &Trace,
     lookup: &Lookup,
     delay: Delay,
-) -> Result<Option<Found>, Memory>
+) -> Result<Option<PredictedCycle>, Memory>
     requires goes_on { config.now.stop ≡ false }
     requires stands { Stands base.now.heap }
     ensures { IfOk result (λ found. IfSome found (λ found. IsFound config.now.bounds log.now.events found)) }
@@ -116,11 +116,11 @@ fn find_by(
 /// Takes in what a delay into blocks of the label found, if it found something: no more delays are tried for the label. It is added if
 /// it blames a label that is not left out, and its labels are left out.
 fn take_in(
-    searched: &mut Searched,
+    searched: &mut PredictedCycles,
     left: &mut LeftOut,
-    done: &mut LeftOut,
+    done: &mut LabelSet,
     label: Label,
-    found: Option<Found>,
+    found: Option<PredictedCycle>,
 ) -> Result<(), Memory>
     ensures labels { SameButLabels (left_of left.old) (left_of left.new) }
     ensures found { AddsAtMost searched.old.found.items searched.new.found.items found }
@@ -128,7 +128,7 @@ fn take_in(
     let Some(found) = found else {
         return Ok(());
     };
-    done.leave_out_label(label)?;
+    done.insert(label)?;
     if !has_new(&found.told.blocks, left) {
         return Ok(());
     }
@@ -146,18 +146,18 @@ fn try_all(
     lookup: &Lookup,
     delays: &[Delay],
     left: &mut LeftOut,
-    searched: &mut Searched,
+    searched: &mut PredictedCycles,
 ) -> Result<(), Memory>
     requires goes_on { config.now.stop ≡ false }
     ensures labels { SameButLabels (left_of left.old) (left_of left.new) }
     ensures found { OnOk result (Adds (IsFound config.now.bounds log.now.events) searched.old.found.items searched.new.found.items) }
 {
     let mut base = Run::new(alloc, config, lookup, true)?;
-    let mut done = LeftOut::new(alloc);
+    let mut done = LabelSet::new(alloc);
     let mut position = 0;
     for at in 0..delays.len() {
         let delay = delays[at];
-        if done.has_label(delay.block.label) {
+        if done.contains(delay.block.label) {
             continue;
         }
         follow_to(&mut base, log, lookup, position, delay.from)?;
@@ -177,7 +177,7 @@ fn search_once(
     tries: u32,
     random: &mut Xoshiro256PlusPlus,
     left: &mut LeftOut,
-    searched: &mut Searched,
+    searched: &mut PredictedCycles,
 ) -> Result<(), Memory>
     requires goes_on { config.now.stop ≡ false }
     requires few { length log.now.events ≤ MAX_EVENTS }
@@ -210,14 +210,14 @@ pub fn search(
     log: &Trace,
     draws: Draws,
     left: &mut LeftOut,
-) -> Result<Searched, Memory>
+) -> Result<PredictedCycles, Memory>
     requires goes_on { config.now.stop ≡ false }
     requires few { length log.now.events ≤ MAX_EVENTS }
     requires well_formed { IsWellFormed config.now.bounds log.now.events }
     ensures { IfOk result (λ searched. All (IsFoundIn config.now.bounds log.now.events (left_of left.old)) searched.found.items) }
 {
     let mut random = Xoshiro256PlusPlus::seed_from_u64(draws.seed);
-    let mut searched = Searched {
+    let mut searched = PredictedCycles {
         found: Vec::new(alloc),
         tries: 0,
     };

@@ -10,7 +10,7 @@ use crate::files::Files;
 use velo_bytes::{Sink, WriteFault};
 
 /// A text that goes out piece by piece.
-pub trait Text {
+pub trait StreamedText {
     /// Its bytes.
     ghost is_text: { Self → List ℕ → Type 0 };
 
@@ -46,7 +46,7 @@ pub struct Answer<'s, 'p, T, P, E> {
 }
 
 /// Saves a text at its path, if it has one.
-fn save_one<T: Text, F: Files>(save: &Save<T>, files: &mut F) -> Result<(), Failure>
+fn save_one<T: StreamedText, F: Files>(save: &Save<T>, files: &mut F) -> Result<(), Failure>
     ensures { IsSaved T.is_text (store F.disk files.old files.new) save.now result }
 {
     let Some(path) = save.path else {
@@ -68,7 +68,7 @@ fn save_one<T: Text, F: Files>(save: &Save<T>, files: &mut F) -> Result<(), Fail
 /// # Errors
 /// `CannotOpen` where a file does not open; `WriteFailed` where one failed: a beginning of the text was
 /// written.
-pub fn save_all<T: Text, F: Files>(saves: &[Save<T>], files: &mut F) -> Result<(), Failure>
+pub fn save_all<T: StreamedText, F: Files>(saves: &[Save<T>], files: &mut F) -> Result<(), Failure>
     ensures { AreSaved T.is_text (store F.disk files.old files.new) saves.now result }
 {
     for one in saves {
@@ -78,7 +78,7 @@ pub fn save_all<T: Text, F: Files>(saves: &[Save<T>], files: &mut F) -> Result<(
 }
 
 /// Prints a text, if there is one.
-fn print<P: Text, O: Sink>(text: &Option<P>, out: &mut O) -> Result<(), Failure>
+fn print<P: StreamedText, O: Sink>(text: &Option<P>, out: &mut O) -> Result<(), Failure>
     ensures { PrintsText P.is_text (writing O.contents O.failures out.old out.new)
         text.now result }
 {
@@ -97,7 +97,7 @@ fn print<P: Text, O: Sink>(text: &Option<P>, out: &mut O) -> Result<(), Failure>
 /// # Errors
 /// `CannotOpen` where a file does not open; `WriteFailed` where one failed, and `PrintFailed` where
 /// the sink failed: a beginning of the text was written.
-pub fn deliver<T: Text, P: Text, E: Copy, F: Files, O: Sink>(
+pub fn deliver<T: StreamedText, P: StreamedText, E: Copy, F: Files, O: Sink>(
     answer: &Answer<T, P, E>,
     files: &mut F,
     out: &mut O,

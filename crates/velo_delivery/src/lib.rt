@@ -6,7 +6,7 @@ mod failure;
 mod files;
 mod reading;
 
-pub use answer::{Answer, Save, Text, deliver, save_all};
+pub use answer::{Answer, Save, StreamedText, deliver, save_all};
 pub use failure::{Failure, Operand};
 pub use files::{Files, is_standard_input, open_at};
 pub use reading::{ReadFault, read_whole};

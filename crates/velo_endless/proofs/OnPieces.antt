@@ -30,7 +30,7 @@ use Rattle.velo_world.specs.declared.log_replay.LogReplayFault.{LogReplayFault}
 use Rattle.velo_world.specs.declared.log_replay.LogReplayFault.TheVariants.{Refused, WrongValue, Memory}
 use Rattle.velo_world.specs.Faults.{IsFaultOfLog, IsRefusedAt}
 use Rattle.velo_world.specs.World.{IsAlarm}
-use Rattle.velo_endless.specs.declared.piece.Piece.{Piece}
+use Rattle.velo_endless.specs.declared.piece.LogPiece.{LogPiece}
 use Rattle.velo_endless.specs.Kept.{IsKept, CannotBeCut, IsFaultBehind, IsLimitBehind}
 use Rattle.velo_endless.specs.Piece.{AllLieBehind, BeginsWithPrologue, Follows, IsInWhole, IsJudged, IsLate, IsPieceOf, in_whole, moved_fault}
 use Rattle.velo_endless.proofs.OnAlarms.{all_behind, alarm_moved}
@@ -132,7 +132,7 @@ pub nothing_closes : ¬ HasCycle []
 nothing_closes = (prologue_law [] nothing_begins).2
 
 -- and what is kept of none is not late
-pub nothing_late : (piece : Piece) → IsPieceOf [] piece → piece.world.log ≡ [] → IsLate piece → ⊥
+pub nothing_late : (piece : LogPiece) → IsPieceOf [] piece → piece.world.log ≡ [] → IsLate piece → ⊥
 nothing_late piece k none late =
     let some = piece.world.config.some_event in
     let length_none = ap length none in
@@ -206,7 +206,7 @@ module _ (config : Config) (whole kept : List Event) (so_many so_long : ℕ) (e 
 
 -- ---- an event that comes next
 
-pub piece_more : (old new : Piece) (whole : List Event) (e : Event) → new.world.config ≡ old.world.config → new.world.log ≡ old.world.log ++ e ∷ [] → new.before ≡ old.before → new.prologue ≡ old.prologue → IsPieceOf whole old → IsPieceOf (whole ++ e ∷ []) new
+pub piece_more : (old new : LogPiece) (whole : List Event) (e : Event) → new.world.config ≡ old.world.config → new.world.log ≡ old.world.log ++ e ∷ [] → new.before ≡ old.before → new.prologue ≡ old.prologue → IsPieceOf whole old → IsPieceOf (whole ++ e ∷ []) new
 piece_more old new whole e config log before prologue k =
     subst (λ n. IsKept new.world.config.bounds (whole ++ e ∷ []) new.world.log new.before n) (sym prologue)
     (subst (λ n. IsKept new.world.config.bounds (whole ++ e ∷ []) new.world.log n old.prologue) (sym before)
@@ -214,12 +214,12 @@ piece_more old new whole e config log before prologue k =
     (subst (λ (c : Config). IsKept c.bounds (whole ++ e ∷ []) (old.world.log ++ e ∷ []) old.before old.prologue) (sym config)
     (kept_more old.world.config.bounds whole old.world.log old.before old.prologue k e))))
 
-pub follows_alarm : (whole : List Event) (e : Event) (old new : Piece) (r : Result (Option Alarm) LogReplayFault) → IsPieceOf (whole ++ e ∷ []) new → IfOk r (λ alarm. (log : List Event) → IsPieceOf log new → IsJudged log new alarm) → IfErr r (λ fault. fault ≡ Memory) → OnErr r GrowthRefused → Follows whole e old r new
+pub follows_alarm : (whole : List Event) (e : Event) (old new : LogPiece) (r : Result (Option Alarm) LogReplayFault) → IsPieceOf (whole ++ e ∷ []) new → IfOk r (λ alarm. (log : List Event) → IsPieceOf log new → IsJudged log new alarm) → IfErr r (λ fault. fault ≡ Memory) → OnErr r GrowthRefused → Follows whole e old r new
 follows_alarm whole e old new (Ok alarm) k alarms fault refused = alarms (whole ++ e ∷ []) k
 follows_alarm whole e old new (Err f) k alarms fault refused = subst (IsFaultBehind old.world.config whole e) (sym fault) refused
 
-pub judged_none : (whole : List Event) (piece : Piece) → ¬ HasCycle piece.world.log → IsPieceOf whole piece → IsJudged whole piece None
+pub judged_none : (whole : List Event) (piece : LogPiece) → ¬ HasCycle piece.world.log → IsPieceOf whole piece → IsJudged whole piece None
 judged_none whole piece none k = (λ c. none (cycle_kept piece.world.config.bounds whole piece.world.log piece.before piece.prologue k c), k)
 
-pub judged_some : (whole : List Event) (piece : Piece) (alarm moved : Alarm) → IsAlarm piece.world.log alarm → IsInWhole piece.before piece.prologue alarm moved → IsPieceOf whole piece → IsJudged whole piece (Some moved)
+pub judged_some : (whole : List Event) (piece : LogPiece) (alarm moved : Alarm) → IsAlarm piece.world.log alarm → IsInWhole piece.before piece.prologue alarm moved → IsPieceOf whole piece → IsJudged whole piece (Some moved)
 judged_some whole piece alarm moved h is k = alarm_kept piece.world.config.bounds whole piece.world.log piece.before piece.prologue k alarm moved h is

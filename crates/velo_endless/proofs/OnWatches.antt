@@ -30,7 +30,7 @@ use Rattle.velo_world.specs.declared.log_replay.LogReplayFault.{LogReplayFault}
 use Rattle.velo_world.specs.declared.log_replay.LogReplayFault.TheVariants as replay
 use Rattle.velo_world.specs.World.{IsAlarm, AlarmOf}
 use Rattle.velo_world.proofs.OnAlarms.{AlarmOf-stays}
-use Rattle.velo_endless.specs.declared.piece.Piece.{Piece}
+use Rattle.velo_endless.specs.declared.piece.LogPiece.{LogPiece}
 use Rattle.velo_endless.specs.declared.reading.TheConstants.{MAX_WATCHED}
 use Rattle.velo_endless.specs.declared.watch.EndlessWatch.{EndlessWatch}
 use Rattle.velo_endless.specs.declared.whole.Whole.{Whole}
@@ -60,11 +60,11 @@ well_judged log watch h = subst (λ (b : Bounds). IsWellFormed b log) h.bounds h
 
 -- ---- what was told
 
-pub alarm_judged : (log : List Event) (piece : Piece) (alarm : Option Alarm) → IsJudged log piece alarm → AlarmOf log alarm
+pub alarm_judged : (log : List Event) (piece : LogPiece) (alarm : Option Alarm) → IsJudged log piece alarm → AlarmOf log alarm
 alarm_judged log piece None h = h.0
 alarm_judged log piece (Some a) h = h
 
-pub tells : (old new : Option (List ℕ)) (log : List Event) (piece : Piece) (alarm : Option Alarm) → IsJudged log piece alarm → Appends old new (told_text alarm) → Tells old new log
+pub tells : (old new : Option (List ℕ)) (log : List Event) (piece : LogPiece) (alarm : Option Alarm) → IsJudged log piece alarm → Appends old new (told_text alarm) → Tells old new log
 tells old new log piece alarm h told = record { alarm = alarm; exact = alarm_judged log piece alarm h; appends = told }
 
 -- of the input, the events stand at the front
@@ -86,16 +86,16 @@ told_first old between new (Some a) alarm none p q = absurd (false≢true (sym n
 part_first : (old between new : Option (List ℕ)) (line : List ℕ) → Appends old between [] → AppendsBeginning between new line → AppendsBeginning old new line
 part_first old between new line p q = beginning_then old between new [] line [] line p q (sym (append-nil line))
 
-pub part_told : (old between new : Option (List ℕ)) (log : List Event) (piece : Piece) (was alarm : Option Alarm) → IsFalse (is_some was) → Appends old between (told_text was) → IsJudged log piece alarm → TellsPartOf alarm between new → TellsPart old new log
+pub part_told : (old between new : Option (List ℕ)) (log : List Event) (piece : LogPiece) (was alarm : Option Alarm) → IsFalse (is_some was) → Appends old between (told_text was) → IsJudged log piece alarm → TellsPartOf alarm between new → TellsPart old new log
 part_told old between new log piece (Some a) alarm none p h q = absurd (false≢true (sym none))
 part_told old between new log piece None None none p h q = absurd q
 part_told old between new log piece None (Some a) none p h q = (a, h, part_first old between new (alarm_line a) p q)
 
-pub no_cycle_before : (log : List Event) (piece : Piece) (was : Option Alarm) → IsFalse (is_some was) → IsJudged log piece was → ¬ HasCycle log
+pub no_cycle_before : (log : List Event) (piece : LogPiece) (was : Option Alarm) → IsFalse (is_some was) → IsJudged log piece was → ¬ HasCycle log
 no_cycle_before log piece None none h = h.0
 no_cycle_before log piece (Some a) none h = absurd (false≢true (sym none))
 
-pub piece_before : (log : List Event) (piece : Piece) (was : Option Alarm) → IsFalse (is_some was) → IsJudged log piece was → IsPieceOf log piece
+pub piece_before : (log : List Event) (piece : LogPiece) (was : Option Alarm) → IsFalse (is_some was) → IsJudged log piece was → IsPieceOf log piece
 piece_before log piece None none h = h.1
 piece_before log piece (Some a) none h = absurd (false≢true (sym none))
 
@@ -104,11 +104,11 @@ none_is None none = refl
 none_is (Some a) none = absurd (false≢true (sym none))
 
 -- an alarm stays
-pub judged_still : (log : List Event) (e : Event) (piece : Piece) (alarm : Option Alarm) → IsTrue (is_some alarm) → IsJudged log piece alarm → IsJudged (log ++ e ∷ []) piece alarm
+pub judged_still : (log : List Event) (e : Event) (piece : LogPiece) (alarm : Option Alarm) → IsTrue (is_some alarm) → IsJudged log piece alarm → IsJudged (log ++ e ∷ []) piece alarm
 judged_still log e piece None some h = absurd (false≢true some)
 judged_still log e piece (Some a) some h = AlarmOf-stays log e (Some a) refl h
 
-pub not_in_time : (log : List Event) (piece : Piece) (alarm : Option Alarm) → IsTrue (is_some alarm) → alarm ≡ None → IsCutInTime log piece
+pub not_in_time : (log : List Event) (piece : LogPiece) (alarm : Option Alarm) → IsTrue (is_some alarm) → alarm ≡ None → IsCutInTime log piece
 not_in_time log piece None some is = absurd (false≢true some)
 not_in_time log piece (Some a) some is = absurd cc
 

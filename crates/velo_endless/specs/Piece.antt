@@ -9,7 +9,7 @@ use Rattle.velo_world.specs.declared.analysis.Alarm.{Alarm}
 use Rattle.velo_world.specs.declared.log_replay.LogReplayFault.{LogReplayFault}
 use Rattle.velo_world.specs.declared.log_replay.LogReplayFault.TheVariants.{Refused, WrongValue, Memory}
 use Rattle.velo_world.specs.World.{IsAlarm, HoldsLiveShares}
-use Rattle.velo_endless.specs.declared.piece.Piece.{Piece}
+use Rattle.velo_endless.specs.declared.piece.LogPiece.{LogPiece}
 use Rattle.velo_endless.specs.declared.reading.TheConstants.{MAX_WATCHED}
 use Rattle.velo_endless.specs.Kept.{IsKept, CannotBeCut, IsFaultBehind}
 
@@ -20,31 +20,31 @@ pub record BeginsWithPrologue (log : List Event) (n : ℕ) : Type 0 where
 
 -- nobody has halted the world, and it goes on after an alarm; live threads' shares stand at their places; its first events are
 -- a prologue
-pub record CanFollow (piece : Piece) : Type 0 where
+pub record CanFollow (piece : LogPiece) : Type 0 where
   pub live : piece.world.halted ≡ false
   pub goes_on : piece.world.config.stop ≡ false
   pub ready : HoldsLiveShares piece.world piece.shares
   pub prologue : BeginsWithPrologue piece.world.log piece.prologue
   pub few : piece.before ≤ MAX_WATCHED
 
-abbrev pub IsPieceOf : List Event → Piece → Type 0
+abbrev pub IsPieceOf : List Event → LogPiece → Type 0
 IsPieceOf whole piece = IsKept piece.world.config.bounds whole piece.world.log piece.before piece.prologue
 
 -- more than half the room behind the prologue is used
-abbrev pub IsLate : Piece → Type 0
+abbrev pub IsLate : LogPiece → Type 0
 IsLate piece = piece.prologue + piece.world.config.events ≤ length piece.world.log + length piece.world.log
 
 -- where it is late, the log can't be cut
-abbrev pub IsCutInTime : List Event → Piece → Type 0
+abbrev pub IsCutInTime : List Event → LogPiece → Type 0
 IsCutInTime whole piece = IsLate piece → CannotBeCut piece.world.config whole
 
 -- Without an alarm the piece is one of the whole log, which has no cycle; else the alarm is that of the whole
-abbrev pub IsJudged : List Event → Piece → Option Alarm → Type 0
+abbrev pub IsJudged : List Event → LogPiece → Option Alarm → Type 0
 IsJudged whole piece None = (¬ HasCycle whole) × IsPieceOf whole piece
 IsJudged whole piece (Some alarm) = IsAlarm whole alarm
 
 -- an event more, and the alarm if it raises one; or why it does not come next
-abbrev pub Follows : List Event → Event → Piece → Result (Option Alarm) LogReplayFault → Piece → Type 0
+abbrev pub Follows : List Event → Event → LogPiece → Result (Option Alarm) LogReplayFault → LogPiece → Type 0
 Follows whole e old (Ok alarm) new = IsJudged (whole ++ e ∷ []) new alarm
 Follows whole e old (Err fault) new = IsFaultBehind old.world.config whole e fault
 

@@ -6,7 +6,7 @@ mod reading;
 mod watch;
 mod whole;
 
-pub use piece::Piece;
+pub use piece::LogPiece;
 pub use reading::{LongReader, MAX_WATCHED};
 pub use watch::EndlessWatch;
 pub use whole::Whole;

@@ -22,7 +22,7 @@ use velo_world::{Alarm, LogReplayFault, World};
 
 /// The events of a log after its last cut, behind a prologue that stands for those before it.
 #[derive(Drop)]
-pub struct Piece {
+pub struct LogPiece {
     pub(crate) world: World,
     pub(crate) shares: Shares,
     /// How many events of the log were before the cut.
@@ -31,12 +31,12 @@ pub struct Piece {
     pub(crate) prologue: usize,
 }
 
-impl Piece {
+impl LogPiece {
     /// The piece of a log that has no event yet.
     ///
     /// # Errors
     /// `Memory` where a growth was refused.
-    pub fn new(alloc: Global, config: Config) -> Result<Piece, LogReplayFault>
+    pub fn new(alloc: Global, config: Config) -> Result<LogPiece, LogReplayFault>
         requires { config.stop ≡ false }
         ensures config { IfOk result (λ piece. piece.world.config ≡ config) }
         ensures follows { IfOk result CanFollow }
@@ -46,7 +46,7 @@ impl Piece {
         ensures memory { OnErr result GrowthRefused }
     {
         match World::from_log(alloc, config, Trace::new(alloc)) {
-            Ok((world, shares)) => Ok(Piece {
+            Ok((world, shares)) => Ok(LogPiece {
                 world,
                 shares,
                 before: 0,

@@ -17,7 +17,7 @@ ghost use Rattle.velo_endless.specs.declared.reading.TheConstants.{MAX_WATCHED};
 ghost use Rattle.velo_endless.specs.Endless.{CanGoOn, CanTakeIn, HasJudged, HasSeen, IsUnderWay, Judges, Steps, TellsPartOf};
 ghost use Rattle.velo_endless.specs.Whole.{IsWholeOf};
 
-use crate::piece::Piece;
+use crate::piece::LogPiece;
 use crate::reading::LongReader;
 use crate::whole::Whole;
 use std::alloc::Global;
@@ -34,7 +34,7 @@ use velo_world::{Alarm, LogReplayFault};
 pub struct EndlessWatch {
     pub(crate) reader: LongReader,
     pub(crate) whole: Whole,
-    pub(crate) piece: Piece,
+    pub(crate) piece: LogPiece,
     /// The alarm that was told.
     pub(crate) alarm: Option<Alarm>,
 }
@@ -70,7 +70,7 @@ impl EndlessWatch {
         let Ok(whole) = Whole::new(alloc, &config) else {
             return Err(WatchFault::Replay(LogReplayFault::Memory));
         };
-        match Piece::new(alloc, config) {
+        match LogPiece::new(alloc, config) {
             Ok(piece) => Ok(EndlessWatch {
                 reader,
                 whole,

@@ -21,7 +21,7 @@ use Rattle.velo_explore.specs.declared.finding.Finding.{Finding}
 use Rattle.velo_explore.specs.declared.finding.Finding.TheVariants.{Shown, Never, Open}
 use Rattle.velo_explore.specs.declared.goal.Goal.{Goal}
 use Rattle.velo_explore.specs.declared.goal.Goal.TheVariants.{Alarm, Stuck, Refused}
-use Rattle.velo_explore.specs.declared.outcome.Outcome.{Outcome}
+use Rattle.velo_explore.specs.declared.outcome.RunOutcome.{RunOutcome}
 use Rattle.velo_explore.specs.Goals.{HasAlarm, Reached, Reaches, fault_of, goal_in}
 use Rattle.velo_explore.specs.Logs.{ends_refused, is_for_room}
 use Rattle.velo_explore.specs.Told.{AreAlarms, IsMissed, IsOutcome, Lacks, OnShown}
@@ -66,7 +66,7 @@ goal-reaches Refusing alarm endings.Gated closed goal is h = absurd (none-some g
 
 -- ---- a replay
 
-module _ (program : Program) (config : Config) (turns : List ThreadId) (outcome : Outcome) (h : IsOutcome program config turns outcome) where
+module _ (program : Program) (config : Config) (turns : List ThreadId) (outcome : RunOutcome) (h : IsOutcome program config turns outcome) where
   pub shows-goal : (fault : Fault) (goal : Goal) (schedule : List ThreadId) → turns ≡ schedule → goal_in fault outcome.alarm outcome.ending ≡ Some goal → Reached program config goal schedule × (fault_of goal ≡ fault)
   shows-goal fault goal schedule same is =
       let shown = goal-reaches fault outcome.alarm outcome.ending h.closed goal h.cycle is in (

@@ -1,5 +1,5 @@
 //! All schedules of a workload at once.
-ghost use Rattle.std.specs.Prelude.{◌≡◌, ◌⊎◌, ◌≤◌, ◌-◌, ◌^◌, [], true, false, is_some, length, map, min, sum_by, IfOk, IfSome, IsTrue};
+ghost use Rattle.std.specs.Prelude.{◌≡◌, ◌⊎◌, ◌≤◌, ◌-◌, ◌^◌, ◌&&◌, [], true, false, is_some, length, map, min, sum_by, IfOk, IfSome, IsTrue};
 ghost use Rattle.velo_worker.specs.Counts.{body_events};
 ghost use Rattle.velo_search.specs.declared.fault.Fault.{Fault as FaultOf};
 ghost use Rattle.velo_search.specs.Search.{has_fault};
@@ -25,7 +25,8 @@ use velo_workload::Workload;
 /// than the configuration lets a log have, nothing is tried.
 ///
 /// With `first` it ends as soon as it finds one of the three, shows it, and reports the others as
-/// open.
+/// open. Once `progress` says that the search is over, no more states are looked at, and what was not
+/// found is reported as open.
 ///
 /// What is shown was replayed. What is said never to be is so by no schedule. What is open is so as
 /// not all schedules were tried, or as the replay by the schedule that leads there ends before: for
@@ -47,7 +48,8 @@ pub fn explore<P: Progress>(
     ensures told { IfOk result (λ x. (fault : FaultOf) →
         IsTold workload.now config fault (finding_of x.findings fault)) }
     ensures left_open { IfOk result (λ x. (fault : FaultOf) → OnOpen (finding_of x.findings fault)
-        (IsLeftOpen workload.now config most_states first x.states x.findings fault)) }
+        (IsLeftOpen workload.now config most_states first
+        (P.may_end progress.old && P.says_over progress.new) x.states x.findings fault)) }
     ensures alarms { IfOk result (λ x. AreAlarms workload.now config first x.findings.alarm
         (map (λ v. v.items) x.alarms.items)) }
 {
@@ -135,7 +137,9 @@ fn search_all<P: Progress>(
         IsSomewhere workload.now fault) }
     ensures cut { IfOk result (λ x. x.whole ≡ false → (fault : FaultOf) →
         has_fault x.found fault ≡ false →
-        ((has_ended first x.found ≡ true) ⊎ AreSpent workload.now most_states x.states fault)) }
+        ((has_ended first x.found ≡ true)
+        ⊎ ((P.may_end progress.old && P.says_over progress.new) ≡ true)
+        ⊎ AreSpent workload.now most_states x.states fault)) }
     ensures leads { IfOk result (λ x. (fault : FaultOf) → IfSome (turns_for x.schedules fault)
         (LeadsTo workload.now.bounds (all_scripts workload.now) fault)) }
     ensures each { IfOk result (λ x. x.whole ≡ true → (fault : FaultOf) →

@@ -14,21 +14,21 @@ use velo_world::Closed;
 
 /// What a run came to.
 #[derive(Clone, Copy, Debug, PartialEq, Eq)]
-pub struct Outcome {
+pub struct RunOutcome {
     /// Whether its log has a cycle.
     pub alarm: bool,
     /// How it ended.
     pub ending: Ending,
 }
 
-impl Outcome {
+impl RunOutcome {
     /// That of a run which left this world, and ended so.
-    pub fn of(closed: &Closed, ending: Ending) -> Outcome
+    pub fn of(closed: &Closed, ending: Ending) -> RunOutcome
         ensures alarm { IsTrue result.alarm ↔ HasCycle closed.now.log }
         ensures known { HasAlarm closed.now.log }
         ensures ending { result.ending ≡ ending }
     {
-        Outcome {
+        RunOutcome {
             alarm: closed.alarm().is_some(),
             ending,
         }
@@ -53,7 +53,7 @@ impl Goal {
         ensures reached { IsTrue result ↔ Reaches self ending closed.now }
         ensures known { HasAlarm closed.now.log }
     {
-        let outcome = Outcome::of(closed, ending);
+        let outcome = RunOutcome::of(closed, ending);
         match self {
             Goal::Alarm => outcome.alarm,
             Goal::Stuck => ending == Ending::Stuck,

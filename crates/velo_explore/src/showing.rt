@@ -9,7 +9,7 @@ ghost use Rattle.velo_search.specs.Trail.{LeadsTo};
 ghost use Rattle.velo_explore.specs.declared.finding.Finding.TheVariants.{Never};
 
 use crate::finding::{Finding, Witness};
-use crate::outcome::Outcome;
+use crate::outcome::RunOutcome;
 use std::alloc::Global;
 use velo_events::growth::reserve;
 use velo_events::{Config, Memory, Refusal, ThreadId};
@@ -49,12 +49,12 @@ fn outcome_of(
     workload: &Workload,
     schedule: &[ThreadId],
     config: Config,
-) -> Result<Outcome, Memory>
+) -> Result<RunOutcome, Memory>
     requires { config.bounds ≡ workload.now.bounds }
     ensures { IfOk result (IsOutcome workload.now config schedule.now) }
 {
     let (closed, ending) = replayed(alloc, workload, schedule, config)?;
-    let outcome = Outcome::of(&closed, ending);
+    let outcome = RunOutcome::of(&closed, ending);
     drop(closed);
     Ok(outcome)
 }

@@ -212,6 +212,7 @@ line_of_report None n = codes "out of memory\n"
 abbrev pub line_of_ignored : Ignorable → List ℕ
 line_of_ignored ignorable.Lock = codes "ignored fault 1\n"
 line_of_ignored ignorable.Variable = codes "ignored fault 2\n"
+line_of_ignored ignorable.Label = codes "ignored fault 3\n"
 
 -- the word of the command line
 abbrev pub word_of : Operand → List ℕ

@@ -87,9 +87,8 @@ fn status_of_log(fault: LogFault) -> u8
     ensures { result ≡ status_of_log fault }
 {
     match fault {
-        LogFault::BadHeader | LogFault::BadLine(_) | LogFault::Truncated(_) | LogFault::TooLong =>
-            BAD_INPUT,
         LogFault::Read | LogFault::Memory => FAILED,
+        _ => BAD_INPUT,
     }
 }
 
@@ -405,6 +404,7 @@ fn put_ignored(buffer: &mut [u8], what: Ignorable) -> usize
     match what {
         Ignorable::Lock => put_bytes(buffer, 0, b"ignored fault 1\n"),
         Ignorable::Variable => put_bytes(buffer, 0, b"ignored fault 2\n"),
+        Ignorable::Label => put_bytes(buffer, 0, b"ignored fault 3\n"),
     }
 }
 

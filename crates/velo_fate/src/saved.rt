@@ -2,7 +2,7 @@
 ghost use Rattle.velo_fate.specs.Saving.{is_text_saved};
 
 use velo_bytes::{Sink, WriteFault, write_all};
-use velo_delivery::Text;
+use velo_delivery::StreamedText;
 use velo_logtext::write_log;
 use velo_world::Closed;
 
@@ -15,7 +15,7 @@ pub enum Saved<'c, 't> {
     Bytes(&'t [u8]),
 }
 
-impl<'c, 't> Text for Saved<'c, 't> {
+impl<'c, 't> StreamedText for Saved<'c, 't> {
     ghost is_text = { is_text_saved };
 
     fn write_to<S: Sink>(&self, sink: &mut S) -> Result<(), WriteFault> {

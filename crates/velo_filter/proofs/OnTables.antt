@@ -22,16 +22,16 @@ pub is_listed-append : (xs ys : List ℕ) (n : ℕ) → is_listed (xs ++ ys) n �
 unfolding is_listed
 is_listed-append xs ys n = list_any-append (λ x. n == x) xs ys
 
-is_listed-one : (x n : ℕ) → is_listed (x ∷ []) n ≡ (n == x)
+pub is_listed-one : (x n : ℕ) → is_listed (x ∷ []) n ≡ (n == x)
 unfolding is_listed
 is_listed-one x n = elim (n == x) as (λ b. (b || false) ≡ b) [ true ↦ refl | false ↦ refl ]
 
 -- one more number in the set
-pub is_listed-insert : (xs : List ℕ) (x n : ℕ) → is_listed (insert_key nat_eq xs x) n ≡ (is_listed xs n || is_listed (x ∷ []) n)
+pub is_listed-insert : (xs : List ℕ) (x n : ℕ) → is_listed (insert_key nat_eq xs x) n ≡ with_number (is_listed xs) x n
 unfolding is_listed
 is_listed-insert xs x n = ⊎_elim
-    (λ there. ap (λ b. is_listed (cond b xs (xs ++ x ∷ [])) n) there ∙ (again there ∙ ap (λ b. is_listed xs n || b) (sym (is_listed-one x n))))
-    (λ new. ap (λ b. is_listed (cond b xs (xs ++ x ∷ [])) n) new ∙ is_listed-append xs (x ∷ []) n)
+    (λ there. ap (λ b. is_listed (cond b xs (xs ++ x ∷ [])) n) there ∙ again there)
+    (λ new. ap (λ b. is_listed (cond b xs (xs ++ x ∷ [])) n) new ∙ (is_listed-append xs (x ∷ []) n ∙ ap (λ b. is_listed xs n || b) (is_listed-one x n)))
     (cases_Bool (is_listed xs x))
   where
     again : IsTrue (is_listed xs x) → is_listed xs n ≡ (is_listed xs n || (n == x))
@@ -39,6 +39,12 @@ is_listed-insert xs x n = ⊎_elim
         (λ e. ap (is_listed xs) e ∙ (there ∙ sym (or_left _ _ (ap (is_listed xs) e ∙ there))))
         (λ d. sym (ap (λ b. is_listed xs n || b) (ne_eqb n x d) ∙ elim (is_listed xs n) as (λ b. (b || false) ≡ b) [ true ↦ refl | false ↦ refl ]))
         (cases_eq n x)
+
+-- a set of labels with one more
+pub with_labels-one : (left : Left) (test : ℕ → Bool) (n : ℕ) → test ≡ with_number left.labels n → record left { labels = test } ≡ with_labels left (n ∷ [])
+with_labels-one left test n is = left_same (record left { labels = test }) (with_labels left (n ∷ []))
+    (λ l. ap (λ (f : ℕ → Bool). f l) is ∙ ap (λ b. left.labels l || b) (sym (is_listed-one n l)))
+    (λ m. refl) (λ x. refl)
 
 -- ---- labels one after another
 

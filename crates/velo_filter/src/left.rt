@@ -4,8 +4,7 @@ ghost use Rattle.velo_events.specs.Event.{lock_of, variable_of};
 ghost use Rattle.velo_filter.specs.Left.{is_among, with_labels, with_number, with_lock, with_variable, nothing};
 ghost use Rattle.velo_filter.specs.Tables.{left_of, marked};
 
-use crate::growth::insert;
-use indexmap::IndexSet;
+use crate::labels::LabelSet;
 use std::alloc::Global;
 use velo_events::growth::fill_up_to;
 use velo_events::{Kind, Label, LockId, Memory, VarId};
@@ -13,7 +12,7 @@ use velo_events::{Kind, Label, LockId, Memory, VarId};
 /// What is left out of a log: the blocks of some labels, and the operations on some locks and variables.
 #[derive(Drop)]
 pub struct LeftOut {
-    labels: IndexSet<u32>,
+    labels: LabelSet,
     locks: Vec<bool>,
     variables: Vec<bool>,
 }
@@ -24,7 +23,7 @@ impl LeftOut {
         ensures { left_of result ≡ nothing }
     {
         LeftOut {
-            labels: IndexSet::new(alloc),
+            labels: LabelSet::new(alloc),
             locks: Vec::new(alloc),
             variables: Vec::new(alloc),
         }
@@ -38,7 +37,7 @@ impl LeftOut {
         ensures ok { OnOk result (left_of self.new ≡ with_labels (left_of self.old) (label.0 ∷ [])) }
         ensures err { OnErr result (left_of self.new ≡ left_of self.old) }
     {
-        insert(&mut self.labels, label.0)
+        self.labels.insert(label)
     }
 
     /// Leaves out the operations on a lock.
@@ -68,7 +67,7 @@ impl LeftOut {
     pub fn has_label(&self, label: Label) -> bool
         ensures { result ≡ (left_of self.now).labels label.0 }
     {
-        self.labels.contains(&label.0)
+        self.labels.contains(label)
     }
 
     /// Whether the operations on the lock are left out.

@@ -2,10 +2,12 @@
 #![tactic(auto)]
 
 mod growth;
+mod labels;
 mod left;
 mod marks;
 mod thinned;
 
+pub use labels::LabelSet;
 pub use left::LeftOut;
 pub use marks::{no_marks, stays_at};
 pub use thinned::{Thinned, thin};

@@ -1,12 +1,18 @@
 -- What is to be ignored, one word after another.
-use Rattle.std.proofs.Common.{◌≡◌, ◌≢◌, ◌∙◌, ◌++◌, ◌∷◌, ◌<◌, ◌≤◌, [], List, ap, append-nil, append_assoc, arith, drop, drop-cons, get_or, length, refl, suc, sym, zero}
-use Rattle.std.specs.Prelude.{ℕ, ◌+◌, None, Option, Some, option_map}
+use Rattle.std.proofs.Common.{◌≡◌, ◌≢◌, ◌∙◌, ◌++◌, ◌∷◌, ◌<◌, ◌≤◌, [], List, ap, append-nil, append_assoc, arith, drop, drop-cons, get_or, length, refl, subst, suc, sym, zero}
+use Rattle.std.specs.Prelude.{ℕ, ◌+◌, All, Bool, true, None, Option, Some, fold, nat_le, option_map}
+use Rattle.std.proofs.lemmas.Bool.{leb-true}
+use Rattle.std.proofs.lemmas.List.Elements.{All-append, All-nil, All-weaker, filter_passes}
+use Rattle.std.proofs.lemmas.Option.{none-some, same_Some}
 use Rattle.std.specs.Borrow.{Bor}
-use Rattle.velo_names.specs.Names.{NameLists}
+use Rattle.velo_names.specs.Line.{greatest}
+use Rattle.velo_names.specs.Names.{NameLists, meant_by}
+use Rattle.velo_suppressions.specs.Known.{with_number}
 use Rattle.velo_request.specs.declared.request.Ignorable.{Ignorable}
+use Rattle.velo_request.specs.declared.request.Ignorable.TheVariants.{Label}
 use Rattle.velo_fate.specs.declared.fate.Fate.{Fate}
 use Rattle.velo_fate.specs.declared.fate.Fate.TheVariants as fate
-use Rattle.velo_inputs.specs.Ignoring.{MeanNothing, MeansNone, before_others, ids_by, ids_meant}
+use Rattle.velo_inputs.specs.Ignoring.{MeanNothing, MeansNone, before_others, ids_among, ids_by, ids_meant, kind_of, labels_asked}
 
 -- ---- whether a word added ids
 
@@ -69,3 +75,30 @@ module _ (names : NameLists) (what : Ignorable) (words : List (Bor (List ℕ))) 
 pub words_end : (names : NameLists) (what : Ignorable) (words : List (Bor (List ℕ))) (i : ℕ) (ids : List ℕ) → length words ≤ i → ids_by names what words ≡ behind ids (ids_by names what (drop i words))
     → ids_by names what words ≡ Some ids
 words_end names what words i ids none so = so ∙ (ap (λ ws. behind ids (ids_by names what ws)) (none_left words i none) ∙ ap Some (append-nil ids))
+
+-- ---- what they mean
+
+-- ids of a kind are not above its greatest
+abbrev Small : Ignorable → List ℕ → Type 0
+Small what ids = All (λ id. id ≤ greatest (kind_of what)) ids
+
+word_small : (names : NameLists) (what : Ignorable) (word : List ℕ) → Small what (ids_meant names what word)
+word_small names what word =
+    All-weaker (λ id. nat_le id (greatest (kind_of what)) ≡ true) (λ id. id ≤ greatest (kind_of what)) (λ id is. leb-true id (greatest (kind_of what)) is) (ids_meant names what word)
+    (filter_passes (λ id. nat_le id (greatest (kind_of what))) (meant_by names (kind_of what) word))
+
+joined_small : (what : Ignorable) (these : List ℕ) (rest : Option (List ℕ)) (ids : List ℕ) → Small what these → ((more : List ℕ) → rest ≡ Some more → Small what more)
+    → before_others these rest ≡ Some ids → Small what ids
+joined_small what [] rest ids few each is = absurd (none-some ids is)
+joined_small what (x ∷ xs) None ids few each is = absurd (none-some ids is)
+joined_small what (x ∷ xs) (Some more) ids few each is =
+    subst (Small what) (same_Some ((x ∷ xs) ++ more) ids is) (All-append (λ id. id ≤ greatest (kind_of what)) (x ∷ xs) more few (each more refl))
+
+pub small_ids : (names : NameLists) (what : Ignorable) (words : List (Bor (List ℕ))) (ids : List ℕ) → ids_by names what words ≡ Some ids → Small what ids
+small_ids names what [] ids is = subst (Small what) (same_Some [] ids is) (All-nil (λ id. id ≤ greatest (kind_of what)))
+small_ids names what (word ∷ words) ids is =
+    joined_small what (ids_meant names what word.now) (ids_by names what words) ids (word_small names what word.now) (λ more so. small_ids names what words more so) is
+
+-- they are added to the labels that are known
+pub labels_added : (names : NameLists) (known new ids : List ℕ) (words : List (Bor (List ℕ))) → ids_by names Label words ≡ Some ids → new ≡ fold with_number known ids → labels_asked names known words ≡ Some new
+labels_added names known new ids words means is = ap (option_map (fold with_number known)) means ∙ ap Some (sym is)

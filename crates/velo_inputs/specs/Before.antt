@@ -1,15 +1,18 @@
--- What comes before the log of a command: the names are read, and what is left out is judged.
+-- What comes before the log of a command: the names are read, what is left out is judged, and the
+-- sites are read.
 use Rattle.std.specs.Prelude.{◌⊎◌, ℕ, List, Option}
 use Rattle.std.specs.Borrow.{Bor}
 use Rattle.velo_names.specs.Names.{NameLists}
 use Rattle.velo_audit_text.specs.declared.words.Asked.{Asked}
 use Rattle.velo_fate.specs.declared.fate.Fate.{Fate}
-use Rattle.velo_inputs.specs.declared.asking.AskedWords.{AskedWords}
+use Rattle.velo_request.specs.declared.request.Ignored.{Ignored}
 use Rattle.velo_fate.specs.Barred.{WritesNowhere}
 use Rattle.velo_delivery.specs.Disk.{Store}
 use Rattle.velo_inputs.specs.Ignoring.{AsksInVain, IsAsked}
 use Rattle.velo_inputs.specs.Listing.{AreLabelsOf, LacksLabels}
 use Rattle.velo_inputs.specs.Naming.{AreNamesOf, LacksNames}
+use Rattle.velo_inputs.specs.Siting.{AreSitesOf, LacksSites}
+use Rattle.velo_sites.specs.Sites.{Table}
 use Rattle.velo_delivery.specs.Writing.{Writing}
 
 -- the file of names at the path is not read, or says none; no file was opened to be written,
@@ -27,17 +30,25 @@ DoesByNames does path store stdout f =
 
 -- What is to be ignored is judged by these names (`Ignoring`) before LOG is opened. It is left out,
 -- and so are the labels that are known; and then what is to be done is done without them.
-abbrev pub DoesKnown : (Asked → Store → Writing → Fate → Type 0) → NameLists → AskedWords → List ℕ
+abbrev pub DoesKnown : (Asked → Store → Writing → Fate → Type 0) → NameLists → Ignored → List ℕ
     → Store → Writing → Fate → Type 0
-DoesKnown does names words known store stdout f =
-    (AsksInVain names words f × WritesNowhere store stdout)
-    ⊎ ((asked : Asked) × IsAsked names known words asked × does asked store stdout f)
+DoesKnown does names ignored known store stdout f =
+    (AsksInVain names ignored f × WritesNowhere store stdout)
+    ⊎ ((asked : Asked) × IsAsked names known ignored asked × does asked store stdout f)
 
 -- The list of the labels that are known is read before this by these names (`Listing`), where one is
 -- given, and else none is.
-abbrev pub DoesAsked : (Asked → Store → Writing → Fate → Type 0) → NameLists → AskedWords → Store
+abbrev pub DoesAsked : (Asked → Store → Writing → Fate → Type 0) → NameLists → Ignored → Store
     → Writing → Fate → Type 0
-DoesAsked does names words store stdout f =
-    (LacksLabels names store.disk words.known f × WritesNowhere store stdout)
-    ⊎ ((known : List ℕ) × AreLabelsOf names store.disk words.known known
-    × DoesKnown does names words known store stdout f)
+DoesAsked does names ignored store stdout f =
+    (LacksLabels names store.disk ignored.known f × WritesNowhere store stdout)
+    ⊎ ((known : List ℕ) × AreLabelsOf names store.disk ignored.known known
+    × DoesKnown does names ignored known store stdout f)
+
+-- The sites are read last before LOG (`Siting`), where a file of them is given, and else there are
+-- none; and then what is to be done is done with them.
+abbrev pub DoesBySites : (Option Table → Store → Writing → Fate → Type 0) → Option (Bor (List ℕ))
+    → Store → Writing → Fate → Type 0
+DoesBySites does path store stdout f =
+    (LacksSites store.disk path f × WritesNowhere store stdout)
+    ⊎ ((sites : Option Table) × AreSitesOf store.disk path sites × does sites store stdout f)

@@ -1,33 +1,37 @@
--- The locks and the variables that a command is asked to ignore, each by a number or by a name.
-use Rattle.std.specs.Prelude.{◌≡◌, ◌⊎◌, ℕ, List, [], ◌∷◌, ◌++◌, filter, map, nat_le, option_map, Option, Some, None, is_some, IsTrue}
+-- The labels, the locks and the variables that a command is asked to leave out, each by a number, a
+-- name or a pattern of names.
+use Rattle.std.specs.Prelude.{◌≡◌, ◌⊎◌, ℕ, List, [], ◌∷◌, ◌++◌, filter, fold, map, nat_le, option_map, Option, Some, None, is_some, IsTrue}
 use Rattle.std.specs.Borrow.{Bor}
 use Rattle.velo_events.specs.Refusals.{GrowthRefused}
-use Rattle.velo_events.specs.declared.event.Label.{Label}
 use Rattle.velo_events.specs.declared.event.LockId.{LockId}
 use Rattle.velo_events.specs.declared.event.VarId.{VarId}
 use Rattle.velo_names.specs.declared.kind.NameKind.{NameKind}
 use Rattle.velo_names.specs.declared.kind.NameKind.TheVariants as kind
+use Rattle.velo_names.specs.Line.{greatest}
 use Rattle.velo_names.specs.Names.{NameLists, meant_by}
+use Rattle.velo_suppressions.specs.Answers.{numbers}
+use Rattle.velo_suppressions.specs.Known.{with_number}
 use Rattle.velo_audit_text.specs.declared.words.Asked.{Asked}
 use Rattle.velo_fate.specs.declared.fate.Fate.{Fate}
 use Rattle.velo_fate.specs.declared.fate.Fate.TheVariants as fate
 use Rattle.velo_request.specs.declared.request.Ignorable.{Ignorable}
-use Rattle.velo_request.specs.declared.request.Ignorable.TheVariants.{Lock, Variable}
-use Rattle.velo_inputs.specs.declared.asking.AskedWords.{AskedWords}
+use Rattle.velo_request.specs.declared.request.Ignorable.TheVariants.{Label, Lock, Variable}
+use Rattle.velo_request.specs.declared.request.Ignored.{Ignored}
 
 -- ---- what a word means
 
 abbrev pub kind_of : Ignorable → NameKind
+kind_of Label = kind.Label
 kind_of Lock = kind.Lock
 kind_of Variable = kind.Variable
 
--- the numbers that can be ids of locks and of variables
-abbrev pub ids_among : List ℕ → List ℕ
-ids_among numbers = filter (λ n. nat_le n 65535) numbers
+-- the numbers that can be ids of this kind
+abbrev pub ids_among : NameKind → List ℕ → List ℕ
+ids_among kind numbers = filter (λ n. nat_le n (greatest kind)) numbers
 
--- digits alone mean their number, and all else the numbers of which it is the name
+-- digits alone mean their number, and all else the numbers whose names are like it
 abbrev pub ids_meant : NameLists → Ignorable → List ℕ → List ℕ
-ids_meant names what word = ids_among (meant_by names (kind_of what) word)
+ids_meant names what word = ids_among (kind_of what) (meant_by names (kind_of what) word)
 
 -- ---- what the words mean
 
@@ -50,21 +54,29 @@ MeanNothing names what words f = ⊥
 
 -- ---- what a command was asked to leave out
 
--- the labels that are known, and the locks and the variables that its words mean, in their order
-pub record IsAsked (names : NameLists) (known : List ℕ) (words : AskedWords) (asked : Asked)
-    : Type 0 where
-  pub labels : map (λ (l : Label). l.0) asked.labels.now ≡ known
-  pub locks : ids_by names Lock words.locks.now
-      ≡ Some (map (λ (m : LockId). m.0) asked.locks.now)
-  pub variables : ids_by names Variable words.variables.now
-      ≡ Some (map (λ (x : VarId). x.0) asked.variables.now)
+-- the labels that are known, and then those that the words mean, each once, where it comes first
+abbrev pub labels_asked : NameLists → List ℕ → List (Bor (List ℕ)) → Option (List ℕ)
+labels_asked names known words = option_map (fold with_number known) (ids_by names Label words)
 
--- the locks are judged first
-abbrev pub AsksInVain : NameLists → AskedWords → Fate → Type 0
-AsksInVain names words f =
-    MeanNothing names Lock words.locks.now f
-    ⊎ (IsTrue (is_some (ids_by names Lock words.locks.now))
-    × MeanNothing names Variable words.variables.now f)
+-- these labels, and the locks and the variables that its words mean, in their order; and all locks,
+-- if it says so
+pub record IsAsked (names : NameLists) (known : List ℕ) (ignored : Ignored) (asked : Asked)
+    : Type 0 where
+  pub labels : labels_asked names known ignored.labels.now ≡ Some (numbers asked.labels.now)
+  pub locks : ids_by names Lock ignored.locks.now
+      ≡ Some (map (λ (m : LockId). m.0) asked.locks.now)
+  pub variables : ids_by names Variable ignored.variables.now
+      ≡ Some (map (λ (x : VarId). x.0) asked.variables.now)
+  pub all_locks : asked.all_locks ≡ ignored.all_locks
+
+-- the labels are judged first, and then the locks
+abbrev pub AsksInVain : NameLists → Ignored → Fate → Type 0
+AsksInVain names ignored f =
+    MeanNothing names Label ignored.labels.now f
+    ⊎ (IsTrue (is_some (ids_by names Label ignored.labels.now))
+    × (MeanNothing names Lock ignored.locks.now f
+    ⊎ (IsTrue (is_some (ids_by names Lock ignored.locks.now))
+    × MeanNothing names Variable ignored.variables.now f)))
 
 -- ---- on the way. Contracts within the crate cite these words
 

@@ -1,4 +1,4 @@
--- The sites that an explanation is given by the path of a file of sites.
+-- The sites that a command is given by the path of a file of sites.
 use Rattle.std.specs.Prelude.{◌≡◌, ⊤, ℕ, List, length, Option, Some, None, IfSome, Ok, Err}
 use Rattle.std.specs.Borrow.{Bor}
 use Rattle.velo_events.specs.Refusals.{GrowthRefused}

@@ -1,14 +1,13 @@
 //! What a command leaves out of a log.
-ghost use Rattle.std.specs.Prelude.{map};
 ghost use Rattle.velo_audit_text.specs.declared.words.Asked.{Asked as AskedOf};
 ghost use Rattle.velo_delivery.specs.Disk.{Store, store};
 ghost use Rattle.velo_delivery.specs.Writing.{Writing, writing};
-ghost use Rattle.velo_events.specs.declared.event.Label.{Label as LabelOf};
 ghost use Rattle.velo_fate.specs.declared.fate.Fate.{Fate as FateOf};
 ghost use Rattle.velo_inputs.specs.Before.{DoesAsked, DoesKnown};
 ghost use Rattle.velo_names.specs.Names.{NameLists};
+ghost use Rattle.velo_suppressions.specs.Answers.{numbers};
 
-use crate::ignoring::{ignored_locks, ignored_variables};
+use crate::ignoring::{add_ignored_labels, ignored_locks, ignored_variables};
 use crate::listing::labels_of;
 use std::alloc::Global;
 use velo_audit_text::Asked;
@@ -17,17 +16,7 @@ use velo_delivery::Files;
 use velo_events::Label;
 use velo_fate::Fate;
 use velo_names::Names;
-
-/// What is to be left out of a log, in words.
-#[derive(Clone, Copy, Debug)]
-pub struct AskedWords<'a> {
-    /// The path of the list of labels that are known already, or `-`.
-    pub known: Option<&'a str>,
-    /// The locks, each a number or a name.
-    pub locks: &'a [&'a str],
-    /// The variables, each a number or a name.
-    pub variables: &'a [&'a str],
-}
+use velo_request::Ignored;
 
 /// What is done on a log of which something is left out.
 pub trait ByAsked {
@@ -52,48 +41,53 @@ fn do_known<C: ByAsked, F: Files, O: Sink>(
     alloc: Global,
     command: &C,
     names: &Names,
-    words: &AskedWords,
-    known: &[Label],
+    ignored: &Ignored,
+    labels: &mut Vec<Label>,
     files: &mut F,
     out: &mut O,
 ) -> Fate
-    ensures { DoesKnown (C.does command.now names.now) names.now words.now
-        (map (λ (l : LabelOf). l.0) known.now) (store F.disk files.old files.new)
+    ensures { DoesKnown (C.does command.now names.now) names.now ignored.now
+        (numbers labels.old.items) (store F.disk files.old files.new)
         (writing O.contents O.failures out.old out.new) result }
 {
-    let locks = match ignored_locks(alloc, names, words.locks) {
+    match add_ignored_labels(alloc, names, labels, ignored.labels) {
+        Ok(()) => (),
+        Err(fate) => return fate,
+    }
+    let locks = match ignored_locks(alloc, names, ignored.locks) {
         Ok(locks) => locks,
         Err(fate) => return fate,
     };
-    let variables = match ignored_variables(alloc, names, words.variables) {
+    let variables = match ignored_variables(alloc, names, ignored.variables) {
         Ok(variables) => variables,
         Err(fate) => return fate,
     };
     let asked = Asked {
-        labels: known,
+        labels: labels.as_slice(),
         locks: &locks,
         variables: &variables,
+        all_locks: ignored.all_locks,
     };
     command.do_asked(alloc, names, &asked, files, out)
 }
 
-/// Does a command without what these words mean by the names. The list of the labels that are known
+/// Does a command without what is to be ignored by the names. The list of the labels that are known
 /// is read first.
 pub fn do_by_asked<C: ByAsked, F: Files, O: Sink>(
     alloc: Global,
     command: &C,
     names: &Names,
-    words: &AskedWords,
+    ignored: &Ignored,
     files: &mut F,
     out: &mut O,
 ) -> Fate
-    ensures { DoesAsked (C.does command.now names.now) names.now words.now
+    ensures { DoesAsked (C.does command.now names.now) names.now ignored.now
         (store F.disk files.old files.new) (writing O.contents O.failures out.old out.new) result }
 {
-    match labels_of(alloc, names, words.known, files) {
-        Ok(known) => {
-            let fate = do_known(alloc, command, names, words, &known, files, out);
-            drop(known);
+    match labels_of(alloc, names, ignored.known, files) {
+        Ok(mut labels) => {
+            let fate = do_known(alloc, command, names, ignored, &mut labels, files, out);
+            drop(labels);
             fate
         }
         Err(fate) => fate,

@@ -1,19 +1,18 @@
-//! The locks and the variables that an audit is asked to ignore.
-ghost use Rattle.std.specs.Prelude.{◌≡◌, ◌≢◌, ◌++◌, ◌∷◌, [], map, Some, IfErr, IfOk, OnOk};
+//! The labels, the locks and the variables that a command is asked to leave out.
+ghost use Rattle.std.specs.Prelude.{◌≡◌, ◌≢◌, ◌≤◌, ◌++◌, ◌∷◌, [], All, map, Some, IfErr, IfOk, OnOk};
 ghost use Rattle.velo_events.specs.declared.event.LockId.{LockId as LockOf};
 ghost use Rattle.velo_events.specs.declared.event.VarId.{VarId as VariableOf};
-ghost use Rattle.velo_inputs.specs.Ignoring.{MeanNothing, MeansNone, ids_among, ids_by, ids_meant, kind_of};
-ghost use Rattle.velo_request.specs.declared.request.Ignorable.TheVariants.{Lock as OfLock, Variable as OfVariable};
+ghost use Rattle.velo_inputs.specs.Ignoring.{MeanNothing, MeansNone, ids_among, ids_by, ids_meant, kind_of, labels_asked};
+ghost use Rattle.velo_request.specs.declared.request.Ignorable.TheVariants.{Label as OfLabel, Lock as OfLock, Variable as OfVariable};
+ghost use Rattle.velo_suppressions.specs.Answers.{numbers};
 
 use std::alloc::Global;
 use velo_events::growth::reserve;
-use velo_events::{LockId, Memory, VarId};
+use velo_events::{Label, LockId, Memory, VarId};
 use velo_fate::Fate;
 use velo_names::{NameKind, Names};
 use velo_request::Ignorable;
-
-/// The greatest number of a lock and of a variable.
-const GREATEST_ID: u32 = 65_535;
+use velo_suppressions::add_labels;
 
 fn kind_of(what: Ignorable) -> NameKind
     ensures { result ≡ kind_of what }
@@ -21,27 +20,28 @@ fn kind_of(what: Ignorable) -> NameKind
     match what {
         Ignorable::Lock => NameKind::Lock,
         Ignorable::Variable => NameKind::Variable,
+        Ignorable::Label => NameKind::Label,
     }
 }
 
-/// Adds a number if it can be an id.
-fn add_id(ids: &mut Vec<u16>, number: u32) -> Result<(), Memory>
-    ensures { OnOk result (ids.new.items ≡ ids.old.items ++ ids_among (number ∷ [])) }
+/// Adds a number if it can be an id of this kind.
+fn add_id(ids: &mut Vec<u32>, kind: NameKind, number: u32) -> Result<(), Memory>
+    ensures { OnOk result (ids.new.items ≡ ids.old.items ++ ids_among kind (number ∷ [])) }
 {
-    if number > GREATEST_ID {
+    if number > kind.greatest() {
         return Ok(());
     }
     reserve(ids, 1)?;
-    ids.push_reserved(number as u16);
+    ids.push_reserved(number);
     Ok(())
 }
 
-/// Adds the numbers that can be ids.
-fn add_ids(ids: &mut Vec<u16>, numbers: &[u32]) -> Result<(), Memory>
-    ensures { OnOk result (ids.new.items ≡ ids.old.items ++ ids_among numbers.now) }
+/// Adds the numbers that can be ids of this kind.
+fn add_ids(ids: &mut Vec<u32>, kind: NameKind, numbers: &[u32]) -> Result<(), Memory>
+    ensures { OnOk result (ids.new.items ≡ ids.old.items ++ ids_among kind numbers.now) }
 {
     for number in numbers {
-        add_id(ids, *number)?;
+        add_id(ids, kind, *number)?;
     }
     Ok(())
 }
@@ -49,21 +49,22 @@ fn add_ids(ids: &mut Vec<u16>, numbers: &[u32]) -> Result<(), Memory>
 /// Adds the ids that a word means.
 fn add_meant(
     alloc: Global,
-    ids: &mut Vec<u16>,
+    ids: &mut Vec<u32>,
     names: &Names,
     what: Ignorable,
     word: &str,
 ) -> Result<(), Memory>
     ensures { OnOk result (ids.new.items ≡ ids.old.items ++ ids_meant names.now what word.now) }
 {
-    let numbers = names.meant_by(alloc, kind_of(what), word.as_bytes())?;
-    add_ids(ids, &numbers)
+    let kind = kind_of(what);
+    let numbers = names.meant_by(alloc, kind, word.as_bytes())?;
+    add_ids(ids, kind, &numbers)
 }
 
 /// Adds the ids that a word means, of which there is to be one.
 fn add_word(
     alloc: Global,
-    ids: &mut Vec<u16>,
+    ids: &mut Vec<u32>,
     names: &Names,
     what: Ignorable,
     word: &str,
@@ -84,7 +85,7 @@ fn add_word(
 }
 
 /// The ids that the words mean, one after another.
-fn ids_by(alloc: Global, names: &Names, what: Ignorable, words: &[&str]) -> Result<Vec<u16>, Fate>
+fn ids_by(alloc: Global, names: &Names, what: Ignorable, words: &[&str]) -> Result<Vec<u32>, Fate>
     ensures ids { IfOk result (λ ids. ids_by names.now what words.now ≡ Some ids.items) }
     ensures fault { IfErr result (MeanNothing names.now what words.now) }
 {
@@ -99,34 +100,57 @@ fn ids_by(alloc: Global, names: &Names, what: Ignorable, words: &[&str]) -> Resu
 }
 
 /// The locks of these ids.
-fn locks_of(alloc: Global, ids: &[u16]) -> Result<Vec<LockId>, Memory>
+fn locks_of(alloc: Global, ids: &[u32]) -> Result<Vec<LockId>, Memory>
+    requires small { All (λ id. id ≤ 65535) ids.now }
     ensures { IfOk result (λ locks. map (λ (m : LockOf). m.0) locks.items ≡ ids.now) }
 {
     let mut locks = Vec::new(alloc);
     for id in ids {
         reserve(&mut locks, 1)?;
-        locks.push_reserved(LockId(*id));
+        locks.push_reserved(LockId(*id as u16));
     }
     Ok(locks)
 }
 
 /// The variables of these ids.
-fn variables_of(alloc: Global, ids: &[u16]) -> Result<Vec<VarId>, Memory>
+fn variables_of(alloc: Global, ids: &[u32]) -> Result<Vec<VarId>, Memory>
+    requires small { All (λ id. id ≤ 65535) ids.now }
     ensures { IfOk result (λ variables. map (λ (x : VariableOf). x.0) variables.items
         ≡ ids.now) }
 {
     let mut variables = Vec::new(alloc);
     for id in ids {
         reserve(&mut variables, 1)?;
-        variables.push_reserved(VarId(*id));
+        variables.push_reserved(VarId(*id as u16));
     }
     Ok(variables)
 }
 
-/// The locks that the words mean, each a number or a name.
+/// Adds the labels that the words mean, each a number, a name or a pattern of names, unless it is there.
 ///
 /// # Errors
 /// `Ignored` where a word means none, `Memory` if an allocation failed.
+pub fn add_ignored_labels(
+    alloc: Global,
+    names: &Names,
+    labels: &mut Vec<Label>,
+    words: &[&str],
+) -> Result<(), Fate>
+    ensures labels { OnOk result (labels_asked names.now (numbers labels.old.items) words.now
+        ≡ Some (numbers labels.new.items)) }
+    ensures fault { IfErr result (MeanNothing names.now OfLabel words.now) }
+{
+    let ids = ids_by(alloc, names, Ignorable::Label, words)?;
+    match add_labels(alloc, labels, &ids) {
+        Ok(()) => Ok(()),
+        Err(Memory) => Err(Fate::Memory),
+    }
+}
+
+/// The locks that the words mean, as `add_ignored_labels`.
+///
+/// # Errors
+/// As `add_ignored_labels`.
 pub fn ignored_locks(alloc: Global, names: &Names, words: &[&str]) -> Result<Vec<LockId>, Fate>
     ensures locks { IfOk result (λ locks. ids_by names.now OfLock words.now
         ≡ Some (map (λ (m : LockOf). m.0) locks.items)) }
@@ -139,10 +163,10 @@ pub fn ignored_locks(alloc: Global, names: &Names, words: &[&str]) -> Result<Vec
     }
 }
 
-/// The variables that the words mean, as `ignored_locks`.
+/// The variables that the words mean, as `add_ignored_labels`.
 ///
 /// # Errors
-/// As `ignored_locks`.
+/// As `add_ignored_labels`.
 pub fn ignored_variables(alloc: Global, names: &Names, words: &[&str]) -> Result<Vec<VarId>, Fate>
     ensures variables { IfOk result (λ variables. ids_by names.now OfVariable words.now
         ≡ Some (map (λ (x : VariableOf). x.0) variables.items)) }

@@ -9,10 +9,10 @@ mod replaying;
 mod sending;
 mod siting;
 
-pub use asking::{AskedWords, ByAsked, do_by_asked};
-pub use ignoring::{ignored_locks, ignored_variables};
+pub use asking::{ByAsked, do_by_asked};
+pub use ignoring::{add_ignored_labels, ignored_locks, ignored_variables};
 pub use listing::labels_of;
 pub use naming::{ByNames, do_by_names, read_given, shown_by};
 pub use replaying::{config_of, do_input, do_log, fault_of};
 pub use sending::{print, save_text};
-pub use siting::sites_in;
+pub use siting::{BySites, are_of_log, do_by_sites, sites_in};

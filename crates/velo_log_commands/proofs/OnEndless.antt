@@ -24,7 +24,7 @@ use Rattle.velo_world.specs.declared.log_replay.LogReplayFault.TheVariants as re
 use Rattle.velo_endless.specs.Endless.{HasSeen, IsUnderWay, Steps}
 use Rattle.velo_endless.specs.Piece.{IsJudged}
 use Rattle.velo_endless.specs.Reading.{IsMetAfter}
-use Rattle.velo_endless.specs.declared.piece.Piece.{Piece}
+use Rattle.velo_endless.specs.declared.piece.LogPiece.{LogPiece}
 use Rattle.velo_endless.specs.declared.reading.TheConstants.{MAX_WATCHED}
 use Rattle.velo_endless.specs.declared.watch.EndlessWatch.{EndlessWatch}
 use Rattle.velo_endless.proofs.OnWatches.{front_read, tells, well_judged}
@@ -41,21 +41,21 @@ use Rattle.velo_log_commands.specs.Watching.{HasCome, KeepsTo, StepsOn, Terms}
 
 -- ---- what is told is there
 
-judged_cycle : (log : List Event) (piece : Piece) (alarm : Option Alarm) → IsJudged log piece alarm → IsTrue (is_some alarm) ↔ HasCycle log
+judged_cycle : (log : List Event) (piece : LogPiece) (alarm : Option Alarm) → IsJudged log piece alarm → IsTrue (is_some alarm) ↔ HasCycle log
 judged_cycle log piece None h = (λ on. absurd (false≢true on), λ cycle. absurd (h.0 cycle))
 judged_cycle log piece (Some a) h = (λ on. HasCycle-from_closing log a.position h.closing, λ cycle. refl)
 
 pub cycle_seen : (log : List Event) (watch : EndlessWatch) → HasSeen log watch → IsTrue (is_some watch.alarm) ↔ HasCycle log
 cycle_seen log watch seen = judged_cycle log watch.piece watch.alarm seen.judged.judged
 
-judged_alarm : (log : List Event) (piece : Piece) (alarm : Option Alarm) → IsTrue (is_some alarm) → IsJudged log piece alarm → IsVerdict log verdict.Alarm
+judged_alarm : (log : List Event) (piece : LogPiece) (alarm : Option Alarm) → IsTrue (is_some alarm) → IsJudged log piece alarm → IsVerdict log verdict.Alarm
 judged_alarm log piece None on h = absurd (false≢true on)
 judged_alarm log piece (Some a) on h = IsVerdict-alarm log a.position h.closing ((serializable_law log).0 (HasCycle-from_closing log a.position h.closing))
 
 pub verdict_alarm : (log : List Event) (watch : EndlessWatch) → IsTrue (is_some watch.alarm) → HasSeen log watch → IsVerdict log verdict.Alarm
 verdict_alarm log watch on seen = judged_alarm log watch.piece watch.alarm on seen.judged.judged
 
-judged_clean : (log : List Event) (piece : Piece) (alarm : Option Alarm) → is_some alarm ≡ false → IsJudged log piece alarm → IsVerdict log verdict.Clean
+judged_clean : (log : List Event) (piece : LogPiece) (alarm : Option Alarm) → is_some alarm ≡ false → IsJudged log piece alarm → IsVerdict log verdict.Clean
 judged_clean log piece None off h = IsVerdict-clean log h.0 ((serializable_law-none log).0 h.0)
 judged_clean log piece (Some a) off h = absurd (false≢true (sym off))
 
@@ -114,7 +114,7 @@ module _ (options : EndlessOptions) (read old : Option (List ℕ)) where
 
 -- ---- the report
 
-judged_verdict : (log : List Event) (piece : Piece) (alarm : Option Alarm) → IsJudged log piece alarm → (v : Verdict) × IsVerdict log v
+judged_verdict : (log : List Event) (piece : LogPiece) (alarm : Option Alarm) → IsJudged log piece alarm → (v : Verdict) × IsVerdict log v
 judged_verdict log piece None h = (verdict.Clean, judged_clean log piece None refl h)
 judged_verdict log piece (Some a) h = (verdict.Alarm, judged_alarm log piece (Some a) refl h)
 

@@ -5,6 +5,7 @@
 mod fault;
 mod growth;
 mod kind;
+mod kind_names;
 mod laws;
 mod limits;
 mod line;

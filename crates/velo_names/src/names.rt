@@ -1,18 +1,16 @@
 //! The names of a file.
 ghost use Rattle.std.specs.Prelude.{◌≡◌, ◌+◌, ◌≤◌, length, IfOk};
 ghost use Rattle.std.specs.Option.{option_copied};
-ghost use Rattle.velo_names.specs.Answers.{list_in, AnswersAs};
+ghost use Rattle.velo_names.specs.Answers.{AnswersAs};
 ghost use Rattle.velo_names.specs.Said.{said};
 ghost use Rattle.velo_names.specs.Line.{lines};
-ghost use Rattle.velo_names.specs.Names.{no_names, meant_by, name_in, numbers_in, numbers_like, list_of, list_with, names_with, names_after, names_from, name_of, numbers_of, ReadsAs};
+ghost use Rattle.velo_names.specs.Names.{no_names, meant_by, numbers_like, list_of, names_with, names_after, names_from, name_of, numbers_of, ReadsAs};
 
 use crate::fault::NamesFault;
-use crate::growth::insert;
 use crate::kind::NameKind;
+use crate::kind_names::KindNames;
 use crate::limits::{MAX_NAME_LINES, MAX_NAMES_BYTES};
 use crate::line::{Said, is_number, is_silent, naming, number_of_kind, split_line};
-use crate::pattern::is_like;
-use indexmap::IndexMap;
 use std::alloc::Global;
 use std::fmt;
 use std::marker::Model;
@@ -22,19 +20,18 @@ use velo_events::growth::reserve;
 /// The names of threads, variables, locks and labels, as bytes of a file that are UTF-8.
 #[derive(Drop)]
 pub struct Names<'a> {
-    threads: IndexMap<u32, &'a [u8]>,
-    variables: IndexMap<u32, &'a [u8]>,
-    locks: IndexMap<u32, &'a [u8]>,
-    labels: IndexMap<u32, &'a [u8]>,
+    threads: KindNames<'a>,
+    variables: KindNames<'a>,
+    locks: KindNames<'a>,
+    labels: KindNames<'a>,
 }
 
 impl<'a> Model for Names<'a> {
-    ghost use Rattle.velo_names.specs.Answers.{list_in};
     ghost use Rattle.velo_names.specs.Names.{NameLists};
 
     ghost Value = { NameLists };
 
-    ghost view = { λ n. record { threads = list_in n.threads; variables = list_in n.variables; locks = list_in n.locks; labels = list_in n.labels } };
+    ghost view = { λ n. record { threads = n.threads; variables = n.variables; locks = n.locks; labels = n.labels } };
 }
 
 impl<'a> fmt::Debug for Names<'a> {
@@ -43,71 +40,16 @@ impl<'a> fmt::Debug for Names<'a> {
     }
 }
 
-/// Adds the name of a number to a list, from a line.
-fn add<'a>(
-    names: &mut IndexMap<u32, &'a [u8]>,
-    number: u32,
-    name: &'a [u8],
-    line: usize,
-) -> Result<(), NamesFault>
-    ensures { AnswersAs (list_with (list_in names.old) number name.now line) (list_in names.new) result }
-{
-    if names.contains_key(&number) {
-        return Err(NamesFault::NamedTwice(line));
-    }
-    insert(names, number, name)?;
-    Ok(())
-}
-
-/// The name of a number in a list.
-fn name_in<'a>(names: &IndexMap<u32, &'a [u8]>, number: u32) -> Option<&'a [u8]>
-    ensures { option_copied result ≡ name_in (list_in names.now) number }
-{
-    names.get(&number).copied()
-}
-
-/// The numbers of a name in a list.
-fn numbers_in(alloc: Global, names: &IndexMap<u32, &[u8]>, name: &[u8]) -> Result<Vec<u32>, Memory>
-    ensures { IfOk result (λ numbers. numbers.items ≡ numbers_in (list_in names.now) name.now) }
-{
-    let mut numbers = Vec::new(alloc);
-    for (number, other) in names {
-        if name == *other {
-            reserve(&mut numbers, 1)?;
-            numbers.push_reserved(*number);
-        }
-    }
-    Ok(numbers)
-}
-
-/// The numbers in a list whose names are like a pattern.
-fn numbers_like(
-    alloc: Global,
-    names: &IndexMap<u32, &[u8]>,
-    pattern: &[u8],
-) -> Result<Vec<u32>, Memory>
-    ensures { IfOk result (λ numbers. numbers.items ≡ numbers_like (list_in names.now) pattern.now) }
-{
-    let mut numbers = Vec::new(alloc);
-    for (number, name) in names {
-        if is_like(pattern, *name) {
-            reserve(&mut numbers, 1)?;
-            numbers.push_reserved(*number);
-        }
-    }
-    Ok(numbers)
-}
-
 impl<'a> Names<'a> {
     /// No names.
     pub fn new(alloc: Global) -> Names<'a>
         ensures { result ≡ no_names }
     {
         Names {
-            threads: IndexMap::new(alloc),
-            variables: IndexMap::new(alloc),
-            locks: IndexMap::new(alloc),
-            labels: IndexMap::new(alloc),
+            threads: KindNames::new(alloc),
+            variables: KindNames::new(alloc),
+            locks: KindNames::new(alloc),
+            labels: KindNames::new(alloc),
         }
     }
 
@@ -116,10 +58,10 @@ impl<'a> Names<'a> {
         ensures { AnswersAs (names_with self.old (said found.entry) line) self.new result }
     {
         match found.kind {
-            NameKind::Thread => add(&mut self.threads, found.number, found.name, line),
-            NameKind::Variable => add(&mut self.variables, found.number, found.name, line),
-            NameKind::Lock => add(&mut self.locks, found.number, found.name, line),
-            NameKind::Label => add(&mut self.labels, found.number, found.name, line),
+            NameKind::Thread => self.threads.add(found.number, found.name, line),
+            NameKind::Variable => self.variables.add(found.number, found.name, line),
+            NameKind::Lock => self.locks.add(found.number, found.name, line),
+            NameKind::Label => self.labels.add(found.number, found.name, line),
         }
     }
 
@@ -184,10 +126,10 @@ impl<'a> Names<'a> {
         ensures { option_copied result ≡ name_of self.now kind number }
     {
         match kind {
-            NameKind::Thread => name_in(&self.threads, number),
-            NameKind::Variable => name_in(&self.variables, number),
-            NameKind::Lock => name_in(&self.locks, number),
-            NameKind::Label => name_in(&self.labels, number),
+            NameKind::Thread => self.threads.name_of(number),
+            NameKind::Variable => self.variables.name_of(number),
+            NameKind::Lock => self.locks.name_of(number),
+            NameKind::Label => self.labels.name_of(number),
         }
     }
 
@@ -199,10 +141,10 @@ impl<'a> Names<'a> {
         ensures { IfOk result (λ numbers. numbers.items ≡ numbers_of self.now kind name.now) }
     {
         match kind {
-            NameKind::Thread => numbers_in(alloc, &self.threads, name),
-            NameKind::Variable => numbers_in(alloc, &self.variables, name),
-            NameKind::Lock => numbers_in(alloc, &self.locks, name),
-            NameKind::Label => numbers_in(alloc, &self.labels, name),
+            NameKind::Thread => self.threads.numbers_of(alloc, name),
+            NameKind::Variable => self.variables.numbers_of(alloc, name),
+            NameKind::Lock => self.locks.numbers_of(alloc, name),
+            NameKind::Label => self.labels.numbers_of(alloc, name),
         }
     }
 
@@ -217,10 +159,10 @@ impl<'a> Names<'a> {
             ≡ numbers_like (list_of kind self.now) pattern.now) }
     {
         match kind {
-            NameKind::Thread => numbers_like(alloc, &self.threads, pattern),
-            NameKind::Variable => numbers_like(alloc, &self.variables, pattern),
-            NameKind::Lock => numbers_like(alloc, &self.locks, pattern),
-            NameKind::Label => numbers_like(alloc, &self.labels, pattern),
+            NameKind::Thread => self.threads.numbers_like(alloc, pattern),
+            NameKind::Variable => self.variables.numbers_like(alloc, pattern),
+            NameKind::Lock => self.locks.numbers_like(alloc, pattern),
+            NameKind::Label => self.labels.numbers_like(alloc, pattern),
         }
     }
 

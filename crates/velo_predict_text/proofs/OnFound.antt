@@ -8,7 +8,7 @@ use Rattle.velo_events.specs.declared.event.Event.{Event}
 use Rattle.velo_filter.specs.Left.{Left}
 use Rattle.velo_predict.specs.declared.difference.Difference.{Difference}
 use Rattle.velo_delays.specs.declared.judged.Differing.{Differing}
-use Rattle.velo_delays.specs.declared.judged.Found.{Found}
+use Rattle.velo_delays.specs.declared.judged.PredictedCycle.{PredictedCycle}
 use Rattle.velo_delays.specs.declared.stuck.Deadlock.{Deadlock}
 use Rattle.velo_delays.specs.Deadlock.{IsDeadlock}
 use Rattle.velo_delays.specs.Differing.{differing_of, AreDiffering}
@@ -25,7 +25,7 @@ within_trace log trace differing are =
 pub CanTellDeadlock-from : (bounds : Bounds) (log : List Event) (deadlock : Deadlock) → IsDeadlock bounds log deadlock → CanTellDeadlock deadlock
 CanTellDeadlock-from bounds log deadlock is = record { few = is.short; differing = within_trace _ deadlock.trace.events deadlock.differing.items is.differing }
 
-pub CanBeTold-from : (bounds : Bounds) (log : List Event) (left : Left) (found : Found) → IsFoundIn bounds log left found → CanBeTold found
+pub CanBeTold-from : (bounds : Bounds) (log : List Event) (left : Left) (found : PredictedCycle) → IsFoundIn bounds log left found → CanBeTold found
 CanBeTold-from bounds log left found is = record {
   few = is.is_found.short;
   can_come_about = record { bounds = bounds; well_formed = is.is_found.foretold.prediction.well_formed };

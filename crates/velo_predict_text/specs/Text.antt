@@ -1,5 +1,5 @@
 -- What a log shows and foretells, as text.
-use Rattle.std.specs.Prelude.{ℕ, ◌<◌, ◌≤◌, Bool, true, false, List, [], ◌∷◌, ◌++◌, length, codes, decimal, All}
+use Rattle.std.specs.Prelude.{ℕ, ◌<◌, ◌≤◌, Bool, true, false, List, [], ◌∷◌, ◌++◌, length, codes, decimal, All, Option, None}
 use Rattle.std.specs.List.{flat_map}
 use Rattle.velo_events.specs.declared.limits.TheConstants.{MAX_EVENTS}
 use Rattle.velo_events.specs.declared.event.Event.{Event}
@@ -11,13 +11,14 @@ use Rattle.velo_filter.specs.Thinned.{CanComeAbout}
 use Rattle.velo_explain.specs.Pieces.{event_text, joined, name_about, name_text}
 use Rattle.velo_explain.specs.Text.{line_of}
 use Rattle.velo_audit.specs.Witness.{IsWitnessWithin}
+use Rattle.velo_sites.specs.Sites.{Table}
 use Rattle.velo_audit_text.specs.Names.{named}
 use Rattle.velo_audit.specs.declared.told.Told.{Told}
 use Rattle.velo_audit_text.specs.declared.words.Asked.{Asked}
 use Rattle.velo_audit_text.specs.Text.{optional_witness_text, told_text}
 use Rattle.velo_audit_text.specs.Words.{asked_text}
 use Rattle.velo_delays.specs.declared.judged.Differing.{Differing}
-use Rattle.velo_delays.specs.declared.judged.Found.{Found}
+use Rattle.velo_delays.specs.declared.judged.PredictedCycle.{PredictedCycle}
 use Rattle.velo_delays.specs.declared.stuck.Deadlock.{Deadlock}
 
 -- "not atomic? 7 flush"
@@ -35,13 +36,13 @@ difference_text names trace d = joined (
     ∷ name_text (name_about names (event_at trace d.position).kind) ∷ codes " read " ∷ decimal d.recorded ∷ codes " in the log\n" ∷ [])
 
 -- the blocks to blame, outermost first; how long the trace is; the reads that differ from the log; and the cycle, as an audit prints it.
--- The lines are those of the trace as a log
-abbrev pub found_text : NameLists → Found → List ℕ
+-- The lines are those of the trace as a log, whose events have no sites
+abbrev pub found_text : NameLists → PredictedCycle → List ℕ
 found_text names found =
     flat_map (maybe_text names) found.told.blocks.items
     ++ (size_text (length found.trace.events)
     ++ (flat_map (difference_text names found.trace.events) found.differing.items
-    ++ optional_witness_text names found.trace.events found.told.closing found.told.witness))
+    ++ optional_witness_text names None found.trace.events found.told.closing found.told.witness))
 
 -- "  thread 0 main waits at `0 acq 1` n"
 unfoldable pub waiting_text : NameLists → Event → List ℕ
@@ -62,7 +63,7 @@ deadlock_text names deadlock =
     ++ flat_map (waiting_text names) deadlock.waiting.items))
 
 -- a round told something of the log itself, or something was predicted
-abbrev pub is_something_told : List Told → List Found → List Deadlock → Bool
+abbrev pub is_something_told : List Told → List PredictedCycle → List Deadlock → Bool
 is_something_told [] [] [] = false
 is_something_told rounds founds deadlocks = true
 
@@ -76,10 +77,10 @@ end_text something tries = joined (nothing_text something ∷ decimal tries ∷ 
 
 -- what was to be left out and the rounds of the log itself, both as an audit prints them; the labels that may not be atomic, and the
 -- deadlocks; and how many delays were tried
-abbrev pub predictions_text : NameLists → List Event → Asked → List Told → List Found → List Deadlock → ℕ → List ℕ
-predictions_text names log asked rounds founds deadlocks tries =
+abbrev pub predictions_text : NameLists → Option Table → List Event → Asked → List Told → List PredictedCycle → List Deadlock → ℕ → List ℕ
+predictions_text names sites log asked rounds founds deadlocks tries =
     asked_text names asked
-    ++ (flat_map (told_text names log) rounds
+    ++ (flat_map (told_text names sites log) rounds
     ++ (flat_map (found_text names) founds
     ++ (flat_map (deadlock_text names) deadlocks
     ++ end_text (is_something_told rounds founds deadlocks) tries)))
@@ -87,7 +88,7 @@ predictions_text names log asked rounds founds deadlocks tries =
 -- ---- what can be told. Private contracts cite these words
 
 -- the trace is a log, and all positions are there
-pub record CanBeTold (found : Found) : Type 0 where
+pub record CanBeTold (found : PredictedCycle) : Type 0 where
   pub few : length found.trace.events ≤ MAX_EVENTS
   pub can_come_about : CanComeAbout found.trace.events
   pub within : IsWitnessWithin (length found.trace.events) found.told.closing found.told.witness

@@ -9,10 +9,11 @@ ghost use Rattle.velo_predict_text.specs.Text.{CanBeTold, CanTellDeadlock, maybe
 use std::alloc::Global;
 use velo_audit::Told;
 use velo_audit_text::{Asked, add_asked, add_rounds, add_witness_if_any};
-use velo_delays::{Deadlock, Differing, Found};
+use velo_delays::{Deadlock, Differing, PredictedCycle};
 use velo_events::{Event, Memory};
 use velo_explain::{Page, Piece, line_of};
 use velo_names::{NameKind, Names};
+use velo_sites::Sites;
 use velo_traces::{Block, Trace};
 
 /// Adds the label of a block that may not be atomic.
@@ -94,7 +95,12 @@ fn add_differences(
 }
 
 /// Adds what was found.
-fn add_found(page: &mut Page, names: &Names, alloc: Global, found: &Found) -> Result<(), Memory>
+fn add_found(
+    page: &mut Page,
+    names: &Names,
+    alloc: Global,
+    found: &PredictedCycle,
+) -> Result<(), Memory>
     requires { CanBeTold found.now }
     ensures { OnOk result (page.new ≡ page.old ++ found_text names.now found.now) }
 {
@@ -105,6 +111,7 @@ fn add_found(page: &mut Page, names: &Names, alloc: Global, found: &Found) -> Re
     add_witness_if_any(
         page,
         names,
+        &None,
         alloc,
         events,
         found.told.closing,
@@ -175,7 +182,7 @@ fn add_deadlocks(page: &mut Page, names: &Names, deadlocks: &[Deadlock]) -> Resu
 }
 
 /// Whether there is something to tell: a label of the log itself, or a prediction.
-pub fn is_something_told(rounds: &[Told], founds: &[Found], deadlocks: &[Deadlock]) -> bool
+pub fn is_something_told(rounds: &[Told], founds: &[PredictedCycle], deadlocks: &[Deadlock]) -> bool
     ensures { result ≡ is_something_told rounds.now founds.now deadlocks.now }
 {
     match (rounds.first(), founds.first(), deadlocks.first()) {
@@ -207,7 +214,12 @@ fn add_end(page: &mut Page, something: bool, tries: u64) -> Result<(), Memory>
 }
 
 /// Adds all that was found.
-fn add_all(page: &mut Page, names: &Names, alloc: Global, founds: &[Found]) -> Result<(), Memory>
+fn add_all(
+    page: &mut Page,
+    names: &Names,
+    alloc: Global,
+    founds: &[PredictedCycle],
+) -> Result<(), Memory>
     requires { All CanBeTold founds.now }
     ensures { OnOk result (page.new ≡ page.old ++ flat_map (found_text names.now) founds.now) }
 {
@@ -219,17 +231,19 @@ fn add_all(page: &mut Page, names: &Names, alloc: Global, founds: &[Found]) -> R
 
 /// What a log shows and foretells, as text: what was to be left out; the labels and the witness of each round of the log's own
 /// audit; for each prediction the labels to blame, or what each thread of a circle waits to do, how long its trace is, the reads
-/// that differ from the log, and the cycle; and how many delays were tried. A name comes after its number.
+/// that differ from the log, and the cycle; and how many delays were tried. A name comes after its number. In the rounds of the
+/// log itself the places come after their events that the sites give.
 ///
 /// # Errors
 /// `Memory` where a growth was refused.
 pub fn predictions_text(
     alloc: Global,
     names: &Names,
+    sites: &Option<Sites>,
     log: &Trace,
     asked: &Asked,
     rounds: &[Told],
-    founds: &[Found],
+    founds: &[PredictedCycle],
     deadlocks: &[Deadlock],
     tries: u64,
 ) -> Result<Page, Memory>
@@ -238,11 +252,11 @@ pub fn predictions_text(
     requires truly { All (TellsTruly log.now.events) rounds.now }
     requires founds { All CanBeTold founds.now }
     requires deadlocks { All CanTellDeadlock deadlocks.now }
-    ensures { IfOk result (λ page. page ≡ predictions_text names.now log.now.events asked.now rounds.now founds.now deadlocks.now tries) }
+    ensures { IfOk result (λ page. page ≡ predictions_text names.now sites.now log.now.events asked.now rounds.now founds.now deadlocks.now tries) }
 {
     let mut page = Page::new(alloc);
     add_asked(&mut page, names, asked)?;
-    add_rounds(&mut page, names, alloc, log.as_slice(), rounds)?;
+    add_rounds(&mut page, names, sites, alloc, log.as_slice(), rounds)?;
     add_all(&mut page, names, alloc, founds)?;
     add_deadlocks(&mut page, names, deadlocks)?;
     let something = is_something_told(rounds, founds, deadlocks);

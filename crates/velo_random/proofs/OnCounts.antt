@@ -6,7 +6,7 @@ use Rattle.std.proofs.lemmas.List.Elements.{All-map, All-push, All-weaker}
 use Rattle.std.proofs.lemmas.List.Folds.{list_any-append}
 use Rattle.std.proofs.lemmas.List.Sums.{sum_by-cons, sum_by_push}
 use Rattle.velo_traces.specs.declared.block.Block.{Block}
-use Rattle.velo_random.specs.declared.tally.Blamed.{Blamed}
+use Rattle.velo_random.specs.declared.tally.BlamedLabel.{BlamedLabel}
 use Rattle.velo_random.specs.Runs.{has_label}
 use Rattle.velo_random.specs.Tallies.{is_listed, AreCounts}
 use Rattle.velo_random.specs.Counting.{with_alarm, with_other, with_others}
@@ -17,29 +17,29 @@ more count blocks label = count label + (if has_label label blocks then 1 else 0
 
 -- ---- the labels that are there
 
-abbrev IsCount : (ℕ → ℕ) → Blamed → Type 0
+abbrev IsCount : (ℕ → ℕ) → BlamedLabel → Type 0
 IsCount count b = b.alarms ≡ count b.label.0
 
-label-with_alarm : (blocks : List Block) (b : Blamed) → (with_alarm blocks b).label ≡ b.label
+label-with_alarm : (blocks : List Block) (b : BlamedLabel) → (with_alarm blocks b).label ≡ b.label
 label-with_alarm blocks b = ⊎_elim
-    (λ h. ap (λ (x : Blamed). x.label) (ap (λ t. if t then record { label = b.label; alarms = min (b.alarms + 1) (2 ^ 64 - 1) } else b) h))
-    (λ h. ap (λ (x : Blamed). x.label) (ap (λ t. if t then record { label = b.label; alarms = min (b.alarms + 1) (2 ^ 64 - 1) } else b) h))
+    (λ h. ap (λ (x : BlamedLabel). x.label) (ap (λ t. if t then record { label = b.label; alarms = min (b.alarms + 1) (2 ^ 64 - 1) } else b) h))
+    (λ h. ap (λ (x : BlamedLabel). x.label) (ap (λ t. if t then record { label = b.label; alarms = min (b.alarms + 1) (2 ^ 64 - 1) } else b) h))
     (cases_Bool (has_label b.label.0 blocks))
 
-listed-with_alarms : (label : ℕ) (blocks : List Block) (blamed : List Blamed) → is_listed label (map (with_alarm blocks) blamed) ≡ is_listed label blamed
+listed-with_alarms : (label : ℕ) (blocks : List Block) (blamed : List BlamedLabel) → is_listed label (map (with_alarm blocks) blamed) ≡ is_listed label blamed
 listed-with_alarms label blocks [] = refl
 listed-with_alarms label blocks (b ∷ blamed) =
     ap (λ l. (l.0 == label) || is_listed label (map (with_alarm blocks) blamed)) (label-with_alarm blocks b)
     ∙ ap (λ t. (b.label.0 == label) || t) (listed-with_alarms label blocks blamed)
 
 -- how often the label is listed
-abbrev listing : ℕ → Blamed → ℕ
+abbrev listing : ℕ → BlamedLabel → ℕ
 listing label b = cond (b.label.0 == label) 1 0
 
-abbrev listings : ℕ → List Blamed → ℕ
+abbrev listings : ℕ → List BlamedLabel → ℕ
 listings label blamed = count_by (λ b. b.label.0 == label) blamed
 
-listings-with_alarms : (label : ℕ) (blocks : List Block) (blamed : List Blamed) → listings label (map (with_alarm blocks) blamed) ≡ listings label blamed
+listings-with_alarms : (label : ℕ) (blocks : List Block) (blamed : List BlamedLabel) → listings label (map (with_alarm blocks) blamed) ≡ listings label blamed
 listings-with_alarms label blocks [] = refl
 listings-with_alarms label blocks (b ∷ blamed) =
     let after = sum_by-cons (listing label) (with_alarm blocks b) (map (with_alarm blocks) blamed) in
@@ -55,26 +55,26 @@ as_before : (alarms n : ℕ) → alarms ≡ n → alarms ≡ n + 0
 as_before alarms n is = omega (arith, is)
 
 -- with one alarm more, or not
-abbrev counted_if : Blamed → Bool → Blamed
+abbrev counted_if : BlamedLabel → Bool → BlamedLabel
 counted_if b t = if t then record { label = b.label; alarms = min (b.alarms + 1) (2 ^ 64 - 1) } else b
 
 -- it is the count of its label, where that is one more
-abbrev IsCountIf : (ℕ → ℕ) → List Block → Blamed → Bool → Type 0
+abbrev IsCountIf : (ℕ → ℕ) → List Block → BlamedLabel → Bool → Type 0
 IsCountIf count blocks b t = (counted_if b t).alarms ≡ more count blocks (counted_if b t).label.0
 
-IsCount-with_alarm : (count : ℕ → ℕ) (blocks : List Block) → ((label : ℕ) → count label < 2 ^ 64 - 1) → (b : Blamed) → IsCount count b → IsCount (more count blocks) (with_alarm blocks b)
+IsCount-with_alarm : (count : ℕ → ℕ) (blocks : List Block) → ((label : ℕ) → count label < 2 ^ 64 - 1) → (b : BlamedLabel) → IsCount count b → IsCount (more count blocks) (with_alarm blocks b)
 IsCount-with_alarm count blocks few b is = ⊎_elim
     (λ h. subst (IsCountIf count blocks b) (sym h) (one_more b.alarms (count b.label.0) is (few b.label.0) ∙ sym (ap (λ t. count b.label.0 + (if t then 1 else 0)) h)))
     (λ h. subst (IsCountIf count blocks b) (sym h) (as_before b.alarms (count b.label.0) is ∙ sym (ap (λ t. count b.label.0 + (if t then 1 else 0)) h)))
     (cases_Bool (has_label b.label.0 blocks))
 
-abbrev IsSome : Blamed → Type 0
+abbrev IsSome : BlamedLabel → Type 0
 IsSome b = 1 ≤ b.alarms
 
 capped-some : (n : ℕ) → 1 ≤ n → 1 ≤ min (n + 1) (2 ^ 64 - 1)
 capped-some n some = omega (arith, some)
 
-IsSome-with_alarm : (blocks : List Block) (b : Blamed) → IsSome b → IsSome (with_alarm blocks b)
+IsSome-with_alarm : (blocks : List Block) (b : BlamedLabel) → IsSome b → IsSome (with_alarm blocks b)
 IsSome-with_alarm blocks b some = ⊎_elim
     (λ h. subst (λ t. IsSome (counted_if b t)) (sym h) (capped-some b.alarms some))
     (λ h. subst (λ t. IsSome (counted_if b t)) (sym h) some)
@@ -103,7 +103,7 @@ or-first false b yes_a = absurd (false≢true yes_a)
 or-first true b yes_a = refl
 
 -- a label that is not listed is listed no times
-listings-none : (label : ℕ) (blamed : List Blamed) → IsFalse (is_listed label blamed) → listings label blamed ≡ 0
+listings-none : (label : ℕ) (blamed : List BlamedLabel) → IsFalse (is_listed label blamed) → listings label blamed ≡ 0
 listings-none label [] none = refl
 listings-none label (b ∷ blamed) none =
     let all = sum_by-cons (listing label) b blamed in
@@ -112,7 +112,7 @@ listings-none label (b ∷ blamed) none =
     omega (arith, all, here, rest)
 
 -- and once, where it is added
-listings-added : (label : ℕ) (b : Blamed) (blamed : List Blamed) → IsFalse (is_listed b.label.0 blamed) → listings label blamed ≤ 1 → listings label (blamed ++ b ∷ []) ≤ 1
+listings-added : (label : ℕ) (b : BlamedLabel) (blamed : List BlamedLabel) → IsFalse (is_listed b.label.0 blamed) → listings label blamed ≤ 1 → listings label (blamed ++ b ∷ []) ≤ 1
 listings-added label b blamed none few = subst (λ n. n ≤ 1) (sym (sum_by_push (listing label) blamed b)) (⊎_elim
     (λ same. subst (λ t. listings label blamed + cond t 1 0 ≤ 1) (sym same)
     (let absent = listings-none label blamed (subst (λ l. IsFalse (is_listed l blamed)) (eqb-true b.label.0 label same) none) in omega (arith, absent)))
@@ -120,24 +120,24 @@ listings-added label b blamed none few = subst (λ n. n ≤ 1) (sym (sum_by_push
     (cases_Bool (b.label.0 == label)))
 
 -- what a list of labels has still to come to
-record Lacks (count : ℕ → ℕ) (blocks : List Block) (blamed : List Blamed) : Type 0 where
+record Lacks (count : ℕ → ℕ) (blocks : List Block) (blamed : List BlamedLabel) : Type 0 where
   pub each : All (IsCount count) blamed
   pub some : All IsSome blamed
   pub once : (label : ℕ) → listings label blamed ≤ 1
   pub ones : (label : ℕ) → IsTrue (has_label label blocks) → IsFalse (is_listed label blamed) → count label ≡ 1
   pub others : (label : ℕ) → IsFalse (has_label label blocks) → IsFalse (is_listed label blamed) → count label ≡ 0
 
-abbrev one_of : Block → Blamed
+abbrev one_of : Block → BlamedLabel
 one_of block = record { label = block.label; alarms = 1 }
 
 -- no label of a list is another's than those that are not this one
-not-that : (b : Block) (label : ℕ) (blamed : List Blamed) → IsTrue (is_listed b.label.0 blamed) → IsFalse (is_listed label blamed) → IsFalse (b.label.0 == label)
+not-that : (b : Block) (label : ℕ) (blamed : List BlamedLabel) → IsTrue (is_listed b.label.0 blamed) → IsFalse (is_listed label blamed) → IsFalse (b.label.0 == label)
 not-that b label blamed there none = ⊎_elim
     (λ h. absurd (false≢true (sym none ∙ subst (λ l. IsTrue (is_listed l blamed)) (eqb-true b.label.0 label h) there)))
     (λ h. h)
     (cases_Bool (b.label.0 == label))
 
-Lacks-next : (count : ℕ → ℕ) (b : Block) (blocks : List Block) (blamed : List Blamed) → Lacks count (b ∷ blocks) blamed → Lacks count blocks (with_other blamed b)
+Lacks-next : (count : ℕ → ℕ) (b : Block) (blocks : List Block) (blamed : List BlamedLabel) → Lacks count (b ∷ blocks) blamed → Lacks count blocks (with_other blamed b)
 Lacks-next count b blocks blamed lacks = ⊎_elim
     (λ h. subst (λ t. Lacks count blocks (if t then blamed else blamed ++ one_of b ∷ [])) (sym h) (record {
       each = lacks.each;
@@ -164,13 +164,13 @@ Lacks-next count b blocks blamed lacks = ⊎_elim
     apart : (label : ℕ) → IsFalse (is_listed label (blamed ++ one_of b ∷ [])) → IsFalse (b.label.0 == label)
     apart label none = or-left (b.label.0 == label) false (or-right (is_listed label blamed) ((b.label.0 == label) || false) (both label none))
 
-AreCounts-added : (count : ℕ → ℕ) (blocks : List Block) (blamed : List Blamed) → Lacks count blocks blamed → AreCounts count (with_others blocks blamed)
+AreCounts-added : (count : ℕ → ℕ) (blocks : List Block) (blamed : List BlamedLabel) → Lacks count blocks blamed → AreCounts count (with_others blocks blamed)
 AreCounts-added count [] blamed lacks = record { each = lacks.each; some = lacks.some; once = lacks.once; others = λ label none. lacks.others label refl none }
 AreCounts-added count (b ∷ blocks) blamed lacks = AreCounts-added count blocks (with_other blamed b) (Lacks-next count b blocks blamed lacks)
 
 -- ---- both
 
-pub AreCounts-alarm : (count : ℕ → ℕ) (blocks : List Block) (blamed : List Blamed) → ((label : ℕ) → count label < 2 ^ 64 - 1) → AreCounts count blamed → AreCounts (more count blocks) (with_others blocks (map (with_alarm blocks) blamed))
+pub AreCounts-alarm : (count : ℕ → ℕ) (blocks : List Block) (blamed : List BlamedLabel) → ((label : ℕ) → count label < 2 ^ 64 - 1) → AreCounts count blamed → AreCounts (more count blocks) (with_others blocks (map (with_alarm blocks) blamed))
 AreCounts-alarm count blocks blamed few counts = AreCounts-added (more count blocks) blocks (map (with_alarm blocks) blamed) (record {
   each = All-map (IsCount (more count blocks)) (with_alarm blocks) blamed (All-weaker (IsCount count) (λ b. IsCount (more count blocks) (with_alarm blocks b)) (IsCount-with_alarm count blocks few) blamed counts.each);
   some = All-map IsSome (with_alarm blocks) blamed (All-weaker IsSome (λ b. IsSome (with_alarm blocks b)) (IsSome-with_alarm blocks) blamed counts.some);
@@ -183,7 +183,7 @@ AreCounts-alarm count blocks blamed few counts = AreCounts-added (more count blo
     zero_of label none = counts.others label (sym (listed-with_alarms label blocks blamed) ∙ none)
 
 -- without an alarm
-pub AreCounts-same : (count other : ℕ → ℕ) (blamed : List Blamed) → ((label : ℕ) → count label ≡ other label) → AreCounts count blamed → AreCounts other blamed
+pub AreCounts-same : (count other : ℕ → ℕ) (blamed : List BlamedLabel) → ((label : ℕ) → count label ≡ other label) → AreCounts count blamed → AreCounts other blamed
 AreCounts-same count other blamed same counts = record {
   each = All-weaker (IsCount count) (IsCount other) (λ b is. is ∙ same b.label.0) blamed counts.each;
   some = counts.some;
@@ -192,12 +192,12 @@ AreCounts-same count other blamed same counts = record {
 }
 
 -- the table before, and with one alarm more
-pub AreCounts-counted : (count : ℕ → ℕ) (blocks : List Block) (blamed before after : List Blamed) → before ≡ map (with_alarm blocks) blamed → after ≡ with_others blocks before → ((label : ℕ) → count label < 2 ^ 64 - 1) → AreCounts count blamed → AreCounts (more count blocks) after
+pub AreCounts-counted : (count : ℕ → ℕ) (blocks : List Block) (blamed before after : List BlamedLabel) → before ≡ map (with_alarm blocks) blamed → after ≡ with_others blocks before → ((label : ℕ) → count label < 2 ^ 64 - 1) → AreCounts count blamed → AreCounts (more count blocks) after
 AreCounts-counted count blocks blamed before after first added few counts =
     subst (AreCounts (more count blocks)) (sym (added ∙ ap (with_others blocks) first)) (AreCounts-alarm count blocks blamed few counts)
 
 -- and where there is no alarm
-pub AreCounts-none : (count : ℕ → ℕ) (blamed : List Blamed) → AreCounts count blamed → AreCounts (more count []) blamed
+pub AreCounts-none : (count : ℕ → ℕ) (blamed : List BlamedLabel) → AreCounts count blamed → AreCounts (more count []) blamed
 AreCounts-none count blamed counts = AreCounts-same count (more count []) blamed (λ label. plus_none (count label)) counts
   where
     plus_none : (n : ℕ) → n ≡ n + 0

@@ -28,8 +28,8 @@ use Rattle.velo_explore.specs.Goals.{IsWitness, Reached, fault_of, finding_of, g
 use Rattle.velo_explore.specs.Told.{OnShown}
 use Rattle.velo_explore.proofs.OnShown.{goal-reaches}
 use Rattle.std.proofs.lemmas.List.Sums.{count_by-le-length, sum_by_push}
-use Rattle.velo_random.specs.declared.tally.Blamed.{Blamed}
-use Rattle.velo_random.specs.declared.tally.Tally.{Tally}
+use Rattle.velo_random.specs.declared.tally.BlamedLabel.{BlamedLabel}
+use Rattle.velo_random.specs.declared.tally.RunTally.{RunTally}
 use Rattle.velo_random.specs.Runs.{Run, IsRun, first_shown, has_alarm, shown_in, blames, blocks_of, has_label}
 use Rattle.velo_random.specs.Tallies.{ComesTo, IsFirst, IsTried, IsTriedBy, AreCounts}
 use Rattle.velo_random.proofs.OnDrawing.{drawn-count}
@@ -79,14 +79,14 @@ seen-as before after schedule ending alarm same given =
     subst (λ (a : Bool). (fault : Fault) (seen : Option (Goal × List ThreadId)) → IsFirst seen (finding_of before fault) → IsFirst (option_or seen (option_map (λ goal. (goal, schedule)) (goal_in fault a ending))) (finding_of after fault)) same given
 
 -- one more run is noted so
-pub record Notes (before : Tally) (run : Run) (after : Tally) : Type 0 where
+pub record Notes (before : RunTally) (run : Run) (after : RunTally) : Type 0 where
   pub few : before.runs < 2 ^ 64 - 1
   pub runs : after.runs ≡ before.runs + 1
   pub findings : (fault : Fault) (seen : Option (Goal × List ThreadId)) → IsFirst seen (finding_of before.findings fault) → IsFirst (option_or seen (shown_in fault run)) (finding_of after.findings fault)
   pub alarms : after.alarms ≡ min (before.alarms + (if has_alarm run then 1 else 0)) (2 ^ 64 - 1)
   pub blamed : (count : ℕ → ℕ) → ((label : ℕ) → count label < 2 ^ 64 - 1) → AreCounts count before.blamed.items → AreCounts (λ label. count label + (if has_label label (blocks_of run.alarm) then 1 else 0)) after.blamed.items
 
-pub ComesTo-noted : (runs : List Run) (run : Run) (before after : Tally) → Notes before run after → ComesTo runs before → ComesTo (runs ++ run ∷ []) after
+pub ComesTo-noted : (runs : List Run) (run : Run) (before after : RunTally) → Notes before run after → ComesTo runs before → ComesTo (runs ++ run ∷ []) after
 ComesTo-noted runs run before after notes comes = record {
   count = notes.runs ∙ (ap (λ n. n + 1) comes.count ∙ sym (length-append runs (run ∷ [])));
   findings = λ fault. subst (λ (o : Option (Goal × List ThreadId)). IsFirst o (finding_of after.findings fault)) (sym (first-push fault runs run)) (notes.findings fault (first_shown fault runs) (comes.findings fault));
@@ -108,12 +108,12 @@ ComesTo-noted runs run before after notes comes = record {
 abbrev counted_by : (ℕ → ℕ) → Option (Bor Alarm) → ℕ → ℕ
 counted_by count alarm label = count label + (if has_label label (blocks_of (option_map (λ a. a.now) alarm)) then 1 else 0)
 
-pub AreCounts-no_alarm : (count : ℕ → ℕ) (alarm : Option (Bor Alarm)) (blamed : List Blamed) → alarm ≡ None → AreCounts count blamed → AreCounts (counted_by count alarm) blamed
+pub AreCounts-no_alarm : (count : ℕ → ℕ) (alarm : Option (Bor Alarm)) (blamed : List BlamedLabel) → alarm ≡ None → AreCounts count blamed → AreCounts (counted_by count alarm) blamed
 AreCounts-no_alarm count alarm blamed is counts = subst (λ o. AreCounts (counted_by count o) blamed) (sym is) (AreCounts-none count blamed counts)
 
 -- ---- in another order
 
-AreCounts-permutation : (count : ℕ → ℕ) (before after : List Blamed) → IsPermutation before after → AreCounts count before → AreCounts count after
+AreCounts-permutation : (count : ℕ → ℕ) (before after : List BlamedLabel) → IsPermutation before after → AreCounts count before → AreCounts count after
 AreCounts-permutation count before after moved counts = record {
   each = All-permutation (λ b. b.alarms ≡ count b.label.0) before after moved counts.each;
   some = All-permutation (λ b. 1 ≤ b.alarms) before after moved counts.some;
@@ -138,7 +138,7 @@ if_ok (Ok x) step given = step x given
 if_ok (Err e) step given = tt
 
 module _ (program : Program) (config : Config) where
-  pub IsTriedBy-once : (run : Run) → IsRun program config run → (before after : Tally) → ((runs : List Run) → ComesTo runs before → ComesTo (runs ++ run ∷ []) after)
+  pub IsTriedBy-once : (run : Run) → IsRun program config run → (before after : RunTally) → ((runs : List Run) → ComesTo runs before → ComesTo (runs ++ run ∷ []) after)
       → (schedules : List (List ThreadId)) → IsTriedBy program config schedules before → IsTriedBy program config (schedules ++ run.schedule ∷ []) after
   IsTriedBy-once run is before after step schedules tried = record {
     runs = tried.runs ++ run ∷ [];
@@ -147,7 +147,7 @@ module _ (program : Program) (config : Config) where
     comes_to = step tried.runs tried.comes_to;
   }
 
-  pub IsTriedBy-ordered : (schedules : List (List ThreadId)) (before after : Tally) → after ≡ record before { blamed = after.blamed } → IsPermutation before.blamed.items after.blamed.items
+  pub IsTriedBy-ordered : (schedules : List (List ThreadId)) (before after : RunTally) → after ≡ record before { blamed = after.blamed } → IsPermutation before.blamed.items after.blamed.items
       → IsTriedBy program config schedules before → IsTriedBy program config schedules after
   IsTriedBy-ordered schedules before after same moved tried = record {
     runs = tried.runs;
@@ -194,11 +194,11 @@ module _ (program : Program) (config : Config) where
   shown-by fault seen Never first shown = tt
   shown-by fault seen Open first shown = tt
 
-  pub are-shown : (schedules : List (List ThreadId)) (tally : Tally) → IsTriedBy program config schedules tally → (fault : Fault) → OnShown (finding_of tally.findings fault) (IsWitness program config fault)
+  pub are-shown : (schedules : List (List ThreadId)) (tally : RunTally) → IsTriedBy program config schedules tally → (fault : Fault) → OnShown (finding_of tally.findings fault) (IsWitness program config fault)
   are-shown schedules tally tried fault =
       shown-by fault (first_shown fault tried.runs) (finding_of tally.findings fault) (tried.comes_to.findings fault) (first-shown fault tried.runs tried.replayed)
 
   -- so many runs were made
-  pub count-tried : (seed n : ℕ) (tally : Tally) → IsTried program config seed n tally → tally.runs ≡ n
+  pub count-tried : (seed n : ℕ) (tally : RunTally) → IsTried program config seed n tally → tally.runs ≡ n
   count-tried seed n tally tried =
       tried.comes_to.count ∙ (sym (length-map tried.runs (λ run. run.schedule)) ∙ (ap (λ (l : List (List ThreadId)). length l) tried.by ∙ drawn-count n _ _ _))

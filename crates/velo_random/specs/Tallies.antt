@@ -9,8 +9,8 @@ use Rattle.velo_explore.specs.declared.finding.Finding.{Finding}
 use Rattle.velo_explore.specs.declared.finding.Finding.TheVariants.{Shown, Never}
 use Rattle.velo_explore.specs.declared.goal.Goal.{Goal}
 use Rattle.velo_explore.specs.Goals.{finding_of}
-use Rattle.velo_random.specs.declared.tally.Blamed.{Blamed}
-use Rattle.velo_random.specs.declared.tally.Tally.{Tally}
+use Rattle.velo_random.specs.declared.tally.BlamedLabel.{BlamedLabel}
+use Rattle.velo_random.specs.declared.tally.RunTally.{RunTally}
 use Rattle.velo_random.specs.Drawing.{schedules_of_seed}
 use Rattle.velo_random.specs.Runs.{Run, IsRun, first_shown, has_alarm, blames}
 
@@ -20,17 +20,17 @@ IsFirst (Some shown) (Shown witness) = shown ≡ (witness.goal, witness.schedule
 IsFirst None Never = ⊤
 IsFirst seen finding = ⊥
 
-abbrev pub is_listed : ℕ → List Blamed → Bool
+abbrev pub is_listed : ℕ → List BlamedLabel → Bool
 is_listed label blamed = list_any (λ b. b.label.0 == label) blamed
 
 -- a label's place among the others: those of most alarms come first, and of as many that of the
 -- lesser number
-abbrev pub rank : Blamed → ℕ
+abbrev pub rank : BlamedLabel → ℕ
 rank b = (2 ^ 64 - 1 - b.alarms) * 2 ^ 32 + b.label.0
 
 -- each label that is listed is listed once and has so many alarms, one at least; the others have
 -- none
-pub record AreCounts (count : ℕ → ℕ) (blamed : List Blamed) : Type 0 where
+pub record AreCounts (count : ℕ → ℕ) (blamed : List BlamedLabel) : Type 0 where
   pub each : All (λ b. b.alarms ≡ count b.label.0) blamed
   pub some : All (λ b. 1 ≤ b.alarms) blamed
   pub once : (label : ℕ) → count_by (λ b. b.label.0 == label) blamed ≤ 1
@@ -38,19 +38,19 @@ pub record AreCounts (count : ℕ → ℕ) (blamed : List Blamed) : Type 0 where
 
 -- what the runs come to: the first that show something, and how many have an alarm, and blame a
 -- label
-pub record ComesTo (runs : List Run) (tally : Tally) : Type 0 where
+pub record ComesTo (runs : List Run) (tally : RunTally) : Type 0 where
   pub count : tally.runs ≡ length runs
   pub findings : (fault : Fault) → IsFirst (first_shown fault runs) (finding_of tally.findings fault)
   pub alarms : tally.alarms ≡ count_by has_alarm runs
   pub blamed : AreCounts (λ label. count_by (blames label) runs) tally.blamed.items
 
 -- the program was replayed by each of these schedules, and these runs come to this
-pub record IsTriedBy (program : Program) (config : Config) (schedules : List (List ThreadId)) (tally : Tally) : Type 0 where
+pub record IsTriedBy (program : Program) (config : Config) (schedules : List (List ThreadId)) (tally : RunTally) : Type 0 where
   pub runs : List Run
   pub replayed : All (IsRun program config) runs
   pub by : map (λ run. run.schedule) runs ≡ schedules
   pub comes_to : ComesTo runs tally
 
 -- it was by so many, which the seed draws
-abbrev pub IsTried : Program → Config → ℕ → ℕ → Tally → Type 0
+abbrev pub IsTried : Program → Config → ℕ → ℕ → RunTally → Type 0
 IsTried program config seed n tally = IsTriedBy program config (schedules_of_seed program seed n) tally

@@ -9,4 +9,4 @@ mod running;
 mod tally;
 
 pub use running::{DEFAULT_SEED, try_all, try_by_chance};
-pub use tally::{Blamed, Tally};
+pub use tally::{BlamedLabel, RunTally};

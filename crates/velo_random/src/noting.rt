@@ -9,11 +9,11 @@ ghost use Rattle.velo_random.specs.Runs.{Run, blocks_of, has_label};
 ghost use Rattle.velo_random.specs.Tallies.{AreCounts, ComesTo, IsFirst};
 
 use crate::blaming::count_alarm;
-use crate::tally::{Blamed, Tally};
+use crate::tally::{BlamedLabel, RunTally};
 use std::alloc::Global;
 use velo_events::growth::reserve;
 use velo_events::{Memory, ThreadId};
-use velo_explore::{Fault, Finding, Findings, Goal, Outcome, Witness};
+use velo_explore::{Fault, Finding, Findings, Goal, RunOutcome, Witness};
 use velo_worker::Ending;
 use velo_world::Alarm;
 
@@ -57,7 +57,7 @@ fn first_of(
 fn findings_with(
     alloc: Global,
     findings: Findings,
-    outcome: Outcome,
+    outcome: RunOutcome,
     schedule: &[ThreadId],
 ) -> Result<Findings, Memory>
     ensures { IfOk result (λ after. (fault : FaultOf) (seen : Option (GoalOf × List Turn)) →
@@ -83,9 +83,9 @@ fn findings_with(
 /// The labels, counted with those that the alarm blames, if there is one.
 fn blamed_with(
     alloc: Global,
-    blamed: Vec<Blamed>,
+    blamed: Vec<BlamedLabel>,
     alarm: Option<&Alarm>,
-) -> Result<Vec<Blamed>, Memory>
+) -> Result<Vec<BlamedLabel>, Memory>
     ensures { IfOk result (λ after. (count : ℕ → ℕ) → ((label : ℕ) → count label < 2 ^ 64 - 1) → AreCounts count blamed.items →
         AreCounts (λ label. count label + (if has_label label (blocks_of (option_map (λ a. a.now) alarm.entry)) then 1 else 0)) after.items) }
 {
@@ -109,29 +109,29 @@ fn count_if(count: u64, one_more: bool) -> u64
 /// What runs come to with one more, by its schedule, with this ending and this alarm.
 pub(crate) fn note(
     alloc: Global,
-    tally: Tally,
+    tally: RunTally,
     schedule: &[ThreadId],
     ending: Ending,
     alarm: Option<&Alarm>,
-) -> Result<Tally, Memory>
+) -> Result<RunTally, Memory>
     requires few { tally.runs < 2 ^ 64 - 1 }
     ensures comes_to { IfOk result (λ after. (runs : List Run) → ComesTo runs tally →
         ComesTo (runs ++ record { schedule = schedule.now; ending = ending; alarm = option_map (λ a. a.now) alarm.entry } ∷ []) after) }
     ensures runs { IfOk result (λ after. after.runs ≡ tally.runs + 1) }
 {
-    let Tally {
+    let RunTally {
         runs,
         findings,
         alarms,
         blamed,
     } = tally;
-    let outcome = Outcome {
+    let outcome = RunOutcome {
         alarm: alarm.is_some(),
         ending,
     };
     let findings = findings_with(alloc, findings, outcome, schedule)?;
     let blamed = blamed_with(alloc, blamed, alarm)?;
-    Ok(Tally {
+    Ok(RunTally {
         runs: runs + 1,
         findings,
         alarms: count_if(alarms, outcome.alarm),

@@ -12,7 +12,7 @@ ghost use Rattle.velo_random.specs.Tallies.{IsTried, IsTriedBy, rank};
 use crate::blaming::put_in_order;
 use crate::drawing::{draw, turns_for};
 use crate::noting::note;
-use crate::tally::Tally;
+use crate::tally::RunTally;
 use rand_core::SeedableRng;
 use rand_xoshiro::Xoshiro256PlusPlus;
 use std::alloc::Global;
@@ -24,11 +24,11 @@ use velo_workload::Workload;
 pub const DEFAULT_SEED: u64 = 1;
 
 /// What no runs come to.
-fn no_runs(alloc: Global) -> Tally
+fn no_runs(alloc: Global) -> RunTally
     ensures runs { result.runs ≡ 0 }
     ensures tried { (program : Program) (config : ConfigOf) → IsTriedBy program config [] result }
 {
-    Tally {
+    RunTally {
         runs: 0,
         findings: Findings {
             alarm: Finding::Never,
@@ -46,8 +46,8 @@ fn run_once(
     workload: &Workload,
     schedule: &[ThreadId],
     config: Config,
-    tally: Tally,
-) -> Result<Tally, Memory>
+    tally: RunTally,
+) -> Result<RunTally, Memory>
     requires bounds { config.bounds ≡ workload.now.bounds }
     requires few { tally.runs < 2 ^ 64 - 1 }
     ensures tried { IfOk result (λ after. (schedules : List (List Turn)) → IsTriedBy workload.now config schedules tally →
@@ -70,7 +70,7 @@ pub fn try_all(
     workload: &Workload,
     schedules: &[Vec<ThreadId>],
     config: Config,
-) -> Result<Tally, Memory>
+) -> Result<RunTally, Memory>
     requires bounds { config.bounds ≡ workload.now.bounds }
     ensures tried { IfOk result (IsTriedBy workload.now config (map (λ schedule. schedule.items) schedules.now)) }
     ensures order { IfOk result (λ tally. IsNonDecreasingBy rank tally.blamed.items) }
@@ -102,7 +102,7 @@ pub fn try_by_chance(
     runs: u64,
     seed: u64,
     config: Config,
-) -> Result<Tally, Memory>
+) -> Result<RunTally, Memory>
     requires bounds { config.bounds ≡ workload.now.bounds }
     ensures tried { IfOk result (IsTried workload.now config seed runs) }
     ensures order { IfOk result (λ tally. IsNonDecreasingBy rank tally.blamed.items) }

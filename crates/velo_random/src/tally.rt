@@ -4,7 +4,7 @@ use velo_explore::Findings;
 
 /// What some runs came to.
 #[derive(Debug, Drop)]
-pub struct Tally {
+pub struct RunTally {
     /// How many runs were made.
     pub runs: u64,
     /// What the runs show: of each fault the first that has it, or that none has it. None is left
@@ -13,12 +13,12 @@ pub struct Tally {
     /// How many runs have an alarm.
     pub alarms: u64,
     /// The labels that alarms of these runs blame, each once, those of most alarms first.
-    pub blamed: Vec<Blamed>,
+    pub blamed: Vec<BlamedLabel>,
 }
 
 /// A label, and how many runs have an alarm that blames a block with it.
 #[derive(Clone, Copy, Debug, PartialEq, Eq)]
-pub struct Blamed {
+pub struct BlamedLabel {
     /// The label.
     pub label: Label,
     /// How many runs, one at least.

@@ -71,6 +71,21 @@ pub struct ReplayOptions<'a> {
     pub run: RunOptions<'a>,
 }
 
+/// What is left out of a log before it is looked at.
+#[derive(Clone, Copy, Debug)]
+pub struct Ignored<'a> {
+    /// The path of the list of labels that are known already, or `-`.
+    pub known: Option<&'a str>,
+    /// The labels, each a number, a name or a pattern.
+    pub labels: &'a [&'a str],
+    /// The locks, each a number, a name or a pattern.
+    pub locks: &'a [&'a str],
+    /// The variables, each a number, a name or a pattern.
+    pub variables: &'a [&'a str],
+    /// Whether all locks are left out.
+    pub all_locks: bool,
+}
+
 /// What `velodrome explain` was asked for.
 #[derive(Clone, Copy, Debug)]
 pub struct ExplainOptions<'a> {
@@ -84,6 +99,8 @@ pub struct ExplainOptions<'a> {
     pub names: Option<&'a str>,
     /// The path of the sites of the log's events, or `-`.
     pub sites: Option<&'a str>,
+    /// What is left out.
+    pub ignored: Ignored<'a>,
 }
 
 /// What `velodrome carry` was asked for.
@@ -99,6 +116,9 @@ pub struct CarryOptions<'a> {
 
 /// The most states that a search may look at.
 pub const MAX_STATES: u32 = 16_777_216;
+
+/// The most seconds that a search may be given.
+pub const MAX_SECONDS: u32 = 1_000_000;
 
 /// The most random runs: each is a whole replay.
 pub const MAX_RUNS: u32 = 1_000_000;
@@ -126,6 +146,8 @@ pub struct ExploreOptions<'a> {
     pub states: u32,
     /// Whether the first finding ends the search.
     pub first: bool,
+    /// After how many seconds no more states are looked at, 1 to [`MAX_SECONDS`].
+    pub seconds: Option<u32>,
     /// The path where the log of the reported replay is saved.
     pub target: Option<&'a str>,
     /// The path where the names of the workload are saved, after that log.
@@ -203,12 +225,10 @@ pub struct PredictOptions<'a> {
     pub input: &'a str,
     /// The path of the names that are printed, or `-`.
     pub names: Option<&'a str>,
-    /// The path of the list of labels that are known already, or `-`.
-    pub known: Option<&'a str>,
-    /// The locks that are left out, each a number or a name.
-    pub ignored_locks: &'a [&'a str],
-    /// The variables that are left out, each a number or a name.
-    pub ignored_variables: &'a [&'a str],
+    /// The path of the sites of the log's events, or `-`.
+    pub sites: Option<&'a str>,
+    /// What is left out.
+    pub ignored: Ignored<'a>,
     /// Whether the values in the log are those of the program. If not, two reads have the same value
     /// where they read from the same write.
     pub values: bool,
@@ -224,6 +244,19 @@ pub struct PredictOptions<'a> {
     ghost few_tries: { tries ≤ MAX_TRIES },
 }
 
+/// In which form an answer is printed.
+#[derive(Clone, Copy, Debug, PartialEq, Eq)]
+pub enum OutputFormat {
+    /// As text, for a person.
+    Text,
+    /// As one JSON object.
+    Json,
+    /// As a SARIF log, for tools that show findings beside the source.
+    Sarif,
+    /// As a JUnit report, for tools that show test results.
+    Junit,
+}
+
 /// What `velodrome audit` was asked for.
 #[derive(Clone, Copy, Debug)]
 pub struct AuditOptions<'a> {
@@ -231,12 +264,10 @@ pub struct AuditOptions<'a> {
     pub input: &'a str,
     /// The path of the names that are printed, or `-`.
     pub names: Option<&'a str>,
-    /// The path of the list of labels that are known already, or `-`.
-    pub known: Option<&'a str>,
-    /// The locks that are left out, each a number or a name.
-    pub ignored_locks: &'a [&'a str],
-    /// The variables that are left out, each a number or a name.
-    pub ignored_variables: &'a [&'a str],
+    /// The path of the sites of the log's events, or `-`.
+    pub sites: Option<&'a str>,
+    /// What is left out.
+    pub ignored: Ignored<'a>,
     /// Whether the witness of each round is printed.
     pub witness: bool,
     /// Whether each label comes with how many of its blocks are to blame.
@@ -245,6 +276,8 @@ pub struct AuditOptions<'a> {
     pub by_count: bool,
     /// Whether a label is left out if each of its blocks to blame has another one inside it.
     pub innermost: bool,
+    /// The form in which the answer is printed.
+    pub format: OutputFormat,
     /// The limits within which the log is checked.
     pub limits: Limits,
 }
@@ -256,6 +289,8 @@ pub enum Ignorable {
     Lock,
     /// A variable.
     Variable,
+    /// A label.
+    Label,
 }
 
 /// What the program was asked for.

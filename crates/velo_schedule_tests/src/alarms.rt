@@ -1,9 +1,9 @@
 //! The schedules that lead to first alarms, and what is reported of the levels.
-ghost use Rattle.std.specs.Prelude.{◌≡◌};
+ghost use Rattle.std.specs.Prelude.{◌≡◌, true, is_some};
 
 use std::alloc::Global;
 use velo_events::{Config, ThreadId};
-use velo_explore::{Exploration, Progress, Quiet, explore, replayed};
+use velo_explore::{Exploration, Finding, Progress, Quiet, explore, replayed};
 use velo_workload::{Workload, parse};
 
 /// Whether the replay by a schedule has an alarm.
@@ -60,19 +60,45 @@ fn each_decision_that_closes_a_cycle_is_handed_out(rt: HostRuntime) {
     assert_eq!(rt; count_alarms(rt.alloc(), RACE, true), Some((0, 0)));
 }
 
-/// The reports: how many, and the numbers of the last one.
+/// The reports: how many, and the numbers of the last one. The search is over once so many more states
+/// were looked at.
 #[derive(Clone, Copy, Debug)]
 struct Heard {
     times: u64,
     levels: u64,
     states: u64,
+    left: Option<u64>,
+    over: bool,
 }
 
+/// Nothing was reported.
+const NOTHING: Heard = Heard {
+    times: 0,
+    levels: 0,
+    states: 0,
+    left: None,
+    over: false,
+};
+
 impl Progress for Heard {
+    ghost may_end = { λ s. is_some s.left };
+
+    ghost says_over = { λ s. s.over };
+
     fn level_done(&mut self, levels: u64, states: u64) {
         self.times = self.times.saturating_add(1);
         self.levels = levels;
         self.states = states;
+    }
+
+    fn is_over(&mut self) -> bool {
+        let Some(left) = self.left else {
+            self.over = false;
+            return false;
+        };
+        self.left = Some(left.saturating_sub(1));
+        self.over = left == 0;
+        self.over
     }
 }
 
@@ -81,11 +107,7 @@ impl Progress for Heard {
 fn told_levels(alloc: Global, text: &str) -> Option<(u64, u64, u64, u64)> {
     let workload = parse(alloc, text).ok()?;
     let config = Config::new(1, workload.bounds(), 10_000, 64, false).ok()?;
-    let mut heard = Heard {
-        times: 0,
-        levels: 0,
-        states: 0,
-    };
+    let mut heard = NOTHING;
     let Exploration { states, .. } = explore(
         alloc, &workload, 100_000, false, config, &mut heard,
     ).ok()?;
@@ -97,4 +119,43 @@ fn each_level_is_told(rt: HostRuntime) {
     // twelve decisions, and the start
     assert_eq!(rt; told_levels(rt.alloc(), RACE), Some((13, 13, 104, 104)));
     assert_eq!(rt; told_levels(rt.alloc(), ALONE), Some((1, 1, 1, 1)));
+}
+
+/// Whether it is left open.
+fn is_open(finding: &Finding) -> bool {
+    matches!(finding, Finding::Open)
+}
+
+/// How many states are looked at, and whether alarms and deadlocks are left open, where the search is
+/// over after so many.
+fn told_until(alloc: Global, text: &str, most: u64) -> Option<(u64, bool, bool)> {
+    let workload = parse(alloc, text).ok()?;
+    let config = Config::new(1, workload.bounds(), 10_000, 64, false).ok()?;
+    let mut heard = Heard {
+        left: Some(most),
+        ..NOTHING
+    };
+    let Exploration {
+        states,
+        findings,
+        ..
+    } = explore(alloc, &workload, 100_000, false, config, &mut heard).ok()?;
+    Some((states, is_open(&findings.alarm), is_open(&findings.stuck)))
+}
+
+#[test]
+fn a_search_ends_when_it_is_over(rt: HostRuntime) {
+    assert_eq!(rt; told_until(rt.alloc(), RACE, 0), Some((0, true, true)));
+    assert_eq!(rt; told_until(rt.alloc(), RACE, 1), Some((1, true, true)));
+    // in the middle of a level
+    assert_eq!(rt; told_until(rt.alloc(), RACE, 100), Some((100, false, true)));
+    // what everything was tried for is not open
+    assert_eq!(rt;
+        told_until(rt.alloc(), RACE, 104),
+        Some((104, false, false))
+    );
+    assert_eq!(rt;
+        told_until(rt.alloc(), RACE, 105),
+        Some((104, false, false))
+    );
 }

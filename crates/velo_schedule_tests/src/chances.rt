@@ -4,13 +4,13 @@ ghost use Rattle.std.specs.Prelude.{◌≡◌};
 use std::alloc::Global;
 use velo_events::{Config, Memory};
 use velo_explore::Finding;
-use velo_random::{Blamed, DEFAULT_SEED, Tally, try_all, try_by_chance};
+use velo_random::{BlamedLabel, DEFAULT_SEED, RunTally, try_all, try_by_chance};
 use velo_schedule_text::{append_turns, turns_of};
 use velo_shrink::{Shrunk, shrink_findings};
 use velo_workload::{Workload, parse};
 
 /// The tally of `runs` random runs of a workload.
-fn tried(alloc: Global, text: &str, runs: u64, seed: u64) -> Option<Tally> {
+fn tried(alloc: Global, text: &str, runs: u64, seed: u64) -> Option<RunTally> {
     let workload = parse(alloc, text).ok()?;
     let config = Config::new(1, workload.bounds(), 100_000, 64, false).ok()?;
     try_by_chance(alloc, &workload, runs, seed, config).ok()
@@ -46,7 +46,7 @@ fn first_alarm(
     text: &str,
     runs: u64,
     seed: u64,
-) -> Option<(Vec<u8>, u64, Vec<Blamed>)> {
+) -> Option<(Vec<u8>, u64, Vec<BlamedLabel>)> {
     let tally = tried(alloc, text, runs, seed)?;
     let mut short = Vec::new(alloc);
     append_turns(&mut short, &tally.findings.alarm.witness()?.schedule).ok()?;

@@ -9,6 +9,7 @@ pub mod OnMarks
 pub mod OnNumbers
 pub mod OnSteps
 pub mod OnStates
+pub mod OnSameStates
 pub mod RowsOfSummaries
 pub mod OnPlain
 pub mod OnRuns

@@ -1,5 +1,5 @@
 -- What a state tells once all its threads were looked at.
-use Rattle.std.proofs.Common.{◌≡◌, ℕ, ◌+◌, ◌*◌, ◌<◌, ◌≤◌, Bool, true, false, not, ◌&&◌, ◌||◌, List, [], refl, sym, ◌∙◌, subst, arith, ⊎_elim, inr}
+use Rattle.std.proofs.Common.{◌≡◌, ℕ, ◌+◌, ◌*◌, ◌<◌, ◌≤◌, Bool, true, false, not, ◌&&◌, ◌||◌, List, [], refl, sym, ◌∙◌, subst, arith, ⊎_elim, inl, inr}
 use Rattle.std.specs.Prelude.{All, IsTrue, IsFalse}
 use Rattle.std.proofs.lemmas.Bool.{and_parts, and_cases, or_parts, or_cases, not-true, not-false, false≢true}
 use Rattle.velo_events.specs.declared.config.Bounds.{Bounds}
@@ -9,7 +9,7 @@ use Rattle.velo_events.specs.Event.{thread_of}
 use Rattle.velo_events.specs.Graph.{HasCycle}
 use Rattle.velo_heap.specs.Contents.{bounds_of}
 use Rattle.velo_search.specs.declared.found.Found.{Found}
-use Rattle.velo_search.specs.declared.seen.Seen.{Seen}
+use Rattle.velo_search.specs.declared.seen.ThreadsSeen.{ThreadsSeen}
 use Rattle.velo_search.specs.declared.state.State.{State}
 use Rattle.velo_search.specs.Faults.{IsRefused, Fault, Cycle, Stuck, Refusing, IsFault, IsStuck}
 use Rattle.velo_search.specs.Runs.{IsRunOf, IsNext, NeverWithin}
@@ -21,7 +21,7 @@ use Rattle.velo_search.proofs.OnRuns.{IsRunOf-nil, rule_of_all}
 
 -- ---- of one log
 
-module _ (bounds : Bounds) (scripts : List (List Kind)) (log : List Event) (run : IsRunOf bounds scripts log) (seen : Seen) (w : IsSeen bounds scripts log seen bounds.threads) where
+module _ (bounds : Bounds) (scripts : List (List Kind)) (log : List Event) (run : IsRunOf bounds scripts log) (seen : ThreadsSeen) (w : IsSeen bounds scripts log seen bounds.threads) where
   -- 84. stuck, as it was seen
   stuck-told : IsTrue (seen.waits && not (seen.acts || seen.refused)) → IsStuck bounds scripts log
   stuck-told h =
@@ -65,7 +65,7 @@ module _ (bounds : Bounds) (scripts : List (List Kind)) (log : List Event) (run 
 
 -- ---- of a state
 
-found-either : (found : Found) (alarmed : Bool) (seen : Seen) (fault : Fault) → has_fault (found_after found alarmed seen) fault ≡ (has_fault found fault || is_told alarmed seen fault)
+found-either : (found : Found) (alarmed : Bool) (seen : ThreadsSeen) (fault : Fault) → has_fault (found_after found alarmed seen) fault ≡ (has_fault found fault || is_told alarmed seen fault)
 found-either found alarmed seen Cycle = refl
 found-either found alarmed seen Stuck = refl
 found-either found alarmed seen Refusing = refl
@@ -84,10 +84,10 @@ goes_on-nothing first found is goes_on = each
 
 module _ (bounds : Bounds) (scripts : List (List Kind)) where
   -- where the states are spent, no run of fewer events than there are levels has what was not found
-  pub spent-cut : (most : ℕ) (first : Bool) (found : Found) (states levels : ℕ) (level : List State) → most ≤ states * bounds.threads → states ≤ ways bounds.threads levels →
+  pub spent-cut : (most : ℕ) (first over : Bool) (found : Found) (states levels : ℕ) (level : List State) → most ≤ states * bounds.threads → states ≤ ways bounds.threads levels →
       ((n : ℕ) (fault : Fault) → has_fault found fault ≡ false → All (IsClean bounds scripts n fault) level → NeverWithin (levels + n) (IsFault bounds scripts fault) bounds scripts []) →
-      IsCutShort bounds scripts most first found states
-  spent-cut most first found states levels level all few leads = inr (record {
+      IsCutShort bounds scripts most first over found states
+  spent-cut most first over found states levels level all few leads = inr (inr (record {
     all = all;
     events = levels;
     tried = record {
@@ -96,7 +96,13 @@ module _ (bounds : Bounds) (scripts : List (List Kind)) where
           λ more short. never more (omega (arith, short));
       few = few;
     };
-  })
+  }))
+
+  -- why a search has ended that ends after a level
+  pub ended-cut : (most : ℕ) (first over : Bool) (said : Bool) (found : Found) (states : ℕ) → (said || has_ended first found) ≡ true → (said ≡ true → over ≡ true) →
+      IsCutShort bounds scripts most first over found states
+  ended-cut most first over said found states ended told =
+      ⊎_elim (λ says. inr (inl (told says))) (λ some. inl some) (or_cases said (has_ended first found) ended)
 
   -- before any thread
   pub tried-start : (state : State) (start : List State) → All (IsReached bounds scripts) start → IsTried bounds scripts state start start (record { acts = false; waits = false; refused = false }) 0
@@ -118,7 +124,7 @@ module _ (bounds : Bounds) (scripts : List (List Kind)) where
   nothing-true Stuck h = absurd (false≢true h)
   nothing-true Refusing h = absurd (false≢true h)
 
-  module _ (state : State) (reached : IsReached bounds scripts state) (start now : List State) (seen : Seen) (tried : IsTried bounds scripts state start now seen bounds.threads) (found : Found) where
+  module _ (state : State) (reached : IsReached bounds scripts state) (start now : List State) (seen : ThreadsSeen) (tried : IsTried bounds scripts state start now seen bounds.threads) (found : Found) where
     -- 88. what is found stays true
     pub found-true : IsTrueOf bounds scripts found → IsTrueOf bounds scripts (found_after found state.marks.alarmed seen)
     found-true true_before fault h = ⊎_elim

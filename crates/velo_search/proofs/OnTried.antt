@@ -6,7 +6,7 @@ use Rattle.velo_events.specs.declared.config.Bounds.{Bounds}
 use Rattle.velo_events.specs.declared.event.Event.{Event}
 use Rattle.velo_events.specs.declared.event.Kind.{Kind}
 use Rattle.velo_events.specs.Event.{thread_of}
-use Rattle.velo_search.specs.declared.seen.Seen.{Seen}
+use Rattle.velo_search.specs.declared.seen.ThreadsSeen.{ThreadsSeen}
 use Rattle.velo_search.specs.declared.state.State.{State}
 use Rattle.velo_search.specs.Faults.{Fault, IsIdle, IsWaiting, IsRefused}
 use Rattle.velo_search.specs.Runs.{IsRunOf, IsNext}
@@ -23,7 +23,7 @@ wider P t w = (w.0, omega (arith, w.1), w.2)
 
 -- ---- after one log
 
-module _ (bounds : Bounds) (scripts : List (List Kind)) (log : List Event) (run : IsRunOf bounds scripts log) (t : ℕ) (seen : Seen) (before : IsSeen bounds scripts log seen t) where
+module _ (bounds : Bounds) (scripts : List (List Kind)) (log : List Event) (run : IsRunOf bounds scripts log) (t : ℕ) (seen : ThreadsSeen) (before : IsSeen bounds scripts log seen t) where
   -- 76. the thread is idle
   seen-idle : IsIdle scripts log t → IsSeen bounds scripts log seen (t + 1)
   seen-idle idle = record {
@@ -79,7 +79,7 @@ module _ (bounds : Bounds) (scripts : List (List Kind)) (state : State) (t : ℕ
   unfolding Each
   clean-none none n fault = record { each = λ log e run stands own next. absurd (none log run stands e own next) }
 
-  kept_on : (start now : List State) (seen after : Seen) → IsTried bounds scripts state start now seen t → ((n : ℕ) (fault : Fault) → IsCleanBy bounds scripts n fault state t) →
+  kept_on : (start now : List State) (seen after : ThreadsSeen) → IsTried bounds scripts state start now seen t → ((n : ℕ) (fault : Fault) → IsCleanBy bounds scripts n fault state t) →
       ((log : List Event) → IsRunOf bounds scripts log → IsStateOf log state → IsSeen bounds scripts log after (t + 1)) → IsTried bounds scripts state start now after (t + 1)
   kept_on start now seen after tried clean threads = record {
     reached = tried.reached;
@@ -88,28 +88,28 @@ module _ (bounds : Bounds) (scripts : List (List Kind)) (state : State) (t : ℕ
   }
 
   -- 80. the thread is idle
-  pub tried-idle : (start now : List State) (seen : Seen) → ((log : List Event) → IsRunOf bounds scripts log → IsStateOf log state → IsIdle scripts log t) → IsTried bounds scripts state start now seen t → IsTried bounds scripts state start now seen (t + 1)
+  pub tried-idle : (start now : List State) (seen : ThreadsSeen) → ((log : List Event) → IsRunOf bounds scripts log → IsStateOf log state → IsIdle scripts log t) → IsTried bounds scripts state start now seen t → IsTried bounds scripts state start now seen (t + 1)
   unfolding Each
   tried-idle start now seen idle tried = kept_on start now seen seen tried
       (clean-none (λ log run stands e own next. next-not_idle bounds scripts log t e run own next (idle log run stands)))
       (λ log run stands. seen-idle bounds scripts log run t seen (tried.threads log run stands) (idle log run stands))
 
   -- 81. it waits
-  pub tried-waits : (start now : List State) (seen : Seen) → ((log : List Event) → IsRunOf bounds scripts log → IsStateOf log state → IsWaiting bounds scripts log t) → IsTried bounds scripts state start now seen t → IsTried bounds scripts state start now (record seen { waits = true }) (t + 1)
+  pub tried-waits : (start now : List State) (seen : ThreadsSeen) → ((log : List Event) → IsRunOf bounds scripts log → IsStateOf log state → IsWaiting bounds scripts log t) → IsTried bounds scripts state start now seen t → IsTried bounds scripts state start now (record seen { waits = true }) (t + 1)
   unfolding Each
   tried-waits start now seen waits tried = kept_on start now seen (record seen { waits = true }) tried
       (clean-none (λ log run stands e own next. let w = waits log run stands in next-not_turned bounds scripts log t e run own next w.refusal w.turned))
       (λ log run stands. seen-waits bounds scripts log run t seen (tried.threads log run stands) (waits log run stands))
 
   -- 82. it is refused
-  pub tried-refused : (start now : List State) (seen : Seen) → ((log : List Event) → IsRunOf bounds scripts log → IsStateOf log state → IsRefused bounds scripts log t) → IsTried bounds scripts state start now seen t → IsTried bounds scripts state start now (record seen { refused = true }) (t + 1)
+  pub tried-refused : (start now : List State) (seen : ThreadsSeen) → ((log : List Event) → IsRunOf bounds scripts log → IsStateOf log state → IsRefused bounds scripts log t) → IsTried bounds scripts state start now seen t → IsTried bounds scripts state start now (record seen { refused = true }) (t + 1)
   unfolding Each
   tried-refused start now seen refused tried = kept_on start now seen (record seen { refused = true }) tried
       (clean-none (λ log run stands e own next. let w = refused log run stands in next-not_turned bounds scripts log t e run own next w.refusal w.turned))
       (λ log run stands. seen-refused bounds scripts log run t seen (tried.threads log run stands) (refused log run stands))
 
   -- 83. it goes on to a state that is kept
-  pub tried-acts : (start old now : List State) (seen : Seen) (e : Event) (after : State) → thread_of e ≡ t → ((log : List Event) → IsRunOf bounds scripts log → IsStateOf log state → IsNext bounds scripts log e) →
+  pub tried-acts : (start old now : List State) (seen : ThreadsSeen) (e : Event) (after : State) → thread_of e ≡ t → ((log : List Event) → IsRunOf bounds scripts log → IsStateOf log state → IsNext bounds scripts log e) →
       ((s : State) → Contains now s → Contains old s ⊎ (after ≡ s)) → ((s : State) → Contains old s → Contains now s) → StandsAmong now after →
       IsReached bounds scripts after → ((n : ℕ) (fault : Fault) → IsClean bounds scripts n fault after → IsCleanBy bounds scripts n fault state t) →
       IsTried bounds scripts state start old seen t → IsTried bounds scripts state start now (record seen { acts = true }) (t + 1)

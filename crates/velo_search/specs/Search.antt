@@ -6,12 +6,12 @@ use Rattle.velo_events.specs.declared.event.Kind.{Kind}
 use Rattle.velo_events.specs.Event.{thread_of}
 use Rattle.velo_heap.specs.Contents.{bounds_of}
 use Rattle.velo_search.specs.declared.found.Found.{Found}
-use Rattle.velo_search.specs.declared.seen.Seen.{Seen}
+use Rattle.velo_search.specs.declared.seen.ThreadsSeen.{ThreadsSeen}
 use Rattle.velo_search.specs.declared.state.State.{State}
 use Rattle.velo_search.specs.Faults.{IsIdle, IsWaiting, IsRefused, Fault, Cycle, Stuck, Refusing, IsFault}
 use Rattle.velo_search.specs.Plain.{plain_kind}
 use Rattle.velo_search.specs.Runs.{script_of, IsRunOf, IsNext, NeverWithin}
-use Rattle.velo_search.specs.States.{IsStateOf}
+use Rattle.velo_search.specs.States.{AreSameStates, IsStateOf}
 use Rattle.velo_search.specs.Told.{has_ended}
 
 -- no script has a value
@@ -41,6 +41,12 @@ pub record IsCleanBy (bounds : Bounds) (scripts : List (List Kind)) (n : ℕ) (f
   pub each : (log : List Event) (e : Event) → IsRunOf bounds scripts log → IsStateOf log state → thread_of e ≡ t →
       IsNext bounds scripts log e → NeverWithin n (IsFault bounds scripts fault) bounds scripts (log ++ e ∷ [])
 
+-- the state at the place is the same
+pub record IsAt (states : List State) (place : ℕ) (state : State) : Type 0 where
+  pub member : State
+  pub there : slice_get states place ≡ Some member
+  pub same : AreSameStates member state
+
 -- some state of the list stands for each log that the state stands for
 pub record StandsAmong (states : List State) (state : State) : Type 0 where
   pub member : State
@@ -54,7 +60,7 @@ pub record Settles (bounds : Bounds) (scripts : List (List Kind)) (before after 
 
 -- ---- what was seen of the threads before t
 
-pub record IsSeen (bounds : Bounds) (scripts : List (List Kind)) (log : List Event) (seen : Seen) (t : ℕ) : Type 0 where
+pub record IsSeen (bounds : Bounds) (scripts : List (List Kind)) (log : List Event) (seen : ThreadsSeen) (t : ℕ) : Type 0 where
   -- one that can go on
   pub acts : seen.acts ≡ true → (e : Event) × IsNext bounds scripts log e
   -- one that waits, or none
@@ -67,7 +73,7 @@ pub record IsSeen (bounds : Bounds) (scripts : List (List Kind)) (log : List Eve
   pub others : seen.acts ≡ false → seen.refused ≡ false → (u : ℕ) → u < t → IsIdle scripts log u ⊎ IsWaiting bounds scripts log u
 
 -- the states after the next events of the threads before t were kept
-pub record IsTried (bounds : Bounds) (scripts : List (List Kind)) (state : State) (start now : List State) (seen : Seen) (t : ℕ) : Type 0 where
+pub record IsTried (bounds : Bounds) (scripts : List (List Kind)) (state : State) (start now : List State) (seen : ThreadsSeen) (t : ℕ) : Type 0 where
   pub reached : All (IsReached bounds scripts) now
   pub leads : (n : ℕ) (fault : Fault) → All (IsClean bounds scripts n fault) now →
       (All (IsClean bounds scripts n fault) start × ((u : ℕ) → u < t → IsCleanBy bounds scripts n fault state u))
@@ -108,7 +114,8 @@ pub record AreSpent (bounds : Bounds) (scripts : List (List Kind)) (most : ℕ) 
   pub events : ℕ
   pub tried : IsTriedBelow bounds scripts found states events
 
--- the search was to end at the first finding, and has one; or its states are spent
-abbrev pub IsCutShort : Bounds → List (List Kind) → ℕ → Bool → Found → ℕ → Type 0
-IsCutShort bounds scripts most first found states =
-    (has_ended first found ≡ true) ⊎ AreSpent bounds scripts most found states
+-- the search was to end at the first finding, and has one; or the caller said that it is over; or
+-- its states are spent
+abbrev pub IsCutShort : Bounds → List (List Kind) → ℕ → Bool → Bool → Found → ℕ → Type 0
+IsCutShort bounds scripts most first over found states =
+    (has_ended first found ≡ true) ⊎ (over ≡ true) ⊎ AreSpent bounds scripts most found states

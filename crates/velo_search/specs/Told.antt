@@ -1,18 +1,18 @@
 -- What a state tells, by its alarm and its threads.
 use Rattle.std.specs.Prelude.{Bool, false, not, ◌&&◌, ◌||◌, if◌then◌else◌}
 use Rattle.velo_search.specs.declared.found.Found.{Found}
-use Rattle.velo_search.specs.declared.seen.Seen.{Seen}
+use Rattle.velo_search.specs.declared.seen.ThreadsSeen.{ThreadsSeen}
 use Rattle.velo_search.specs.Faults.{Fault, Cycle, Stuck, Refusing}
 
 abbrev pub nothing : Found
 nothing = record { alarm = false; stuck = false; refused = false }
 
-abbrev pub is_told : Bool → Seen → Fault → Bool
+abbrev pub is_told : Bool → ThreadsSeen → Fault → Bool
 is_told alarmed seen Cycle = alarmed
 is_told alarmed seen Stuck = seen.waits && not (seen.acts || seen.refused)
 is_told alarmed seen Refusing = seen.refused
 
-abbrev pub found_after : Found → Bool → Seen → Found
+abbrev pub found_after : Found → Bool → ThreadsSeen → Found
 found_after found alarmed seen = record {
   alarm = found.alarm || is_told alarmed seen Cycle;
   stuck = found.stuck || is_told alarmed seen Stuck;

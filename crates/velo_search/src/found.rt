@@ -2,7 +2,7 @@
 ghost use Rattle.std.specs.Prelude.{◌≡◌};
 
 use crate::fault::Fault;
-use crate::seen::Seen;
+use crate::seen::ThreadsSeen;
 
 /// What was found of the runs.
 #[derive(Clone, Copy, Debug, PartialEq, Eq)]
@@ -32,7 +32,7 @@ impl Found {
 
     /// What was found once a state is looked at, too, which has an alarm or not, and of whose
     /// threads this was seen.
-    pub fn after(self, alarmed: bool, seen: Seen) -> Found
+    pub fn after(self, alarmed: bool, seen: ThreadsSeen) -> Found
         ensures { result ≡ found_after self alarmed seen }
     {
         Found {

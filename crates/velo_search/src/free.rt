@@ -1,8 +1,8 @@
 //! Which operations are free: no other thread ever hinders them, or comes into conflict with them before they are done.
-ghost use Rattle.std.specs.Prelude.{◌≡◌, ℕ, true, take, map, slice_get, Some, IfOk};
+ghost use Rattle.std.specs.Prelude.{◌≡◌, ℕ, Bool, length, take, map, slice_get, Some, IfOk};
 ghost use Rattle.velo_events.specs.declared.event.Kind.{Kind};
-ghost use Rattle.velo_search.specs.Free.{AreFree, IsMarked};
-ghost use Rattle.velo_search.specs.Notes.{IsClearBehind};
+ghost use Rattle.velo_search.specs.Free.{is_marked, AreFree};
+ghost use Rattle.velo_search.specs.Notes.{IsMarkOf};
 
 use crate::held::Held;
 use crate::notes::Notes;
@@ -18,8 +18,10 @@ fn clear_ones(
     script: &[Kind],
     locks: usize,
 ) -> Result<Vec<bool>, Memory>
-    ensures { IfOk result (λ clear. (i : ℕ) (k : Kind) → slice_get clear.items i ≡ Some true → slice_get script.now i ≡ Some k →
-        IsClearBehind notes.now thread (take i script.now) k) }
+    ensures count { IfOk result (λ clear. length clear.items ≡ length script.now) }
+    ensures each { IfOk result (λ clear. (i : ℕ) (k : Kind) (mark : Bool) →
+        slice_get script.now i ≡ Some k → slice_get clear.items i ≡ Some mark →
+        IsMarkOf notes.now locks thread (take i script.now) k mark) }
 {
     let mut clear = with_capacity(alloc, script.len())?;
     let mut held = Held::none(alloc, locks)?;
@@ -42,7 +44,8 @@ pub fn free_ones(
     scripts: &[Vec<Kind>],
     locks: usize,
 ) -> Result<Vec<Vec<bool>>, Memory>
-    ensures { IfOk result (λ free. AreFree (map (λ v. v.items) scripts.now) (map (λ v. v.items) free.items)) }
+    ensures { IfOk result (λ free.
+        AreFree locks (map (λ v. v.items) scripts.now) (map (λ v. v.items) free.items)) }
 {
     let notes = Notes::of_scripts(alloc, scripts, locks)?;
     let mut free: Vec<Vec<bool>> = Vec::new(alloc);
@@ -56,7 +59,7 @@ pub fn free_ones(
 
 /// Whether the operation of the thread is marked as free.
 pub fn is_marked(free: &[Vec<bool>], thread: usize, place: usize) -> bool
-    ensures { result ≡ true → IsMarked (map (λ v. v.items) free.now) thread place }
+    ensures { result ≡ is_marked (map (λ v. v.items) free.now) thread place }
 {
     let Some(own) = free.get(thread) else {
         return false;

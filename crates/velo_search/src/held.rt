@@ -1,7 +1,6 @@
 //! How a thread has each lock by its own operations.
-ghost use Rattle.std.specs.Prelude.{◌≡◌, [], ◌∷◌, ◌++◌, List, true, IfOk};
+ghost use Rattle.std.specs.Prelude.{◌≡◌, ◌↔◌, [], ◌∷◌, ◌++◌, ℕ, List, IsTrue, IfOk};
 ghost use Rattle.velo_events.specs.declared.event.Kind.{Kind};
-ghost use Rattle.velo_heap.specs.Contents.{Tabulates};
 
 use crate::copied::copied;
 use crate::hold::Hold;
@@ -17,20 +16,20 @@ pub struct Held {
 
 /// Whether they are the same.
 fn are_same(one: &[Hold], other: &[Hold]) -> bool
-    ensures { result ≡ true → one.now ≡ other.now }
+    ensures { IsTrue result ↔ (one.now ≡ other.now) }
 {
     one == other
 }
 
 impl Held {
-    ghost use Rattle.velo_search.specs.Free.{hold_after, SomeExcluded};
+    ghost use Rattle.velo_search.specs.Free.{some_excluded, AreHeld};
 
     /// None of so many locks.
     ///
     /// # Errors
     /// `Memory` where a growth was refused.
     pub fn none(alloc: Global, locks: usize) -> Result<Held, Memory>
-        ensures { IfOk result (λ held. Tabulates held.locks.items (hold_after [])) }
+        ensures { IfOk result (λ held. AreHeld locks [] held.locks.items) }
     {
         let locks = filled(alloc, Hold::none(), locks)?;
         Ok(Held { locks })
@@ -49,8 +48,8 @@ impl Held {
 
     /// Takes one more operation of the thread in.
     pub fn take_in(&mut self, kind: Kind)
-        ensures { (before : List Kind) → Tabulates self.old.locks.items (hold_after before) →
-            Tabulates self.new.locks.items (hold_after (before ++ kind ∷ [])) }
+        ensures { (n : ℕ) (before : List Kind) → AreHeld n before self.old.locks.items →
+            AreHeld n (before ++ kind ∷ []) self.new.locks.items }
     {
         for lock in 0..self.locks.len() {
             self.locks[lock] = self.locks[lock].after(lock, kind);
@@ -59,7 +58,7 @@ impl Held {
 
     /// Whether two threads cannot hold their locks so at one time.
     pub fn excludes(&self, other: &Held) -> bool
-        ensures { result ≡ true → SomeExcluded self.now.locks.items other.now.locks.items }
+        ensures { result ≡ some_excluded self.now.locks.items other.now.locks.items }
     {
         for lock in 0..self.locks.len() {
             if lock < other.locks.len() && self.locks[lock].excludes(other.locks[lock]) {
@@ -71,7 +70,7 @@ impl Held {
 
     /// Whether both have the same locks alike.
     pub fn is_same(&self, other: &Held) -> bool
-        ensures { result ≡ true → self.now.locks.items ≡ other.now.locks.items }
+        ensures { IsTrue result ↔ (self.now.locks.items ≡ other.now.locks.items) }
     {
         are_same(&self.locks, &other.locks)
     }

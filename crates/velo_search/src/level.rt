@@ -1,5 +1,5 @@
 //! The states of one level of a search.
-ghost use Rattle.std.specs.Prelude.{◌≡◌, ◌⊎◌, ◌+◌, ◌≤◌, true, false, [], length, Contains, IfOk, OnOk};
+ghost use Rattle.std.specs.Prelude.{◌≡◌, ◌⊎◌, ◌↔◌, ◌+◌, ◌≤◌, false, [], length, Contains, IsTrue, IfOk, OnOk};
 ghost use Rattle.std.specs.List.{ReversedBelow};
 ghost use Rattle.velo_search.specs.declared.state.State.{State};
 
@@ -19,7 +19,7 @@ pub struct Level {
 }
 
 impl Level {
-    ghost use Rattle.velo_search.specs.Search.{StandsAmong};
+    ghost use Rattle.velo_search.specs.Search.{IsAt, StandsAmong};
 
     /// No state.
     pub fn new(alloc: Global) -> Level
@@ -76,7 +76,7 @@ impl Level {
 
     /// Whether the state stands at the place.
     fn has_at(&self, place: usize, state: &State) -> bool
-        ensures { result ≡ true → StandsAmong self.now.states.items state.now }
+        ensures { IsTrue result ↔ IsAt self.now.states.items place state.now }
     {
         place < self.states.len() && self.states[place].is_same(state)
     }

@@ -41,5 +41,5 @@ pub use schedules::{MAX_ALARMS, Schedules};
 pub use scripts::Scripts;
 pub use searched::Searched;
 pub use searching::search;
-pub use seen::Seen;
+pub use seen::ThreadsSeen;
 pub use state::State;

@@ -1,7 +1,8 @@
 //! Lists of notes: those that access one variable, one lock or one thread are in one.
-ghost use Rattle.std.specs.Prelude.{◌≡◌, ◌≢◌, true, Contains, OnOk};
+ghost use Rattle.std.specs.Prelude.{◌≡◌, ◌⊎◌, ◌↔◌, Contains, IsTrue, OnOk};
+ghost use Rattle.std.specs.List.{list_all};
 ghost use Rattle.velo_search.specs.declared.note.Note.{Note};
-ghost use Rattle.velo_search.specs.Notes.{list_of, DoesNotHinder, IsAmong};
+ghost use Rattle.velo_search.specs.Notes.{list_of, is_harmless, IsAmong, IsNoteOf};
 
 use crate::held::Held;
 use crate::note::Note;
@@ -26,18 +27,24 @@ pub fn list_of(kind: Kind) -> usize
 
 /// Whether they are the same.
 fn is_same_kind(one: Kind, other: Kind) -> bool
-    ensures { result ≡ true → one ≡ other }
+    ensures { IsTrue result ↔ (one ≡ other) }
 {
     one == other
 }
 
+/// Whether it is the note of the operation.
+fn is_note_of(note: &Note, thread: usize, kind: Kind, held: &Held) -> bool
+    ensures { IsTrue result ↔ IsNoteOf thread kind held.now.locks.items note.now }
+{
+    note.thread == thread && is_same_kind(note.kind, kind) && note.held.is_same(held)
+}
+
 /// Whether the operation is noted in the list.
 fn is_among(list: &[Note], thread: usize, kind: Kind, held: &Held) -> bool
-    ensures { result ≡ true → IsAmong list.now thread kind held.now.locks.items }
+    ensures { IsTrue result ↔ IsAmong list.now thread kind held.now.locks.items }
 {
     for place in 0..list.len() {
-        let note = &list[place];
-        if note.thread == thread && is_same_kind(note.kind, kind) && note.held.is_same(held) {
+        if is_note_of(&list[place], thread, kind, held) {
             return true;
         }
     }
@@ -57,6 +64,8 @@ pub fn put(
 ) -> Result<(), Memory>
     ensures before { OnOk result ((note : Note) → Contains list.old.items note → Contains list.new.items note) }
     ensures there { OnOk result (IsAmong list.new.items thread kind held.now.locks.items) }
+    ensures only { OnOk result ((note : Note) → Contains list.new.items note →
+        (Contains list.old.items note ⊎ IsNoteOf thread kind held.now.locks.items note)) }
 {
     if is_among(list, thread, kind, held) {
         return Ok(());
@@ -69,14 +78,14 @@ pub fn put(
 
 /// Whether a note is of the same thread, or does not hinder the operation.
 fn is_harmless(note: &Note, thread: usize, kind: Kind, held: &Held) -> bool
-    ensures { result ≡ true → note.now.thread ≢ thread → DoesNotHinder held.now.locks.items kind note.now }
+    ensures { result ≡ is_harmless held.now.locks.items thread kind note.now }
 {
     note.thread == thread || !note.hinders(kind, held)
 }
 
 /// Whether no operation of another thread in the list hinders this one.
 pub fn is_clear(list: &[Note], thread: usize, kind: Kind, held: &Held) -> bool
-    ensures { result ≡ true → (note : Note) → Contains list.now note → note.thread ≢ thread → DoesNotHinder held.now.locks.items kind note }
+    ensures { result ≡ list_all (is_harmless held.now.locks.items thread kind) list.now }
 {
     for place in 0..list.len() {
         if !is_harmless(&list[place], thread, kind, held) {

@@ -1,5 +1,5 @@
 //! Which threads' unfinished transactions reach which groups of events.
-ghost use Rattle.std.specs.Prelude.{◌≡◌, ◌<◌, ◌≤◌, ◌==◌, ◌&&◌, ◌||◌, [], ◌∷◌, ◌++◌, ℕ, true, false, List, length, replicate, slice_index_or, IsTrue, IfOk};
+ghost use Rattle.std.specs.Prelude.{◌≡◌, ◌↔◌, ◌<◌, ◌≤◌, ◌==◌, ◌&&◌, ◌||◌, [], ◌∷◌, ◌++◌, ℕ, true, false, List, length, replicate, slice_index_or, IsTrue, IfOk};
 ghost use Rattle.std.specs.List.{list_any};
 ghost use Rattle.velo_events.specs.declared.event.Event.{Event};
 ghost use Rattle.velo_events.specs.Event.{thread_of};
@@ -33,13 +33,13 @@ pub struct Marks {
 
 /// Whether the marks are the same.
 fn are_same(one: &[Mark], other: &[Mark]) -> bool
-    ensures { result ≡ true → one.now ≡ other.now }
+    ensures { IsTrue result ↔ (one.now ≡ other.now) }
 {
     one == other
 }
 
 impl Marks {
-    ghost use Rattle.velo_search.specs.Kept.{summary_of};
+    ghost use Rattle.velo_search.specs.Kept.{summary_of, AreSame};
 
     /// Where the cell stands among the variables and locks.
     fn cell(&self, cell: Cell) -> usize
@@ -196,7 +196,7 @@ impl Marks {
 
     /// Whether the marks are the same.
     pub fn is_same(&self, other: &Marks) -> bool
-        ensures { result ≡ true → summary_of self.now ≡ summary_of other.now }
+        ensures { IsTrue result ↔ AreSame self.now other.now }
     {
         self.bounds == other.bounds
             && self.alarmed == other.alarmed

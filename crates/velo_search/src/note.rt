@@ -1,5 +1,5 @@
 //! An operation that may hinder those of other threads.
-ghost use Rattle.std.specs.Prelude.{◌≡◌, false};
+ghost use Rattle.std.specs.Prelude.{◌≡◌};
 
 use crate::held::Held;
 use crate::rivals::{are_rivals, are_twins};
@@ -14,12 +14,12 @@ pub struct Note {
 }
 
 impl Note {
-    ghost use Rattle.velo_search.specs.Notes.{DoesNotHinder};
+    ghost use Rattle.velo_search.specs.Notes.{note_hinders};
 
     /// Whether it hinders an operation of another thread that has the locks so: it is a rival and no lock keeps the threads
     /// apart, or it is a twin.
     pub fn hinders(&self, kind: Kind, held: &Held) -> bool
-        ensures { result ≡ false → DoesNotHinder held.now.locks.items kind self.now }
+        ensures { result ≡ note_hinders held.now.locks.items kind self.now }
     {
         if are_twins(kind, self.kind) {
             return true;

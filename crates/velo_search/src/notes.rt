@@ -1,5 +1,5 @@
 //! The operations of all threads that may hinder others.
-ghost use Rattle.std.specs.Prelude.{◌≡◌, ◌≢◌, ◌<◌, ℕ, false, true, length, take, map, slice_get, Some, Contains, IfOk, OnOk};
+ghost use Rattle.std.specs.Prelude.{◌≡◌, ◌⊎◌, [], ℕ, false, length, take, map, slice_get, Some, Contains, IfOk, OnOk};
 ghost use Rattle.velo_events.specs.declared.event.Kind.{Kind};
 ghost use Rattle.velo_movers.specs.Free.{is_private};
 ghost use Rattle.velo_search.specs.declared.listing.TheConstants.{LISTS};
@@ -23,10 +23,12 @@ pub struct Notes {
 }
 
 impl Notes {
-    ghost use Rattle.velo_search.specs.Notes.{list_at, list_of, AreNoted, IsAmong, IsClear, IsNoted};
+    ghost use Rattle.velo_search.specs.Notes.{is_clear, list_at, list_of, AreNoted, IsAmong, IsNoted, IsNoteOf, IsOfScript};
 
     /// No operation.
-    fn new(alloc: Global) -> Result<Notes, Memory> {
+    fn new(alloc: Global) -> Result<Notes, Memory>
+        ensures { IfOk result (λ notes. (n : ℕ) → list_at notes n ≡ []) }
+    {
         let mut lists = Vec::new(alloc);
         for _list in 0..LISTS {
             reserve(&mut lists, 1)?;
@@ -39,6 +41,8 @@ impl Notes {
     fn note(&mut self, alloc: Global, thread: usize, kind: Kind, held: &Held) -> Result<(), Memory>
         ensures before { OnOk result ((n : ℕ) (note : Note) → Contains (list_at self.old n) note → Contains (list_at self.new n) note) }
         ensures there { OnOk result (is_private kind ≡ false → IsAmong (list_at self.new (list_of kind)) thread kind held.now.locks.items) }
+        ensures only { OnOk result ((n : ℕ) (note : Note) → Contains (list_at self.new n) note →
+            (Contains (list_at self.old n) note ⊎ IsNoteOf thread kind held.now.locks.items note)) }
     {
         if is_private(kind) {
             return Ok(());
@@ -57,7 +61,9 @@ impl Notes {
     ) -> Result<(), Memory>
         ensures before { OnOk result ((n : ℕ) (note : Note) → Contains (list_at self.old n) note → Contains (list_at self.new n) note) }
         ensures there { OnOk result ((i : ℕ) (k : Kind) → slice_get script.now i ≡ Some k → is_private k ≡ false →
-            IsNoted (list_at self.new (list_of k)) thread (take i script.now) k) }
+            IsNoted (list_at self.new (list_of k)) locks thread (take i script.now) k) }
+        ensures only { OnOk result ((n : ℕ) (note : Note) → Contains (list_at self.new n) note →
+            (Contains (list_at self.old n) note ⊎ IsOfScript locks thread script.now note)) }
     {
         let mut held = Held::none(alloc, locks)?;
         for place in 0..script.len() {
@@ -73,7 +79,7 @@ impl Notes {
     /// # Errors
     /// `Memory` where a growth was refused.
     pub fn of_scripts(alloc: Global, scripts: &[Vec<Kind>], locks: usize) -> Result<Notes, Memory>
-        ensures { IfOk result (λ notes. AreNoted notes (map (λ v. v.items) scripts.now)) }
+        ensures { IfOk result (λ notes. AreNoted notes (map (λ v. v.items) scripts.now) locks) }
     {
         let mut notes = Notes::new(alloc)?;
         for thread in 0..scripts.len() {
@@ -84,7 +90,7 @@ impl Notes {
 
     /// Whether no operation of another thread hinders this one.
     pub fn are_clear(&self, thread: usize, kind: Kind, held: &Held) -> bool
-        ensures { result ≡ true → IsClear self.now thread held.now.locks.items kind }
+        ensures { result ≡ is_clear self.now held.now.locks.items thread kind }
     {
         is_private(kind) || is_clear(&self.lists[list_of(kind)], thread, kind, held)
     }

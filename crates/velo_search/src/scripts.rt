@@ -1,6 +1,6 @@
 //! The operations of each thread, in their order.
-ghost use Rattle.std.specs.Prelude.{◌≡◌, true, map, slice_get, Some, IfOk};
-ghost use Rattle.velo_events.specs.declared.event.Kind.{Kind};
+ghost use Rattle.std.specs.Prelude.{◌≡◌, false, map, slice_get, IfOk};
+ghost use Rattle.std.specs.Option.{option_map_or};
 
 use crate::free::{free_ones, is_marked};
 use std::alloc::Global;
@@ -11,24 +11,26 @@ use velo_events::{Kind, Memory, ThreadId};
 #[derive(Drop)]
 pub struct Scripts {
     threads: Vec<Vec<Kind>>,
+    /// As guards of free operations so many locks are looked at.
+    locks: usize,
     /// Of each operation whether it is free.
     free: Vec<Vec<bool>>,
 }
 
 impl Model for Scripts {
-    ghost use Rattle.std.specs.Prelude.{List, map};
-    ghost use Rattle.velo_events.specs.declared.event.Kind.{Kind};
-    ghost use Rattle.velo_search.specs.Free.{AreFree};
+    ghost use Rattle.std.specs.Prelude.{map};
+    ghost use Rattle.velo_search.specs.Free.{AreFree, Guarded};
 
-    ghost Value = { List (List Kind) };
+    ghost Value = { Guarded };
 
-    ghost view = { λ s. map (λ v. v.items) s.threads.items };
+    ghost view = { λ s. record { kinds = map (λ v. v.items) s.threads.items; locks = s.locks } };
 
-    ghost invariant = { λ s. AreFree (map (λ v. v.items) s.threads.items) (map (λ v. v.items) s.free.items) };
+    ghost invariant = { λ s. AreFree s.locks (map (λ v. v.items) s.threads.items)
+        (map (λ v. v.items) s.free.items) };
 }
 
 impl Scripts {
-    ghost use Rattle.velo_search.specs.Free.{IsFreeAt};
+    ghost use Rattle.velo_search.specs.Free.{is_free_at};
     ghost use Rattle.velo_search.specs.Runs.{script_of};
 
     /// These operations of each thread. As guards of free operations so many locks are looked at.
@@ -36,15 +38,21 @@ impl Scripts {
     /// # Errors
     /// `Memory` where a growth was refused.
     pub fn new(alloc: Global, threads: Vec<Vec<Kind>>, locks: u16) -> Result<Scripts, Memory>
-        ensures { IfOk result (λ scripts. scripts ≡ map (λ v. v.items) threads.items) }
+        ensures kinds { IfOk result (λ scripts. scripts.kinds ≡ map (λ v. v.items) threads.items) }
+        ensures locks { IfOk result (λ scripts. scripts.locks ≡ locks) }
     {
-        let free = free_ones(alloc, &threads, usize::from(locks))?;
-        Ok(Scripts { threads, free })
+        let locks = usize::from(locks);
+        let free = free_ones(alloc, &threads, locks)?;
+        Ok(Scripts {
+            threads,
+            locks,
+            free,
+        })
     }
 
     /// An operation of a thread, if it has so many.
     pub fn kind(&self, thread: ThreadId, index: u32) -> Option<Kind>
-        ensures { result ≡ slice_get (script_of self.now thread.0) index }
+        ensures { result ≡ slice_get (script_of self.now.kinds thread.0) index }
     {
         let script = self.threads.get(usize::from(thread.0))?;
         script.get(index as usize).copied()
@@ -53,7 +61,8 @@ impl Scripts {
     /// Whether an operation of a thread is free at any time: no other thread ever hinders it, or
     /// comes into conflict with it before it is done.
     pub fn is_free(&self, thread: ThreadId, index: u32) -> bool
-        ensures { result ≡ true → (k : Kind) → slice_get (script_of self.now thread.0) index ≡ Some k → IsFreeAt self.now thread.0 index k }
+        ensures { result ≡ option_map_or (is_free_at self.now.locks self.now.kinds thread.0 index)
+            (slice_get (script_of self.now.kinds thread.0) index) false }
     {
         is_marked(&self.free, usize::from(thread.0), index as usize)
     }

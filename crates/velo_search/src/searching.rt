@@ -1,5 +1,5 @@
 //! A search of all states that the runs of some scripts can be in.
-ghost use Rattle.std.specs.Prelude.{◌≡◌, ◌+◌, ◌*◌, ◌<◌, ◌≤◌, ◌^◌, List, ℕ, true, false, [], ◌⊎◌, All, Contains, take, slice_get, length, is_some, IfOk, IfSome, IsTrue, OnOk};
+ghost use Rattle.std.specs.Prelude.{◌≡◌, ◌+◌, ◌*◌, ◌<◌, ◌≤◌, ◌^◌, ◌&&◌, ◌||◌, List, ℕ, true, false, [], ◌⊎◌, All, Contains, take, slice_get, length, is_some, IfOk, IfSome, IsTrue, OnOk};
 ghost use Rattle.velo_events.specs.declared.config.Bounds.{Bounds};
 ghost use Rattle.velo_events.specs.declared.event.Event.{Event};
 ghost use Rattle.velo_events.specs.declared.event.Kind.{Kind};
@@ -22,7 +22,7 @@ use crate::next::Next;
 use crate::progress::Progress;
 use crate::scripts::Scripts;
 use crate::searched::Searched;
-use crate::seen::Seen;
+use crate::seen::ThreadsSeen;
 use crate::settling::{advance, settle};
 use crate::state::State;
 use crate::trail::{Trail, is_new};
@@ -38,10 +38,10 @@ fn is_wait(refusal: Refusal) -> bool
 
 /// How a thread stands with its next operation.
 pub(crate) fn next_of(scripts: &Scripts, state: &State, thread: ThreadId) -> Next
-    requires plain { ArePlain scripts.now }
+    requires plain { ArePlain scripts.now.kinds }
     requires thread { thread.0 < (bounds_of state.now.heap).threads }
-    ensures { (log : List Event) → IsRunOf (bounds_of state.now.heap) scripts.now log → IsStateOf log state.now →
-        NextIs (bounds_of state.now.heap) scripts.now log thread.0 result }
+    ensures { (log : List Event) → IsRunOf (bounds_of state.now.heap) scripts.now.kinds log → IsStateOf log state.now →
+        NextIs (bounds_of state.now.heap) scripts.now.kinds log thread.0 result }
 {
     let Some(kind) = scripts.kind(thread, state.done_by(thread)) else {
         return Next::Idle;
@@ -67,18 +67,18 @@ fn follow(
     event: &Event,
     trail: &mut Trail,
 ) -> Result<State, Memory>
-    requires plain { ArePlain scripts.now }
-    requires short { AreShort scripts.now }
-    requires reached { IsReachedBy (bounds_of state.now.heap) scripts.now trail.old.steps.items
+    requires plain { ArePlain scripts.now.kinds }
+    requires short { AreShort scripts.now.kinds }
+    requires reached { IsReachedBy (bounds_of state.now.heap) scripts.now.kinds trail.old.steps.items
         state.now }
-    requires next { (log : List Event) → IsRunOf (bounds_of state.now.heap) scripts.now log → IsStateOf log state.now → IsNext (bounds_of state.now.heap) scripts.now log event.now }
+    requires next { (log : List Event) → IsRunOf (bounds_of state.now.heap) scripts.now.kinds log → IsStateOf log state.now → IsNext (bounds_of state.now.heap) scripts.now.kinds log event.now }
     ensures reached { IfOk result
-        (IsReachedBy (bounds_of state.now.heap) scripts.now trail.new.steps.items) }
+        (IsReachedBy (bounds_of state.now.heap) scripts.now.kinds trail.new.steps.items) }
     ensures goes_on { OnOk result (GoesOn trail.old trail.new) }
     ensures alarms { OnOk result (alarms_of trail.new.shown ≡ alarms_of trail.old.shown) }
     ensures leads { IfOk result (λ s. (n : ℕ) (fault : Fault) →
-        IsClean (bounds_of state.now.heap) scripts.now n fault s →
-        IsCleanBy (bounds_of state.now.heap) scripts.now n fault state.now (thread_of event.now)) }
+        IsClean (bounds_of state.now.heap) scripts.now.kinds n fault s →
+        IsCleanBy (bounds_of state.now.heap) scripts.now.kinds n fault state.now (thread_of event.now)) }
 {
     let mut after = state.copy(alloc)?;
     advance(&mut after, event, trail)?;
@@ -135,29 +135,29 @@ fn look(
     scripts: &Scripts,
     state: &State,
     thread: ThreadId,
-    seen: &mut Seen,
+    seen: &mut ThreadsSeen,
     next: &mut Level,
     trail: &mut Trail,
 ) -> Result<(), Memory>
-    requires plain { ArePlain scripts.now }
-    requires short { AreShort scripts.now }
+    requires plain { ArePlain scripts.now.kinds }
+    requires short { AreShort scripts.now.kinds }
     requires thread { thread.0 < (bounds_of state.now.heap).threads }
-    requires reached { IsReachedBy (bounds_of state.now.heap) scripts.now trail.old.steps.items
+    requires reached { IsReachedBy (bounds_of state.now.heap) scripts.now.kinds trail.old.steps.items
         state.now }
     ensures goes_on { OnOk result (GoesOn trail.old trail.new) }
     ensures alarms { OnOk result
-        (AlarmsGoOn (bounds_of state.now.heap) scripts.now trail.old trail.new) }
+        (AlarmsGoOn (bounds_of state.now.heap) scripts.now.kinds trail.old trail.new) }
     ensures noted { OnOk result (IsNoted trail.old state.now →
         All (IsNoted trail.old) next.old.states.items →
         All (IsNoted trail.new) next.new.states.items) }
     ensures reached { OnOk result (All
-        (IsReachedBy (bounds_of state.now.heap) scripts.now trail.old.steps.items)
+        (IsReachedBy (bounds_of state.now.heap) scripts.now.kinds trail.old.steps.items)
         next.old.states.items →
-        All (IsReachedBy (bounds_of state.now.heap) scripts.now trail.new.steps.items)
+        All (IsReachedBy (bounds_of state.now.heap) scripts.now.kinds trail.new.steps.items)
         next.new.states.items) }
     ensures tried { OnOk result ((start : List State) →
-        IsTried (bounds_of state.now.heap) scripts.now state.now start next.old.states.items seen.old thread.0 →
-        IsTried (bounds_of state.now.heap) scripts.now state.now start next.new.states.items seen.new (thread.0 + 1)) }
+        IsTried (bounds_of state.now.heap) scripts.now.kinds state.now start next.old.states.items seen.old thread.0 →
+        IsTried (bounds_of state.now.heap) scripts.now.kinds state.now start next.new.states.items seen.new (thread.0 + 1)) }
     ensures count { OnOk result (length next.new.states.items ≤ length next.old.states.items + 1) }
 {
     match next_of(scripts, state, thread) {
@@ -191,35 +191,35 @@ fn put_next(
     next: &mut Level,
     trail: &mut Trail,
 ) -> Result<Found, Memory>
-    requires plain { ArePlain scripts.now }
-    requires short { AreShort scripts.now }
-    requires state { IsReachedBy bounds scripts.now trail.old.steps.items state.now }
+    requires plain { ArePlain scripts.now.kinds }
+    requires short { AreShort scripts.now.kinds }
+    requires state { IsReachedBy bounds scripts.now.kinds trail.old.steps.items state.now }
     requires others { All
-        (IsReachedBy bounds scripts.now trail.old.steps.items) next.old.states.items }
+        (IsReachedBy bounds scripts.now.kinds trail.old.steps.items) next.old.states.items }
     requires noted { IsNoted trail.old state.now }
     requires noted_others { All (IsNoted trail.old) next.old.states.items }
-    requires found { IsTrueOf bounds scripts.now found }
-    ensures found { IfOk result (IsTrueOf bounds scripts.now) }
+    requires found { IsTrueOf bounds scripts.now.kinds found }
+    ensures found { IfOk result (IsTrueOf bounds scripts.now.kinds) }
     ensures more { IfOk result (λ after. (fault : Fault) → has_fault after fault ≡ false → has_fault found fault ≡ false) }
     ensures others { OnOk result (All
-        (IsReachedBy bounds scripts.now trail.new.steps.items) next.new.states.items) }
+        (IsReachedBy bounds scripts.now.kinds trail.new.steps.items) next.new.states.items) }
     ensures goes_on { OnOk result (GoesOn trail.old trail.new) }
-    ensures alarms { OnOk result (AlarmsGoOn bounds scripts.now trail.old trail.new) }
+    ensures alarms { OnOk result (AlarmsGoOn bounds scripts.now.kinds trail.old trail.new) }
     ensures noted { OnOk result (All (IsNoted trail.new) next.new.states.items) }
     ensures alarm { IfOk result (λ after. trail.old.first ≡ false → found.alarm ≡ false →
         after.alarm ≡ true → 0 < length (alarms_of trail.new.shown)) }
     ensures shows { IfOk result (λ after. (fault : Fault) → has_fault found fault ≡ false →
         has_fault after fault ≡ true →
-        (log : List Event) → IsRunOf bounds scripts.now log → IsStateOf log state.now →
-        IsFault bounds scripts.now fault log) }
+        (log : List Event) → IsRunOf bounds scripts.now.kinds log → IsStateOf log state.now →
+        IsFault bounds scripts.now.kinds fault log) }
     ensures leads { IfOk result (λ after. (n : ℕ) (fault : Fault) → has_fault after fault ≡ false →
-        All (IsClean bounds scripts.now n fault) next.new.states.items →
-        (All (IsClean bounds scripts.now n fault) next.old.states.items
-        × IsClean bounds scripts.now (n + 1) fault state.now)) }
+        All (IsClean bounds scripts.now.kinds n fault) next.new.states.items →
+        (All (IsClean bounds scripts.now.kinds n fault) next.old.states.items
+        × IsClean bounds scripts.now.kinds (n + 1) fault state.now)) }
     ensures count { OnOk result (length next.new.states.items ≤ length next.old.states.items +
         bounds.threads) }
 {
-    let mut seen = Seen {
+    let mut seen = ThreadsSeen {
         acts: false,
         waits: false,
         refused: false,
@@ -239,8 +239,9 @@ fn put_next(
 }
 
 /// Looks at the states of a level: what they show, and the states after their next events. Each is
-/// dropped then. With `first` it ends at a state that shows something.
-fn next_level(
+/// dropped then. With `first` it ends at a state that shows something. Before each state `progress` is
+/// asked whether the search is over.
+fn next_level<P: Progress>(
     alloc: Global,
     bounds: Bounds,
     scripts: &Scripts,
@@ -249,42 +250,62 @@ fn next_level(
     first: bool,
     next: &mut Level,
     trail: &mut Trail,
+    progress: &mut P,
 ) -> Result<Looked, Memory>
-    requires plain { ArePlain scripts.now }
-    requires short { AreShort scripts.now }
+    requires plain { ArePlain scripts.now.kinds }
+    requires short { AreShort scripts.now.kinds }
     requires level { All
-        (IsReachedBy bounds scripts.now trail.old.steps.items) level.old.states.items }
+        (IsReachedBy bounds scripts.now.kinds trail.old.steps.items) level.old.states.items }
     requires noted { All (IsNoted trail.old) level.old.states.items }
-    requires found { IsTrueOf bounds scripts.now before }
-    requires shown { AreShown bounds scripts.now first before trail.old }
+    requires found { IsTrueOf bounds scripts.now.kinds before }
+    requires shown { AreShown bounds scripts.now.kinds first before trail.old }
     requires empty { next.old.states.items ≡ [] }
-    ensures found { IfOk result (λ x. IsTrueOf bounds scripts.now x.found) }
+    ensures found { IfOk result (λ x. IsTrueOf bounds scripts.now.kinds x.found) }
     ensures more { IfOk result (λ x. (fault : Fault) → has_fault x.found fault ≡ false → has_fault before fault ≡ false) }
     ensures others { OnOk result (All
-        (IsReachedBy bounds scripts.now trail.new.steps.items) next.new.states.items) }
+        (IsReachedBy bounds scripts.now.kinds trail.new.steps.items) next.new.states.items) }
     ensures noted { OnOk result (All (IsNoted trail.new) next.new.states.items) }
-    ensures shown { IfOk result (λ x. AreShown bounds scripts.now first x.found trail.new) }
-    ensures leads { IfOk result (λ x. has_ended first x.found ≡ false → (n : ℕ) (fault : Fault) →
+    ensures shown { IfOk result (λ x. AreShown bounds scripts.now.kinds first x.found trail.new) }
+    ensures leads { IfOk result (λ x. (x.over || has_ended first x.found) ≡ false → (n : ℕ) (fault : Fault) →
         has_fault x.found fault ≡ false →
-        All (IsClean bounds scripts.now n fault) next.new.states.items →
-        All (IsClean bounds scripts.now (n + 1) fault) level.old.states.items) }
+        All (IsClean bounds scripts.now.kinds n fault) next.new.states.items →
+        All (IsClean bounds scripts.now.kinds (n + 1) fault) level.old.states.items) }
     ensures most { IfOk result (λ x. x.states ≤ length level.old.states.items) }
-    ensures all { IfOk result (λ x. has_ended first x.found ≡ false → x.states ≡ length level.old.states.items) }
+    ensures all { IfOk result (λ x. (x.over || has_ended first x.found) ≡ false →
+        x.states ≡ length level.old.states.items) }
     ensures count { IfOk result (λ x. length next.new.states.items ≤ x.states * bounds.threads) }
+    ensures may { OnOk result (P.may_end progress.new ≡ P.may_end progress.old) }
+    ensures over { IfOk result (λ x. x.over ≡ true →
+        (P.may_end progress.old && P.says_over progress.new) ≡ true) }
 {
     level.turn_round(alloc);
     let mut found = before;
     let mut states = 0;
     while let Some(state) = level.states.pop() {
+        if progress.is_over() {
+            return Ok(Looked {
+                found,
+                states,
+                over: true,
+            });
+        }
         let after = put_next(alloc, bounds, scripts, &state, found, next, trail)?;
         trail.note(alloc, state.place(), found, after)?;
         found = after;
         states += 1;
         if found.has_ended(first) {
-            return Ok(Looked { found, states });
+            return Ok(Looked {
+                found,
+                states,
+                over: false,
+            });
         }
     }
-    Ok(Looked { found, states })
+    Ok(Looked {
+        found,
+        states,
+        over: false,
+    })
 }
 
 /// The state of no event, and of the free ones that come first.
@@ -294,18 +315,18 @@ fn first_level(
     scripts: &Scripts,
     trail: &mut Trail,
 ) -> Result<Level, Memory>
-    requires plain { ArePlain scripts.now }
-    requires short { AreShort scripts.now }
+    requires plain { ArePlain scripts.now.kinds }
+    requires short { AreShort scripts.now.kinds }
     ensures some { IfOk result (λ level. 0 < length level.states.items) }
     ensures one { IfOk result (λ level. length level.states.items ≤ 1) }
     ensures reached { IfOk result (λ level. All
-        (IsReachedBy config.now.bounds scripts.now trail.new.steps.items) level.states.items) }
+        (IsReachedBy config.now.bounds scripts.now.kinds trail.new.steps.items) level.states.items) }
     ensures leads { IfOk result (λ level. (n : ℕ) (fault : Fault) → All
-        (IsClean config.now.bounds scripts.now n fault) level.states.items →
-        NeverWithin n (IsFault config.now.bounds scripts.now fault) config.now.bounds scripts.now []) }
+        (IsClean config.now.bounds scripts.now.kinds n fault) level.states.items →
+        NeverWithin n (IsFault config.now.bounds scripts.now.kinds fault) config.now.bounds scripts.now.kinds []) }
     ensures goes_on { OnOk result (GoesOn trail.old trail.new) }
     ensures alarms { OnOk result
-        (AlarmsGoOn config.now.bounds scripts.now trail.old trail.new) }
+        (AlarmsGoOn config.now.bounds scripts.now.kinds trail.old trail.new) }
     ensures noted { IfOk result (λ level. All (IsNoted trail.new) level.states.items) }
 {
     let mut start = State::new(alloc, config)?;
@@ -319,7 +340,8 @@ fn first_level(
 /// Tries the runs of the scripts, event by event, free ones at once, as long as no more than so
 /// many states are to be looked at, and with `first` until something is found. What was found is
 /// there in any case; what was not found is not there, where everything was tried. `progress` is
-/// called after each level. The turns of a run are handed out for each fault that was found; with
+/// called after each level, and asked before each state: once it says that the search is over, no
+/// more states are looked at. The turns of a run are handed out for each fault that was found; with
 /// `first` for the foremost alone.
 ///
 /// # Errors
@@ -332,21 +354,22 @@ pub fn search<P: Progress>(
     first: bool,
     progress: &mut P,
 ) -> Result<Searched, Memory>
-    requires plain { ArePlain scripts.now }
-    requires short { AreShort scripts.now }
-    ensures found { IfOk result (λ x. IsTrueOf config.now.bounds scripts.now x.found) }
+    requires plain { ArePlain scripts.now.kinds }
+    requires short { AreShort scripts.now.kinds }
+    ensures found { IfOk result (λ x. IsTrueOf config.now.bounds scripts.now.kinds x.found) }
     ensures whole { IfOk result (λ x. x.whole ≡ true → (fault : Fault) → has_fault x.found fault ≡ false →
-        Never (IsFault config.now.bounds scripts.now fault) config.now.bounds scripts.now []) }
+        Never (IsFault config.now.bounds scripts.now.kinds fault) config.now.bounds scripts.now.kinds []) }
     ensures first { IfOk result (λ x. first ≡ true → x.whole ≡ true → (fault : Fault) → has_fault x.found fault ≡ false) }
     ensures states { IfOk result (λ x. x.states ≤ most_states) }
     ensures cut { IfOk result (λ x. x.whole ≡ false →
-        IsCutShort config.now.bounds scripts.now most_states first x.found x.states) }
+        IsCutShort config.now.bounds scripts.now.kinds most_states first
+        (P.may_end progress.old && P.says_over progress.new) x.found x.states) }
     ensures shown { IfOk result (λ x. (fault : Fault) → IfSome (turns_for x.schedules fault)
-        (LeadsTo config.now.bounds scripts.now fault)) }
+        (LeadsTo config.now.bounds scripts.now.kinds fault)) }
     ensures each { IfOk result (λ x. (fault : Fault) → has_fault (shown_of first x.found) fault ≡
         true → IsTrue (is_some (turns_for x.schedules fault))) }
     ensures alarms { IfOk result
-        (λ x. LeadToCycles config.now.bounds scripts.now first x.schedules) }
+        (λ x. LeadToCycles config.now.bounds scripts.now.kinds first x.schedules) }
 {
     let bounds = config.bounds;
     let mut found = Found::none();
@@ -357,14 +380,14 @@ pub fn search<P: Progress>(
     while level.states.len() as u64 <= most_states - states {
         let mut next = Level::new(alloc);
         let looked = next_level(
-            alloc, bounds, scripts, &mut level, found, first, &mut next, &mut trail,
+            alloc, bounds, scripts, &mut level, found, first, &mut next, &mut trail, progress,
         )?;
         found = looked.found;
         states += looked.states as u64;
         levels += 1;
         progress.level_done(levels, states);
         level = next;
-        if found.has_ended(first) {
+        if looked.has_ended(first) {
             return Ok(trail.into_searched(found, states, false));
         }
         if level.states.is_empty() {

@@ -42,13 +42,13 @@ fn settle_once(
     thread: ThreadId,
     trail: &mut Trail,
 ) -> Result<bool, Memory>
-    requires plain { ArePlain scripts.now }
-    requires short { AreShort scripts.now }
+    requires plain { ArePlain scripts.now.kinds }
+    requires short { AreShort scripts.now.kinds }
     requires thread { thread.0 < (bounds_of state.old.heap).threads }
-    requires reached { IsReachedBy (bounds_of state.old.heap) scripts.now trail.old.steps.items
+    requires reached { IsReachedBy (bounds_of state.old.heap) scripts.now.kinds trail.old.steps.items
         state.old }
     ensures { OnOk result
-        (SettlesBy (bounds_of state.old.heap) scripts.now trail.old state.old trail.new state.new) }
+        (SettlesBy (bounds_of state.old.heap) scripts.now.kinds trail.old state.old trail.new state.new) }
 {
     if !scripts.is_free(thread, state.done_by(thread)) {
         return Ok(false);
@@ -67,13 +67,13 @@ fn settle_thread(
     thread: ThreadId,
     trail: &mut Trail,
 ) -> Result<bool, Memory>
-    requires plain { ArePlain scripts.now }
-    requires short { AreShort scripts.now }
+    requires plain { ArePlain scripts.now.kinds }
+    requires short { AreShort scripts.now.kinds }
     requires thread { thread.0 < (bounds_of state.old.heap).threads }
-    requires reached { IsReachedBy (bounds_of state.old.heap) scripts.now trail.old.steps.items
+    requires reached { IsReachedBy (bounds_of state.old.heap) scripts.now.kinds trail.old.steps.items
         state.old }
     ensures { OnOk result
-        (SettlesBy (bounds_of state.old.heap) scripts.now trail.old state.old trail.new state.new) }
+        (SettlesBy (bounds_of state.old.heap) scripts.now.kinds trail.old state.old trail.new state.new) }
 {
     for step in 0..u32::MAX {
         if !settle_once(scripts, state, thread, trail)? {
@@ -85,12 +85,12 @@ fn settle_thread(
 
 /// Does the free operations of one thread after another, as long as one comes next there. Whether there was one.
 fn settle_all(scripts: &Scripts, state: &mut State, trail: &mut Trail) -> Result<bool, Memory>
-    requires plain { ArePlain scripts.now }
-    requires short { AreShort scripts.now }
-    requires reached { IsReachedBy (bounds_of state.old.heap) scripts.now trail.old.steps.items
+    requires plain { ArePlain scripts.now.kinds }
+    requires short { AreShort scripts.now.kinds }
+    requires reached { IsReachedBy (bounds_of state.old.heap) scripts.now.kinds trail.old.steps.items
         state.old }
     ensures { OnOk result
-        (SettlesBy (bounds_of state.old.heap) scripts.now trail.old state.old trail.new state.new) }
+        (SettlesBy (bounds_of state.old.heap) scripts.now.kinds trail.old state.old trail.new state.new) }
 {
     let mut any = false;
     for thread in 0..state.threads() {
@@ -104,12 +104,12 @@ fn settle_all(scripts: &Scripts, state: &mut State, trail: &mut Trail) -> Result
 /// Does free operations, as long as one comes next: those of one thread may let another go on, so it begins again while there
 /// was one.
 pub(crate) fn settle(scripts: &Scripts, state: &mut State, trail: &mut Trail) -> Result<(), Memory>
-    requires plain { ArePlain scripts.now }
-    requires short { AreShort scripts.now }
-    requires reached { IsReachedBy (bounds_of state.old.heap) scripts.now trail.old.steps.items
+    requires plain { ArePlain scripts.now.kinds }
+    requires short { AreShort scripts.now.kinds }
+    requires reached { IsReachedBy (bounds_of state.old.heap) scripts.now.kinds trail.old.steps.items
         state.old }
     ensures { OnOk result
-        (SettlesBy (bounds_of state.old.heap) scripts.now trail.old state.old trail.new state.new) }
+        (SettlesBy (bounds_of state.old.heap) scripts.now.kinds trail.old state.old trail.new state.new) }
 {
     for _round in 0..u32::MAX {
         if !settle_all(scripts, state, trail)? {

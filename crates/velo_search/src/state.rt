@@ -1,5 +1,5 @@
 //! A state of a search: all of a log that its continuations depend on.
-ghost use Rattle.std.specs.Prelude.{◌≡◌, ◌+◌, ◌^◌, ◌<◌, ◌↔◌, true, [], ◌∷◌, ◌++◌, List, length, slice_index_or, IsTrue, IfOk};
+ghost use Rattle.std.specs.Prelude.{◌≡◌, ◌+◌, ◌^◌, ◌<◌, ◌↔◌, [], ◌∷◌, ◌++◌, List, length, slice_index_or, IsTrue, IfOk};
 ghost use Rattle.velo_events.specs.declared.event.Event.{Event};
 ghost use Rattle.velo_events.specs.Event.{thread_of};
 ghost use Rattle.velo_events.specs.Graph.{HasCycle};
@@ -31,13 +31,13 @@ pub struct State {
 
 /// Whether the numbers are the same.
 fn are_same(one: &[u32], other: &[u32]) -> bool
-    ensures { result ≡ true → one.now ≡ other.now }
+    ensures { IsTrue result ↔ (one.now ≡ other.now) }
 {
     one == other
 }
 
 impl State {
-    ghost use Rattle.velo_search.specs.States.{IsStateOf};
+    ghost use Rattle.velo_search.specs.States.{AreSameStates, IsStateOf};
 
     /// The state of the log without events.
     ///
@@ -82,7 +82,7 @@ impl State {
 
     /// Whether the states are the same, wherever they come from.
     pub fn is_same(&self, other: &State) -> bool
-        ensures { result ≡ true → (log : List Event) → IsStateOf log other.now → IsStateOf log self.now }
+        ensures { IsTrue result ↔ AreSameStates self.now other.now }
     {
         are_same(&self.next, &other.next)
             && self.heap.is_same(&other.heap)

@@ -1,13 +1,13 @@
 -- Labels that are gathered, each once.
 use Rattle.std.proofs.Common.{◌≡◌, ℕ, ◌+◌, ◌<◌, Bool, true, false, cond, List, [], ◌∷◌, ◌++◌, length, drop, drop-cons, get_or, map, refl, suc, sym, ap, ◌∙◌, append_assoc, arith}
-use Rattle.std.specs.Prelude.{◌||◌, fold}
+use Rattle.std.specs.Prelude.{◌||◌, ◌==◌, fold}
 use Rattle.std.specs.List.{flat_map}
 use Rattle.std.proofs.lemmas.List.{map-append}
 use Rattle.std.proofs.lemmas.List.Sums.{fold-append}
 use Rattle.velo_events.specs.declared.event.Label.{Label}
 use Rattle.velo_names.specs.Names.{NameLists}
-use Rattle.velo_filter.specs.Left.{Left, is_listed, nothing, with_labels}
-use Rattle.velo_filter.proofs.OnTables.{is_listed-append, is_listed-nil}
+use Rattle.velo_filter.specs.Left.{is_listed, nothing, with_number as with_member}
+use Rattle.velo_filter.proofs.OnTables.{is_listed-append, is_listed-nil, is_listed-one}
 use Rattle.velo_suppressions.specs.declared.line.Entry.{Entry as Found}
 use Rattle.velo_suppressions.specs.Answers.{AreSeen, entries, entry, numbers}
 use Rattle.velo_suppressions.specs.Known.{labels_known, labels_meant, with_number}
@@ -15,24 +15,25 @@ use Rattle.velo_suppressions.specs.Line.{Entry}
 
 -- ---- one number
 
-pub none_seen_of : (seen : Left) (labels : List Label) → seen ≡ nothing → labels ≡ [] → AreSeen seen (numbers labels)
-none_seen_of seen labels is none = record { each = λ n. ap (λ (l : Left). l.labels n) is ∙ (sym (is_listed-nil n) ∙ ap (λ (ls : List Label). is_listed (numbers ls) n) (sym none)) }
+pub none_seen_of : (seen : ℕ → Bool) (labels : List Label) → seen ≡ nothing.labels → labels ≡ [] → AreSeen seen (numbers labels)
+none_seen_of seen labels is none = record { each = λ n. ap (λ (f : ℕ → Bool). f n) is ∙ (sym (is_listed-nil n) ∙ ap (λ (ls : List Label). is_listed (numbers ls) n) (sym none)) }
 
-pub is_there : (seen : Left) (labels : List ℕ) (n : ℕ) → AreSeen seen labels → seen.labels n ≡ true → labels ≡ with_number labels n
+pub is_there : (seen : ℕ → Bool) (labels : List ℕ) (n : ℕ) → AreSeen seen labels → seen n ≡ true → labels ≡ with_number labels n
 is_there seen labels n all there = sym (ap (λ (b : Bool). cond b labels (labels ++ n ∷ [])) (sym (all.each n) ∙ there))
 
-pub is_new : (seen : Left) (labels : List ℕ) (n : ℕ) → AreSeen seen labels → seen.labels n ≡ false → labels ++ n ∷ [] ≡ with_number labels n
+pub is_new : (seen : ℕ → Bool) (labels : List ℕ) (n : ℕ) → AreSeen seen labels → seen n ≡ false → labels ++ n ∷ [] ≡ with_number labels n
 is_new seen labels n all new = sym (ap (λ (b : Bool). cond b labels (labels ++ n ∷ [])) (sym (all.each n) ∙ new))
 
 pub one_more : (before after : List Label) (l : Label) → after ≡ before ++ l ∷ [] → numbers after ≡ numbers before ++ l.0 ∷ []
 one_more before after l is = ap numbers is ∙ map-append (λ (l : Label). l.0) before (l ∷ [])
 
-pub more_seen : (seen seen' : Left) (labels labels' : List ℕ) (n : ℕ) → AreSeen seen labels → seen' ≡ with_labels seen (n ∷ []) → labels' ≡ labels ++ n ∷ [] → AreSeen seen' labels'
+pub more_seen : (seen seen' : ℕ → Bool) (labels labels' : List ℕ) (n : ℕ) → AreSeen seen labels → seen' ≡ with_member seen n → labels' ≡ labels ++ n ∷ [] → AreSeen seen' labels'
 more_seen seen seen' labels labels' n all left is = record {
   each = λ k.
-      ap (λ (l : Left). l.labels k) left
-      ∙ (ap (λ (b : Bool). b || is_listed (n ∷ []) k) (all.each k)
-      ∙ (sym (is_listed-append labels (n ∷ []) k) ∙ ap (λ (xs : List ℕ). is_listed xs k) (sym is)));
+      ap (λ (f : ℕ → Bool). f k) left
+      ∙ (ap (λ (b : Bool). b || (k == n)) (all.each k)
+      ∙ (ap (λ (b : Bool). is_listed labels k || b) (sym (is_listed-one n k))
+      ∙ (sym (is_listed-append labels (n ∷ []) k) ∙ ap (λ (xs : List ℕ). is_listed xs k) (sym is))));
 }
 
 -- ---- numbers one after another

@@ -3,7 +3,7 @@
 use Rattle.std.specs.Prelude.{◌≡◌, ℕ, Bool, List, map, Result, Ok, Err}
 use Rattle.velo_events.specs.Refusals.{GrowthRefused}
 use Rattle.velo_events.specs.declared.event.Label.{Label}
-use Rattle.velo_filter.specs.Left.{Left, is_listed}
+use Rattle.velo_filter.specs.Left.{is_listed}
 use Rattle.velo_suppressions.specs.declared.fault.ListFault.{ListFault}
 use Rattle.velo_suppressions.specs.declared.fault.ListFault.TheVariants.{BadLine, TooManyLines, TooManyBytes, NotText, Memory}
 use Rattle.velo_suppressions.specs.declared.line.Entry.{Entry as Found}
@@ -33,6 +33,6 @@ AnswersAs meaning after (Err TooManyBytes) = ⊥
 AnswersAs meaning after (Err NotText) = ⊥
 AnswersAs meaning after (Err fault) = meaning ≡ Err fault
 
--- the labels of the list are those that are left out
-pub record AreSeen (seen : Left) (labels : List ℕ) : Type 0 where
-  pub each : (n : ℕ) → seen.labels n ≡ is_listed labels n
+-- the labels of the list are those that pass the test
+pub record AreSeen (seen : ℕ → Bool) (labels : List ℕ) : Type 0 where
+  pub each : (n : ℕ) → seen n ≡ is_listed labels n

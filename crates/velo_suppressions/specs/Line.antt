@@ -32,6 +32,10 @@ is_counted before behind line =
     option_map_or (λ n. bytes_eq n.1 behind)
     (after_word before line >>= number_at (2 ^ 64 - 1)) false
 
+-- that an audit left out all locks
+abbrev pub is_of_all_locks : List ℕ → Bool
+is_of_all_locks line = bytes_eq line (codes "left out all locks")
+
 -- "atomic 3 labels", "rounds 2"
 abbrev pub is_audit_count : List ℕ → Bool
 is_audit_count line =
@@ -84,4 +88,6 @@ told_entry line =
 
 -- what the line says, if it is an entry
 abbrev pub entry_of : List ℕ → Option Entry
-entry_of line = if is_silent line || is_count line then Some Nothing else told_entry line
+entry_of line =
+    if (is_silent line || is_of_all_locks line) || is_count line then Some Nothing
+    else told_entry line

@@ -10,4 +10,4 @@ mod meaning;
 pub use fault::ListFault;
 pub use line::Entry;
 pub use list::parse_list;
-pub use meaning::known_labels;
+pub use meaning::{add_labels, known_labels};

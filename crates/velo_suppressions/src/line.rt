@@ -1,7 +1,7 @@
 //! What a line of a list of known labels says.
 ghost use Rattle.std.specs.Prelude.{◌≡◌, option_map};
 ghost use Rattle.velo_suppressions.specs.Answers.{entry};
-ghost use Rattle.velo_suppressions.specs.Line.{bare_entry, entry_of, is_audit_count, is_count, is_counted, is_predict_count, is_silent, named_at, other_at, told_at, told_entry};
+ghost use Rattle.velo_suppressions.specs.Line.{bare_entry, entry_of, is_audit_count, is_count, is_counted, is_of_all_locks, is_predict_count, is_silent, named_at, other_at, told_at, told_entry};
 
 use velo_bytes::{after, number};
 use velo_names::{NameKind, is_name, is_number, number_of_kind};
@@ -27,6 +27,13 @@ fn is_silent(line: &[u8]) -> bool
         None => true,
         Some(first) => *first == b'#' || *first == b' ',
     }
+}
+
+/// Whether a line says that an audit left out all locks.
+fn is_of_all_locks(line: &[u8]) -> bool
+    ensures { result ≡ is_of_all_locks line.now }
+{
+    line == b"left out all locks".as_slice()
 }
 
 /// Whether a line is a number between these words.
@@ -136,7 +143,7 @@ fn told_entry(line: &[u8]) -> Option<Entry<'_>>
 pub fn entry_of(line: &[u8]) -> Option<Entry<'_>>
     ensures { option_map entry result ≡ entry_of line.now }
 {
-    if is_silent(line) || is_count(line) {
+    if is_silent(line) || is_of_all_locks(line) || is_count(line) {
         return Some(Entry::Nothing);
     }
     told_entry(line)

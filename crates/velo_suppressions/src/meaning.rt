@@ -1,6 +1,6 @@
 //! The labels that a list means.
 ghost use Rattle.std.specs.Prelude.{◌≡◌, ◌∷◌, [], IfOk, OnOk, fold};
-ghost use Rattle.velo_filter.specs.Tables.{left_of};
+ghost use Rattle.velo_filter.specs.Tables.{members};
 ghost use Rattle.velo_suppressions.specs.Answers.{AreSeen, entries, entry, numbers};
 ghost use Rattle.velo_suppressions.specs.Known.{labels_by, labels_known, labels_meant, labels_told, with_number};
 
@@ -8,7 +8,7 @@ use crate::line::Entry;
 use std::alloc::Global;
 use velo_events::growth::{reserve, with_capacity};
 use velo_events::{Label, Memory};
-use velo_filter::LeftOut;
+use velo_filter::LabelSet;
 use velo_names::{NameKind, Names};
 
 /// A single number.
@@ -57,32 +57,55 @@ fn labels_meant(alloc: Global, names: &Names, found: Entry) -> Result<Vec<u32>, 
 }
 
 /// Adds a label, unless it is there.
-fn add_once(labels: &mut Vec<Label>, seen: &mut LeftOut, number: u32) -> Result<(), Memory>
-    requires seen { AreSeen (left_of seen.old) (numbers labels.old.items) }
+fn add_once(labels: &mut Vec<Label>, seen: &mut LabelSet, number: u32) -> Result<(), Memory>
+    requires seen { AreSeen (members seen.old) (numbers labels.old.items) }
     ensures ok { OnOk result (numbers labels.new.items ≡ with_number (numbers labels.old.items) number) }
-    ensures seen { OnOk result (AreSeen (left_of seen.new) (numbers labels.new.items)) }
+    ensures seen { OnOk result (AreSeen (members seen.new) (numbers labels.new.items)) }
 {
     let label = Label(number);
-    if seen.has_label(label) {
+    if seen.contains(label) {
         return Ok(());
     }
     reserve(labels, 1)?;
-    seen.leave_out_label(label)?;
+    seen.insert(label)?;
     labels.push_reserved(label);
     Ok(())
 }
 
 /// Adds the labels of these numbers, each once.
-fn add_all(labels: &mut Vec<Label>, seen: &mut LeftOut, found: &[u32]) -> Result<(), Memory>
-    requires seen { AreSeen (left_of seen.old) (numbers labels.old.items) }
+fn add_all(labels: &mut Vec<Label>, seen: &mut LabelSet, found: &[u32]) -> Result<(), Memory>
+    requires seen { AreSeen (members seen.old) (numbers labels.old.items) }
     ensures ok { OnOk result (numbers labels.new.items
         ≡ fold with_number (numbers labels.old.items) found.now) }
-    ensures seen { OnOk result (AreSeen (left_of seen.new) (numbers labels.new.items)) }
+    ensures seen { OnOk result (AreSeen (members seen.new) (numbers labels.new.items)) }
 {
     for number in found {
         add_once(labels, seen, *number)?;
     }
     Ok(())
+}
+
+/// The labels, as those that were seen.
+fn seen_of(alloc: Global, labels: &[Label]) -> Result<LabelSet, Memory>
+    ensures { IfOk result (λ seen. AreSeen (members seen) (numbers labels.now)) }
+{
+    let mut seen = LabelSet::new(alloc);
+    for label in labels {
+        seen.insert(*label)?;
+    }
+    Ok(seen)
+}
+
+/// Adds the labels of these numbers, each unless it is there.
+///
+/// # Errors
+/// `Memory` if an allocation failed.
+pub fn add_labels(alloc: Global, labels: &mut Vec<Label>, found: &[u32]) -> Result<(), Memory>
+    ensures { OnOk result (numbers labels.new.items
+        ≡ fold with_number (numbers labels.old.items) found.now) }
+{
+    let mut seen = seen_of(alloc, labels)?;
+    add_all(labels, &mut seen, found)
 }
 
 /// The labels that the entries mean by these names, each once.
@@ -94,7 +117,7 @@ pub fn known_labels(alloc: Global, names: &Names, found: &[Entry]) -> Result<Vec
         ≡ labels_known names.now (entries found.now)) }
 {
     let mut labels = Vec::new(alloc);
-    let mut seen = LeftOut::new(alloc);
+    let mut seen = LabelSet::new(alloc);
     for entry in found {
         let meant = labels_meant(alloc, names, *entry)?;
         add_all(&mut labels, &mut seen, &meant)?;

@@ -18,7 +18,7 @@ use Rattle.velo_events.proofs.OnOwners.{is_open_at-within}
 use Rattle.velo_events.proofs.OnUnfinished.{Contains-open_blocks}
 use Rattle.velo_blame.specs.Blamed.{thread_at}
 use Rattle.velo_blame.specs.Known.{IsEndOf}
-use Rattle.velo_tally.specs.declared.marks.Marks.{Marks}
+use Rattle.velo_tally.specs.declared.marks.BlameMarks.{BlameMarks}
 use Rattle.velo_tally.specs.Blame.{IsToBlameAt, IsOpenAfter}
 use Rattle.velo_tally.specs.Reach.{IsBroken}
 use Rattle.velo_tally.specs.Open.{AreOpen, IsAmong, IsListedAt}
@@ -203,7 +203,7 @@ module _ (log : List Event) (t p : ℕ) (e : Event) (here : slice_get log p ≡ 
   passed-cases : (q : ℕ) → IsPassed log t (p + 1) q → IsPassed log t p q ⊎ (q ≡ p)
   passed-cases q w = ⊎_elim (λ l. inl (inl l)) (λ h. ⊎_elim (λ l. inl (inr (h.0, l))) (λ g. inr (omega (arith, g, h.1))) (cases_lt q p)) w
 
-  pub AreMarksSoFar-own : (old new : Marks) → length new.blamed.items ≡ length old.blamed.items → length new.around.items ≡ length old.around.items
+  pub AreMarksSoFar-own : (old new : BlameMarks) → length new.blamed.items ≡ length old.blamed.items → length new.around.items ≡ length old.around.items
       → ((b : ℕ) → IsTrue (mark_at new.blamed.items b) ↔ (IsTrue (mark_at old.blamed.items b) ⊎ IsBelow these bound b))
       → ((b : ℕ) → IsTrue (mark_at new.around.items b) ↔ (IsTrue (mark_at old.around.items b) ⊎ IsBeforeOneBelow these bound b))
       → AreMarksSoFar log t p old → AreMarksSoFar log t (p + 1) new
@@ -240,7 +240,7 @@ AreOpen-next log t at e old new own here follows w =
 
 -- ---- where nothing is marked: the same positions of threads were passed
 
-AreMarksSoFar-same : (log : List Event) (t n u m : ℕ) (marks : Marks) → ((q b : ℕ) → IsToBlameAt log q b → IsPassed log t n q ↔ IsPassed log u m q) → AreMarksSoFar log t n marks → AreMarksSoFar log u m marks
+AreMarksSoFar-same : (log : List Event) (t n u m : ℕ) (marks : BlameMarks) → ((q b : ℕ) → IsToBlameAt log q b → IsPassed log t n q ↔ IsPassed log u m q) → AreMarksSoFar log t n marks → AreMarksSoFar log u m marks
 AreMarksSoFar-same log t n u m marks same w = record {
   as_many = w.as_many;
   as_many_around = w.as_many_around;
@@ -255,7 +255,7 @@ AreMarksSoFar-same log t n u m marks same w = record {
 }
 
 -- an event of another thread
-pub AreMarksSoFar-other : (log : List Event) (t p : ℕ) (e : Event) (marks : Marks) → slice_get log p ≡ Some e → thread_of e ≢ t → AreMarksSoFar log t p marks → AreMarksSoFar log t (p + 1) marks
+pub AreMarksSoFar-other : (log : List Event) (t p : ℕ) (e : Event) (marks : BlameMarks) → slice_get log p ≡ Some e → thread_of e ≢ t → AreMarksSoFar log t p marks → AreMarksSoFar log t (p + 1) marks
 AreMarksSoFar-other log t p e marks here other = AreMarksSoFar-same log t p t (p + 1) marks (λ q b w. (
   (λ h. ⊎_elim (λ l. inl l) (λ k. inr (k.0, omega (arith, k.1))) h),
   (λ h. ⊎_elim (λ l. inl l) (λ k. ⊎_elim (λ l. inr (k.0, l))
@@ -264,7 +264,7 @@ AreMarksSoFar-other log t p e marks here other = AreMarksSoFar-same log t p t (p
 ))
 
 -- the next thread
-pub AreMarksSoFar-thread : (log : List Event) (t n : ℕ) (marks : Marks) → n ≡ length log → AreMarksSoFar log t n marks → AreMarksSoFar log (t + 1) 0 marks
+pub AreMarksSoFar-thread : (log : List Event) (t n : ℕ) (marks : BlameMarks) → n ≡ length log → AreMarksSoFar log t n marks → AreMarksSoFar log (t + 1) 0 marks
 AreMarksSoFar-thread log t n marks all = AreMarksSoFar-same log t n (t + 1) 0 marks (λ q b w. (
   (λ h. ⊎_elim (λ l. inl (omega (arith, l))) (λ k. inl (omega (arith, k.0))) h),
   (λ h. ⊎_elim (λ l. ⊎_elim (λ low. inl low) (λ g. let last : thread_at log q ≡ t = omega (arith, l, g) in inr (last, omega (arith, w.within, all))) (cases_lt (thread_at log q) t)) (λ k. absurd (omega (arith, k.1))) h),
@@ -274,7 +274,7 @@ AreMarksSoFar-thread log t n marks all = AreMarksSoFar-same log t n (t + 1) 0 ma
 mark-none : (n b : ℕ) → IsFalse (mark_at (replicate n false) b)
 mark-none n b = ⊎_elim (λ l. get_or-replicate n b false false l) (λ g. get_or_past (replicate n false) b false (let long : length (replicate n false) ≡ n = length-replicate n false in omega (arith, long, g))) (cases_lt b n)
 
-pub AreMarksSoFar-start : (log : List Event) (marks : Marks) → marks.blamed.items ≡ replicate (length log) false → marks.around.items ≡ replicate (length log) false → AreMarksSoFar log 0 0 marks
+pub AreMarksSoFar-start : (log : List Event) (marks : BlameMarks) → marks.blamed.items ≡ replicate (length log) false → marks.around.items ≡ replicate (length log) false → AreMarksSoFar log 0 0 marks
 AreMarksSoFar-start log marks blank blank_around = record {
   as_many = ap length blank ∙ length-replicate (length log) false;
   as_many_around = ap length blank_around ∙ length-replicate (length log) false;
@@ -289,7 +289,7 @@ AreMarksSoFar-start log marks blank blank_around = record {
 }
 
 -- where all threads are passed, all is marked
-pub AreMarks-end : (bounds : Bounds) (log : List Event) (t : ℕ) (marks : Marks) → bounds.threads ≤ t → IsWellFormed bounds log → AreMarksSoFar log t 0 marks → AreMarks log marks
+pub AreMarks-end : (bounds : Bounds) (log : List Event) (t : ℕ) (marks : BlameMarks) → bounds.threads ≤ t → IsWellFormed bounds log → AreMarksSoFar log t 0 marks → AreMarks log marks
 AreMarks-end bounds log t marks all well w = record {
   as_many = w.as_many;
   as_many_around = w.as_many_around;

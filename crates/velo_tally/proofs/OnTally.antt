@@ -9,8 +9,8 @@ use Rattle.velo_events.specs.declared.event.Event.{Event}
 use Rattle.velo_events.specs.Block.{positions}
 use Rattle.velo_events.proofs.OnOwners.{passes_at-within}
 use Rattle.velo_events.proofs.OnPositions.{Contains-filter, Contains-positions, positions-increase}
-use Rattle.velo_tally.specs.declared.marks.Marks.{Marks}
-use Rattle.velo_tally.specs.declared.tally.Tally.{Tally}
+use Rattle.velo_tally.specs.declared.marks.BlameMarks.{BlameMarks}
+use Rattle.velo_tally.specs.declared.tally.LabelTally.{LabelTally}
 use Rattle.velo_tally.specs.Marks.{AreMarks, mark_at}
 use Rattle.velo_tally.specs.Tally.{IsCountOf, IsTally, begins_label, is_block_of, IsBlamedBlockOf, IsInnermostBlockOf, count_below}
 
@@ -86,13 +86,13 @@ both-are a b x y is also = ap (λ k. k && b) is ∙ ap (λ k. x && k) also
 
 -- ---- the three tests
 
-abbrev pub is_blamed_of : List Event → Marks → ℕ → ℕ → Bool
+abbrev pub is_blamed_of : List Event → BlameMarks → ℕ → ℕ → Bool
 is_blamed_of log marks l b = is_block_of log l b && mark_at marks.blamed.items b
 
-abbrev pub is_innermost_of : List Event → Marks → ℕ → ℕ → Bool
+abbrev pub is_innermost_of : List Event → BlameMarks → ℕ → ℕ → Bool
 is_innermost_of log marks l b = is_block_of log l b && (mark_at marks.blamed.items b && not (mark_at marks.around.items b))
 
-pub IsTally-counted : (log : List Event) (marks : Marks) (l n : ℕ) (tally : Tally) → AreMarks log marks → n ≡ length log
+pub IsTally-counted : (log : List Event) (marks : BlameMarks) (l n : ℕ) (tally : LabelTally) → AreMarks log marks → n ≡ length log
     → tally.blocks ≡ count_below n (is_block_of log l) → tally.blamed ≡ count_below n (is_blamed_of log marks l) → tally.innermost ≡ count_below n (is_innermost_of log marks l) → IsTally log l tally
 IsTally-counted log marks l n tally are all blocks blamed innermost = record {
   blocks = IsCountOf-test log (is_block_of log l) (λ b. IsTrue (is_block_of log l b)) n tally.blocks all blocks within (λ b. ((λ h. h), (λ h. h)));

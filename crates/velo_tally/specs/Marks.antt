@@ -6,13 +6,13 @@ use Rattle.velo_tally.specs.Blame.{IsToBlameAt, IsOpenAfter, IsToBlame, IsAround
 use Rattle.velo_conflicts.specs.Numbers.{Rows}
 use Rattle.velo_tally.specs.Reach.{ReachesUpTo}
 use Rattle.velo_tally.specs.Open.{AreOpen}
-use Rattle.velo_tally.specs.declared.marks.Marks.{Marks}
+use Rattle.velo_tally.specs.declared.marks.BlameMarks.{BlameMarks}
 
 abbrev pub mark_at : List Bool → ℕ → Bool
 mark_at marks b = slice_index_or marks b false
 
 -- each position of the log has its marks
-pub record AreMarks (log : List Event) (marks : Marks) : Type 0 where
+pub record AreMarks (log : List Event) (marks : BlameMarks) : Type 0 where
   pub as_many : length marks.blamed.items ≡ length log
   pub as_many_around : length marks.around.items ≡ length log
   pub blamed : (b : ℕ) → IsTrue (mark_at marks.blamed.items b) ↔ IsToBlame log b
@@ -38,7 +38,7 @@ pub record IsAroundSoFar (log : List Event) (t n b : ℕ) : Type 0 where
   pub there : IsToBlameAt log at inner
 
 -- the marks that were made at the positions so far
-pub record AreMarksSoFar (log : List Event) (t n : ℕ) (marks : Marks) : Type 0 where
+pub record AreMarksSoFar (log : List Event) (t n : ℕ) (marks : BlameMarks) : Type 0 where
   pub as_many : length marks.blamed.items ≡ length log
   pub as_many_around : length marks.around.items ≡ length log
   pub blamed : (b : ℕ) → IsTrue (mark_at marks.blamed.items b) ↔ IsToBlameSoFar log t n b
@@ -65,7 +65,7 @@ pub record CountsBelow (these : List ℕ) (bound count : ℕ) : Type 0 where
   pub others : (j : ℕ) → count ≤ j → j < length these → bound ≤ slice_index these j
 
 -- where a pass over the log for thread t stands before position n
-pub record StandsAt (log : List Event) (t n : ℕ) (marks : Marks) (known others : Rows) (bound : ℕ) (open_ones : List ℕ) : Type 0 where
+pub record StandsAt (log : List Event) (t n : ℕ) (marks : BlameMarks) (known others : Rows) (bound : ℕ) (open_ones : List ℕ) : Type 0 where
   pub reaches : ReachesUpTo log t n known others bound
   pub are_open : AreOpen log t n open_ones
   pub are_marks : AreMarksSoFar log t n marks

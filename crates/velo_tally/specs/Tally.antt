@@ -6,7 +6,7 @@ use Rattle.velo_events.specs.declared.event.Kind.{Kind}
 use Rattle.velo_events.specs.declared.event.Kind.TheVariants.{Begin}
 use Rattle.velo_events.specs.Block.{passes_at}
 use Rattle.velo_tally.specs.Blame.{IsToBlame, IsAround}
-use Rattle.velo_tally.specs.declared.tally.Tally.{Tally}
+use Rattle.velo_tally.specs.declared.tally.LabelTally.{LabelTally}
 
 -- n is how many numbers have the property
 pub record IsCountOf (P : ℕ → Type 0) (n : ℕ) : Type 0 where
@@ -31,7 +31,7 @@ abbrev pub IsInnermostBlockOf : List Event → ℕ → ℕ → Type 0
 IsInnermostBlockOf log l b = IsTrue (is_block_of log l b) × (IsToBlame log b × ¬ IsAround log b)
 
 -- the blocks of the label in the log, those of them that are to blame, and those of these that have none inside that is
-pub record IsTally (log : List Event) (l : ℕ) (tally : Tally) : Type 0 where
+pub record IsTally (log : List Event) (l : ℕ) (tally : LabelTally) : Type 0 where
   pub blocks : IsCountOf (λ b. IsTrue (is_block_of log l b)) tally.blocks
   pub blamed : IsCountOf (IsBlamedBlockOf log l) tally.blamed
   pub innermost : IsCountOf (IsInnermostBlockOf log l) tally.innermost

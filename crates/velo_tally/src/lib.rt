@@ -10,5 +10,5 @@ mod open;
 mod reach;
 mod tally;
 
-pub use marks::{Marks, marks_of};
-pub use tally::{Tally, tally_of};
+pub use marks::{BlameMarks, marks_of};
+pub use tally::{LabelTally, tally_of};

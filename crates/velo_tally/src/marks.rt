@@ -14,7 +14,7 @@ use velo_traces::Trace;
 
 /// For each position of a log, whether a block begins there that is to blame.
 #[derive(Debug, Drop)]
-pub struct Marks {
+pub struct BlameMarks {
     /// Whether one is to blame somewhere.
     pub blamed: Vec<bool>,
     /// Whether one is around another block that is to blame.
@@ -49,7 +49,7 @@ fn mark(marks: &mut Vec<bool>, these: &[usize])
 }
 
 /// Marks those of the open blocks that begin below the bound, and those around another of them.
-fn mark_open(marks: &mut Marks, blocks: &[usize], bound: usize)
+fn mark_open(marks: &mut BlameMarks, blocks: &[usize], bound: usize)
     requires within { (j : ℕ) → j < length blocks.now
         → slice_index blocks.now j < length marks.old.blamed.items }
     requires alike { length marks.old.around.items ≡ length marks.old.blamed.items }
@@ -77,7 +77,7 @@ struct Pass {
 
 /// Takes in the event at a position, and marks the blocks that are to blame there.
 fn step(
-    marks: &mut Marks,
+    marks: &mut BlameMarks,
     pass: &mut Pass,
     events: &[Event],
     at: usize,
@@ -105,7 +105,7 @@ fn step(
 
 /// Marks the blocks of one thread that are to blame, in one pass over the log.
 fn mark_thread(
-    marks: &mut Marks,
+    marks: &mut BlameMarks,
     pass: &mut Pass,
     events: &[Event],
     thread: ThreadId,
@@ -129,7 +129,7 @@ fn mark_thread(
 ///
 /// # Errors
 /// `Memory` if an allocation failed.
-pub fn marks_of(alloc: Global, bounds: Bounds, log: &Trace) -> Result<Marks, Memory>
+pub fn marks_of(alloc: Global, bounds: Bounds, log: &Trace) -> Result<BlameMarks, Memory>
     requires { IsWellFormed bounds log.now.events }
     ensures { IfOk result (AreMarks log.now.events) }
 {
@@ -141,7 +141,7 @@ pub fn marks_of(alloc: Global, bounds: Bounds, log: &Trace) -> Result<Marks, Mem
     };
     let blamed = filled(alloc, false, events.len())?;
     let around = filled(alloc, false, events.len())?;
-    let mut marks = Marks { blamed, around };
+    let mut marks = BlameMarks { blamed, around };
     for thread in 0..bounds.threads {
         mark_thread(&mut marks, &mut pass, events, ThreadId(thread))?;
     }

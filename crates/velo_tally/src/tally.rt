@@ -3,13 +3,13 @@ ghost use Rattle.std.specs.Prelude.{◌≡◌, ◌+◌, ◌<◌, ◌^◌, ◌&&�
 ghost use Rattle.velo_tally.specs.Marks.{AreMarks};
 ghost use Rattle.velo_tally.specs.Tally.{IsTally, begins_label};
 
-use crate::marks::Marks;
+use crate::marks::BlameMarks;
 use velo_events::{Event, Kind, Label};
 use velo_traces::Trace;
 
 /// The blocks of a label in a log.
 #[derive(Clone, Copy, Debug, PartialEq, Eq)]
-pub struct Tally {
+pub struct LabelTally {
     /// How many there are.
     pub blocks: usize,
     /// How many of them are to blame.
@@ -30,7 +30,7 @@ fn begins(event: &Event, label: Label) -> bool
 
 /// With one position more: whether a block of the label begins there, whether one that is to blame
 /// does, and whether one around another that is does.
-fn counted(tally: Tally, block: bool, blamed: bool, around: bool) -> Tally
+fn counted(tally: LabelTally, block: bool, blamed: bool, around: bool) -> LabelTally
     requires blocks { tally.blocks + 1 < 2 ^ 64 }
     requires blamed { tally.blamed + 1 < 2 ^ 64 }
     requires innermost { tally.innermost + 1 < 2 ^ 64 }
@@ -53,12 +53,12 @@ fn counted(tally: Tally, block: bool, blamed: bool, around: bool) -> Tally
 }
 
 /// Counts the blocks of a label, by the marks of the log: one pass over it.
-pub fn tally_of(log: &Trace, marks: &Marks, label: Label) -> Tally
+pub fn tally_of(log: &Trace, marks: &BlameMarks, label: Label) -> LabelTally
     requires { AreMarks log.now.events marks.now }
     ensures { IsTally log.now.events label.0 result }
 {
     let events = log.as_slice();
-    let mut tally = Tally {
+    let mut tally = LabelTally {
         blocks: 0,
         blamed: 0,
         innermost: 0,

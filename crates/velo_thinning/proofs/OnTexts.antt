@@ -11,7 +11,7 @@ use Rattle.velo_delivery.specs.declared.failure.Failure.TheVariants.{PrintFailed
 use Rattle.velo_delivery.specs.Answers.{IsAnswered, PrintsText}
 use Rattle.velo_delivery.specs.Disk.{Store}
 use Rattle.velo_delivery.specs.Writing.{Writing, Writes, BreaksOff, Delivers}
-use Rattle.velo_thinning.specs.declared.delivering.Counts.{Counts}
+use Rattle.velo_thinning.specs.declared.delivering.CountsText.{CountsText}
 use Rattle.velo_thinning.specs.declared.delivering.Outgoing.{Outgoing}
 use Rattle.velo_thinning.specs.Texts.{is_text_of, is_counts_of, IsSent}
 
@@ -20,7 +20,7 @@ pub delivers : {X F : Type 0} (out : Writing) (text : List ℕ) (result : Result
 delivers out text (Ok x) went broke none failed = (went, none)
 delivers out text (Err f) went broke none failed = (broke, failed)
 
-abbrev answer_of : Bor (List (Save Outgoing)) → Bor (List ℕ) → Answer Outgoing Counts ⊤
+abbrev answer_of : Bor (List (Save Outgoing)) → Bor (List ℕ) → Answer Outgoing CountsText ⊤
 answer_of saves counts = record { saves = saves; printed = Some (record { bytes = counts }); end = tt }
 
 broken : (stdout : Writing) (counts : Bor (List ℕ)) (failure : Failure) → PrintsText {X = ⊤} is_counts_of stdout (Some (record { bytes = counts })) (Err failure) → (failure ≡ PrintFailed) × BreaksOff stdout counts.now

@@ -11,7 +11,7 @@ use Rattle.velo_delivery.specs.declared.failure.Operand.TheVariants as operand
 use Rattle.velo_delivery.specs.Answers.{AreAllSaved, IsOneUnsaved}
 use Rattle.velo_delivery.specs.Disk.{Store}
 use Rattle.velo_delivery.specs.Writing.{Writing, Writes, BreaksOff, WritesNothing}
-use Rattle.velo_thinning.specs.declared.delivering.Counts.{Counts}
+use Rattle.velo_thinning.specs.declared.delivering.CountsText.{CountsText}
 use Rattle.velo_thinning.specs.declared.delivering.Targets.{Targets}
 use Rattle.velo_thinning.specs.declared.delivering.Outgoing.{Outgoing}
 use Rattle.velo_thinning.specs.declared.delivering.Outgoing.TheVariants.{Log, Map}
@@ -41,7 +41,7 @@ abbrev pub is_text_of : Outgoing → List ℕ → Type 0
 is_text_of (Log thinned) text = text ≡ log_text thinned.now.config.bounds thinned.now.left.trace.events
 is_text_of (Map bytes) text = text ≡ bytes.now
 
-abbrev pub is_counts_of : Counts → List ℕ → Type 0
+abbrev pub is_counts_of : CountsText → List ℕ → Type 0
 is_counts_of counts text = text ≡ counts.bytes.now
 
 -- ---- what goes out

@@ -7,7 +7,7 @@ ghost use Rattle.velo_thinning.specs.Texts.{count_line, counts_text, map_text, I
 use crate::outcome::ThinnedLog;
 use std::alloc::Global;
 use velo_bytes::{Sink, WriteFault, append, append_number, write_all};
-use velo_delivery::{Answer, Failure, Files, Operand, Save, Text, deliver};
+use velo_delivery::{Answer, Failure, Files, Operand, Save, StreamedText, deliver};
 use velo_events::Memory;
 use velo_logtext::write_log;
 
@@ -29,7 +29,7 @@ pub enum Outgoing<'t, 'm> {
     Map(&'m [u8]),
 }
 
-impl<'t, 'm> Text for Outgoing<'t, 'm> {
+impl<'t, 'm> StreamedText for Outgoing<'t, 'm> {
     ghost is_text = { is_text_of };
 
     fn write_to<S: Sink>(&self, sink: &mut S) -> Result<(), WriteFault> {
@@ -42,12 +42,12 @@ impl<'t, 'm> Text for Outgoing<'t, 'm> {
 
 /// The text of the counts.
 #[derive(Drop)]
-pub struct Counts<'c> {
+pub struct CountsText<'c> {
     /// Its bytes.
     pub bytes: &'c [u8],
 }
 
-impl<'c> Text for Counts<'c> {
+impl<'c> StreamedText for CountsText<'c> {
     ghost is_text = { is_counts_of };
 
     fn write_to<S: Sink>(&self, sink: &mut S) -> Result<(), WriteFault> {
@@ -120,7 +120,7 @@ fn send<F: Files, O: Sink>(
 {
     let answer = Answer {
         saves,
-        printed: Some(Counts { bytes: counts }),
+        printed: Some(CountsText { bytes: counts }),
         end: (),
     };
     deliver(&answer, files, out)

@@ -10,7 +10,7 @@ mod reading;
 mod tests;
 mod thinning;
 
-pub use delivering::{Counts, Outgoing, Targets, deliver_thinned};
+pub use delivering::{CountsText, Outgoing, Targets, deliver_thinned};
 pub use judging::first_flaw;
 pub use outcome::ThinnedLog;
 pub use reading::{ThinFault, read_thinned, thinned_log};

@@ -1,6 +1,4 @@
 mod OnEnded
 mod OnEvents
-mod OnLines
-mod OnPages
+mod OnIgnoring
 mod OnSaying
-mod OnWords

@@ -17,8 +17,8 @@ use Rattle.velo_request.specs.declared.request.ScheduleSource.TheVariants as sou
 use Rattle.velo_schedule_text.specs.File.{IsScheduleIn}
 use Rattle.velo_schedule_text.specs.Schedule.{IsSchedule, SaysTurns}
 use Rattle.velo_schedule_text.specs.declared.limits.TheConstants.{MAX_SCHEDULE_BYTES}
-use Rattle.velo_words.specs.Lines.{of_file}
-use Rattle.velo_words.specs.Place.{whole_words}
+use Rattle.velo_fault_words.specs.Lines.{of_file}
+use Rattle.velo_fault_words.specs.Place.{whole_words}
 use Rattle.velo_worker.specs.Schedule.{Replays}
 use Rattle.velo_worker.specs.declared.ending.Ending.{Ending}
 use Rattle.velo_worker.specs.declared.ending.Ending.TheVariants as ending
@@ -64,8 +64,8 @@ refused_act refusal.GraphFull = codes "cannot go on: no node of the graph is fre
 refused_act r = codes "cannot go on"
 
 abbrev pub refused_help : Refusal → List ℕ
-refused_help refusal.LogFull = codes "help: raise the limit: see --events\n"
-refused_help refusal.GraphFull = codes "help: raise the limit: see --nodes\n"
+refused_help refusal.LogFull = codes "help: raise the limit with --events, up to 16777216\n"
+refused_help refusal.GraphFull = codes "help: raise the limit with --nodes, up to 4096\n"
 refused_help r = []
 
 -- "velodrome: w.work: thread main releases a lock that it does not hold"
@@ -145,3 +145,10 @@ SaysEnd disk (Run options) ended words = IsTrue options.why × SaysRun disk opti
 SaysEnd disk (Explore options) (ending.Refused t r) words =
     SaysRun disk options.input.now (ending.Refused t r) words
 SaysEnd disk request ended words = ⊥
+
+-- of a search that is undecided
+abbrev pub SaysOpen : Request → List ℕ → Type 0
+SaysOpen (Explore options) words =
+    words ≡ whole_words options.input.now (codes "not every schedule was tried, and nothing was found")
+    (codes "help: raise --states, --seconds or --events; or make runs by chance: see --random\n")
+SaysOpen request words = ⊥

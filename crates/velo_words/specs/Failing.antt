@@ -6,8 +6,8 @@ use Rattle.velo_fate.specs.declared.fate.Fate.TheVariants.{CannotOpen, Check, Re
 use Rattle.velo_fate.specs.declared.fault.CheckFault.TheVariants.{Log}
 use Rattle.velo_logtext.specs.declared.fault.LogFault.TheVariants.{Read}
 use Rattle.velo_request.specs.declared.request.Request.{Request}
-use Rattle.velo_words.specs.declared.failing.Reason.{Reason}
-use Rattle.velo_words.specs.declared.failing.Reason.TheVariants.{Denied, Full, IsDirectory, NotFound, Other}
+use Rattle.velo_words.specs.declared.failing.SystemReason.{SystemReason}
+use Rattle.velo_words.specs.declared.failing.SystemReason.TheVariants.{Denied, Full, IsDirectory, NotFound, Other}
 use Rattle.velo_words.specs.declared.roles.Role.{Role}
 use Rattle.velo_words.specs.Roles.{asks_for_words, path_of, word_of}
 
@@ -19,7 +19,7 @@ verb_of (Check (Log Read)) = Some (codes "read")
 verb_of WriteFailed = Some (codes "write")
 verb_of _ = None
 
-abbrev pub reason_of : Reason → List ℕ
+abbrev pub reason_of : SystemReason → List ℕ
 reason_of NotFound = codes "there is no such file"
 reason_of Denied = codes "permission is denied"
 reason_of IsDirectory = codes "it is a directory"
@@ -33,17 +33,17 @@ failure_text path verb word reason =
     ∷ codes ": " ∷ reason ∷ codes "\n" ∷ [])
 
 -- the files say that the file of this role failed, which is at this path, for this reason
-abbrev pub IsFailure : (List ℕ → Reason → Type 0) → Request → Role → List ℕ → Reason → Type 0
+abbrev pub IsFailure : (List ℕ → SystemReason → Type 0) → Request → Role → List ℕ → SystemReason → Type 0
 IsFailure failed request role path reason = (path_of role request ≡ Some path) × failed path reason
 
 -- what is said of a fate by the failure of a file of the request, where words are asked for
-pub record SaysFailure (failed : List ℕ → Reason → Type 0) (request : Request) (f : Fate)
+pub record SaysFailure (failed : List ℕ → SystemReason → Type 0) (request : Request) (f : Fate)
     (words : List ℕ) : Type 0 where
   pub asked : asks_for_words request ≡ true
   pub verb : List ℕ
   pub is_verb : verb_of f ≡ Some verb
   pub role : Role
   pub path : List ℕ
-  pub reason : Reason
+  pub reason : SystemReason
   pub is_failure : IsFailure failed request role path reason
   pub said : words ≡ failure_text path verb (word_of role) (reason_of reason)

@@ -21,12 +21,15 @@ names_of _ = None
 -- the path of the sites
 abbrev pub sites_of : Request → Option (List ℕ)
 sites_of (Explain options) = path_of options.sites
+sites_of (Audit options) = path_of options.sites
+sites_of (Predict options) = path_of options.sites
 sites_of _ = None
 
 -- the path of the list of known labels
 abbrev pub list_of : Request → Option (List ℕ)
-list_of (Audit options) = path_of options.known
-list_of (Predict options) = path_of options.known
+list_of (Explain options) = path_of options.ignored.known
+list_of (Audit options) = path_of options.ignored.known
+list_of (Predict options) = path_of options.ignored.known
 list_of _ = None
 
 -- where the schedule is whose fault is said in words

@@ -1,16 +1,8 @@
-pub mod Beside
 pub mod Ended
 pub mod Events
 pub mod Failing
-pub mod Faults
 pub mod Given
-pub mod Header
-pub mod Line
-pub mod Lines
-pub mod Log
-pub mod Place
+pub mod Ignoring
 pub mod Refused
 pub mod Roles
 pub mod Saying
-pub mod Schedule
-pub mod Work

@@ -12,7 +12,7 @@ use Rattle.velo_events.specs.declared.refusal.Refusal.TheVariants as refusal
 use Rattle.velo_explain.specs.Pieces.{event_text, joined, line_of}
 use Rattle.velo_words.specs.declared.events.Sought.TheVariants.{Acquire, Exit, Fork, Join, OnLock, Write}
 use Rattle.velo_words.specs.Events.{last_of}
-use Rattle.velo_words.specs.Lines.{of_line}
+use Rattle.velo_fault_words.specs.Lines.{of_line}
 
 -- "reads 5 from variable 0"
 unfoldable pub kind_words : Kind → List ℕ
@@ -137,8 +137,8 @@ refusal_help refusal.NoSuchVariable = codes "help: the header is `vlog 2 THREADS
 refusal_help refusal.NoSuchLock = codes "help: the header is `vlog 2 THREADS VARIABLES LOCKS`\n"
 refusal_help refusal.NoSuchThread = codes "help: the header is `vlog 2 THREADS VARIABLES LOCKS`\n"
 refusal_help refusal.AlreadyHeld = codes "help: write down the outermost acquire and release only\n"
-refusal_help refusal.LogFull = codes "help: raise the limit: see --events\n"
-refusal_help refusal.GraphFull = codes "help: raise the limit: see --nodes\n"
+refusal_help refusal.LogFull = codes "help: raise the limit with --events, up to 16777216\n"
+refusal_help refusal.GraphFull = codes "help: raise the limit with --nodes, up to 4096\n"
 refusal_help r = []
 
 -- ---- the words, by path, header, the events before and the event. Its line is shown

@@ -55,12 +55,15 @@ names_of (Predict options) = given options.names
 names_of _ = None
 
 abbrev pub known_of : Request → Option (List ℕ)
-known_of (Audit options) = given options.known
-known_of (Predict options) = given options.known
+known_of (Explain options) = given options.ignored.known
+known_of (Audit options) = given options.ignored.known
+known_of (Predict options) = given options.ignored.known
 known_of _ = None
 
 abbrev pub sites_of : Request → Option (List ℕ)
 sites_of (Explain options) = given options.sites
+sites_of (Audit options) = given options.sites
+sites_of (Predict options) = given options.sites
 sites_of _ = None
 
 abbrev pub log_path_of : Request → Option (List ℕ)

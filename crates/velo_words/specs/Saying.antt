@@ -1,5 +1,6 @@
 -- What a command says of its end, before its last line.
 use Rattle.std.specs.Prelude.{◌≡◌, ◌⊎◌, ℕ, List, ◌++◌, codes, Option, Some, None, IfSome, if◌then◌else◌}
+use Rattle.velo_claims.specs.declared.fault.ReportFault.TheVariants as report_fault
 use Rattle.velo_delivery.specs.Disk.{Disk}
 use Rattle.velo_delivery.specs.Writing.{Writing}
 use Rattle.velo_events.specs.declared.config.Bounds.{Bounds}
@@ -20,16 +21,18 @@ use Rattle.velo_schedule_text.specs.declared.schedule.ScheduleFault.TheVariants 
 use Rattle.velo_sites.specs.declared.fault.SitesFault.TheVariants as sites_fault
 use Rattle.velo_suppressions.specs.declared.fault.ListFault.TheVariants as list_fault
 use Rattle.velo_workload.specs.declared.fault.WorkFault.TheVariants as work_fault
-use Rattle.velo_words.specs.declared.failing.Reason.{Reason}
-use Rattle.velo_words.specs.Ended.{SaysEnd}
+use Rattle.velo_words.specs.declared.failing.SystemReason.{SystemReason}
+use Rattle.velo_words.specs.Ended.{SaysEnd, SaysOpen}
 use Rattle.velo_words.specs.Events.{HasEvent}
 use Rattle.velo_words.specs.Failing.{SaysFailure}
-use Rattle.velo_words.specs.Faults.{fault_words}
-use Rattle.velo_words.specs.Beside.{other_sites_words}
+use Rattle.velo_fault_words.specs.Faults.{fault_words}
+use Rattle.velo_fault_words.specs.Beside.{other_sites_words}
 use Rattle.velo_words.specs.Given.{list_of, names_of, schedule_of, sites_of}
-use Rattle.velo_words.specs.Schedule.{numbers_words, schedule_words, turns_words}
-use Rattle.velo_words.specs.declared.faults.FileFault.{FileFault}
-use Rattle.velo_words.specs.declared.faults.FileFault.TheVariants as file
+use Rattle.velo_words.specs.Ignoring.{SaysVain}
+use Rattle.velo_words.specs.Roles.{report_of}
+use Rattle.velo_fault_words.specs.Schedule.{numbers_words, schedule_words, turns_words}
+use Rattle.velo_fault_words.specs.declared.faults.FileFault.{FileFault}
+use Rattle.velo_fault_words.specs.declared.faults.FileFault.TheVariants as file
 use Rattle.velo_words.specs.Refused.{refused_words, wrong_value_words}
 
 -- the path of the log whose faults are said in words, if the request has one. A log that is watched
@@ -113,6 +116,11 @@ IsSaid disk request (fate.Sites fault) words =
     IfSome (sites_of request) (λ path. SaysFault disk path (file.Sites fault) words)
 IsSaid disk request fate.OtherSites words =
     IfSome (sites_of request) (λ path. words ≡ other_sites_words path)
+IsSaid disk request (fate.Report report_fault.Memory) words = ⊥
+IsSaid disk request (fate.Report fault) words =
+    IfSome (report_of request) (λ path. SaysFault disk path (file.Report fault) words)
+IsSaid disk request (fate.Ignored what) words = SaysVain disk request what words
+IsSaid disk request fate.Open words = SaysOpen request words
 IsSaid disk request (fate.List list_fault.Memory) words = ⊥
 IsSaid disk request (fate.List fault) words =
     IfSome (list_of request) (λ path. SaysFault disk path (file.List fault) words)
@@ -121,7 +129,7 @@ IsSaid disk request f words = ⊥
 -- The program ends by its fate: with its line and its status; or what is said of the fate, or of the
 -- file that failed, goes out before the line, and this is the status, or one of the two breaks off,
 -- and the status is 5.
-abbrev pub EndsInWords : Disk → (List ℕ → Reason → Type 0) → Request → Fate → Writing → ℕ → Type 0
+abbrev pub EndsInWords : Disk → (List ℕ → SystemReason → Type 0) → Request → Fate → Writing → ℕ → Type 0
 EndsInWords disk failed request f stderr result =
     Ends f stderr result
     ⊎ ((words : List ℕ) × (IsSaid disk request f words ⊎ SaysFailure failed request f words)

@@ -5,16 +5,15 @@ ghost use Rattle.std.specs.String.{string_bytes};
 ghost use Rattle.velo_deadlock.specs.Waits.{name_or_number, waits_text};
 ghost use Rattle.velo_request.specs.declared.request.ScheduleSource.TheVariants.{File as FileOf};
 ghost use Rattle.velo_worker.specs.declared.ending.Ending.TheVariants.{Refused as RefusedOf, Stuck};
-ghost use Rattle.velo_words.specs.Ended.{IsScheduleAt, IsStuckReplay, IsWorkloadAt, SaysEnd, SaysReplay, SaysRun, SaysStop, act_words, foreign_in, foreign_words, none_of_words, place_of, refused_act, refused_help, stuck_words};
+ghost use Rattle.velo_words.specs.Ended.{IsScheduleAt, IsStuckReplay, IsWorkloadAt, SaysEnd, SaysOpen, SaysReplay, SaysRun, SaysStop, act_words, foreign_in, foreign_words, none_of_words, place_of, refused_act, refused_help, stuck_words};
 
-use crate::lines::{add_file, add_text};
-use crate::place::{Complaint, place_words};
 use std::alloc::Global;
 use velo_deadlock::waits_of;
 use velo_delivery::Files;
 use velo_events::{Config, Memory, Refusal, ThreadId};
 use velo_explain::{Page, Piece};
 use velo_fate::read_file;
+use velo_fault_words::{Complaint, add_file, add_text, place_words};
 use velo_request::{ReplayOptions, Request, RunOptions, ScheduleSource};
 use velo_schedule_text::{MAX_SCHEDULE_BYTES, schedule_in, schedule_of, turns_of};
 use velo_worker::{Ending, replay};
@@ -94,8 +93,8 @@ fn refused_help(refusal: Refusal) -> &'static str
     ensures { result.now ≡ refused_help refusal }
 {
     match refusal {
-        Refusal::LogFull => "help: raise the limit: see --events\n",
-        Refusal::GraphFull => "help: raise the limit: see --nodes\n",
+        Refusal::LogFull => "help: raise the limit with --events, up to 16777216\n",
+        Refusal::GraphFull => "help: raise the limit with --nodes, up to 4096\n",
         _ => "",
     }
 }
@@ -355,6 +354,23 @@ pub(crate) fn words_of_end<F: Files>(
         }
         (Request::Explore(options), Ending::Refused(thread, refusal)) => {
             words_of_act(alloc, options.input, thread, refusal, files)
+        }
+        _ => None,
+    }
+}
+
+/// What is said of a search that is undecided.
+pub(crate) fn words_of_open(alloc: Global, request: &Request) -> Option<Page>
+    ensures { IfSome result (SaysOpen request.now) }
+{
+    match request {
+        Request::Explore(options) => {
+            let complaint = Complaint {
+                line: 0,
+                reason: "not every schedule was tried, and nothing was found",
+                help: "help: raise --states, --seconds or --events; or make runs by chance: see --random\n",
+            };
+            place_words(alloc, options.input, &[], complaint).ok()
         }
         _ => None,
     }

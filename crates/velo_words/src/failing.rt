@@ -2,7 +2,7 @@
 ghost use Rattle.std.specs.Prelude.{◌≡◌, ◌++◌, ⊤, ℕ, List, IfOk, IfSome, OnOk, option_map};
 ghost use Rattle.velo_words.specs.Failing.{IsFailure, SaysFailure, failure_text, reason_of, verb_of};
 ghost use Rattle.velo_words.specs.Roles.{word_of};
-ghost use Rattle.velo_words.specs.declared.failing.Reason.{Reason as ReasonOf};
+ghost use Rattle.velo_words.specs.declared.failing.SystemReason.{SystemReason as ReasonOf};
 
 use crate::roles::{ROLES, Role, asks_for_words, path_of, word_of};
 use std::alloc::Global;
@@ -14,7 +14,7 @@ use velo_request::Request;
 
 /// Why a file could not be opened, read or written.
 #[derive(Clone, Copy, Debug, PartialEq, Eq)]
-pub enum Reason {
+pub enum SystemReason {
     /// No file is there, or no directory for it.
     NotFound,
     /// The system does not permit it.
@@ -34,7 +34,7 @@ pub trait Recall {
 
     /// Why the file at a path could not be opened, read or written, if it is the one that failed
     /// last, and this is known.
-    fn failure_at(&self, path: &str) -> Option<Reason>
+    fn failure_at(&self, path: &str) -> Option<SystemReason>
         ensures { IfSome result (failed self.now path.now) }
     {
         None
@@ -46,7 +46,7 @@ pub trait Recall {
 struct Failed<'a> {
     role: Role,
     path: &'a str,
-    reason: Reason,
+    reason: SystemReason,
 }
 
 /// What was to be done with the file, where the fate is that it failed.
@@ -62,15 +62,15 @@ fn verb_of(fate: Fate) -> Option<&'static str>
 }
 
 /// A reason in words.
-fn reason_of(reason: Reason) -> &'static str
+fn reason_of(reason: SystemReason) -> &'static str
     ensures { result.now ≡ reason_of reason }
 {
     match reason {
-        Reason::NotFound => "there is no such file",
-        Reason::Denied => "permission is denied",
-        Reason::IsDirectory => "it is a directory",
-        Reason::Full => "no room is left",
-        Reason::Other => "the system refused it",
+        SystemReason::NotFound => "there is no such file",
+        SystemReason::Denied => "permission is denied",
+        SystemReason::IsDirectory => "it is a directory",
+        SystemReason::Full => "no room is left",
+        SystemReason::Other => "the system refused it",
     }
 }
 

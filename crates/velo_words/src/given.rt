@@ -25,6 +25,8 @@ pub fn sites_of<'a>(request: &Request<'a>) -> Option<&'a str>
 {
     match request {
         Request::Explain(options) => options.sites,
+        Request::Audit(options) => options.sites,
+        Request::Predict(options) => options.sites,
         _ => None,
     }
 }
@@ -34,8 +36,9 @@ pub fn list_of<'a>(request: &Request<'a>) -> Option<&'a str>
     ensures { path_of result ≡ list_of request.now }
 {
     match request {
-        Request::Audit(options) => options.known,
-        Request::Predict(options) => options.known,
+        Request::Explain(options) => options.ignored.known,
+        Request::Audit(options) => options.ignored.known,
+        Request::Predict(options) => options.ignored.known,
         _ => None,
     }
 }

@@ -1,23 +1,14 @@
-//! What is wrong, in words: with path, line, the text there and the reason.
+//! How a command or a run ended, in words: which file has a fault or failed, and why a run did not go on.
 #![tactic(auto)]
 
-mod beside;
 mod ended;
 mod events;
 mod failing;
-mod faults;
 mod given;
-mod header;
-mod line;
-mod lines;
-mod log;
-mod place;
+mod ignoring;
 mod refused;
 mod roles;
 mod saying;
-mod schedule;
-mod work;
 
-pub use failing::{Reason, Recall};
-pub use header::{HeaderFault, header_fault_of};
+pub use failing::{Recall, SystemReason};
 pub use saying::end_in_words;

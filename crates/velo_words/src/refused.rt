@@ -5,10 +5,10 @@ ghost use Rattle.velo_events.specs.declared.limits.TheConstants.{MAX_EVENTS};
 ghost use Rattle.velo_words.specs.Refused.{at_line, bound_words, by_acquire, by_line, forked_words, full_words, held_words, holder_words, joined_words, kind_words, lock_acquired, not_live_words, own_words, plain_refusal, read_help, read_words, reason, refusal_help, refused_words, shown_event, since_words, thread_words, value_words, wrong_value_words};
 
 use crate::events::{Sought, last_of};
-use crate::lines::{add_line, add_text};
 use std::alloc::Global;
 use velo_events::{Bounds, Event, Kind, LockId, Memory, Refusal, ThreadId};
 use velo_explain::{Page, Piece};
+use velo_fault_words::{add_line, add_text};
 
 /// Adds what a thread does.
 #[tactic(auto, unfolding(crate::specs::Refused::kind_words))]
@@ -352,8 +352,8 @@ fn refusal_help(refusal: Refusal) -> &'static str
             "help: the header is `vlog 2 THREADS VARIABLES LOCKS`\n"
         }
         Refusal::AlreadyHeld => "help: write down the outermost acquire and release only\n",
-        Refusal::LogFull => "help: raise the limit: see --events\n",
-        Refusal::GraphFull => "help: raise the limit: see --nodes\n",
+        Refusal::LogFull => "help: raise the limit with --events, up to 16777216\n",
+        Refusal::GraphFull => "help: raise the limit with --nodes, up to 4096\n",
         _ => "",
     }
 }

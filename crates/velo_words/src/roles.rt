@@ -112,8 +112,9 @@ fn known_of<'a>(request: &Request<'a>) -> Option<&'a str>
     ensures { option_map (λ path. path.now) result ≡ known_of request.now }
 {
     match request {
-        Request::Audit(options) => options.known,
-        Request::Predict(options) => options.known,
+        Request::Explain(options) => options.ignored.known,
+        Request::Audit(options) => options.ignored.known,
+        Request::Predict(options) => options.ignored.known,
         _ => None,
     }
 }
@@ -123,6 +124,8 @@ fn sites_of<'a>(request: &Request<'a>) -> Option<&'a str>
 {
     match request {
         Request::Explain(options) => options.sites,
+        Request::Audit(options) => options.sites,
+        Request::Predict(options) => options.sites,
         _ => None,
     }
 }
@@ -144,7 +147,8 @@ fn log_path_of<'a>(request: &Request<'a>) -> Option<&'a str>
     }
 }
 
-fn report_of<'a>(request: &Request<'a>) -> Option<&'a str>
+/// The path of the report, if the request has one.
+pub fn report_of<'a>(request: &Request<'a>) -> Option<&'a str>
     ensures { option_map (λ path. path.now) result ≡ report_of request.now }
 {
     match request {

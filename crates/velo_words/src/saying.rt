@@ -4,24 +4,28 @@ ghost use Rattle.velo_request.specs.declared.request.ScheduleSource.TheVariants.
 ghost use Rattle.velo_delivery.specs.Writing.{writing};
 ghost use Rattle.velo_events.specs.declared.limits.TheConstants.{MAX_EVENTS};
 ghost use Rattle.velo_fate.specs.Fate.{Closes, line_of, status_of};
-ghost use Rattle.velo_words.specs.Beside.{other_sites_words};
+ghost use Rattle.velo_fault_words.specs.Beside.{other_sites_words};
 ghost use Rattle.velo_words.specs.Failing.{SaysFailure};
 ghost use Rattle.velo_words.specs.Saying.{EndsInWords, IsSaid, IsTextAt, SaysEvent, SaysFault, SaysSchedule, event_words, log_of, work_of};
 
-use crate::beside::other_sites_words;
-use crate::ended::words_of_end;
+use crate::ended::{words_of_end, words_of_open};
 use crate::events::events_up_to;
 use crate::failing::{Recall, words_of_failure};
-use crate::faults::{FileFault, fault_words, most_bytes_for, most_up_to};
 use crate::given::{list_of, names_of, schedule_of, sites_of};
+use crate::ignoring::words_in_vain;
 use crate::refused::{refused_words, wrong_value_words};
-use crate::schedule::{numbers_words, schedule_words, turns_words};
+use crate::roles::report_of;
 use std::alloc::Global;
 use velo_bytes::{Bytes, Sink, WriteFault, write_all};
+use velo_claims::ReportFault;
 use velo_delivery::Files;
 use velo_events::{Bounds, Event, Memory, Refusal};
 use velo_explain::Page;
 use velo_fate::{CheckFault, Fate, end_with, read_file};
+use velo_fault_words::{
+    FileFault, fault_words, most_bytes_for, most_up_to, numbers_words, other_sites_words,
+    schedule_words, turns_words,
+};
 use velo_names::NamesFault;
 use velo_request::status::FAILED;
 use velo_request::{Request, ScheduleSource};
@@ -198,6 +202,12 @@ fn words_of<F: Files>(alloc: Global, request: &Request, fate: Fate, files: &F) -
             words_of_file(alloc, sites_of(request)?, FileFault::Sites(fault), files)
         }
         Fate::OtherSites => words_of_other_sites(alloc, sites_of(request)?),
+        Fate::Report(ReportFault::Memory) => None,
+        Fate::Report(fault) => {
+            words_of_file(alloc, report_of(request)?, FileFault::Report(fault), files)
+        }
+        Fate::Ignored(what) => words_in_vain(alloc, request, what, files),
+        Fate::Open => words_of_open(alloc, request),
         Fate::List(ListFault::Memory) => None,
         Fate::List(fault) => {
             words_of_file(alloc, list_of(request)?, FileFault::List(fault), files)

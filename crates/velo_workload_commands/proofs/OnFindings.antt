@@ -2,7 +2,7 @@
 use Rattle.std.proofs.Common.{◌≡◌, ◌∙◌, ap, arith, inl, inr, refl, subst, sym, take, ⊎_elim}
 use Rattle.std.proofs.lemmas.List.{take_all}
 use Rattle.std.proofs.lemmas.Bool.{cases_lt, false≢true}
-use Rattle.std.specs.Prelude.{◌⊎◌, ℕ, Bool, true, false, List, length, map, min, Option, Some, None, Result, IfOk, IfSome, if◌then◌else◌}
+use Rattle.std.specs.Prelude.{◌⊎◌, ℕ, Bool, true, false, List, is_some, length, map, min, Option, Some, None, Result, IfOk, IfSome, if◌then◌else◌}
 use Rattle.std.specs.Option.{option_map_or}
 use Rattle.std.specs.Borrow.{Bor}
 use Rattle.std.specs.Global.{Vec}
@@ -36,7 +36,7 @@ use Rattle.velo_delivery.specs.Disk.{Store}
 use Rattle.velo_delivery.specs.Writing.{Writes, Writing}
 use Rattle.velo_request.specs.declared.request.ExploreOptions.{ExploreOptions}
 use Rattle.velo_request.specs.declared.request.RandomRuns.{RandomRuns}
-use Rattle.velo_random.specs.declared.tally.Tally.{Tally}
+use Rattle.velo_random.specs.declared.tally.RunTally.{RunTally}
 use Rattle.velo_random.specs.Tallies.{IsTriedBy, rank}
 use Rattle.velo_workload_commands.specs.declared.told.Told.{Told}
 use Rattle.velo_workload_commands.specs.ByChance.{IsBlameOf}
@@ -84,7 +84,7 @@ module _ (program : Program) (config : Config) where
 
   -- ---- who is to blame
 
-  pub blamed : (schedules : List (Vec ThreadId)) (n most : ℕ) (tally : Tally) → IsTriedBy program config (map (λ s. s.items) (take n schedules)) tally → IsNonDecreasingBy rank tally.blamed.items
+  pub blamed : (schedules : List (Vec ThreadId)) (n most : ℕ) (tally : RunTally) → IsTriedBy program config (map (λ s. s.items) (take n schedules)) tally → IsNonDecreasingBy rank tally.blamed.items
       → n ≡ min most (length schedules)
       → IsBlameOf program config (map (λ s. s.items) (take most schedules)) (record { alarms = tally.alarms; labels = tally.blamed })
   blamed schedules n most tally tried order least =
@@ -103,12 +103,12 @@ module _ (program : Program) (config : Config) where
       record { bounds = ap (λ (c : Config). c.bounds) (Replays-config program w.schedule.items config is.1.ending replay.closed is.1.replays) ∙ same; alarm = is.1.alarm }
   reportable None (Some replay) same is = absurd is
 
-  first_by : (options : ExploreOptions) (random : Option RandomRuns) (told : Told) → IsToldBy program config options random told → IsReplayFor program config (first_of told.shrunk.findings) told.shrunk.first
-  first_by options None told so = so.findings.first
-  first_by options (Some random) told so = so.findings.first
+  first_by : (options : ExploreOptions) (over : Bool) (random : Option RandomRuns) (told : Told) → IsToldBy program config options over random told → IsReplayFor program config (first_of told.shrunk.findings) told.shrunk.first
+  first_by options over None told so = so.findings.first
+  first_by options over (Some random) told so = so.findings.first
 
-  pub first_told : (options : ExploreOptions) (told : Told) → config.bounds ≡ program.bounds → IsToldOf program config options told → IfSome told.shrunk.first (IsReportable program)
-  first_told options told same so = reportable (first_of told.shrunk.findings) told.shrunk.first same (first_by options options.random told so)
+  pub first_told : (options : ExploreOptions) (over : Bool) (told : Told) → config.bounds ≡ program.bounds → IsToldOf program config options over told → IfSome told.shrunk.first (IsReportable program)
+  first_told options over told same so = reportable (first_of told.shrunk.findings) told.shrunk.first same (first_by options over options.random told so)
 
   -- ---- out of memory
 
@@ -135,8 +135,8 @@ module _ (program : Program) (config : Config) where
           subst (λ (g : Goal). ComesByRefusal Growths (fate_of_goal g)) (sym same)
           (let reached = subst (λ (g : Goal). Reaches g is.1.ending replay.closed) same is.1.reaches in subst EndsByGrowth reached.0 (has_memory is.1.ending is.1.memory))
 
-  caused_told : (options : ExploreOptions) (told : Told) → IsToldOf program config options told → ComesByRefusal Growths (fate_of_told told)
-  caused_told options told so = caused_first told.shrunk.findings (first_of told.shrunk.findings) told.shrunk.first (first_by options options.random told so)
+  caused_told : (options : ExploreOptions) (over : Bool) (told : Told) → IsToldOf program config options over told → ComesByRefusal Growths (fate_of_told told)
+  caused_told options over told so = caused_first told.shrunk.findings (first_of told.shrunk.findings) told.shrunk.first (first_by options over options.random told so)
 
 said_fate : (program : Program) (certificate : Bool) (told : Told) (first : Option Replay) (answer : Answer) → IsSaidOf program certificate told first answer → answer.fate ≡ fate_of_told told
 said_fate program certificate told None answer says = ap (λ (a : Answer). a.fate) says
@@ -145,7 +145,7 @@ said_fate program certificate told (Some replay) answer says = ap (λ (a : Answe
 -- of what is said of an exploration
 pub caused : (options : ExploreOptions) (program : Program) (answer : Answer) → IsExplored options program answer → ComesByRefusal Growths answer.fate
 caused options program answer e =
-    subst (ComesByRefusal Growths) (sym (said_fate program options.certificate e.told e.told.shrunk.first answer e.says)) (caused_told program e.config options e.told e.is_so)
+    subst (ComesByRefusal Growths) (sym (said_fate program options.certificate e.told e.told.shrunk.first answer e.says)) (caused_told program e.config options e.over e.told e.is_so)
 
 -- ---- what it comes to
 
@@ -212,7 +212,9 @@ said_reported program certificate told replay answer text waits end is text_is w
 said_reported program certificate told replay answer text waits end is text_is waits_is end_is (inr lacks) = inr lacks
 
 -- the exploration is what is said
-pub explored : (program : Program) (config : Config) (options : ExploreOptions) (told : Told) (answer : Answer) → IsConfigOf program (run_of options) config → IsToldOf program config options told
+pub explored : (program : Program) (config : Config) (options : ExploreOptions) (over : Bool) (told : Told) (answer : Answer) → IsConfigOf program (run_of options) config
+    → (over ≡ true → is_some options.seconds ≡ true) → IsToldOf program config options over told
     → IsSaidOf program options.certificate told told.shrunk.first answer ⊎ LacksMemory answer → IsExplored options program answer ⊎ LacksMemory answer
-explored program config options told answer configured so (inl says) = inl (record { config = config; configured = configured; told = told; is_so = so; says = says })
-explored program config options told answer configured so (inr lacks) = inr lacks
+explored program config options over told answer configured limited so (inl says) =
+    inl (record { config = config; configured = configured; over = over; limited = limited; told = told; is_so = so; says = says })
+explored program config options over told answer configured limited so (inr lacks) = inr lacks

@@ -1,7 +1,7 @@
 -- Random runs of a workload, and who is to blame for the alarms of some runs.
 use Rattle.std.specs.Prelude.{◌≡◌, All, List, count_by, map}
 use Rattle.std.specs.List.Sorted.{IsNonDecreasingBy}
-use Rattle.velo_random.specs.declared.tally.Tally.{Tally}
+use Rattle.velo_random.specs.declared.tally.RunTally.{RunTally}
 use Rattle.velo_random.specs.Runs.{IsRun, Run, blames, has_alarm}
 use Rattle.velo_random.specs.Tallies.{AreCounts, IsTried, rank}
 use Rattle.velo_events.specs.declared.config.Config.{Config}
@@ -36,7 +36,7 @@ pub record IsBlameOf (program : Program) (config : Config) (schedules : List (Li
 -- these runs show is told by simple schedules, and whom their alarms blame. Of other schedules
 -- nothing is said.
 pub record IsByChance (program : Program) (config : Config) (random : RandomRuns) (told : Told) : Type 0 where
-  pub tally : Tally
+  pub tally : RunTally
   pub is_tried : IsTried program config random.seed random.runs tally
   pub tried : told.tried ≡ ByChance random.seed random.runs
   pub findings : IsShrunkFrom program config tally.findings told.shrunk

@@ -56,8 +56,8 @@ DoesReplay options store stdout f =
     ⊎ ((schedule : List ThreadId) × IsScheduleOf store.disk options.schedule schedule
     × DoesPlay (ByTurns schedule) options.run store stdout f)
 
--- ---- velodrome explore FILE [--states N] [--first] [--random N] [--seed S] [--log OUT]
--- ---- [--names-out NAMES] [--events N] [--nodes N] [--certificate]
+-- ---- velodrome explore FILE [--states N] [--seconds N] [--first] [--random N] [--seed S]
+-- ---- [--log OUT] [--names-out NAMES] [--events N] [--nodes N] [--certificate]
 
 -- FILE is read whole, and all its schedules are tried; or with --random so many that are drawn by
 -- chance (`ByChance`). Where one of them was found to have an alarm, a deadlock or a refusal, the

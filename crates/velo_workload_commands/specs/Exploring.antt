@@ -1,8 +1,8 @@
 -- What an exploration of a workload has to say, by the bytes of its text and by the definitions.
-use Rattle.std.specs.Prelude.{◌≡◌, ◌⊎◌, ◌≤◌, ◌-◌, ◌^◌, ◌++◌, ◌&&◌, [], ℕ, Bool, true, false, List, codes, decimal, map, min, slice_get, sum_by, take, Option, Some, None, if◌then◌else◌}
+use Rattle.std.specs.Prelude.{◌≡◌, ◌⊎◌, ◌≤◌, ◌-◌, ◌^◌, ◌++◌, ◌&&◌, [], ℕ, Bool, true, false, List, codes, decimal, is_some, map, min, slice_get, sum_by, take, Option, Some, None, if◌then◌else◌}
 use Rattle.std.specs.List.{flat_map}
 use Rattle.std.specs.Option.{option_map_or}
-use Rattle.velo_random.specs.declared.tally.Blamed.{Blamed}
+use Rattle.velo_random.specs.declared.tally.BlamedLabel.{BlamedLabel}
 use Rattle.velo_events.specs.declared.config.Config.{Config}
 use Rattle.velo_events.specs.declared.event.Event.{Event}
 use Rattle.velo_events.specs.declared.event.ThreadId.{ThreadId}
@@ -46,25 +46,25 @@ use Rattle.velo_schedule_text.specs.Short.{longest}
 abbrev pub most_to_blame : Bool → ℕ
 most_to_blame first = if first then 0 else MAX_BLAMING
 
--- what a search within the limits that were asked for may say of the program's schedules: what is
--- shown is so, what is never shown is so by no schedule, and what is open is so for a cause. The
--- schedules that it hands out lead to alarms
-pub record IsSearchOf (program : Program) (config : Config) (options : ExploreOptions)
+-- what a search within the limits that were asked for, which was told or not that it is over, may
+-- say of the program's schedules: what is shown is so, what is never shown is so by no schedule, and
+-- what is open is so for a cause. The schedules that it hands out lead to alarms
+pub record IsSearchOf (program : Program) (config : Config) (options : ExploreOptions) (over : Bool)
     (search : Exploration) : Type 0 where
   pub events : search.events ≡ min (sum_by body_events program.bodies) (2 ^ 64 - 1)
   pub states : search.states ≤ options.states
   pub told : (fault : Fault) → IsTold program config fault (finding_of search.findings fault)
   pub left_open : (fault : Fault) → OnOpen (finding_of search.findings fault)
-      (IsLeftOpen program config options.states options.first search.states search.findings fault)
+      (IsLeftOpen program config options.states options.first over search.states search.findings fault)
   pub alarms : AreAlarms program config options.first search.findings.alarm
       (map (λ schedule. schedule.items) search.alarms.items)
 
 -- All schedules of the program are tried, and what was found is told by simple schedules. Whom the
 -- alarms blame is told of the replays by the first of the schedules that the search hands out.
-pub record IsExplorationOf (program : Program) (config : Config) (options : ExploreOptions) (told : Told)
-    : Type 0 where
+pub record IsExplorationOf (program : Program) (config : Config) (options : ExploreOptions) (over : Bool)
+    (told : Told) : Type 0 where
   pub search : Exploration
-  pub is_search : IsSearchOf program config options search
+  pub is_search : IsSearchOf program config options over search
   pub tried : told.tried ≡ how.All search.events search.states
   pub findings : IsShrunkFrom program config search.findings told.shrunk
   pub is_so : (fault : Fault) → IsTold program config fault (finding_of told.shrunk.findings fault)
@@ -72,12 +72,12 @@ pub record IsExplorationOf (program : Program) (config : Config) (options : Expl
       (map (λ schedule. schedule.items) (take (most_to_blame options.first) search.alarms.items)) told.blame
 
 -- all of them are tried; or where runs by chance are asked for, so many (`ByChance`)
-abbrev pub IsToldBy : Program → Config → ExploreOptions → Option RandomRuns → Told → Type 0
-IsToldBy program config options None told = IsExplorationOf program config options told
-IsToldBy program config options (Some random) told = IsByChance program config random told
+abbrev pub IsToldBy : Program → Config → ExploreOptions → Bool → Option RandomRuns → Told → Type 0
+IsToldBy program config options over None told = IsExplorationOf program config options over told
+IsToldBy program config options over (Some random) told = IsByChance program config random told
 
-abbrev pub IsToldOf : Program → Config → ExploreOptions → Told → Type 0
-IsToldOf program config options told = IsToldBy program config options options.random told
+abbrev pub IsToldOf : Program → Config → ExploreOptions → Bool → Told → Type 0
+IsToldOf program config options over told = IsToldBy program config options over options.random told
 
 -- ---- its text
 
@@ -120,7 +120,7 @@ abbrev pub label_text : Program → ℕ → List ℕ
 label_text program label = option_map_or (λ name. name) (slice_get program.label_names label) (decimal label)
 
 -- "to blame inc (3 of 4 alarms)\n"
-abbrev pub blamed_text : Program → ℕ → Blamed → List ℕ
+abbrev pub blamed_text : Program → ℕ → BlamedLabel → List ℕ
 blamed_text program alarms blamed =
     codes "to blame " ++ label_text program blamed.label.0 ++ codes " (" ++ decimal blamed.alarms
     ++ codes " of " ++ decimal alarms ++ codes " alarms)\n"
@@ -190,13 +190,16 @@ IsSaidOf program certificate told (Some replay) answer =
     (fate_of_told told) answer
 IsSaidOf program certificate told None answer = answer ≡ printing (told_text program told) (fate_of_told told)
 
--- the schedules of the program are tried within the limits that were asked for, and this is said
+-- The schedules of the program are tried within the limits that were asked for, and this is said.
+-- Only where it may take so many seconds and no more, the search may have been told that it is over.
 pub record IsExplored (options : ExploreOptions) (program : Program) (answer : Answer)
     : Type 0 where
   pub config : Config
   pub configured : IsConfigOf program (run_of options) config
+  pub over : Bool
+  pub limited : over ≡ true → is_some options.seconds ≡ true
   pub told : Told
-  pub is_so : IsToldOf program config options told
+  pub is_so : IsToldOf program config options over told
   pub says : IsSaidOf program options.certificate told told.shrunk.first answer
 
 -- What an exploration of the workload that was read has to say, and the text of its names; or

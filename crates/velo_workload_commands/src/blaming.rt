@@ -6,7 +6,7 @@ ghost use Rattle.velo_workload_commands.specs.Exploring.{most_to_blame};
 use crate::told::ToBlame;
 use std::alloc::Global;
 use velo_events::{Config, Memory, ThreadId};
-use velo_random::{Tally, try_all};
+use velo_random::{RunTally, try_all};
 use velo_workload::Workload;
 
 /// The most replays that are asked whom they blame.
@@ -36,7 +36,7 @@ pub fn blame_of(
         (map (λ schedule. schedule.items) (take (most_to_blame first) schedules.now))) }
 {
     let most = most_to_blame(first).min(schedules.len());
-    let Tally { alarms, blamed, .. } = try_all(alloc, workload, &schedules[..most], config)?;
+    let RunTally { alarms, blamed, .. } = try_all(alloc, workload, &schedules[..most], config)?;
     Ok(ToBlame {
         alarms,
         labels: blamed,

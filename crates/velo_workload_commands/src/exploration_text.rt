@@ -8,7 +8,7 @@ use velo_bytes::{append, append_number};
 use velo_events::{Label, Memory, ThreadId};
 use velo_explore::{Finding, Findings, Goal};
 use velo_fate::number_of;
-use velo_random::Blamed;
+use velo_random::BlamedLabel;
 use velo_schedule_text::append_turns;
 use velo_workload::Workload;
 
@@ -108,7 +108,7 @@ fn add_blamed(
     text: &mut Vec<u8>,
     workload: &Workload,
     alarms: u64,
-    blamed: Blamed,
+    blamed: BlamedLabel,
 ) -> Result<(), Memory>
     ensures { OnOk result (text.new.items
         ≡ text.old.items ++ blamed_text workload.now alarms blamed) }

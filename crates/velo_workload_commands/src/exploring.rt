@@ -188,7 +188,7 @@ fn explore_workload<F: Files, O: Sink, P: ExploreProgress>(
 {
     let run = run_of(options);
     let config = config_of_run(workload, &run);
-    progress.begin(options.progress);
+    progress.begin(options.progress, options.seconds);
     let told = told_of(alloc, workload, options, config, progress);
     progress.end();
     match told {
@@ -202,7 +202,8 @@ fn explore_workload<F: Files, O: Sink, P: ExploreProgress>(
 }
 
 /// Tries the schedules of the workload that was asked for, and writes what they come to. How far
-/// the search is goes to `progress`, which has ended before anything is written.
+/// the search is goes to `progress`, which has ended before anything is written. It says when the
+/// seconds are over that the search was given.
 pub fn explore_file<F: Files, O: Sink, P: ExploreProgress>(
     alloc: Global,
     options: &ExploreOptions,

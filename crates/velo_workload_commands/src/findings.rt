@@ -1,5 +1,5 @@
 //! What the schedules of a workload come to.
-ghost use Rattle.std.specs.Prelude.{◌≡◌, IfOk};
+ghost use Rattle.std.specs.Prelude.{◌≡◌, ◌&&◌, IfOk};
 ghost use Rattle.velo_workload_commands.specs.ByChance.{IsByChance};
 ghost use Rattle.velo_workload_commands.specs.Exploring.{IsExplorationOf, IsToldOf};
 
@@ -8,7 +8,7 @@ use crate::told::{ToBlame, Told, Tried};
 use std::alloc::Global;
 use velo_events::{Config, Memory};
 use velo_explore::{Exploration, Progress, explore};
-use velo_random::{Tally, try_by_chance};
+use velo_random::{RunTally, try_by_chance};
 use velo_request::{ExploreOptions, RandomRuns};
 use velo_shrink::shrink_findings;
 use velo_workload::Workload;
@@ -22,7 +22,8 @@ fn explore_all<P: Progress>(
     progress: &mut P,
 ) -> Result<Told, Memory>
     requires { config.bounds ≡ workload.now.bounds }
-    ensures { IfOk result (IsExplorationOf workload.now config options.now) }
+    ensures { IfOk result (IsExplorationOf workload.now config options.now
+        (P.may_end progress.old && P.says_over progress.new)) }
 {
     let most_states = u64::from(options.states);
     let Exploration {
@@ -58,7 +59,7 @@ fn try_some(
     ensures { IfOk result (IsByChance workload.now config random) }
 {
     let RandomRuns { runs, seed } = random;
-    let Tally {
+    let RunTally {
         runs,
         findings,
         alarms,
@@ -77,7 +78,7 @@ fn try_some(
 
 /// What all schedules of the workload come to, or random runs, where they are asked for; and who is
 /// to blame. The configuration has to have the workload's bounds. `progress` is called after each level
-/// of the search.
+/// of the search, and says when it is over.
 ///
 /// # Errors
 /// `Memory` where a growth was refused.
@@ -89,7 +90,8 @@ pub fn told_of<P: Progress>(
     progress: &mut P,
 ) -> Result<Told, Memory>
     requires { config.bounds ≡ workload.now.bounds }
-    ensures { IfOk result (IsToldOf workload.now config options.now) }
+    ensures { IfOk result (IsToldOf workload.now config options.now
+        (P.may_end progress.old && P.says_over progress.new)) }
 {
     match options.random {
         Some(random) => try_some(alloc, workload, random, config),

@@ -1,5 +1,5 @@
 //! What is reported of the schedules of a workload.
-use velo_random::Blamed;
+use velo_random::BlamedLabel;
 use velo_shrink::Shrunk;
 
 /// How the schedules of a workload were tried.
@@ -27,7 +27,7 @@ pub struct ToBlame {
     /// How many of the runs have an alarm.
     pub alarms: u64,
     /// The labels that these alarms blame, those of most alarms first.
-    pub labels: Vec<Blamed>,
+    pub labels: Vec<BlamedLabel>,
 }
 
 /// What is reported of the schedules of a workload.

@@ -5,7 +5,7 @@ use std::fs::{self, File, Metadata};
 use std::io::{self, Read, Stdin, Write};
 use std::os::unix::fs::MetadataExt;
 use velo_bytes::{ReaderSource, WriterSink};
-use velo_cli::{Reason, Recall};
+use velo_cli::{Recall, SystemReason};
 use velo_commands::Files;
 
 /// A file, or standard input.
@@ -85,7 +85,7 @@ impl<'a> HostFiles<'a> {
 }
 
 impl Recall for HostFiles<'_> {
-    fn failure_at(&self, path: &str) -> Option<Reason> {
+    fn failure_at(&self, path: &str) -> Option<SystemReason> {
         self.notes.failure_at(path)
     }
 }

@@ -2,7 +2,7 @@
 
 use std::cell::Cell;
 use std::io::ErrorKind;
-use velo_cli::{Reason, Recall};
+use velo_cli::{Recall, SystemReason};
 
 /// Where the mark of a path begins, and what it is multiplied by at each byte: FNV-1a.
 const FIRST_MARK: u64 = 0xcbf2_9ce4_8422_2325;
@@ -18,13 +18,13 @@ fn mark_of(path: &str) -> u64 {
     mark
 }
 
-fn reason_of(kind: ErrorKind) -> Reason {
+fn reason_of(kind: ErrorKind) -> SystemReason {
     match kind {
-        ErrorKind::NotFound | ErrorKind::NotADirectory => Reason::NotFound,
-        ErrorKind::PermissionDenied | ErrorKind::ReadOnlyFilesystem => Reason::Denied,
-        ErrorKind::IsADirectory => Reason::IsDirectory,
-        ErrorKind::StorageFull | ErrorKind::QuotaExceeded => Reason::Full,
-        _ => Reason::Other,
+        ErrorKind::NotFound | ErrorKind::NotADirectory => SystemReason::NotFound,
+        ErrorKind::PermissionDenied | ErrorKind::ReadOnlyFilesystem => SystemReason::Denied,
+        ErrorKind::IsADirectory => SystemReason::IsDirectory,
+        ErrorKind::StorageFull | ErrorKind::QuotaExceeded => SystemReason::Full,
+        _ => SystemReason::Other,
     }
 }
 
@@ -34,7 +34,7 @@ fn reason_of(kind: ErrorKind) -> Reason {
 pub struct Notes {
     read: Cell<u64>,
     written: Cell<u64>,
-    failed: Cell<Option<(u64, Reason)>>,
+    failed: Cell<Option<(u64, SystemReason)>>,
 }
 
 impl Notes {
@@ -76,7 +76,7 @@ impl Notes {
 }
 
 impl Recall for Notes {
-    fn failure_at(&self, path: &str) -> Option<Reason> {
+    fn failure_at(&self, path: &str) -> Option<SystemReason> {
         match self.failed.get() {
             Some((mark, reason)) if mark == mark_of(path) => Some(reason),
             _ => None,

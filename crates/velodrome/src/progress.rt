@@ -1,4 +1,6 @@
-//! How far a search is, on standard error. Nothing of this is proved but that it is safe and ends.
+//! How far a search is, on standard error, and when it is over. Nothing of this is proved but that it is
+//! safe, that it ends, and that only a search with a limit is said to be over.
+ghost use Rattle.std.specs.Prelude.{◌≡◌, is_some};
 
 use std::alloc::Global;
 use std::cmp::max;
@@ -43,7 +45,7 @@ fn manner_of(is_terminal: bool, always: bool) -> Option<Manner> {
     }
 }
 
-/// Prints how far a search is.
+/// Prints how far a search is, and says when its time is over.
 #[derive(Drop)]
 pub struct ProgressLine<'a, C, S> {
     clock: &'a C,
@@ -54,6 +56,10 @@ pub struct ProgressLine<'a, C, S> {
     manner: Option<Manner>,
     /// When the search began, on the clock.
     begun: Duration,
+    /// After how many seconds it is over, if it is limited.
+    seconds: Option<u32>,
+    /// Whether it was said to be over.
+    over: bool,
     /// How many milliseconds the search had taken when its progress was last printed, if it was.
     told: Option<u128>,
 }
@@ -68,13 +74,26 @@ impl<'a, C: Clock, S: Sink> ProgressLine<'a, C, S> {
             is_terminal,
             manner: None,
             begun: Duration::ZERO,
+            seconds: None,
+            over: false,
             told: None,
+        }
+    }
+
+    /// Whether the search has taken so many seconds. It has if the clock cannot be read.
+    fn has_taken(&self, seconds: u32) -> bool {
+        match self.clock.monotonic() {
+            Ok(now) => now.saturating_sub(self.begun).as_secs() >= u64::from(seconds),
+            Err(_) => true,
         }
     }
 
     /// Prints the progress of a search that has taken `taken` milliseconds. After a failure nothing
     /// more is printed.
-    fn tell(&mut self, over: bool, taken: u128, levels: u64, states: u64) {
+    fn tell(&mut self, over: bool, taken: u128, levels: u64, states: u64)
+        ensures seconds { self.new.seconds ≡ self.old.seconds }
+        ensures over { self.new.over ≡ self.old.over }
+    {
         self.told = Some(taken);
         let (before, after) = if over { ("\r", "\x1b[K") } else { ("", "\n") };
         let rate = states_a_second(states, taken);
@@ -106,6 +125,10 @@ fn is_due(manner: Manner, taken: u128, told: Option<u128>) -> bool {
 }
 
 impl<C: Clock, S: Sink> Progress for ProgressLine<'_, C, S> {
+    ghost may_end = { λ s. is_some s.seconds };
+
+    ghost says_over = { λ s. s.over };
+
     fn level_done(&mut self, levels: u64, states: u64) {
         let Some(manner) = self.manner else {
             return;
@@ -118,12 +141,23 @@ impl<C: Clock, S: Sink> Progress for ProgressLine<'_, C, S> {
             self.tell(manner.over, taken, levels, states);
         }
     }
+
+    fn is_over(&mut self) -> bool {
+        let Some(seconds) = self.seconds else {
+            self.over = false;
+            return false;
+        };
+        self.over = self.has_taken(seconds);
+        self.over
+    }
 }
 
 impl<C: Clock, S: Sink> ExploreProgress for ProgressLine<'_, C, S> {
-    fn begin(&mut self, always: bool) {
+    fn begin(&mut self, always: bool, seconds: Option<u32>) {
         self.told = None;
         self.manner = None;
+        self.seconds = seconds;
+        self.over = false;
         if let Ok(now) = self.clock.monotonic() {
             self.begun = now;
             self.manner = manner_of(self.is_terminal, always);

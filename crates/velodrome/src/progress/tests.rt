@@ -61,7 +61,7 @@ fn compare(rt: &impl Abort, alloc: Global, is_terminal: bool, always: bool, text
         millis: Cell::new(7),
     };
     let mut line = ProgressLine::new(&clock, alloc, Text::new(alloc), is_terminal);
-    line.begin(always);
+    line.begin(always, None);
     for (level, millis, states) in LEVELS {
         clock.millis.set(7 + millis);
         line.level_done(level, states);
@@ -77,6 +77,39 @@ fn compare(rt: &impl Abort, alloc: Global, is_terminal: bool, always: bool, text
 fn progress_is_told_in_time(rt: HostRuntime) {
     for (is_terminal, always, text) in MANNERS {
         compare(&rt, rt.alloc(), is_terminal, always, text);
+    }
+}
+
+/// How many seconds a search is given, how long it has taken, in milliseconds, and whether it is
+/// over.
+const TIMES: [(Option<u32>, u64, bool); 6] = [
+    (None, 0, false),
+    (None, 1_000_000, false),
+    (Some(1), 0, false),
+    (Some(1), 999, false),
+    (Some(1), 1000, true),
+    (Some(60), 61_000, true),
+];
+
+/// Whether a search is over which has so many seconds and has taken so long.
+fn is_over(alloc: Global, seconds: Option<u32>, millis: u64) -> bool {
+    let clock = Hand {
+        millis: Cell::new(5),
+    };
+    let mut line = ProgressLine::new(&clock, alloc, Text::new(alloc), false);
+    line.begin(false, seconds);
+    clock.millis.set(millis.saturating_add(5));
+    let over = line.is_over();
+    line.end();
+    drop(line);
+    drop(clock);
+    over
+}
+
+#[test]
+fn a_search_is_over_in_time(rt: HostRuntime) {
+    for (seconds, millis, over) in TIMES {
+        assert_eq!(&rt; is_over(rt.alloc(), seconds, millis), over, "{millis}");
     }
 }
 

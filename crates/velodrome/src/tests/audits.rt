@@ -5,13 +5,13 @@ use std::process::Abort;
 use std::sync::Wait;
 use std::thread::Threads;
 
-const NAMES: &str = "# of a run\nthread 0 main\n\nlabel 7 flush\nlabel 9 {lambda()#1}\n";
+pub(super) const NAMES: &str = "# of a run\nthread 0 main\n\nlabel 7 flush\nlabel 9 {lambda()#1}\n";
 
-const BAD: &str = "thread 0 main\nlabel 7\n";
+pub(super) const BAD: &str = "thread 0 main\nlabel 7\n";
 
 const TWICE: &str = "label 7 flush\nlabel 7 flush\n";
 
-const UNREADABLE: &str = "vlog 2 1 0 0\n0 end\nend\n";
+pub(super) const UNREADABLE: &str = "vlog 2 1 0 0\n0 end\nend\n";
 
 const CLEAN: &str = "vlog 1 1 0 0\n0 begin 7\n0 end\n";
 
@@ -32,6 +32,24 @@ block 7 flush, from line 3: line 5 `1 wr 0 5` must come after its begin and befo
 atomic 0 labels\n\
 rounds 2\n";
 
+/// The answer as JSON, without a witness.
+const AS_JSON: &str = "\
+{\"schema\":1,\"log\":\"a\",\"verdict\":\"not atomic\",\"left_out\":{\"labels\":[],\"all_locks\":false,\
+\"locks\":[],\"variables\":[]},\"alarms\":[{\"blocks\":[{\"label\":{\"number\":7,\"name\":\"flush\"},\
+\"begin\":{\"position\":1,\"line\":3,\"thread\":{\"number\":0,\"name\":\"main\"},\"text\":\"0 begin 7\",\
+\"name\":\"flush\",\"site\":null}}],\"to_blame\":true,\"closing\":{\"position\":4,\"line\":6,\
+\"thread\":{\"number\":0,\"name\":\"main\"},\"text\":\"0 wr 0 1\",\"name\":null,\"site\":null},\
+\"witness\":null}],\"counts\":{\"labels\":[{\"label\":{\"number\":7,\"name\":\"flush\"},\"round\":0,\
+\"blocks\":1,\"to_blame\":1,\"innermost\":1}],\"others\":0},\"atomic\":0,\"rounds\":2}\n";
+
+/// As a JUnit report.
+const AS_JUNIT: &str = "\
+<?xml version=\"1.0\" encoding=\"UTF-8\"?>\n<testsuites>\n\
+<testsuite name=\"velodrome audit a\">\n\
+<testcase classname=\"a\" name=\"block 7 flush\"><failure message=\"block 7 flush, \
+from line 3, is not atomic: line 6 closes a cycle\"/></testcase>\n</testsuite>\n\
+</testsuites>\n";
+
 /// What the program prints for these files.
 struct Told {
     words: &'static [&'static str],
@@ -42,7 +60,7 @@ struct Told {
     status: u8,
 }
 
-static TOLD: [Told; 13] = [
+static TOLD: [Told; 15] = [
     // the name is the last of its line
     Told {
         words: &["velodrome", "check", "a", "--names", "n"],
@@ -111,6 +129,41 @@ static TOLD: [Told; 13] = [
         err: "",
         status: 3,
     },
+    // for other programs
+    Told {
+        words: &[
+            "velodrome",
+            "audit",
+            "a",
+            "--names",
+            "n",
+            "--no-witness",
+            "--counts",
+            "--format",
+            "json",
+        ],
+        log: LOST_UPDATE,
+        names: NAMES,
+        out: AS_JSON,
+        err: "",
+        status: 3,
+    },
+    Told {
+        words: &[
+            "velodrome",
+            "audit",
+            "a",
+            "--names",
+            "n",
+            "--format",
+            "junit",
+        ],
+        log: LOST_UPDATE,
+        names: NAMES,
+        out: AS_JUNIT,
+        err: "",
+        status: 3,
+    },
     Told {
         words: &["velodrome", "audit", "a"],
         log: CLEAN,
@@ -172,23 +225,24 @@ fn names_and_audits(rt: HostRuntime) {
 }
 
 /// A block in another, which are both to blame.
-const NESTED: &str = "vlog 1 2 1 0\n0 fork 1\n0 begin 7\n0 begin 9\n0 rd 0 0\n1 wr 0 5\n0 wr 0 1\n";
+pub(super) const NESTED: &str =
+    "vlog 1 2 1 0\n0 fork 1\n0 begin 7\n0 begin 9\n0 rd 0 0\n1 wr 0 5\n0 wr 0 1\n";
 
 /// Between two holds of a lock another thread has it.
-const LOCKED: &str =
+pub(super) const LOCKED: &str =
     "vlog 2 2 0 2\n0 fork 1\n0 begin 7\n0 acq 0\n0 rel 0\n1 acq 0\n1 rel 0\n0 acq 0\n";
 
-const BOTH: &str = "label 7 f\nlabel 9 f\nlock 0 m\nlock 1 m\nvariable 0 m\n";
+pub(super) const BOTH: &str = "label 7 f\nlabel 9 f\nlock 0 m\nlock 1 m\nvariable 0 m\n";
 
 /// What the program prints for these files, of which one is a list of labels.
-struct Listed {
-    words: &'static [&'static str],
-    log: &'static str,
-    names: &'static str,
-    list: &'static str,
-    out: &'static str,
-    err: &'static str,
-    status: u8,
+pub(super) struct Listed {
+    pub(super) words: &'static [&'static str],
+    pub(super) log: &'static str,
+    pub(super) names: &'static str,
+    pub(super) list: &'static str,
+    pub(super) out: &'static str,
+    pub(super) err: &'static str,
+    pub(super) status: u8,
 }
 
 const WITH_LIST: &[&str] = &[
@@ -388,145 +442,8 @@ static AT_FAULT: [Listed; 9] = [
     },
 ];
 
-static IGNORED: [Listed; 9] = [
-    Listed {
-        words: &["velodrome", "audit", "a", "--no-witness"],
-        log: LOCKED,
-        names: BAD,
-        list: "",
-        out: "not atomic 7\natomic 0 labels\nrounds 2\n",
-        err: "",
-        status: 3,
-    },
-    // by a number, again and again
-    Listed {
-        words: &[
-            "velodrome",
-            "audit",
-            "a",
-            "--ignore-lock",
-            "1",
-            "--ignore-lock=0",
-        ],
-        log: LOCKED,
-        names: BAD,
-        list: "",
-        out: "left out lock 1\nleft out lock 0\natomic 1 labels\nrounds 1\n",
-        err: "",
-        status: 0,
-    },
-    // by a pattern, and by a name, which are those of two locks and of a variable
-    Listed {
-        words: &[
-            "velodrome",
-            "audit",
-            "a",
-            "--names",
-            "n",
-            "--ignore-lock",
-            "m*",
-        ],
-        log: LOCKED,
-        names: BOTH,
-        list: "",
-        out: "left out lock 0 m\nleft out lock 1 m\natomic 1 labels\nrounds 1\n",
-        err: "",
-        status: 0,
-    },
-    Listed {
-        words: &[
-            "velodrome",
-            "audit",
-            "a",
-            "--names",
-            "n",
-            "--ignore-variable",
-            "m",
-        ],
-        log: LOST_UPDATE,
-        names: BOTH,
-        list: "",
-        out: "left out variable 0 m\natomic 1 labels\nrounds 1\n",
-        err: "",
-        status: 0,
-    },
-    // a number that the log does not have
-    Listed {
-        words: &[
-            "velodrome",
-            "audit",
-            "a",
-            "--ignore-variable",
-            "65535",
-            "--no-witness",
-        ],
-        log: LOST_UPDATE,
-        names: BAD,
-        list: "",
-        out: "left out variable 65535\nnot atomic 7\natomic 0 labels\nrounds 2\n",
-        err: "",
-        status: 3,
-    },
-    // what means none, before the log is read
-    Listed {
-        words: &["velodrome", "audit", "a", "--ignore-lock", "65536"],
-        log: UNREADABLE,
-        names: BAD,
-        list: "",
-        out: "",
-        err: "ignored fault 1\n",
-        status: 2,
-    },
-    Listed {
-        words: &["velodrome", "audit", "a", "--ignore-lock", "00"],
-        log: UNREADABLE,
-        names: BAD,
-        list: "",
-        out: "",
-        err: "ignored fault 1\n",
-        status: 2,
-    },
-    Listed {
-        words: &[
-            "velodrome",
-            "audit",
-            "a",
-            "--names",
-            "n",
-            "--ignore-variable",
-            "m",
-            "--ignore-variable",
-            "f",
-        ],
-        log: UNREADABLE,
-        names: BOTH,
-        list: "",
-        out: "",
-        err: "ignored fault 2\n",
-        status: 2,
-    },
-    // a lock goes before a variable
-    Listed {
-        words: &[
-            "velodrome",
-            "audit",
-            "a",
-            "--ignore-variable",
-            "x",
-            "--ignore-lock",
-            "m",
-        ],
-        log: UNREADABLE,
-        names: BAD,
-        list: "",
-        out: "",
-        err: "ignored fault 1\n",
-        status: 2,
-    },
-];
-
 /// Compares what the program shows of the files with what it is to show.
-fn try_listed<R: Threads + Wait + Sync + Abort>(rt: &R, alloc: Global, told: &Listed) {
+pub(super) fn try_listed<R: Threads + Wait + Sync + Abort>(rt: &R, alloc: Global, told: &Listed) {
     let files = [("a", told.log), ("n", told.names), ("l", told.list)];
     let mut folder = Folder::new(alloc, &files, 5);
     let shown = show(rt, told.words, &mut folder);
@@ -544,13 +461,6 @@ fn labels_that_are_known(rt: HostRuntime) {
 #[test]
 fn lists_at_fault(rt: HostRuntime) {
     for told in &AT_FAULT {
-        try_listed(&rt, rt.alloc(), told);
-    }
-}
-
-#[test]
-fn what_is_ignored(rt: HostRuntime) {
-    for told in &IGNORED {
         try_listed(&rt, rt.alloc(), told);
     }
 }

@@ -6,7 +6,7 @@ use std::process::Abort;
 use std::test::Fail;
 use velo_bytes::Text;
 use velo_cli::{end_without_words, help};
-use velo_commands::{DEFAULT_SEED, DEFAULT_TRIES, MAX_RUNS, MAX_STATES, MAX_TRIES};
+use velo_commands::{DEFAULT_SEED, DEFAULT_TRIES, MAX_RUNS, MAX_SECONDS, MAX_STATES, MAX_TRIES};
 use velo_events::{MAX_EVENTS, MAX_NODES, MAX_THREADS, Refusal};
 
 /// Right words, with the status and standard error: of the two logs one raises an alarm at its last
@@ -49,7 +49,7 @@ const RIGHT_WORDS: [(&[&str], u8, &str); 9] = [
     (&["velodrome", "--help"], 0, ""),
 ];
 
-const WRONG_WORDS: [&[&str]; 45] = [
+const WRONG_WORDS: [&[&str]; 49] = [
     &["velodrome"],
     &["velodrome", "check"],
     &["velodrome", "race", "a.log"],
@@ -106,6 +106,8 @@ const WRONG_WORDS: [&[&str]; 45] = [
     &["velodrome", "explore", "w", "--random", "0"],
     &["velodrome", "explore", "w", "--random", "1000001"],
     &["velodrome", "explore", "w", "--seed=-1"],
+    &["velodrome", "explore", "w", "--seconds", "0"],
+    &["velodrome", "explore", "w", "--seconds", "1000001"],
     &["velodrome", "run", "w", "--random", "9"],
     &[
         "velodrome",
@@ -129,6 +131,8 @@ const WRONG_WORDS: [&[&str]; 45] = [
         "n",
     ],
     &["velodrome", "audit", "a.log", "--ignore-lock"],
+    &["velodrome", "audit", "a.log", "--ignore-locks=0"],
+    &["velodrome", "check", "a.log", "--ignore-locks"],
     &["velodrome", "thin", "a.log"],
     &["velodrome", "verify", "a.log"],
     &["velodrome", "thin", "a.log", "--log", "o", "--events", "4"],
@@ -138,7 +142,7 @@ const WRONG_WORDS: [&[&str]; 45] = [
 ];
 
 /// Right words that do not go together, with the line that says so.
-const WORDS_APART: [(&[&str], &str); 22] = [
+const WORDS_APART: [(&[&str], &str); 26] = [
     (
         &["velodrome", "check", "-", "--names", "-"],
         "error: standard input can be read once\n",
@@ -206,15 +210,19 @@ const WORDS_APART: [(&[&str], &str); 22] = [
             "--states",
             "2097152",
         ],
-        "error: --random goes with neither --states nor --first nor --progress\n",
+        "error: --random goes with neither --states nor --seconds nor --first nor --progress\n",
     ),
     (
         &["velodrome", "explore", "w", "--first", "--random", "9"],
-        "error: --random goes with neither --states nor --first nor --progress\n",
+        "error: --random goes with neither --states nor --seconds nor --first nor --progress\n",
     ),
     (
         &["velodrome", "explore", "w", "--random=9", "--progress"],
-        "error: --random goes with neither --states nor --first nor --progress\n",
+        "error: --random goes with neither --states nor --seconds nor --first nor --progress\n",
+    ),
+    (
+        &["velodrome", "explore", "w", "--random=9", "--seconds=9"],
+        "error: --random goes with neither --states nor --seconds nor --first nor --progress\n",
     ),
     (
         &["velodrome", "explore", "w", "--seed", "1"],
@@ -264,6 +272,18 @@ const WORDS_APART: [(&[&str], &str); 22] = [
             "--not-atomic=-",
         ],
         "error: standard input can be read once\n",
+    ),
+    (
+        &["velodrome", "audit", "-", "--sites=-"],
+        "error: standard input can be read once\n",
+    ),
+    (
+        &["velodrome", "audit", "a.log", "--format", "xml"],
+        "error: --format takes text, json, sarif or junit\n",
+    ),
+    (
+        &["velodrome", "audit", "-", "--sites=-", "--format="],
+        "error: --format takes text, json, sarif or junit\n",
     ),
 ];
 
@@ -362,7 +382,7 @@ fn help_goes_to_standard_output(rt: HostRuntime) {
 }
 
 /// The words of a command's help before a limit and after it.
-const LIMITS: [(&str, &str, u32, &str); 18] = [
+const LIMITS: [(&str, &str, u32, &str); 19] = [
     ("check", "have, 1 to ", MAX_EVENTS, " ["),
     ("check", "at once, 1 to ", MAX_NODES as u32, " ["),
     ("replay", "have, 1 to ", MAX_EVENTS, " ["),
@@ -372,6 +392,7 @@ const LIMITS: [(&str, &str, u32, &str); 18] = [
     ("run", "at once, 1 to ", MAX_NODES as u32, " ["),
     ("explore", "have, 1 to ", MAX_EVENTS, " ["),
     ("explore", "look at, 1 to ", MAX_STATES, " ["),
+    ("explore", "may take, 1 to ", MAX_SECONDS, "\n"),
     ("explore", "search, 1 to ", MAX_RUNS, "\n"),
     ("explore", "615 [default: ", DEFAULT_SEED as u32, "]"),
     ("watch", "have, 1 to ", MAX_EVENTS, " ["),

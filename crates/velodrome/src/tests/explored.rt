@@ -1,4 +1,6 @@
 //! All schedules of workloads.
+ghost use Rattle.std.specs.Prelude.{◌≡◌, is_some};
+
 use crate::tests::{Folder, Shown, compare};
 use std::alloc::Global;
 use std::process::Abort;
@@ -6,7 +8,8 @@ use std::sync::Wait;
 use std::thread::Threads;
 use velo_bytes::Text;
 use velo_commands::{
-    ExploreOptions, Limits, MAX_RUNS, MAX_STATES, Quiet, RandomRuns, Request, do_request, end_with,
+    ExploreOptions, ExploreProgress, Limits, MAX_RUNS, MAX_STATES, Progress, RandomRuns, Request,
+    do_request, end_with,
 };
 use velo_events::MAX_EVENTS;
 
@@ -47,6 +50,8 @@ struct Row {
     certificate: bool,
     /// How many random runs are made, and their seed.
     random: Option<(u32, u64)>,
+    /// After how many states the search is told that its time is over.
+    over: Option<u64>,
     out: &'static str,
     err: &'static str,
     log: Option<&'static str>,
@@ -61,13 +66,14 @@ const ASKED: Row = Row {
     target: None,
     certificate: false,
     random: None,
+    over: None,
     out: "",
     err: "",
     log: None,
     status: 0,
 };
 
-static ROWS: [Row; 24] = [
+static ROWS: [Row; 27] = [
     Row {
         target: Some("o"),
         out: "events 9\nstates 8\nalarm 0*3 1 0\nstuck none\nrefused none\nto blame inc (1 of 1 alarms)\nevents 9\nthread 0 main 7\nthread 1 a 2\nverdict alarm 4\ntransaction 1\nblame 1 inc\n",
@@ -187,6 +193,29 @@ static ROWS: [Row; 24] = [
         status: 2,
         ..ASKED
     },
+    // the time is over
+    Row {
+        workload: BOTH,
+        over: Some(10),
+        out: "events 16\nstates 10\nalarm 0*3 1 0\nstuck open\nrefused open\nto blame inc (1 of 1 alarms)\nevents 8\nthread 0 main 6\nthread 1 a 2\nverdict alarm 4\ntransaction 1\nblame 1 inc\n",
+        status: 3,
+        ..ASKED
+    },
+    Row {
+        workload: LOCKED,
+        over: Some(0),
+        target: Some("o"),
+        out: "events 13\nstates 0\nalarm open\nstuck open\nrefused open\n",
+        err: "open\n",
+        status: 4,
+        ..ASKED
+    },
+    Row {
+        workload: LOCKED,
+        over: Some(4),
+        out: "events 13\nstates 4\nalarm none\nstuck none\nrefused none\n",
+        ..ASKED
+    },
     // random runs
     Row {
         random: Some((50, 1)),
@@ -268,6 +297,50 @@ fn runs_of(random: Option<(u32, u64)>) -> Option<RandomRuns> {
     }
 }
 
+/// Says after so many states that the time of a search is over, where it is limited.
+#[derive(Clone, Copy)]
+struct Hourglass {
+    states: u64,
+    seconds: Option<u32>,
+    over: bool,
+}
+
+impl Progress for Hourglass {
+    ghost may_end = { λ s. is_some s.seconds };
+
+    ghost says_over = { λ s. s.over };
+
+    fn level_done(&mut self, _levels: u64, _states: u64) {}
+
+    fn is_over(&mut self) -> bool {
+        let Some(_) = self.seconds else {
+            self.over = false;
+            return false;
+        };
+        let over = self.states == 0;
+        self.states = self.states.saturating_sub(1);
+        self.over = over;
+        over
+    }
+}
+
+impl ExploreProgress for Hourglass {
+    fn begin(&mut self, _always: bool, seconds: Option<u32>) {
+        self.seconds = seconds;
+    }
+
+    fn end(&mut self) {}
+}
+
+/// What tells a search that its time is over, after so many states.
+fn glass_for(over: Option<u64>) -> Hourglass {
+    Hourglass {
+        states: over.unwrap_or(0),
+        seconds: None,
+        over: false,
+    }
+}
+
 /// Explores a workload that comes `step` bytes at a time.
 fn explore_it<R: Threads + Wait + Abort + Sync>(rt: &R, alloc: Global, row: &Row, step: usize) {
     let files = [("w", row.workload)];
@@ -276,6 +349,7 @@ fn explore_it<R: Threads + Wait + Abort + Sync>(rt: &R, alloc: Global, row: &Row
         input: "w",
         states: row.states.clamp(1, MAX_STATES),
         first: row.first,
+        seconds: if row.over.is_some() { Some(1) } else { None },
         target: row.target,
         names_target: None,
         limits: Limits {
@@ -288,7 +362,8 @@ fn explore_it<R: Threads + Wait + Abort + Sync>(rt: &R, alloc: Global, row: &Row
     });
     let mut out = Text::new(alloc);
     let mut err = Text::new(alloc);
-    let fate = do_request(rt, alloc, &request, &mut folder, &mut out, &mut Quiet);
+    let mut glass = glass_for(row.over);
+    let fate = do_request(rt, alloc, &request, &mut folder, &mut out, &mut glass);
     let status = end_with(&fate, &mut err);
     let shown = Shown { out, err, status };
     compare(rt, &shown, row.out, row.err, row.status, row.workload);

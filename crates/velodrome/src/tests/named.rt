@@ -149,6 +149,7 @@ fn request_of<'a>(
             input,
             states: 1_000,
             first: false,
+            seconds: None,
             target,
             names_target,
             limits: LIMITS,

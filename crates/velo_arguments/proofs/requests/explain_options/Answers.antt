@@ -12,6 +12,7 @@ returns-clause-some c =
       option_read f (codes "svg") c.get_str-3.result c.get_str-3.ensures,
       option_read f (codes "names") c.get_str-4.result c.get_str-4.ensures,
       option_read f (codes "sites") c.get_str-5.result c.get_str-5.ensures,
+      c.left_out.ensures,
     )
 
 pub returns-in_err-get_str-clause-none : goal.returns-in_err-get_str-clause-none

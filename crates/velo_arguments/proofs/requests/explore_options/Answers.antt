@@ -9,6 +9,7 @@ returns-clause-some c =
     let f = found_of c.args.found.now in (
       word_read f (codes "FILE") c.get_str.result c.in_ok-get_str.field-0 c.get_str.ensures c.in_ok-get_str.was,
       c.in_ok-number_of.ensures.some.2,
+      c.in_ok-seconds_if.ensures.some,
       flag_read f (codes "first") c.get_flag.result c.get_flag.ensures.none c.get_flag.ensures.value c.get_flag.ensures.other,
       flag_read f (codes "progress") c.get_flag-2.result c.get_flag-2.ensures.none c.get_flag-2.ensures.value c.get_flag-2.ensures.other,
       c.in_ok-random_if.ensures.some,
@@ -27,7 +28,10 @@ returns-in_err-number_of-clause-none c = on_none _ (IsExploring (rows_of (found_
     c.in_err-number_of.ensures.none options.states options.some_state options.few_states asks.1)
 
 pub returns-in_err-limits_of-clause-none : goal.returns-in_err-limits_of-clause-none
-returns-in_err-limits_of-clause-none c = on_none _ (IsExploring (rows_of (found_of c.args.found.now))) (λ options asks. c.in_err-limits_of.ensures.none options.limits asks.7)
+returns-in_err-limits_of-clause-none c = on_none _ (IsExploring (rows_of (found_of c.args.found.now))) (λ options asks. c.in_err-limits_of.ensures.none options.limits asks.8)
 
 pub returns-in_err-random_if-clause-none : goal.returns-in_err-random_if-clause-none
-returns-in_err-random_if-clause-none c = on_none _ (IsExploring (rows_of (found_of c.args.found.now))) (λ options asks. c.in_err-random_if.ensures.none options.random asks.4)
+returns-in_err-random_if-clause-none c = on_none _ (IsExploring (rows_of (found_of c.args.found.now))) (λ options asks. c.in_err-random_if.ensures.none options.random asks.5)
+
+pub returns-in_err-seconds_if-clause-none : goal.returns-in_err-seconds_if-clause-none
+returns-in_err-seconds_if-clause-none c = on_none _ (IsExploring (rows_of (found_of c.args.found.now))) (λ options asks. c.in_err-seconds_if.ensures.none options.seconds asks.2)

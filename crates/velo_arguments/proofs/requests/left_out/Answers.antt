@@ -1,12 +1,14 @@
 use Rattle.std.proofs.Common.{codes, refl}
 use Rattle.clap.specs.Words.{found_of}
-use Rattle.velo_arguments.proofs.OnAsked.{option_read, words_read}
+use Rattle.velo_arguments.proofs.OnAsked.{flag_read, option_read, words_read}
 use Rattle.velo_arguments.proofs.requests.left_out.Goals as goal
 
 pub returns : goal.returns
 returns c =
     let f = found_of c.args.found.now in (
       option_read f (codes "not-atomic") c.get_str.result c.get_str.ensures,
-      words_read f (codes "ignore-lock") c.get_strs.result _ c.unwrap_or.result c.get_strs.ensures c.unwrap_or.ensures refl,
-      words_read f (codes "ignore-variable") c.get_strs-2.result _ c.unwrap_or-2.result c.get_strs-2.ensures c.unwrap_or-2.ensures refl,
+      words_read f (codes "ignore-label") c.get_strs.result _ c.unwrap_or.result c.get_strs.ensures c.unwrap_or.ensures refl,
+      words_read f (codes "ignore-lock") c.get_strs-2.result _ c.unwrap_or-2.result c.get_strs-2.ensures c.unwrap_or-2.ensures refl,
+      words_read f (codes "ignore-variable") c.get_strs-3.result _ c.unwrap_or-3.result c.get_strs-3.ensures c.unwrap_or-3.ensures refl,
+      flag_read f (codes "ignore-locks") c.get_flag.result c.get_flag.ensures.none c.get_flag.ensures.value c.get_flag.ensures.other,
     )

@@ -9,11 +9,12 @@ returns-clause-some c =
     let f = found_of c.args.found.now in (
       word_read f (codes "LOG") c.get_str.result c.in_ok-get_str.field-0 c.get_str.ensures c.in_ok-get_str.was,
       option_read f (codes "names") c.get_str-2.result c.get_str-2.ensures,
-      c.left_out-left.ensures,
+      option_read f (codes "sites") c.get_str-3.result c.get_str-3.ensures,
+      c.left_out.ensures,
       flag_read f (codes "values") c.get_flag.result c.get_flag.ensures.none c.get_flag.ensures.value c.get_flag.ensures.other,
       c.in_ok-number_of.ensures.some.2,
       c.in_ok-seed_of.ensures.some,
-      option_read f (codes "log") c.get_str-3.result c.get_str-3.ensures,
+      option_read f (codes "log") c.get_str-4.result c.get_str-4.ensures,
       c.in_ok-limits_of.ensures.some,
     )
 
@@ -23,10 +24,10 @@ returns-in_err-get_str-clause-none c = on_none _ (IsPredicting (rows_of (found_o
 
 pub returns-in_err-number_of-clause-none : goal.returns-in_err-number_of-clause-none
 returns-in_err-number_of-clause-none c = on_none _ (IsPredicting (rows_of (found_of c.args.found.now))) (λ options asks.
-    c.in_err-number_of.ensures.none options.tries options.some_try options.few_tries asks.4)
+    c.in_err-number_of.ensures.none options.tries options.some_try options.few_tries asks.5)
 
 pub returns-in_err-seed_of-clause-none : goal.returns-in_err-seed_of-clause-none
-returns-in_err-seed_of-clause-none c = on_none _ (IsPredicting (rows_of (found_of c.args.found.now))) (λ options asks. c.in_err-seed_of.ensures.none options.seed asks.5)
+returns-in_err-seed_of-clause-none c = on_none _ (IsPredicting (rows_of (found_of c.args.found.now))) (λ options asks. c.in_err-seed_of.ensures.none options.seed asks.6)
 
 pub returns-in_err-limits_of-clause-none : goal.returns-in_err-limits_of-clause-none
-returns-in_err-limits_of-clause-none c = on_none _ (IsPredicting (rows_of (found_of c.args.found.now))) (λ options asks. c.in_err-limits_of.ensures.none options.limits asks.7)
+returns-in_err-limits_of-clause-none c = on_none _ (IsPredicting (rows_of (found_of c.args.found.now))) (λ options asks. c.in_err-limits_of.ensures.none options.limits asks.8)

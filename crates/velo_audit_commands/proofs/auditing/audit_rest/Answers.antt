@@ -1,9 +1,7 @@
-use Rattle.std.proofs.Common.{Option, refl, subst, sym, List}
-use Rattle.velo_audit_text.specs.declared.entries.Listing.{Listing}
+use Rattle.std.proofs.Common.{refl, subst, sym, List}
 use Rattle.velo_events.specs.declared.event.Event.{Event}
 use Rattle.velo_events.specs.Graph.{HasCycle}
 use Rattle.velo_delivery.specs.Writing.{writing}
-use Rattle.velo_audit_commands.specs.Auditing.{PrintsRounds}
 use Rattle.velo_audit_commands.proofs.OnAuditing.{lacks_same, rounds_lacking, rounds_printed}
 use Rattle.velo_audit_commands.proofs.auditing.audit_rest.Goals as goal
 
@@ -11,14 +9,14 @@ pub returns-in-Ok : goal.returns-in-Ok
 returns-in-Ok g c =
     let stdout = writing g.O.Sink.contents g.O.Sink.failures c.args.out.now c.tell_rounds-fate.new.out in
     let fate = c.tell_rounds-fate.result in
-    rounds_printed c.args.names.now c.args.asked.now c.args.options.now c.args.closed.now.config.bounds c.args.closed.now.log c.log-log.result.now.events c.in-Ok.rounds.items c.deref.result.now c.log-log.ensures.events c.deref.ensures.value
+    rounds_printed c.args.names.now c.args.sites.now c.args.asked.now c.args.options.now c.args.closed.now.config.bounds c.args.closed.now.log c.log-log.result.now.events c.in-Ok.rounds.items c.deref.result.now c.log-log.ensures.events c.deref.ensures.value
     c.in-Ok.ensures.rounds stdout fate
-    (subst (λ (l : Option Listing). PrintsRounds c.args.names.now c.log-log.result.now.events c.args.asked.now l c.deref.result.now stdout fate) c.listing_of-listing.ensures c.tell_rounds-fate.ensures)
+    c.tell_rounds-fate.ensures
 
 pub returns-in-Err : goal.returns-in-Err
 returns-in-Err g c =
     let config = c.config_of_rounds-config in
-    rounds_lacking c.args.names.now c.args.asked.now c.args.options.now c.args.closed.now.config.bounds c.args.closed.now.log (writing g.O.Sink.contents g.O.Sink.failures c.args.out.now c.args.out.now) c.in-Err.fate (refl, refl)
+    rounds_lacking c.args.names.now c.args.sites.now c.args.asked.now c.args.options.now c.args.closed.now.config.bounds c.args.closed.now.log (writing g.O.Sink.contents g.O.Sink.failures c.args.out.now c.args.out.now) c.in-Err.fate (refl, refl)
     (lacks_same c.args.asked.now _ _ _ _ _ _ c.in-Err.fate c.log-log.ensures.events config.ensures.bounds config.ensures.nodes c.in-Err.ensures.fault)
 
 pub rounds_of-requires-clause-clean : goal.rounds_of-requires-clause-clean

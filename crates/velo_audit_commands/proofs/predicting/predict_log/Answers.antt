@@ -8,13 +8,13 @@ use Rattle.velo_audit_commands.proofs.predicting.predict_log.Goals as goal
 
 pub returns-in-Ok : goal.returns-in-Ok
 returns-in-Ok g c =
-    let told = c.predict_closed-fate.ensures in
-    let files = store g.F.Files.disk c.args.files.now c.predict_closed-fate.new.files in
-    let stdout = writing g.O.Sink.contents g.O.Sink.failures c.args.out.now c.predict_closed-fate.new.out in
+    let told = c.predict_if_of-fate.ensures in
+    let files = store g.F.Files.disk c.args.files.now c.predict_if_of-fate.new.files in
+    let stdout = writing g.O.Sink.contents g.O.Sink.failures c.args.out.now c.predict_if_of-fate.new.out in
     let closed = c.in-Ok.closed in
     let inquiry = c.args.inquiry.now in (
       c.in-Ok.ensures.read
-          ∙ sym (predicts_reads inquiry.names.now inquiry.asked.now inquiry.options.now files stdout closed.config.bounds closed.log told.0 _ told.1 c.predict_closed-fate.result told.2),
+          ∙ sym (predicts_reads inquiry.names.now c.args.sites.now inquiry.asked.now inquiry.options.now files stdout closed.config.bounds closed.log told.0 _ told.1 c.predict_if_of-fate.result told.2),
       (
         told.0,
         ⊎_elim

@@ -1,6 +1,6 @@
 use Rattle.std.proofs.Common.{List, subst, sym}
 use Rattle.std.specs.Prelude.{All}
-use Rattle.velo_delays.specs.declared.judged.Found.{Found}
+use Rattle.velo_delays.specs.declared.judged.PredictedCycle.{PredictedCycle}
 use Rattle.velo_delays.specs.declared.stuck.Deadlock.{Deadlock}
 use Rattle.velo_predict_text.specs.Text.{CanBeTold, CanTellDeadlock}
 use Rattle.velo_audit_commands.specs.Auditing.{left_at_first, left_at_last}
@@ -11,7 +11,7 @@ pub predictions_text-made-requires-clause-founds : goal.predictions_text-made-re
 predictions_text-made-requires-clause-founds g c =
     let inquiry = c.args.inquiry.now in
     let log = c.args.log.now.events in
-    subst (λ (fs : List Found). All CanBeTold fs) (sym c.deref.ensures.value)
+    subst (λ (fs : List PredictedCycle). All CanBeTold fs) (sym c.deref.ensures.value)
     (can_be_told inquiry.options.now.values c.args.bounds log (left_at_last log (left_at_first inquiry.asked.now) c.args.rounds.now) c.args.findings.now c.requires.found)
 
 pub predictions_text-made-requires-clause-deadlocks : goal.predictions_text-made-requires-clause-deadlocks

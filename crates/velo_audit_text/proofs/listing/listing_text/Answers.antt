@@ -24,7 +24,7 @@ returns c = record {
   is_listed = c.in_ok-listed.ensures;
   text = four_parts [] _ _ _ _ _ _ _ _
       (c.in_ok-add_asked.ensures ∙ ap (λ (p : List ℕ). p ++ asked_text c.args.names.now c.args.asked.now) c.new-page.ensures)
-      (subst (λ (es : List Event). c.add_entries.new.page ≡ c.add_asked.new.page ++ numbered (entry_text c.args.names.now es c.args.rounds.now c.args.listing.counts c.in_ok-listed.listed.entries.items) 0 c.in_ok-listed.listed.entries.items) c.as_slice.ensures
-      (subst (λ (xs : List Entry). c.add_entries.new.page ≡ c.add_asked.new.page ++ numbered (entry_text c.args.names.now c.as_slice.result.now c.args.rounds.now c.args.listing.counts xs) 0 xs) c.deref.ensures.value c.in_ok-add_entries.ensures))
+      (subst (λ (es : List Event). c.add_entries.new.page ≡ c.add_asked.new.page ++ numbered (entry_text c.args.names.now c.args.sites.now es c.args.rounds.now c.args.listing.counts c.in_ok-listed.listed.entries.items) 0 c.in_ok-listed.listed.entries.items) c.as_slice.ensures
+      (subst (λ (xs : List Entry). c.add_entries.new.page ≡ c.add_asked.new.page ++ numbered (entry_text c.args.names.now c.args.sites.now c.as_slice.result.now c.args.rounds.now c.args.listing.counts xs) 0 xs) c.deref.ensures.value c.in_ok-add_entries.ensures))
       c.in_ok-add_outer_if.ensures c.in_ok-add_counts.ensures;
 }

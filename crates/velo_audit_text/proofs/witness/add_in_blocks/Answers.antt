@@ -11,4 +11,4 @@ none = record { first = 0; label = record { 0 = 0 } }
 pub loop-block-preserved : goal.loop-block-preserved
 loop-block-preserved c =
     let xs = c.args.blocks.now in let i = c.loop-block.block-index in
-    texts-next (in_block_text c.args.names.now) xs i (get_or xs i none) c.args.page.now _ _ (take_more xs i none c.loop-block-test.true) c.loop-block.invariant c.in_ok-add_in_block.ensures
+    texts-next (in_block_text c.args.names.now c.args.sites.now) xs i (get_or xs i none) c.args.page.now _ _ (take_more xs i none c.loop-block-test.true) c.loop-block.invariant c.in_ok-add_in_block.ensures

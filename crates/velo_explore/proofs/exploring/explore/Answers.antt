@@ -1,4 +1,4 @@
-use Rattle.std.proofs.Common.{◌≡◌, true}
+use Rattle.std.proofs.Common.{◌≡◌, ◌&&◌, true}
 use Rattle.std.specs.Prelude.{IsTrue, is_some}
 use Rattle.velo_search.specs.declared.fault.Fault.{Fault}
 use Rattle.velo_search.specs.declared.fault.Fault.TheVariants.{Cycle, Stuck, Refusing}
@@ -53,18 +53,19 @@ returns-clause-left_open g c =
     let found : Findings = record { alarm = c.in_ok-alarm.alarm; stuck = c.in_ok-stuck.stuck; refused = c.in_ok-refused.refused } in
     let x = c.in_ok-searched.searched in
     let says = c.in_ok-searched.ensures in
+    let over = g.P.Progress.may_end c.args.progress.now && g.P.Progress.says_over c.search_all.new.progress in
     let met = each_fault (λ (f : Fault). has_fault x.found f ≡ true → IsTrue (is_some (turns_for x.schedules f)) → IsMet c.args.workload.now c.args.config f (finding_of found f))
     (met-told c.args.workload.now c.args.config Cycle x.whole x.found.alarm c.rules_out-no_alarm.result x.schedules.alarm c.in_ok-alarm.alarm c.rules_out-no_alarm.ensures c.in_ok-alarm.ensures.never.1 c.in_ok-alarm.ensures.missed)
     (met-told c.args.workload.now c.args.config Stuck x.whole x.found.stuck c.rules_out-no_deadlock.result x.schedules.stuck c.in_ok-stuck.stuck c.rules_out-no_deadlock.ensures c.in_ok-stuck.ensures.never.1 c.in_ok-stuck.ensures.missed)
     (met-told c.args.workload.now c.args.config Refusing x.whole x.found.refused c.rules_out-no_refusal.result x.schedules.refused c.in_ok-refused.refused c.rules_out-no_refusal.ensures c.in_ok-refused.ensures.never.1 c.in_ok-refused.ensures.missed) in
-    let cut = cut-told c.args.workload.now c.args.config c.args.most_states x.states c.args.first x.found x.schedules found says.found says.shown met in
-    let ended = first-told c.args.workload.now c.args.config c.args.most_states x.states c.args.first x.found x.schedules found says.found says.shown met in
-    each_fault (λ (f : Fault). OnOpen (finding_of found f) (IsLeftOpen c.args.workload.now c.args.config c.args.most_states c.args.first x.states found f))
-    (open-told c.args.workload.now c.args.config c.args.most_states c.args.first x.states found Cycle x.whole x.found.alarm c.rules_out-no_alarm.result x.schedules.alarm c.in_ok-alarm.alarm
+    let cut = cut-told c.args.workload.now c.args.config c.args.most_states x.states c.args.first over x.found x.schedules found says.found says.shown met in
+    let ended = first-told c.args.workload.now c.args.config c.args.most_states x.states c.args.first over x.found x.schedules found says.found says.shown met in
+    each_fault (λ (f : Fault). OnOpen (finding_of found f) (IsLeftOpen c.args.workload.now c.args.config c.args.most_states c.args.first over x.states found f))
+    (open-told c.args.workload.now c.args.config c.args.most_states c.args.first over x.states found Cycle x.whole x.found.alarm c.rules_out-no_alarm.result x.schedules.alarm c.in_ok-alarm.alarm
     c.rules_out-no_alarm.ensures (λ part none. cut Cycle (says.cut part Cycle none)) (ended Cycle) (λ whole. says.each whole Cycle) (λ all some. says.shown Cycle (shown-all c.args.first x.found Cycle all some)) c.in_ok-alarm.ensures.missed)
-    (open-told c.args.workload.now c.args.config c.args.most_states c.args.first x.states found Stuck x.whole x.found.stuck c.rules_out-no_deadlock.result x.schedules.stuck c.in_ok-stuck.stuck
+    (open-told c.args.workload.now c.args.config c.args.most_states c.args.first over x.states found Stuck x.whole x.found.stuck c.rules_out-no_deadlock.result x.schedules.stuck c.in_ok-stuck.stuck
     c.rules_out-no_deadlock.ensures (λ part none. cut Stuck (says.cut part Stuck none)) (ended Stuck) (λ whole. says.each whole Stuck) (λ all some. says.shown Stuck (shown-all c.args.first x.found Stuck all some)) c.in_ok-stuck.ensures.missed)
-    (open-told c.args.workload.now c.args.config c.args.most_states c.args.first x.states found Refusing x.whole x.found.refused c.rules_out-no_refusal.result x.schedules.refused c.in_ok-refused.refused
+    (open-told c.args.workload.now c.args.config c.args.most_states c.args.first over x.states found Refusing x.whole x.found.refused c.rules_out-no_refusal.result x.schedules.refused c.in_ok-refused.refused
     c.rules_out-no_refusal.ensures (λ part none. cut Refusing (says.cut part Refusing none)) (ended Refusing) (λ whole. says.each whole Refusing) (λ all some. says.shown Refusing (shown-all c.args.first x.found Refusing all some)) c.in_ok-refused.ensures.missed)
 
 pub returns-clause-alarms : goal.returns-clause-alarms

@@ -6,24 +6,24 @@ use Rattle.velo_explore.proofs.OnTold.{alarms-bodies, cut-search, goes_on_all, l
 use Rattle.velo_explore.proofs.exploring.search_all.Goals as goal
 
 pub search-requires-clause-plain : goal.search-requires-clause-plain
-search-requires-clause-plain g c = plain-scripts c.args.workload.now c.args.config.now.bounds c.requires.bounds c.in_ok-scripts.scripts c.in_ok-scripts.ensures.scripts
+search-requires-clause-plain g c = plain-scripts c.args.workload.now c.args.config.now.bounds c.requires.bounds c.in_ok-scripts.scripts.kinds c.in_ok-scripts.ensures.scripts
 
 pub search-requires-clause-short : goal.search-requires-clause-short
 search-requires-clause-short g c =
-    short-scripts c.args.workload.now c.args.config.now.bounds c.requires.bounds c.in_ok-scripts.scripts c.in_ok-scripts.ensures.scripts c.args.config.now.events c.requires.few (let few = c.args.config.now.few_events in omega (arith, few))
+    short-scripts c.args.workload.now c.args.config.now.bounds c.requires.bounds c.in_ok-scripts.scripts.kinds c.in_ok-scripts.ensures.scripts c.args.config.now.events c.requires.few (let few = c.args.config.now.few_events in omega (arith, few))
 
 pub returns-clause-never : goal.returns-clause-never
 returns-clause-never g c = λ whole fault none.
-    never-has c.args.workload.now c.args.config.now.bounds c.requires.bounds c.in_ok-scripts.scripts c.in_ok-scripts.ensures.scripts c.in_ok-scripts.ensures.count fault (c.in_ok-searched.ensures.whole whole fault none)
+    never-has c.args.workload.now c.args.config.now.bounds c.requires.bounds c.in_ok-scripts.scripts.kinds c.in_ok-scripts.ensures.scripts c.in_ok-scripts.ensures.count fault (c.in_ok-searched.ensures.whole whole fault none)
 
 pub returns-clause-cut : goal.returns-clause-cut
 returns-clause-cut g c = λ part fault none.
-    cut-search c.args.workload.now c.args.config.now.bounds c.requires.bounds c.in_ok-scripts.scripts c.in_ok-scripts.ensures.scripts c.args.most_states c.args.first c.in_ok-searched.searched.found c.in_ok-searched.searched.states
+    cut-search c.args.workload.now c.args.config.now.bounds c.requires.bounds c.in_ok-scripts.scripts.kinds c.in_ok-scripts.ensures.scripts c.args.most_states c.args.first _ c.in_ok-searched.searched.found c.in_ok-searched.searched.states
     (c.in_ok-searched.ensures.cut part) fault none
 
 pub returns-clause-leads : goal.returns-clause-leads
 returns-clause-leads g c = λ fault.
-    leads-bodies c.args.workload.now c.args.config.now.bounds c.requires.bounds c.in_ok-scripts.scripts c.in_ok-scripts.ensures.scripts fault (turns_for c.in_ok-searched.searched.schedules fault) (c.in_ok-searched.ensures.shown fault)
+    leads-bodies c.args.workload.now c.args.config.now.bounds c.requires.bounds c.in_ok-scripts.scripts.kinds c.in_ok-scripts.ensures.scripts fault (turns_for c.in_ok-searched.searched.schedules fault) (c.in_ok-searched.ensures.shown fault)
 
 pub returns-clause-each : goal.returns-clause-each
 returns-clause-each g c = λ whole fault found.
@@ -32,4 +32,4 @@ returns-clause-each g c = λ whole fault found.
 
 pub returns-clause-alarms : goal.returns-clause-alarms
 returns-clause-alarms g c =
-    alarms-bodies c.args.workload.now c.args.config.now.bounds c.requires.bounds c.in_ok-scripts.scripts c.in_ok-scripts.ensures.scripts c.args.first c.in_ok-searched.searched.schedules c.in_ok-searched.ensures.alarms
+    alarms-bodies c.args.workload.now c.args.config.now.bounds c.requires.bounds c.in_ok-scripts.scripts.kinds c.in_ok-scripts.ensures.scripts c.args.first c.in_ok-searched.searched.schedules c.in_ok-searched.ensures.alarms

@@ -1,10 +1,9 @@
-use Rattle.std.proofs.Common.{◌≡◌, ◌<◌, ◌+◌, true, [], ◌∷◌, ◌++◌, length, length-append, take, Some, sym, ap, ◌∙◌, subst, arith, rules, ℕ}
+use Rattle.std.proofs.Common.{◌≡◌, ◌<◌, ◌+◌, Bool, [], ◌∷◌, ◌++◌, length, length-append, take, Some, sym, ap, ◌∙◌, subst, arith, rules, ℕ}
 use Rattle.std.specs.Prelude.{slice_get, slice_index_or}
 use Rattle.velo_events.specs.declared.event.Kind.{Kind}
 use Rattle.std.proofs.lemmas.List.{get_or_default}
-use Rattle.velo_heap.specs.Contents.{Tabulates}
-use Rattle.velo_search.specs.Free.{hold_after}
-use Rattle.velo_search.specs.Notes.{IsClearBehind}
+use Rattle.velo_search.specs.Free.{AreHeld}
+use Rattle.velo_search.specs.Notes.{IsMarkOf}
 use Rattle.velo_search.proofs.OnNoting.{blank_kind, mark-next, take-next_kind}
 use Rattle.velo_search.proofs.free.clear_ones.Goals as goal
 
@@ -13,6 +12,7 @@ loop-place-preserved c =
     let script = c.args.script.now in
     let notes = c.args.notes.now in
     let t = c.args.thread in
+    let locks = c.args.locks in
     let i = c.loop-place.place in
     let k = slice_index_or script i blank_kind in
     let clear = c.loop-place.clear.items in
@@ -25,8 +25,8 @@ loop-place-preserved c =
     let one = length-append clear (b ∷ []) in
     record {
       count = ap length items ∙ (let long : length (clear ++ b ∷ []) ≡ i + 1 = omega (arith, one, inv.count) in long);
-      held = subst (λ ks. Tabulates c.take_in.new.self.locks.items (hold_after ks)) (sym (take-next_kind script i k within is)) (c.take_in.ensures (take i script) inv.held);
-      clear = subst (λ bs. (j : ℕ) (l : Kind) → slice_get bs j ≡ Some true → slice_get script j ≡ Some l → IsClearBehind notes t (take j script) l) (sym items)
-          (mark-next notes t script clear b k (omega (arith, within, inv.count)) (is ∙ ap (λ n. slice_index_or script n k) (sym inv.count)) inv.clear
-          (λ yes. record { held = held; locks = subst (λ n. Tabulates held (hold_after (take n script))) (sym inv.count) inv.held; clear = c.are_clear.ensures yes }));
+      held = subst (λ ks. AreHeld locks ks c.take_in.new.self.locks.items) (sym (take-next_kind script i k within is)) (c.take_in.ensures locks (take i script) inv.held);
+      clear = subst (λ bs. (j : ℕ) (l : Kind) (mark : Bool) → slice_get script j ≡ Some l → slice_get bs j ≡ Some mark → IsMarkOf notes locks t (take j script) l mark) (sym items)
+          (mark-next notes locks t script clear b k (omega (arith, within, inv.count)) (is ∙ ap (λ n. slice_index_or script n k) (sym inv.count)) inv.clear
+          (record { mine = held; held = subst (λ n. AreHeld locks (take n script) held) (sym inv.count) inv.held; is = c.are_clear.ensures }));
     }

@@ -12,18 +12,18 @@ use Rattle.velo_search.proofs.searching.first_level.Goals as goal
 
 pub settle-requires-clause-reached : goal.settle-requires-clause-reached
 settle-requires-clause-reached c =
-    reached-start (bounds_of c.in_ok-start.start.heap) c.args.scripts.now c.args.trail.now.steps.items c.in_ok-start.start refl c.in_ok-start.ensures.start c.in_ok-start.ensures.place
+    reached-start (bounds_of c.in_ok-start.start.heap) c.args.scripts.now.kinds c.args.trail.now.steps.items c.in_ok-start.start refl c.in_ok-start.ensures.start c.in_ok-start.ensures.place
 
 pub note_closing-requires : goal.note_closing-requires
-note_closing-requires c = reached-within (bounds_of c.in_ok-start.start.heap) c.args.scripts.now c.settle.new.trail.steps.items c.settle.new.state c.in_ok-settle.ensures.reached
+note_closing-requires c = reached-within (bounds_of c.in_ok-start.start.heap) c.args.scripts.now.kinds c.settle.new.trail.steps.items c.settle.new.state c.in_ok-settle.ensures.reached
 
 pub returns-clause-reached : goal.returns-clause-reached
 returns-clause-reached c =
-    let P = IsReachedBy c.args.config.now.bounds c.args.scripts.now c.note_closing.new.trail.steps.items in
+    let P = IsReachedBy c.args.config.now.bounds c.args.scripts.now.kinds c.note_closing.new.trail.steps.items in
     All-kept P c.new-level.result.states.items c.keep.new.self.states.items c.settle.new.state c.in_ok-keep.ensures.members
     (subst (All P) (sym c.new-level.ensures) (All-nil P))
-    (subst (λ xs. IsReachedBy c.args.config.now.bounds c.args.scripts.now xs c.settle.new.state) (sym c.note_closing.ensures.steps)
-    (subst (λ b. IsReachedBy b c.args.scripts.now c.settle.new.trail.steps.items c.settle.new.state) c.in_ok-start.ensures.bounds c.in_ok-settle.ensures.reached))
+    (subst (λ xs. IsReachedBy c.args.config.now.bounds c.args.scripts.now.kinds xs c.settle.new.state) (sym c.note_closing.ensures.steps)
+    (subst (λ b. IsReachedBy b c.args.scripts.now.kinds c.settle.new.trail.steps.items c.settle.new.state) c.in_ok-start.ensures.bounds c.in_ok-settle.ensures.reached))
 
 pub returns-clause-goes_on : goal.returns-clause-goes_on
 returns-clause-goes_on c =
@@ -32,7 +32,7 @@ returns-clause-goes_on c =
 pub returns-clause-leads : goal.returns-clause-leads
 returns-clause-leads c = λ n fault clean.
     let bounds = c.args.config.now.bounds in
-    let scripts = c.args.scripts.now in
+    let scripts = c.args.scripts.now.kinds in
     let start = c.in_ok-start.start in
     let settled : Settles bounds scripts start c.settle.new.state = subst (λ b. Settles b scripts start c.settle.new.state) c.in_ok-start.ensures.bounds c.in_ok-settle.ensures.settles in
     (settled.clean n fault (clean-among bounds scripts n fault c.keep.new.self.states.items c.settle.new.state c.in_ok-keep.ensures.there clean)).each [] (IsRunOf-nil bounds scripts) c.in_ok-start.ensures.start
@@ -40,7 +40,7 @@ returns-clause-leads c = λ n fault clean.
 pub returns-clause-alarms : goal.returns-clause-alarms
 returns-clause-alarms c =
     let bounds = c.args.config.now.bounds in
-    let scripts = c.args.scripts.now in
+    let scripts = c.args.scripts.now.kinds in
     let settled = c.in_ok-settle.ensures in
     let reached = subst (λ b. IsReachedBy b scripts c.settle.new.trail.steps.items c.settle.new.state) c.in_ok-start.ensures.bounds settled.reached in
     alarms-next bounds scripts c.args.trail.now c.settle.new.trail c.note_closing.new.trail settled.goes_on.first

@@ -17,17 +17,17 @@ pub advance-requires-clause-room : goal.advance-requires-clause-room
 advance-requires-clause-room c =
     let r = c.requires.reached in
     subst (λ xs. slice_index_or xs (thread_of c.args.event.now) 0 + 1 < 4294967296) (sym c.in_ok-after.ensures.next)
-    (counted-next (bounds_of c.args.state.now.heap) c.args.scripts.now c.requires.short c.args.state.now r.log c.args.event.now refl r.stands (c.requires.next r.log r.run r.stands))
+    (counted-next (bounds_of c.args.state.now.heap) c.args.scripts.now.kinds c.requires.short c.args.state.now r.log c.args.event.now refl r.stands (c.requires.next r.log r.run r.stands))
 
 pub advance-requires-clause-within : goal.advance-requires-clause-within
 advance-requires-clause-within c =
     subst (λ n. n ≤ length c.args.trail.now.steps.items) (sym c.in_ok-after.ensures.place)
-    (reached-within (bounds_of c.args.state.now.heap) c.args.scripts.now c.args.trail.now.steps.items c.args.state.now c.requires.reached)
+    (reached-within (bounds_of c.args.state.now.heap) c.args.scripts.now.kinds c.args.trail.now.steps.items c.args.state.now c.requires.reached)
 
 pub settle-requires-clause-reached : goal.settle-requires-clause-reached
 settle-requires-clause-reached c =
     let bounds = bounds_of c.args.state.now.heap in
-    let scripts = c.args.scripts.now in
+    let scripts = c.args.scripts.now.kinds in
     let r = c.requires.reached in
     let copy = c.in_ok-after in
     let done = c.in_ok-advance.ensures in
@@ -39,7 +39,7 @@ settle-requires-clause-reached c =
 pub returns-clause-reached : goal.returns-clause-reached
 returns-clause-reached c =
     let same = c.in_ok-advance.ensures.bounds ∙ c.in_ok-after.ensures.bounds in
-    subst (λ b. IsReachedBy b c.args.scripts.now c.settle.new.trail.steps.items c.settle.new.state) same c.in_ok-settle.ensures.reached
+    subst (λ b. IsReachedBy b c.args.scripts.now.kinds c.settle.new.trail.steps.items c.settle.new.state) same c.in_ok-settle.ensures.reached
 
 pub returns-clause-goes_on : goal.returns-clause-goes_on
 returns-clause-goes_on c =
@@ -49,7 +49,7 @@ pub returns-clause-leads : goal.returns-clause-leads
 returns-clause-leads c = λ n fault clean. record {
   each = λ log e run stands own next.
       let bounds = bounds_of c.args.state.now.heap in
-      let scripts = c.args.scripts.now in
+      let scripts = c.args.scripts.now.kinds in
       let f = c.args.event.now in
       let same = c.in_ok-advance.ensures.bounds ∙ c.in_ok-after.ensures.bounds in
       let settled : SettlesBy bounds scripts c.advance.new.trail c.advance.new.state c.settle.new.trail c.settle.new.state = subst (λ b. SettlesBy b scripts c.advance.new.trail c.advance.new.state c.settle.new.trail c.settle.new.state) same c.in_ok-settle.ensures in

@@ -9,18 +9,18 @@ use Rattle.velo_search.proofs.searching.look.Goals as goal
 
 pub returns-in-Idle-clause-tried : goal.returns-in-Idle-clause-tried
 returns-in-Idle-clause-tried c = λ start tried.
-    tried-idle (bounds_of c.args.state.now.heap) c.args.scripts.now c.args.state.now c.args.thread.0 start c.args.next.now.states.items c.args.seen.now c.in-Idle.ensures tried
+    tried-idle (bounds_of c.args.state.now.heap) c.args.scripts.now.kinds c.args.state.now c.args.thread.0 start c.args.next.now.states.items c.args.seen.now c.in-Idle.ensures tried
 
 pub returns-in-Waits-clause-tried : goal.returns-in-Waits-clause-tried
 returns-in-Waits-clause-tried c = λ start tried.
-    tried-waits (bounds_of c.args.state.now.heap) c.args.scripts.now c.args.state.now c.args.thread.0 start c.args.next.now.states.items c.args.seen.now c.in-Waits.ensures tried
+    tried-waits (bounds_of c.args.state.now.heap) c.args.scripts.now.kinds c.args.state.now c.args.thread.0 start c.args.next.now.states.items c.args.seen.now c.in-Waits.ensures tried
 
 pub returns-in-Refused-clause-tried : goal.returns-in-Refused-clause-tried
 returns-in-Refused-clause-tried c = λ start tried.
-    tried-refused (bounds_of c.args.state.now.heap) c.args.scripts.now c.args.state.now c.args.thread.0 start c.args.next.now.states.items c.args.seen.now c.in-Refused.ensures tried
+    tried-refused (bounds_of c.args.state.now.heap) c.args.scripts.now.kinds c.args.state.now c.args.thread.0 start c.args.next.now.states.items c.args.seen.now c.in-Refused.ensures tried
 
 pub returns-in-Idle-clause-alarms : goal.returns-in-Idle-clause-alarms
-returns-in-Idle-clause-alarms c = alarms-same (bounds_of c.args.state.now.heap) c.args.scripts.now c.args.trail.now c.args.trail.now refl
+returns-in-Idle-clause-alarms c = alarms-same (bounds_of c.args.state.now.heap) c.args.scripts.now.kinds c.args.trail.now c.args.trail.now refl
 
 pub returns-in-Idle-clause-noted : goal.returns-in-Idle-clause-noted
 returns-in-Idle-clause-noted c = λ here all. all
@@ -29,7 +29,7 @@ pub returns-in-Idle-clause-goes_on : goal.returns-in-Idle-clause-goes_on
 returns-in-Idle-clause-goes_on c = goes-same c.args.trail.now c.args.trail.now refl
 
 pub returns-in-Waits-clause-alarms : goal.returns-in-Waits-clause-alarms
-returns-in-Waits-clause-alarms c = alarms-same (bounds_of c.args.state.now.heap) c.args.scripts.now c.args.trail.now c.args.trail.now refl
+returns-in-Waits-clause-alarms c = alarms-same (bounds_of c.args.state.now.heap) c.args.scripts.now.kinds c.args.trail.now c.args.trail.now refl
 
 pub returns-in-Waits-clause-noted : goal.returns-in-Waits-clause-noted
 returns-in-Waits-clause-noted c = λ here all. all
@@ -38,7 +38,7 @@ pub returns-in-Waits-clause-goes_on : goal.returns-in-Waits-clause-goes_on
 returns-in-Waits-clause-goes_on c = goes-same c.args.trail.now c.args.trail.now refl
 
 pub returns-in-Refused-clause-alarms : goal.returns-in-Refused-clause-alarms
-returns-in-Refused-clause-alarms c = alarms-same (bounds_of c.args.state.now.heap) c.args.scripts.now c.args.trail.now c.args.trail.now refl
+returns-in-Refused-clause-alarms c = alarms-same (bounds_of c.args.state.now.heap) c.args.scripts.now.kinds c.args.trail.now c.args.trail.now refl
 
 pub returns-in-Refused-clause-noted : goal.returns-in-Refused-clause-noted
 returns-in-Refused-clause-noted c = λ here all. all
@@ -48,7 +48,7 @@ returns-in-Refused-clause-goes_on c = goes-same c.args.trail.now c.args.trail.no
 
 pub note_closing-requires : goal.note_closing-requires
 note_closing-requires c =
-    reached-within (bounds_of c.args.state.now.heap) c.args.scripts.now c.follow.new.trail.steps.items c.in_ok-after-in-May.after c.in_ok-after-in-May.ensures.reached
+    reached-within (bounds_of c.args.state.now.heap) c.args.scripts.now.kinds c.follow.new.trail.steps.items c.in_ok-after-in-May.after c.in_ok-after-in-May.ensures.reached
 
 pub returns-in_ok-keep-in-May-clause-goes_on : goal.returns-in_ok-keep-in-May-clause-goes_on
 returns-in_ok-keep-in-May-clause-goes_on c =
@@ -60,7 +60,7 @@ returns-in_ok-keep-in-May-clause-goes_on c =
 pub returns-in_ok-keep-in-May-clause-reached : goal.returns-in_ok-keep-in-May-clause-reached
 returns-in_ok-keep-in-May-clause-reached c = λ all.
     let bounds = bounds_of c.args.state.now.heap in
-    let scripts = c.args.scripts.now in
+    let scripts = c.args.scripts.now.kinds in
     let mid = c.note_closing.new.trail in
     let after = c.in_ok-after-in-May.after in
     kept-reached c.args.trail.now mid c.keep.new.trail c.len-count.result c.len-count.ensures
@@ -72,7 +72,7 @@ returns-in_ok-keep-in-May-clause-reached c = λ all.
 pub returns-in_ok-keep-in-May-clause-tried : goal.returns-in_ok-keep-in-May-clause-tried
 returns-in_ok-keep-in-May-clause-tried c = λ start tried.
     let bounds = bounds_of c.args.state.now.heap in
-    let scripts = c.args.scripts.now in
+    let scripts = c.args.scripts.now.kinds in
     let state = c.args.state.now in
     let r = c.requires.reached in
     let e = c.in-May.event in
@@ -87,7 +87,7 @@ returns-in_ok-keep-in-May-clause-tried c = λ start tried.
 pub returns-in_ok-keep-in-May-clause-alarms : goal.returns-in_ok-keep-in-May-clause-alarms
 returns-in_ok-keep-in-May-clause-alarms c =
     let bounds = bounds_of c.args.state.now.heap in
-    let scripts = c.args.scripts.now in
+    let scripts = c.args.scripts.now.kinds in
     let followed = c.in_ok-after-in-May.ensures in
     let closing = c.in_ok-note_closing-in-May.ensures in
     let kept = c.in_ok-keep-in-May.ensures in
@@ -100,7 +100,7 @@ returns-in_ok-keep-in-May-clause-alarms c =
 pub returns-in_ok-keep-in-May-clause-noted : goal.returns-in_ok-keep-in-May-clause-noted
 returns-in_ok-keep-in-May-clause-noted c = λ here all.
     let bounds = bounds_of c.args.state.now.heap in
-    let scripts = c.args.scripts.now in
+    let scripts = c.args.scripts.now.kinds in
     let old = c.args.trail.now in
     let mid = c.follow.new.trail in
     let noting = c.note_closing.new.trail in

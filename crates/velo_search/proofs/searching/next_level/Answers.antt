@@ -1,4 +1,4 @@
-use Rattle.std.proofs.Common.{◌≡◌, ◌+◌, ◌≤◌, false, [], ◌∷◌, ◌++◌, length, length-append, sym, ap, ◌∙◌, subst, arith}
+use Rattle.std.proofs.Common.{◌≡◌, ◌+◌, ◌≤◌, false, [], ◌∷◌, ◌++◌, length, length-append, refl, sym, ap, ◌∙◌, subst, arith}
 use Rattle.std.proofs.Math.Nat.{zero-mul}
 use Rattle.std.specs.Prelude.{All, Contains}
 use Rattle.std.proofs.lemmas.List.Elements.{All-contains, All-nil, All-push, Contains-append_left, Contains-push}
@@ -10,9 +10,9 @@ use Rattle.velo_search.proofs.OnTrails.{all-longer, all-noted_on, reached-longer
 use Rattle.velo_search.proofs.searching.next_level.Goals as goal
 
 pub loop-state-init : goal.loop-state-init
-loop-state-init c =
+loop-state-init g c =
     let bounds = c.args.bounds in
-    let scripts = c.args.scripts.now in
+    let scripts = c.args.scripts.now.kinds in
     let old = c.args.level.now.states.items in
     let new = c.turn_round.new.self.states.items in
     let turned = c.turn_round.ensures in
@@ -27,25 +27,26 @@ loop-state-init c =
       few = omega (arith, ap length c.requires.empty, zero-mul c.args.bounds.threads);
       noted = subst (All (IsNoted c.args.trail.now)) (sym c.requires.empty) (All-nil (IsNoted c.args.trail.now));
       noted_left = All-turned (IsNoted c.args.trail.now) old new turned.states turned.count c.requires.noted;
+      may = refl;
     }
 
 pub put_next-requires-clause-state : goal.put_next-requires-clause-state
-put_next-requires-clause-state c =
-    let P = IsReachedBy c.args.bounds c.args.scripts.now c.loop-state.trail.steps.items in
+put_next-requires-clause-state g c =
+    let P = IsReachedBy c.args.bounds c.args.scripts.now.kinds c.loop-state.trail.steps.items in
     let rest = c.pop.new.self.items in
     let state = c.in-Some.state in
     All-contains P c.loop-state.level.states.items state c.loop-state.invariant.left (subst (λ xs. Contains xs state) (sym c.in-Some.ensures.items) (Contains-push rest state))
 
 pub put_next-requires-clause-noted : goal.put_next-requires-clause-noted
-put_next-requires-clause-noted c =
+put_next-requires-clause-noted g c =
     let rest = c.pop.new.self.items in
     let state = c.in-Some.state in
     All-contains (IsNoted c.loop-state.trail) c.loop-state.level.states.items state c.loop-state.invariant.noted_left (subst (λ xs. Contains xs state) (sym c.in-Some.ensures.items) (Contains-push rest state))
 
 pub loop-state-preserved : goal.loop-state-preserved
-loop-state-preserved c =
+loop-state-preserved g c =
     let bounds = c.args.bounds in
-    let scripts = c.args.scripts.now in
+    let scripts = c.args.scripts.now.kinds in
     let now = c.loop-state.level.states.items in
     let rest = c.pop.new.self.items in
     let state = c.in-Some.state in
@@ -75,12 +76,13 @@ loop-state-preserved c =
       noted_left = all-noted_on c.loop-state.trail c.note.new.self rest (notes.first ∙ c.in_ok-after.ensures.goes_on.first) (omega (arith, same, c.in_ok-after.ensures.alarms.more))
           (All-before (IsNoted c.loop-state.trail) rest now (λ s there. subst (λ xs. Contains xs s) (sym popped) (Contains-append_left rest (state ∷ []) s there)) inv.noted_left);
       count = let long = ap length popped in let one = length-append rest (state ∷ []) in omega (arith, inv.count, long, one);
+      may = c.is_over.ensures.may ∙ inv.may;
     }
 
 pub note-requires : goal.note-requires
-note-requires c =
+note-requires g c =
     let bounds = c.args.bounds in
-    let scripts = c.args.scripts.now in
+    let scripts = c.args.scripts.now.kinds in
     let now = c.loop-state.level.states.items in
     let rest = c.pop.new.self.items in
     let state = c.in-Some.state in
@@ -90,9 +92,9 @@ note-requires c =
     (reached-longer bounds scripts c.loop-state.trail.steps.items c.put_next.new.trail.steps.items state c.in_ok-after.ensures.goes_on.longer here))
 
 pub returns-then-has_ended-clause-shown : goal.returns-then-has_ended-clause-shown
-returns-then-has_ended-clause-shown c =
+returns-then-has_ended-clause-shown g c =
     let bounds = c.args.bounds in
-    let scripts = c.args.scripts.now in
+    let scripts = c.args.scripts.now.kinds in
     let now = c.loop-state.level.states.items in
     let rest = c.pop.new.self.items in
     let state = c.in-Some.state in

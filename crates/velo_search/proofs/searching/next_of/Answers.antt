@@ -10,7 +10,7 @@ use Rattle.velo_search.proofs.searching.next_of.Goals as goal
 pub returns-in_default-refusal : goal.returns-in_default-refusal
 returns-in_default-refusal c = λ log run stands.
     let bounds = bounds_of c.args.state.now.heap in
-    let scripts = c.args.scripts.now in
+    let scripts = c.args.scripts.now.kinds in
     let t = c.args.thread in
     let k = c.in-Some.kind in
     let due : slice_get (script_of scripts t.0) (events_of log t.0) ≡ Some k = ap (slice_get (script_of scripts t.0)) (sym (c.done_by.ensures log stands)) ∙ sym c.in-Some.ensures in
@@ -19,7 +19,7 @@ returns-in_default-refusal c = λ log run stands.
 pub returns-then-is_wait : goal.returns-then-is_wait
 returns-then-is_wait c = λ log run stands.
     let bounds = bounds_of c.args.state.now.heap in
-    let scripts = c.args.scripts.now in
+    let scripts = c.args.scripts.now.kinds in
     let t = c.args.thread.0 in
     let k = c.in-Some.kind in
     let due : slice_get (script_of scripts t) (events_of log t) ≡ Some k = ap (slice_get (script_of scripts t)) (sym (c.done_by.ensures log stands)) ∙ sym c.in-Some.ensures in

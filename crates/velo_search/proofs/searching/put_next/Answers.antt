@@ -12,7 +12,7 @@ use Rattle.velo_search.proofs.searching.put_next.Goals as goal
 pub loop-thread-init : goal.loop-thread-init
 loop-thread-init c =
     let bounds = c.args.bounds in
-    let scripts = c.args.scripts.now in
+    let scripts = c.args.scripts.now.kinds in
     let start = c.args.next.now.states.items in
     record {
       tried = tried-start bounds scripts c.args.state.now start (λ k d l. reached-plain bounds scripts c.args.trail.now.steps.items _ (c.requires.others k d l));
@@ -25,14 +25,14 @@ loop-thread-init c =
 
 pub look-requires-clause-reached : goal.look-requires-clause-reached
 look-requires-clause-reached c =
-    let scripts = c.args.scripts.now in
+    let scripts = c.args.scripts.now.kinds in
     let state = c.args.state.now in
     subst (λ b. IsReachedBy b scripts c.loop-thread.trail.steps.items state) (sym c.requires.state.same)
     (reached-longer c.args.bounds scripts c.args.trail.now.steps.items c.loop-thread.trail.steps.items state c.loop-thread.invariant.goes_on.longer c.requires.state)
 
 pub loop-thread-preserved : goal.loop-thread-preserved
 loop-thread-preserved c =
-    let scripts = c.args.scripts.now in
+    let scripts = c.args.scripts.now.kinds in
     let state = c.args.state.now in
     let start = c.args.next.now.states.items in
     let same = c.requires.state.same in
@@ -53,7 +53,7 @@ loop-thread-preserved c =
 pub returns-clause-found : goal.returns-clause-found
 returns-clause-found c =
     let bounds = c.args.bounds in
-    let scripts = c.args.scripts.now in
+    let scripts = c.args.scripts.now.kinds in
     let state = c.args.state.now in
     let start = c.args.next.now.states.items in
     let now = c.loop-thread.next.states.items in
@@ -66,7 +66,7 @@ returns-clause-found c =
 pub returns-clause-leads : goal.returns-clause-leads
 returns-clause-leads c =
     let bounds = c.args.bounds in
-    let scripts = c.args.scripts.now in
+    let scripts = c.args.scripts.now.kinds in
     let state = c.args.state.now in
     let start = c.args.next.now.states.items in
     let now = c.loop-thread.next.states.items in
@@ -80,7 +80,7 @@ returns-clause-leads c =
 pub returns-clause-shows : goal.returns-clause-shows
 returns-clause-shows c =
     let bounds = c.args.bounds in
-    let scripts = c.args.scripts.now in
+    let scripts = c.args.scripts.now.kinds in
     let state = c.args.state.now in
     let start = c.args.next.now.states.items in
     let now = c.loop-thread.next.states.items in

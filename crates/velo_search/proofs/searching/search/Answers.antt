@@ -1,5 +1,5 @@
-use Rattle.std.proofs.Common.{◌≡◌, ◌+◌, ◌*◌, ◌≤◌, true, false, [], length, subst, sym, ◌∙◌, arith, rules}
-use Rattle.std.proofs.lemmas.Bool.{eqb-false}
+use Rattle.std.proofs.Common.{◌≡◌, ◌+◌, ◌*◌, ◌≤◌, ◌&&◌, true, false, [], length, refl, subst, sym, ◌∙◌, arith, rules}
+use Rattle.std.proofs.lemmas.Bool.{eqb-false, or_parts}
 use Rattle.std.specs.Prelude.{All, IfSome, IsTrue, is_some}
 use Rattle.velo_search.specs.Faults.{IsFault}
 use Rattle.velo_search.specs.Runs.{NeverWithin}
@@ -10,14 +10,14 @@ use Rattle.velo_search.specs.Told.{shown_of}
 use Rattle.velo_search.specs.Search.{IsClean, IsCutShort, IsTrueOf, has_fault}
 use Rattle.velo_search.proofs.OnCounts.{few-level, ways-level}
 use Rattle.velo_search.proofs.OnRuns.{never-any}
-use Rattle.velo_search.proofs.OnTold.{nothing-true, goes_on-nothing, spent-cut}
+use Rattle.velo_search.proofs.OnTold.{ended-cut, nothing-true, goes_on-nothing, spent-cut}
 use Rattle.velo_search.proofs.OnTrails.{shown-goes_on, shown-nothing}
 use Rattle.velo_search.proofs.searching.search.Goals as goal
 
 pub loop-states-init : goal.loop-states-init
 loop-states-init g c =
     let bounds = c.args.config.now.bounds in
-    let scripts = c.args.scripts.now in
+    let scripts = c.args.scripts.now.kinds in
     let begun = c.in_ok-level.ensures in
     record {
       some = begun.some;
@@ -31,6 +31,7 @@ loop-states-init g c =
       noted = begun.noted;
       depth = omega arith;
       kept = omega (arith, begun.one);
+      may = refl;
     }
 
 pub overflow_add-levels : goal.overflow_add-levels
@@ -41,7 +42,7 @@ overflow_add-levels g c =
 pub returns-then-is_empty-clause-whole : goal.returns-then-is_empty-clause-whole
 returns-then-is_empty-clause-whole g c = λ _ fault h.
     let bounds = c.args.config.now.bounds in
-    let scripts = c.args.scripts.now in
+    let scripts = c.args.scripts.now.kinds in
     let goes_on = sym c.has_ended.ensures ∙ c.if-has_ended.false in
     let none = subst (λ (f : Found). has_fault f fault ≡ false) c.into_searched-then-is_empty.ensures.found h in
     let empty : length c.next_level.new.next.states.items ≡ 0 = search rules in
@@ -53,7 +54,7 @@ returns-then-is_empty-clause-whole g c = λ _ fault h.
 pub returns-then-is_empty-clause-first : goal.returns-then-is_empty-clause-first
 returns-then-is_empty-clause-first g c = λ first _ fault.
     subst (λ (f : Found). has_fault f fault ≡ false) (sym c.into_searched-then-is_empty.ensures.found)
-    (goes_on-nothing c.args.first c.in_ok-looked.looked.found first (sym c.has_ended.ensures ∙ c.if-has_ended.false) fault)
+    (goes_on-nothing c.args.first c.in_ok-looked.looked.found first (or_parts _ _ (sym c.has_ended.ensures ∙ c.if-has_ended.false)).1 fault)
 
 pub loop-states-preserved : goal.loop-states-preserved
 loop-states-preserved g c =
@@ -75,23 +76,24 @@ loop-states-preserved g c =
       kept =
           let all = c.in_ok-looked.ensures.all goes_on in
           few-level c.loop-states.states c.in_ok-looked.looked.states c.args.config.now.bounds.threads (length c.next_level.new.next.states.items) (omega (arith, all, c.loop-states.invariant.kept)) c.in_ok-looked.ensures.count;
+      may = c.level_done.ensures.may ∙ c.in_ok-looked.ensures.may ∙ c.loop-states.invariant.may;
     }
 
 pub returns-clause-found : goal.returns-clause-found
 returns-clause-found g c =
-    subst (λ (f : Found). IsTrueOf c.args.config.now.bounds c.args.scripts.now f) (sym c.into_searched-2.ensures.found) c.loop-states.invariant.true_of
+    subst (λ (f : Found). IsTrueOf c.args.config.now.bounds c.args.scripts.now.kinds f) (sym c.into_searched-2.ensures.found) c.loop-states.invariant.true_of
 
 pub returns-then-has_ended-clause-found : goal.returns-then-has_ended-clause-found
 returns-then-has_ended-clause-found g c =
-    subst (λ (f : Found). IsTrueOf c.args.config.now.bounds c.args.scripts.now f) (sym c.into_searched.ensures.found) c.in_ok-looked.ensures.found
+    subst (λ (f : Found). IsTrueOf c.args.config.now.bounds c.args.scripts.now.kinds f) (sym c.into_searched.ensures.found) c.in_ok-looked.ensures.found
 
 pub returns-then-is_empty-clause-found : goal.returns-then-is_empty-clause-found
 returns-then-is_empty-clause-found g c =
-    subst (λ (f : Found). IsTrueOf c.args.config.now.bounds c.args.scripts.now f) (sym c.into_searched-then-is_empty.ensures.found) c.in_ok-looked.ensures.found
+    subst (λ (f : Found). IsTrueOf c.args.config.now.bounds c.args.scripts.now.kinds f) (sym c.into_searched-then-is_empty.ensures.found) c.in_ok-looked.ensures.found
 
 pub returns-then-has_ended-clause-shown : goal.returns-then-has_ended-clause-shown
 returns-then-has_ended-clause-shown g c = λ fault.
-    subst (λ (s : Schedules). IfSome (turns_for s fault) (LeadsTo c.args.config.now.bounds c.args.scripts.now fault)) (sym c.into_searched.ensures.schedules) (c.in_ok-looked.ensures.shown.leads fault)
+    subst (λ (s : Schedules). IfSome (turns_for s fault) (LeadsTo c.args.config.now.bounds c.args.scripts.now.kinds fault)) (sym c.into_searched.ensures.schedules) (c.in_ok-looked.ensures.shown.leads fault)
 
 pub returns-then-has_ended-clause-each : goal.returns-then-has_ended-clause-each
 returns-then-has_ended-clause-each g c = λ fault found.
@@ -99,7 +101,7 @@ returns-then-has_ended-clause-each g c = λ fault found.
 
 pub returns-then-is_empty-clause-shown : goal.returns-then-is_empty-clause-shown
 returns-then-is_empty-clause-shown g c = λ fault.
-    subst (λ (s : Schedules). IfSome (turns_for s fault) (LeadsTo c.args.config.now.bounds c.args.scripts.now fault)) (sym c.into_searched-then-is_empty.ensures.schedules) (c.in_ok-looked.ensures.shown.leads fault)
+    subst (λ (s : Schedules). IfSome (turns_for s fault) (LeadsTo c.args.config.now.bounds c.args.scripts.now.kinds fault)) (sym c.into_searched-then-is_empty.ensures.schedules) (c.in_ok-looked.ensures.shown.leads fault)
 
 pub returns-then-is_empty-clause-each : goal.returns-then-is_empty-clause-each
 returns-then-is_empty-clause-each g c = λ fault found.
@@ -107,7 +109,7 @@ returns-then-is_empty-clause-each g c = λ fault found.
 
 pub returns-clause-shown : goal.returns-clause-shown
 returns-clause-shown g c = λ fault.
-    subst (λ (s : Schedules). IfSome (turns_for s fault) (LeadsTo c.args.config.now.bounds c.args.scripts.now fault)) (sym c.into_searched-2.ensures.schedules) (c.loop-states.invariant.shown.leads fault)
+    subst (λ (s : Schedules). IfSome (turns_for s fault) (LeadsTo c.args.config.now.bounds c.args.scripts.now.kinds fault)) (sym c.into_searched-2.ensures.schedules) (c.loop-states.invariant.shown.leads fault)
 
 pub returns-clause-each : goal.returns-clause-each
 returns-clause-each g c = λ fault found.
@@ -115,22 +117,36 @@ returns-clause-each g c = λ fault found.
 
 pub returns-then-has_ended-clause-alarms : goal.returns-then-has_ended-clause-alarms
 returns-then-has_ended-clause-alarms g c =
-    subst (λ (s : Schedules). LeadToCycles c.args.config.now.bounds c.args.scripts.now c.args.first s) (sym c.into_searched.ensures.schedules) c.in_ok-looked.ensures.shown.alarms
+    subst (λ (s : Schedules). LeadToCycles c.args.config.now.bounds c.args.scripts.now.kinds c.args.first s) (sym c.into_searched.ensures.schedules) c.in_ok-looked.ensures.shown.alarms
 
 pub returns-then-is_empty-clause-alarms : goal.returns-then-is_empty-clause-alarms
 returns-then-is_empty-clause-alarms g c =
-    subst (λ (s : Schedules). LeadToCycles c.args.config.now.bounds c.args.scripts.now c.args.first s) (sym c.into_searched-then-is_empty.ensures.schedules) c.in_ok-looked.ensures.shown.alarms
+    subst (λ (s : Schedules). LeadToCycles c.args.config.now.bounds c.args.scripts.now.kinds c.args.first s) (sym c.into_searched-then-is_empty.ensures.schedules) c.in_ok-looked.ensures.shown.alarms
 
 pub returns-clause-alarms : goal.returns-clause-alarms
 returns-clause-alarms g c =
-    subst (λ (s : Schedules). LeadToCycles c.args.config.now.bounds c.args.scripts.now c.args.first s) (sym c.into_searched-2.ensures.schedules) c.loop-states.invariant.shown.alarms
+    subst (λ (s : Schedules). LeadToCycles c.args.config.now.bounds c.args.scripts.now.kinds c.args.first s) (sym c.into_searched-2.ensures.schedules) c.loop-states.invariant.shown.alarms
 
 pub returns-clause-cut : goal.returns-clause-cut
 returns-clause-cut g c = λ _.
     let bounds = c.args.config.now.bounds in
-    let scripts = c.args.scripts.now in
+    let scripts = c.args.scripts.now.kinds in
     let inv = c.loop-states.invariant in
+    let over = g.P.Progress.may_end c.args.progress.now && g.P.Progress.says_over c.loop-states.progress in
     let most : c.args.most_states ≤ c.loop-states.states * bounds.threads = omega (arith, inv.kept, inv.most, c.loop-states-test.false, c.len.ensures) in
-    subst (λ (f : Found). IsCutShort bounds scripts c.args.most_states c.args.first f c.into_searched-2.result.states) (sym c.into_searched-2.ensures.found)
-    (subst (λ n. IsCutShort bounds scripts c.args.most_states c.args.first c.loop-states.found n) (sym c.into_searched-2.ensures.states)
-    (spent-cut bounds scripts c.args.most_states c.args.first c.loop-states.found c.loop-states.states c.loop-states.levels c.loop-states.level.states.items most inv.depth inv.leads))
+    subst (λ (f : Found). IsCutShort bounds scripts c.args.most_states c.args.first over f c.into_searched-2.result.states) (sym c.into_searched-2.ensures.found)
+    (subst (λ n. IsCutShort bounds scripts c.args.most_states c.args.first over c.loop-states.found n) (sym c.into_searched-2.ensures.states)
+    (spent-cut bounds scripts c.args.most_states c.args.first over c.loop-states.found c.loop-states.states c.loop-states.levels c.loop-states.level.states.items most inv.depth inv.leads))
+
+pub returns-then-has_ended-clause-cut : goal.returns-then-has_ended-clause-cut
+returns-then-has_ended-clause-cut g c = λ _.
+    let bounds = c.args.config.now.bounds in
+    let scripts = c.args.scripts.now.kinds in
+    let looked = c.in_ok-looked.looked in
+    let may = g.P.Progress.may_end in
+    let over = may c.args.progress.now && g.P.Progress.says_over c.level_done.new.self in
+    let said : looked.over ≡ true → over ≡ true = λ says.
+    subst (λ b. (b && g.P.Progress.says_over c.level_done.new.self) ≡ true) c.loop-states.invariant.may
+    (subst (λ b. (may c.loop-states.progress && b) ≡ true) (sym c.level_done.ensures.says) (c.in_ok-looked.ensures.over says)) in
+    subst (λ (f : Found). IsCutShort bounds scripts c.args.most_states c.args.first over f c.into_searched.result.states) (sym c.into_searched.ensures.found)
+    (ended-cut bounds scripts c.args.most_states c.args.first over looked.over looked.found c.into_searched.result.states (sym c.has_ended.ensures ∙ c.if-has_ended.true) said)

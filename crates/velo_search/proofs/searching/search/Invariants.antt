@@ -10,15 +10,16 @@ abbrev pub invariant-loop-states : goal.invariant-loop-states
 invariant-loop-states g l = record {
   some : 0 < length l.level.states.items;
   most : l.states ≤ l.fn.most_states;
-  true_of : IsTrueOf l.fn.config.bounds l.fn.scripts l.found;
-  others : All (IsReachedBy l.fn.config.bounds l.fn.scripts l.trail.steps.items) l.level.states.items;
-  shown : AreShown l.fn.config.bounds l.fn.scripts l.fn.first l.found l.trail;
+  true_of : IsTrueOf l.fn.config.bounds l.fn.scripts.kinds l.found;
+  others : All (IsReachedBy l.fn.config.bounds l.fn.scripts.kinds l.trail.steps.items) l.level.states.items;
+  shown : AreShown l.fn.config.bounds l.fn.scripts.kinds l.fn.first l.found l.trail;
   levels : l.levels ≤ l.states;
-  leads : (n : ℕ) (fault : Fault) → has_fault l.found fault ≡ false → All (IsClean l.fn.config.bounds l.fn.scripts n fault) l.level.states.items →
-      NeverWithin (l.levels + n) (IsFault l.fn.config.bounds l.fn.scripts fault) l.fn.config.bounds l.fn.scripts [];
+  leads : (n : ℕ) (fault : Fault) → has_fault l.found fault ≡ false → All (IsClean l.fn.config.bounds l.fn.scripts.kinds n fault) l.level.states.items →
+      NeverWithin (l.levels + n) (IsFault l.fn.config.bounds l.fn.scripts.kinds fault) l.fn.config.bounds l.fn.scripts.kinds [];
   noted : All (IsNoted l.trail) l.level.states.items;
   depth : l.states ≤ ways l.fn.config.bounds.threads l.levels;
   kept : l.states + length l.level.states.items ≤ l.states * l.fn.config.bounds.threads + 1;
+  may : g.P.Progress.may_end l.progress ≡ g.P.Progress.may_end l.fn.progress;
 }
 
 abbrev pub decreases-loop-states : goal.decreases-loop-states

@@ -3,4 +3,4 @@ use Rattle.velo_search.specs.Trail.{SettlesBy}
 use Rattle.velo_search.proofs.settling.settle_all.Given as goal
 
 abbrev pub invariant-loop-thread : goal.invariant-loop-thread
-invariant-loop-thread l = SettlesBy (bounds_of l.fn.state.heap) l.fn.scripts l.fn.trail l.fn.state l.trail l.state
+invariant-loop-thread l = SettlesBy (bounds_of l.fn.state.heap) l.fn.scripts.kinds l.fn.trail l.fn.state l.trail l.state

@@ -5,16 +5,16 @@ use Rattle.velo_search.proofs.OnTrails.{settles_by-same, settles_by-next}
 use Rattle.velo_search.proofs.settling.settle_thread.Goals as goal
 
 pub loop-step-init : goal.loop-step-init
-loop-step-init c = settles_by-same (bounds_of c.args.state.now.heap) c.args.scripts.now c.args.trail.now c.args.state.now c.requires.reached
+loop-step-init c = settles_by-same (bounds_of c.args.state.now.heap) c.args.scripts.now.kinds c.args.trail.now c.args.state.now c.requires.reached
 
 pub settle_once-requires-clause-reached : goal.settle_once-requires-clause-reached
 settle_once-requires-clause-reached c =
     let r = c.loop-step.invariant.reached in
-    subst (λ b. IsReachedBy b c.args.scripts.now c.loop-step.trail.steps.items c.loop-step.state) (sym r.same) r
+    subst (λ b. IsReachedBy b c.args.scripts.now.kinds c.loop-step.trail.steps.items c.loop-step.state) (sym r.same) r
 
 pub loop-step-preserved : goal.loop-step-preserved
 loop-step-preserved c =
-    let scripts = c.args.scripts.now in
+    let scripts = c.args.scripts.now.kinds in
     settles_by-next (bounds_of c.args.state.now.heap) scripts c.args.trail.now c.loop-step.trail c.settle_once.new.trail c.args.state.now c.loop-step.state c.settle_once.new.state c.loop-step.invariant
     (subst (λ b. SettlesBy b scripts c.loop-step.trail c.loop-step.state c.settle_once.new.trail c.settle_once.new.state) c.loop-step.invariant.reached.same c.in_ok-settle_once.ensures)
 

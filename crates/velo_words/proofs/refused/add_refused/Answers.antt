@@ -1,7 +1,7 @@
 use Rattle.std.proofs.Common.{length}
 use Rattle.velo_explain.specs.Pieces.{line_of}
-use Rattle.velo_words.proofs.OnPages.{six_joined}
-use Rattle.velo_words.specs.Lines.{of_line}
+use Rattle.velo_fault_words.proofs.OnPages.{six_joined}
+use Rattle.velo_fault_words.specs.Lines.{of_line}
 use Rattle.velo_words.specs.Refused.{kind_words, reason, refusal_help, refused_words, shown_event, thread_words}
 use Rattle.velo_words.proofs.refused.add_refused.Goals as goal
 

@@ -1,4 +1,5 @@
 use Rattle.std.proofs.Common.{inr, refl, rules, subst}
+use Rattle.std.proofs.lemmas.Bool.{and_parts}
 use Rattle.velo_fate.specs.declared.fate.Fate.TheVariants.{Memory}
 use Rattle.velo_fate.specs.Delivery.{silent}
 use Rattle.velo_delivery.specs.Disk.{store}
@@ -11,7 +12,7 @@ use Rattle.velo_workload_commands.proofs.exploring.explore_workload.Goals as goa
 
 pub report_told-fate-requires : goal.report_told-fate-requires
 report_told-fate-requires g c =
-    first_told c.args.workload.now c.config_of_run-config.result c.args.options.now c.in-Ok.told c.config_of_run-config.ensures.bounds c.in-Ok.ensures
+    first_told c.args.workload.now c.config_of_run-config.result c.args.options.now _ c.in-Ok.told c.config_of_run-config.ensures.bounds c.in-Ok.ensures
 
 pub returns-in-Ok : goal.returns-in-Ok
 returns-in-Ok g c =
@@ -21,8 +22,9 @@ returns-in-Ok g c =
     (writing g.O.Sink.contents g.O.Sink.failures c.args.out.now c.report_told-fate.new.out) c.report_told-fate.result)
     c.run_of-run.ensures c.report_told-fate.ensures in (
       said.0,
-      explored c.args.workload.now c.config_of_run-config.result c.args.options.now c.in-Ok.told said.0
-          (subst (λ (o : RunOptions). IsConfigOf c.args.workload.now o c.config_of_run-config.result) c.run_of-run.ensures c.config_of_run-config.ensures) c.in-Ok.ensures said.1,
+      explored c.args.workload.now c.config_of_run-config.result c.args.options.now _ c.in-Ok.told said.0
+          (subst (λ (o : RunOptions). IsConfigOf c.args.workload.now o c.config_of_run-config.result) c.run_of-run.ensures c.config_of_run-config.ensures)
+          (λ over. c.begin.ensures (and_parts _ _ over).0) c.in-Ok.ensures said.1,
       said.2,
     )
 

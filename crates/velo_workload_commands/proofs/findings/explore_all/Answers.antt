@@ -1,4 +1,4 @@
-use Rattle.std.proofs.Common.{ℕ, List, arith, map, refl, subst, take}
+use Rattle.std.proofs.Common.{◌&&◌, ℕ, List, arith, map, refl, subst, take}
 use Rattle.std.specs.Global.{Vec}
 use Rattle.velo_events.specs.declared.event.ThreadId.{ThreadId}
 use Rattle.velo_search.specs.declared.fault.Fault.{Fault}
@@ -19,6 +19,7 @@ returns g c =
     let search = c.in_ok-events.field-0 in
     let program = c.args.workload.now in
     let options = c.args.options.now in
+    let over = g.P.Progress.may_end c.args.progress.now && g.P.Progress.says_over c.explore.new.progress in
     record {
       search = search;
       is_search = record {
@@ -26,7 +27,7 @@ returns g c =
         states = omega (arith, c.in_ok-events.ensures.states, c.from-most_states.ensures);
         told = c.in_ok-events.ensures.told;
         left_open = λ fault.
-            subst (λ (n : ℕ). OnOpen (finding_of search.findings fault) (IsLeftOpen program c.args.config n options.first search.states search.findings fault))
+            subst (λ (n : ℕ). OnOpen (finding_of search.findings fault) (IsLeftOpen program c.args.config n options.first over search.states search.findings fault))
             c.from-most_states.ensures (c.in_ok-events.ensures.left_open fault);
         alarms = c.in_ok-events.ensures.alarms;
       };

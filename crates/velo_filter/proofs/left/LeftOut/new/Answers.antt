@@ -1,11 +1,11 @@
-use Rattle.std.proofs.Common.{ap, ◌∙◌}
+use Rattle.std.proofs.Common.{ap, ℕ, Bool}
 use Rattle.std.specs.Prelude.{slice_index_or, false}
-use Rattle.velo_filter.specs.Left.{is_listed, nothing}
-use Rattle.velo_filter.proofs.OnTables.{left_same, is_listed-nil}
+use Rattle.velo_filter.specs.Left.{nothing}
+use Rattle.velo_filter.proofs.OnTables.{left_same}
 use Rattle.velo_filter.proofs.left.LeftOut.new.Goals as goal
 
 pub returns : goal.returns
 returns c = left_same _ nothing
-    (λ l. ap (λ xs. is_listed xs l) c.new.ensures.empty ∙ is_listed-nil l)
+    (λ l. ap (λ (f : ℕ → Bool). f l) c.new.ensures)
     (λ m. ap (λ xs. slice_index_or xs m false) c.new-2.ensures.items)
     (λ x. ap (λ xs. slice_index_or xs x false) c.new-3.ensures.items)

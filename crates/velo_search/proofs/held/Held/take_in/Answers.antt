@@ -1,7 +1,7 @@
 use Rattle.std.proofs.Common.{◌≡◌, ◌<◌, length, slice_index_or, rules, ap, ◌∙◌}
 use Rattle.std.proofs.lemmas.List.{length-set, get_or_default}
 use Rattle.velo_search.specs.Free.{hold_next, no_hold}
-use Rattle.velo_search.proofs.OnHolds.{done-next, left-next, Tabulates-taken}
+use Rattle.velo_search.proofs.OnHolds.{done-next, left-next, held-taken}
 use Rattle.velo_search.proofs.held.Held.take_in.Goals as goal
 
 pub loop-lock-preserved : goal.loop-lock-preserved
@@ -20,5 +20,5 @@ loop-lock-preserved c =
 
 pub returns : goal.returns
 returns c =
-    Tabulates-taken c.args.self.now.locks.items c.loop-lock.self.locks.items c.args.kind c.loop-lock.invariant.length
+    held-taken c.args.self.now.locks.items c.loop-lock.self.locks.items c.args.kind c.loop-lock.invariant.length
     (λ m within. c.loop-lock.invariant.done m (search rules))

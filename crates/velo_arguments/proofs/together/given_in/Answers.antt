@@ -1,0 +1,12 @@
+use Rattle.std.proofs.Common.{◌≡◌, ◌∙◌, ap, codes, refl, sym}
+use Rattle.clap.specs.Words.{first_of, found_of, rows_of}
+use Rattle.velo_arguments.specs.Together.{is_other_form}
+use Rattle.velo_arguments.proofs.OnAsked.{option_read}
+use Rattle.velo_arguments.proofs.together.given_in.Goals as goal
+
+pub returns : goal.returns
+returns c =
+    let f = found_of c.args.found.now in
+    let other : c.is_other_form.result ≡ is_other_form (first_of (codes "format") (rows_of f)) =
+    c.is_other_form.ensures ∙ ap is_other_form (sym (option_read f (codes "format") c.get_str.result c.get_str.ensures)) in
+    rw (c.is_given.ensures, c.is_given-2.ensures, c.is_given-3.ensures, c.is_given-4.ensures, other) refl

@@ -1,0 +1,183 @@
+//! The page of an audit, in the form that was asked for.
+ghost use Rattle.std.specs.Prelude.{◌≡◌, ◌≤◌, All, length, IfOk};
+ghost use Rattle.velo_events.specs.declared.limits.TheConstants.{MAX_EVENTS};
+ghost use Rattle.velo_events.specs.WellFormed.{IsWellFormed};
+ghost use Rattle.velo_filter.specs.Left.{rest_of};
+ghost use Rattle.velo_audit.specs.Audit.{TellsTruly};
+ghost use Rattle.velo_audit_text.specs.Entries.{IsListed};
+ghost use Rattle.velo_audit_text.specs.Listing.{IsListingText};
+ghost use Rattle.velo_audit_forms.specs.Answer.{IsJsonText};
+ghost use Rattle.velo_audit_commands.specs.Auditing.{IsAuditPage, IsAuditText, left_at_first, listing_of};
+
+use crate::auditing::left_out;
+use std::alloc::Global;
+use velo_audit::Told;
+use velo_audit_findings::{audit_junit, audit_sarif};
+use velo_audit_forms::audit_json;
+use velo_audit_text::{Asked, Listed, Listing, audit_text, listed_of, listing_text};
+use velo_events::{Bounds, Memory};
+use velo_explain::Page;
+use velo_filter::thin;
+use velo_names::Names;
+use velo_request::{AuditOptions, OutputFormat};
+use velo_sites::Sites;
+use velo_tally::marks_of;
+use velo_traces::Trace;
+
+/// How the labels are to be listed, if this was asked for.
+fn listing_of(options: &AuditOptions) -> Option<Listing>
+    ensures { result ≡ listing_of options.now }
+{
+    if !(options.counts || options.by_count || options.innermost) {
+        return None;
+    }
+    Some(Listing {
+        counts: options.counts,
+        by_count: options.by_count,
+        innermost: options.innermost,
+    })
+}
+
+/// The text of the rounds where their labels are listed as was asked for.
+fn listed(
+    alloc: Global,
+    bounds: Bounds,
+    log: &Trace,
+    names: &Names,
+    sites: &Option<Sites>,
+    asked: &Asked,
+    listing: Listing,
+    rounds: &[Told],
+    atomic: usize,
+) -> Result<Page, Memory>
+    requires few { length log.now.events ≤ MAX_EVENTS }
+    requires well_formed { IsWellFormed bounds log.now.events }
+    requires truly { All (TellsTruly log.now.events) rounds.now }
+    ensures { IfOk result (λ page. IsListingText names.now sites.now log.now.events asked.now listing
+        (rest_of (left_at_first asked.now) log.now.events) rounds.now atomic page) }
+{
+    let left = left_out(alloc, asked)?;
+    let first = thin(alloc, log, &left)?;
+    let marks = marks_of(alloc, bounds, &first.trace)?;
+    listing_text(
+        alloc,
+        names,
+        sites,
+        log,
+        asked,
+        listing,
+        &first.trace,
+        &marks,
+        rounds,
+        atomic,
+    )
+}
+
+/// The text of the rounds.
+fn text_of(
+    alloc: Global,
+    bounds: Bounds,
+    log: &Trace,
+    names: &Names,
+    sites: &Option<Sites>,
+    asked: &Asked,
+    listing: Option<Listing>,
+    rounds: &[Told],
+    atomic: usize,
+) -> Result<Page, Memory>
+    requires few { length log.now.events ≤ MAX_EVENTS }
+    requires well_formed { IsWellFormed bounds log.now.events }
+    requires truly { All (TellsTruly log.now.events) rounds.now }
+    ensures { IfOk result (λ page.
+        IsAuditText names.now sites.now log.now.events asked.now listing rounds.now atomic page) }
+{
+    match listing {
+        None => audit_text(alloc, names, sites, log, asked, rounds, atomic),
+        Some(listing) => listed(
+            alloc, bounds, log, names, sites, asked, listing, rounds, atomic,
+        ),
+    }
+}
+
+/// The labels that are listed as was asked for.
+fn listed_labels(
+    alloc: Global,
+    bounds: Bounds,
+    log: &Trace,
+    asked: &Asked,
+    listing: Listing,
+    rounds: &[Told],
+) -> Result<Listed, Memory>
+    requires few { length log.now.events ≤ MAX_EVENTS }
+    requires well_formed { IsWellFormed bounds log.now.events }
+    ensures { IfOk result (λ listed. IsListed (rest_of (left_at_first asked.now) log.now.events)
+        listing rounds.now listed.entries.items listed.others) }
+{
+    let left = left_out(alloc, asked)?;
+    let rest = thin(alloc, log, &left)?;
+    let marks = marks_of(alloc, bounds, &rest.trace)?;
+    listed_of(alloc, listing, rounds, &rest.trace, &marks)
+}
+
+/// The rounds as one JSON object.
+fn json_of(
+    alloc: Global,
+    bounds: Bounds,
+    log: &Trace,
+    names: &Names,
+    sites: &Option<Sites>,
+    path: &str,
+    asked: &Asked,
+    listing: Option<Listing>,
+    rounds: &[Told],
+    atomic: usize,
+) -> Result<Page, Memory>
+    requires few { length log.now.events ≤ MAX_EVENTS }
+    requires well_formed { IsWellFormed bounds log.now.events }
+    ensures { IfOk result (λ page. IsJsonText
+        (record { log = log.now.events; names = names.now; sites = sites.now }) path.now asked.now
+        listing (rest_of (left_at_first asked.now) log.now.events) rounds.now atomic page) }
+{
+    let Some(listing) = listing else {
+        return audit_json(alloc, names, sites, log, path, asked, None, rounds, atomic);
+    };
+    let listed = listed_labels(alloc, bounds, log, asked, listing, rounds)?;
+    let some = Some(&listed);
+    let page = audit_json(alloc, names, sites, log, path, asked, some, rounds, atomic)?;
+    Ok(page)
+}
+
+/// The page of the rounds, in the form that was asked for.
+///
+/// # Errors
+/// `Memory` if an allocation failed.
+pub(crate) fn page_of(
+    alloc: Global,
+    bounds: Bounds,
+    log: &Trace,
+    names: &Names,
+    sites: &Option<Sites>,
+    asked: &Asked,
+    options: &AuditOptions,
+    rounds: &[Told],
+    atomic: usize,
+) -> Result<Page, Memory>
+    requires few { length log.now.events ≤ MAX_EVENTS }
+    requires well_formed { IsWellFormed bounds log.now.events }
+    requires truly { All (TellsTruly log.now.events) rounds.now }
+    ensures { IfOk result (λ page.
+        IsAuditPage names.now sites.now log.now.events asked.now options.now rounds.now atomic page) }
+{
+    let listing = listing_of(options);
+    let path = options.input;
+    match options.format {
+        OutputFormat::Text => text_of(
+            alloc, bounds, log, names, sites, asked, listing, rounds, atomic,
+        ),
+        OutputFormat::Json => json_of(
+            alloc, bounds, log, names, sites, path, asked, listing, rounds, atomic,
+        ),
+        OutputFormat::Sarif => audit_sarif(alloc, names, log, path, rounds),
+        OutputFormat::Junit => audit_junit(alloc, names, log, path, rounds),
+    }
+}

@@ -1,0 +1,2 @@
+mod OnResults
+mod OnTexts

@@ -1,0 +1,11 @@
+//! The blocks that an audit reports, for tools: a SARIF log, and a JUnit report.
+#![tactic(auto)]
+
+mod findings;
+mod junit;
+mod sarif;
+mod uri;
+mod xml;
+
+pub use junit::audit_junit;
+pub use sarif::audit_sarif;

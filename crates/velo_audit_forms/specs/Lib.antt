@@ -1,0 +1,4 @@
+pub mod Events
+pub mod Witness
+pub mod Alarms
+pub mod Answer

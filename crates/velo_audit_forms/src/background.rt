@@ -1,0 +1,19 @@
+//! What events are described by.
+
+use std::alloc::Global;
+use velo_events::Event;
+use velo_names::Names;
+use velo_sites::Sites;
+
+/// What events are described by.
+#[derive(Clone, Copy)]
+pub(crate) struct Background<'b> {
+    /// Where a text is made.
+    pub(crate) alloc: Global,
+    /// The names of what is numbered.
+    pub(crate) names: &'b Names<'b>,
+    /// Where in the source they happened, if this is known.
+    pub(crate) sites: &'b Option<Sites<'b>>,
+    /// The events of the log.
+    pub(crate) events: &'b [Event],
+}

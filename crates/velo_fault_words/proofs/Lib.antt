@@ -1,0 +1,3 @@
+mod OnLines
+pub mod OnPages
+mod OnWords

@@ -1,0 +1,131 @@
+//! What is wrong with the first line of a log.
+ghost use Rattle.std.specs.Prelude.{◌≡◌};
+ghost use Rattle.velo_fault_words.specs.Header.{begins, bounds_fault, header_fault_of, is_workload, locks_fault, looks_marked, variables_fault, version_fault};
+ghost use Rattle.velo_fault_words.specs.Lines.{first_line};
+
+use crate::lines::{ends_in_return, first_line};
+use velo_bytes::{after, number, spaced_number};
+use velo_events::{MAX_LOCKS, MAX_THREADS};
+
+/// What is wrong with the first line of a log.
+#[derive(Clone, Copy, Debug, PartialEq, Eq)]
+pub enum HeaderFault {
+    /// It begins with a byte-order mark.
+    Marked,
+    /// It is the line of a workload.
+    Workload,
+    /// It ends in a carriage return.
+    Returned,
+    /// It is of this version, which is none that is read.
+    Version(u64),
+    /// It has this number of threads, which is 0 or too large.
+    Threads(u64),
+    /// It has this number of variables, which is too large.
+    Variables(u64),
+    /// It has this number of locks, which is too large.
+    Locks(u64),
+    /// It is another line.
+    Other,
+}
+
+/// Whether the bytes begin with the word.
+pub(crate) fn begins(word: &[u8], bytes: &[u8]) -> bool
+    ensures { result ≡ begins word.now bytes.now }
+{
+    match after(bytes, word) {
+        Some(_) => true,
+        None => false,
+    }
+}
+
+/// Whether the bytes begin with a byte-order mark.
+fn looks_marked(bytes: &[u8]) -> bool
+    ensures { result ≡ looks_marked bytes.now }
+{
+    begins(&[239, 187, 191], bytes)
+}
+
+/// Whether the bytes begin as a workload.
+fn is_workload(bytes: &[u8]) -> bool
+    ensures { result ≡ is_workload bytes.now }
+{
+    begins(b"var ", bytes) || begins(b"lock ", bytes) || begins(b"thread ", bytes)
+}
+
+/// What is wrong with the number of locks, which stands at the front.
+fn locks_fault(bytes: &[u8]) -> HeaderFault
+    ensures { result ≡ locks_fault bytes.now }
+{
+    match number(bytes, u64::MAX) {
+        Some((locks, _)) if locks > u64::from(MAX_LOCKS) => HeaderFault::Locks(locks),
+        _ => HeaderFault::Other,
+    }
+}
+
+/// What is wrong with the numbers of variables and locks, which stand at the front.
+fn variables_fault(bytes: &[u8]) -> HeaderFault
+    ensures { result ≡ variables_fault bytes.now }
+{
+    match spaced_number(bytes, u64::MAX) {
+        None => HeaderFault::Other,
+        Some((variables, rest)) => {
+            if variables > u64::from(u16::MAX) {
+                HeaderFault::Variables(variables)
+            } else {
+                locks_fault(rest)
+            }
+        }
+    }
+}
+
+/// What is wrong with the bounds, which stand at the front.
+fn bounds_fault(bytes: &[u8]) -> HeaderFault
+    ensures { result ≡ bounds_fault bytes.now }
+{
+    match spaced_number(bytes, u64::MAX) {
+        None => HeaderFault::Other,
+        Some((threads, rest)) => {
+            if threads == 0 || threads > u64::from(MAX_THREADS) {
+                HeaderFault::Threads(threads)
+            } else {
+                variables_fault(rest)
+            }
+        }
+    }
+}
+
+/// What is wrong with the version and the bounds, which stand at the front.
+fn version_fault(bytes: &[u8]) -> HeaderFault
+    ensures { result ≡ version_fault bytes.now }
+{
+    match spaced_number(bytes, u64::MAX) {
+        None => HeaderFault::Other,
+        Some((version, rest)) => {
+            if version == 1 || version == 2 {
+                bounds_fault(rest)
+            } else {
+                HeaderFault::Version(version)
+            }
+        }
+    }
+}
+
+/// What is wrong with the first line of these bytes, in which no header stands.
+#[tactic(auto, unfolding(crate::specs::Header::header_fault_of))]
+pub fn header_fault_of(bytes: &[u8]) -> HeaderFault
+    ensures { result ≡ header_fault_of bytes.now }
+{
+    if looks_marked(bytes) {
+        return HeaderFault::Marked;
+    }
+    if is_workload(bytes) {
+        return HeaderFault::Workload;
+    }
+    if ends_in_return(first_line(bytes)) {
+        return HeaderFault::Returned;
+    }
+    match after(bytes, b"vlog ") {
+        Some(rest) => version_fault(rest),
+        None => HeaderFault::Other,
+    }
+}

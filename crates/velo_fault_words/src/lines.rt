@@ -1,0 +1,128 @@
+//! The lines of a text, and how one is shown.
+ghost use Rattle.std.specs.Prelude.{◌≡◌, ◌++◌, IfOk, OnOk};
+ghost use Rattle.velo_fault_words.specs.Lines.{ends_in_return, first_line, line_at, of_file, of_line, shown, shown_byte, shown_line};
+
+use std::alloc::Global;
+use velo_bytes::append;
+use velo_events::Memory;
+use velo_explain::{Page, Piece};
+use velo_names::split_line;
+
+/// The most bytes of a line that are shown.
+const SHOWN: usize = 64;
+
+/// Line `n`, counted from 1, without its newline; nothing where there is none.
+pub fn line_at(n: usize, text: &[u8]) -> &[u8]
+    ensures { result.now ≡ line_at n text.now }
+{
+    let mut rest = text;
+    let mut left = n.saturating_sub(1);
+    while left > 0 && !rest.is_empty() {
+        let (_, others) = split_line(rest);
+        rest = others;
+        left -= 1;
+    }
+    if rest.is_empty() {
+        return rest;
+    }
+    let (line, _) = split_line(rest);
+    line
+}
+
+/// The first line.
+pub fn first_line(text: &[u8]) -> &[u8]
+    ensures { result.now ≡ first_line text.now }
+{
+    line_at(1, text)
+}
+
+/// Whether the last byte of a line is a carriage return.
+pub fn ends_in_return(line: &[u8]) -> bool
+    ensures { result ≡ ends_in_return line.now }
+{
+    match line.last() {
+        None => false,
+        Some(last) => *last == b'\r',
+    }
+}
+
+/// A byte as it is shown.
+fn shown_byte(byte: u8) -> u8
+    ensures { result ≡ shown_byte byte }
+{
+    if 32 <= byte && byte <= 126 {
+        byte
+    } else {
+        b'?'
+    }
+}
+
+/// A line as it is shown.
+pub(crate) fn shown(alloc: Global, line: &[u8]) -> Result<Vec<u8>, Memory>
+    ensures { IfOk result (λ text. text.items ≡ shown line.now) }
+{
+    let front = &line[..line.len().min(SHOWN)];
+    let mut text = Vec::new(alloc);
+    for byte in front {
+        append(&mut text, &[shown_byte(*byte)])?;
+    }
+    Ok(text)
+}
+
+/// Adds a text.
+///
+/// # Errors
+/// `Memory` if an allocation failed.
+pub fn add_text(page: &mut Page, text: &str) -> Result<(), Memory>
+    ensures { OnOk result (page.new ≡ page.old ++ text.now) }
+{
+    page.add(&[Piece::Text(text)])
+}
+
+/// Adds a line after four spaces.
+///
+/// # Errors
+/// `Memory` if an allocation failed.
+#[tactic(auto, unfolding(crate::specs::Lines::shown_line))]
+pub fn add_shown(page: &mut Page, alloc: Global, line: &[u8]) -> Result<(), Memory>
+    ensures { OnOk result (page.new ≡ page.old ++ shown_line line.now) }
+{
+    let text = shown(alloc, line)?;
+    page.add(&[
+        Piece::Text("   "),
+        Piece::Name(Some(text.as_slice())),
+        Piece::Text("\n"),
+    ])
+}
+
+/// Adds which file it is.
+///
+/// # Errors
+/// `Memory` if an allocation failed.
+#[tactic(auto, unfolding(crate::specs::Lines::of_file))]
+pub fn add_file(page: &mut Page, path: &str) -> Result<(), Memory>
+    ensures { OnOk result (page.new ≡ page.old ++ of_file path.now) }
+{
+    page.add(&[
+        Piece::Text("velodrome: "),
+        Piece::Text(path),
+        Piece::Text(": "),
+    ])
+}
+
+/// Adds which line of a file it is.
+///
+/// # Errors
+/// `Memory` if an allocation failed.
+#[tactic(auto, unfolding(crate::specs::Lines::of_line))]
+pub fn add_line(page: &mut Page, path: &str, n: usize) -> Result<(), Memory>
+    ensures { OnOk result (page.new ≡ page.old ++ of_line path.now n) }
+{
+    page.add(&[
+        Piece::Text("velodrome: "),
+        Piece::Text(path),
+        Piece::Text(":"),
+        Piece::Number(n as u64),
+        Piece::Text(": "),
+    ])
+}

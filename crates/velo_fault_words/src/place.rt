@@ -1,0 +1,82 @@
+//! What is said of a place of a file.
+ghost use Rattle.std.specs.Prelude.{◌≡◌, ◌++◌, IfOk, OnOk};
+ghost use Rattle.velo_fault_words.specs.Place.{line_words, place_words, whole_words};
+
+use crate::lines::{add_file, add_line, add_shown, add_text, line_at};
+use std::alloc::Global;
+use velo_events::Memory;
+use velo_explain::{Page, Piece};
+
+/// What is wrong with a place of a file, and what to do.
+#[derive(Clone, Copy)]
+pub struct Complaint<'a> {
+    /// The line; 0 for all of the file.
+    pub line: usize,
+    /// What is wrong.
+    pub reason: &'a str,
+    /// What to do: lines, or nothing.
+    pub help: &'a str,
+}
+
+/// Adds what is wrong with a file.
+#[tactic(auto, unfolding(crate::specs::Place::whole_words))]
+fn add_whole(page: &mut Page, path: &str, reason: &str, help: &str) -> Result<(), Memory>
+    ensures { OnOk result (page.new ≡ page.old ++ whole_words path.now reason.now help.now) }
+{
+    add_file(page, path)?;
+    page.add(&[Piece::Text(reason), Piece::Text("\n"), Piece::Text(help)])
+}
+
+/// Adds what is wrong with a line.
+fn add_line_words(
+    page: &mut Page,
+    alloc: Global,
+    path: &str,
+    bytes: &[u8],
+    complaint: Complaint,
+) -> Result<(), Memory>
+    ensures { OnOk result (page.new ≡ page.old ++ line_words path.now bytes.now complaint.entry.line
+        complaint.entry.reason.now complaint.entry.help.now) }
+{
+    add_line(page, path, complaint.line)?;
+    add_text(page, complaint.reason)?;
+    add_text(page, "\n")?;
+    add_shown(page, alloc, line_at(complaint.line, bytes))?;
+    add_text(page, complaint.help)?;
+    Ok(())
+}
+
+/// Adds what is wrong with a place of a file, by its path and its bytes.
+fn add_place(
+    page: &mut Page,
+    alloc: Global,
+    path: &str,
+    bytes: &[u8],
+    complaint: Complaint,
+) -> Result<(), Memory>
+    ensures { OnOk result (page.new ≡ page.old ++ place_words path.now bytes.now complaint.entry.line
+        complaint.entry.reason.now complaint.entry.help.now) }
+{
+    if complaint.line == 0 {
+        return add_whole(page, path, complaint.reason, complaint.help);
+    }
+    add_line_words(page, alloc, path, bytes, complaint)
+}
+
+/// What is said of a place of a file, by its path and its bytes.
+///
+/// # Errors
+/// `Memory` if an allocation failed.
+pub fn place_words(
+    alloc: Global,
+    path: &str,
+    bytes: &[u8],
+    complaint: Complaint,
+) -> Result<Page, Memory>
+    ensures { IfOk result (λ page. page ≡ place_words path.now bytes.now complaint.entry.line
+        complaint.entry.reason.now complaint.entry.help.now) }
+{
+    let mut page = Page::new(alloc);
+    add_place(&mut page, alloc, path, bytes, complaint)?;
+    Ok(page)
+}

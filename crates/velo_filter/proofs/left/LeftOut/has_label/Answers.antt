@@ -1,6 +1,0 @@
-use Rattle.velo_filter.specs.Left.{is_listed}
-use Rattle.velo_filter.proofs.left.LeftOut.has_label.Goals as goal
-
-pub returns : goal.returns
-unfolding is_listed
-returns c = c.contains.ensures

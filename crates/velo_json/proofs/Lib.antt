@@ -1,0 +1,4 @@
+pub mod OnLists
+pub mod OnChain
+pub mod OnTree
+mod OnWriter

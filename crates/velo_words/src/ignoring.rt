@@ -1,0 +1,188 @@
+//! What is said of a word that was to be ignored and means nothing.
+ghost use Rattle.std.specs.Prelude.{◌≡◌, ◌==◌, IfOk, IfSome, Some, false, length};
+ghost use Rattle.velo_names.specs.Names.{meant_by, no_names};
+ghost use Rattle.velo_words.specs.Ignoring.{SaysVain, SaysVainAt, SaysVainBy, SaysVainOf, first_in_vain, ignored_of, kind_of, option_of, vain_help, vain_reason, vain_words, words_of};
+
+use crate::given::names_of;
+use std::alloc::Global;
+use velo_delivery::Files;
+use velo_events::Memory;
+use velo_explain::Page;
+use velo_fate::read_file;
+use velo_fault_words::{Complaint, add_shown, add_text, place_words};
+use velo_names::{MAX_NAMES_BYTES, NameKind, Names};
+use velo_request::{Ignorable, Ignored, Request};
+
+/// What is left out, if the request leaves something out.
+fn ignored_of<'a>(request: &Request<'a>) -> Option<Ignored<'a>>
+    ensures { result ≡ ignored_of request.now }
+{
+    match request {
+        Request::Audit(options) => Some(options.ignored),
+        Request::Predict(options) => Some(options.ignored),
+        Request::Explain(options) => Some(options.ignored),
+        _ => None,
+    }
+}
+
+/// The option that takes these.
+fn option_of(what: Ignorable) -> &'static str
+    ensures { result.now ≡ option_of what }
+{
+    match what {
+        Ignorable::Lock => "--ignore-lock",
+        Ignorable::Variable => "--ignore-variable",
+        Ignorable::Label => "--ignore-label",
+    }
+}
+
+/// The words of this option.
+fn words_of<'a>(what: Ignorable, ignored: Ignored<'a>) -> &'a [&'a str]
+    ensures { result.now ≡ words_of what ignored.entry }
+{
+    match what {
+        Ignorable::Lock => ignored.locks,
+        Ignorable::Variable => ignored.variables,
+        Ignorable::Label => ignored.labels,
+    }
+}
+
+fn kind_of(what: Ignorable) -> NameKind
+    ensures { result ≡ kind_of what }
+{
+    match what {
+        Ignorable::Lock => NameKind::Lock,
+        Ignorable::Variable => NameKind::Variable,
+        Ignorable::Label => NameKind::Label,
+    }
+}
+
+/// Whether a word means nothing of a kind.
+fn means_none(alloc: Global, names: &Names, kind: NameKind, word: &str) -> Option<bool>
+    ensures { IfSome result (λ none. none ≡ (length (meant_by names.now kind word.now) == 0)) }
+{
+    let meant = names.meant_by(alloc, kind, word.as_bytes()).ok()?;
+    Some(meant.is_empty())
+}
+
+/// The first word that means nothing.
+fn first_in_vain<'a>(
+    alloc: Global,
+    names: &Names,
+    kind: NameKind,
+    words: &'a [&'a str],
+) -> Option<&'a str>
+    ensures { IfSome result (λ word. first_in_vain names.now kind words.entry.now ≡ Some word) }
+{
+    for word in words {
+        let none = means_none(alloc, names, kind, word)?;
+        if none {
+            return Some(*word);
+        }
+    }
+    None
+}
+
+/// What is wrong with such a word.
+fn vain_reason(what: Ignorable) -> &'static str
+    ensures { result.now ≡ vain_reason what }
+{
+    match what {
+        Ignorable::Lock => "no lock has this name, and numbers go from 0 to 65535",
+        Ignorable::Variable => "no variable has this name, and numbers go from 0 to 65535",
+        Ignorable::Label => "no label has this name, and numbers go from 0 to 4294967295",
+    }
+}
+
+/// What to do about it, where names are given, and where none are.
+fn vain_help(named: bool) -> &'static str
+    ensures { result.now ≡ vain_help named }
+{
+    if named {
+        "help: names are those of --names; quote a word that has a star\n"
+    } else {
+        "help: for names, give their file: see --names\n"
+    }
+}
+
+/// What is said of such a word.
+fn vain_words(alloc: Global, what: Ignorable, word: &str, named: bool) -> Result<Page, Memory>
+    ensures { IfOk result (λ page. page ≡ vain_words what word.now named) }
+{
+    let complaint = Complaint {
+        line: 0,
+        reason: vain_reason(what),
+        help: "",
+    };
+    let mut page = place_words(alloc, option_of(what), &[], complaint)?;
+    add_shown(&mut page, alloc, word.as_bytes())?;
+    add_text(&mut page, vain_help(named))?;
+    Ok(page)
+}
+
+/// What is said of the first word of an option that means nothing by these names.
+fn words_by(
+    alloc: Global,
+    names: &Names,
+    what: Ignorable,
+    ignored: Ignored,
+    named: bool,
+) -> Option<Page>
+    ensures { IfSome result (SaysVainBy names.now what ignored.entry named) }
+{
+    let word = first_in_vain(alloc, names, kind_of(what), words_of(what, ignored))?;
+    vain_words(alloc, what, word, named).ok()
+}
+
+/// The same, by the names that the bytes of a file say.
+fn words_by_names(alloc: Global, bytes: &[u8], what: Ignorable, ignored: Ignored) -> Option<Page>
+    ensures { IfSome result (SaysVainOf bytes.now what ignored.entry) }
+{
+    match Names::parse(alloc, bytes) {
+        Ok(names) => words_by(alloc, &names, what, ignored, true),
+        Err(_) => None,
+    }
+}
+
+/// The same, by the file of names at a path, which is read again.
+fn words_by_file<F: Files>(
+    alloc: Global,
+    path: &str,
+    what: Ignorable,
+    ignored: Ignored,
+    files: &F,
+) -> Option<Page>
+    ensures { IfSome result (SaysVainAt (F.disk files.now) path.now what ignored.entry) }
+{
+    if !files.are_one(path, path) {
+        return None;
+    }
+    match read_file(alloc, path, MAX_NAMES_BYTES, files) {
+        Ok(bytes) => words_by_names(alloc, &bytes, what, ignored),
+        Err(_) => None,
+    }
+}
+
+/// The same, where there are no names.
+fn words_without_names(alloc: Global, what: Ignorable, ignored: Ignored) -> Option<Page>
+    ensures { IfSome result (SaysVainBy no_names what ignored.entry false) }
+{
+    let names = Names::new(alloc);
+    words_by(alloc, &names, what, ignored, false)
+}
+
+/// What is said where something that was to be ignored means nothing.
+pub(crate) fn words_in_vain<F: Files>(
+    alloc: Global,
+    request: &Request,
+    what: Ignorable,
+    files: &F,
+) -> Option<Page>
+    ensures { IfSome result (SaysVain (F.disk files.now) request.now what) }
+{
+    let ignored = ignored_of(request)?;
+    match names_of(request) {
+        Some(path) => words_by_file(alloc, path, what, ignored, files),
+        None => words_without_names(alloc, what, ignored),
+    }
+}

@@ -1,0 +1,166 @@
+//! Audits and predictions that tell where in the source the events of a log happened.
+use crate::tests::audits::UNREADABLE;
+use crate::tests::{Folder, LOST_UPDATE, compare, show};
+use std::alloc::Global;
+use std::process::Abort;
+use std::sync::Wait;
+use std::thread::Threads;
+
+/// The site of the access between the others is unknown.
+const SITES: &str =
+    "vsites 1 4 5\nbank.c:5 main\nbank.c:10 deposit\nbank.c:12 deposit\nbank.c:13 deposit\n1\n2\n3\n0\n4\n";
+
+const ALL_SITES: &str =
+    "vsites 1 3 5\nbank.c:10 deposit\nbank.c:12 deposit\nbank.c:20 audit\n0\n1\n2\n3\n2\n";
+
+const WITNESS: &str = "\
+not atomic 7\n  \
+block 7 begins at bank.c:10 deposit\n  \
+Line 6 `0 wr 0 1` closes a cycle of 2 transactions:\n  \
+T1: thread 0, block 7, lines 3 to 6\n  \
+T2: thread 1, outside blocks, line 5\n  \
+T1 before T2:\n    \
+line 4 `0 rd 0 0` at bank.c:12 deposit\n      \
+in block 7 at bank.c:10 deposit\n    \
+line 5 `1 wr 0 5`\n  \
+T2 before T1:\n    \
+line 5 `1 wr 0 5`\n    \
+line 6 `0 wr 0 1` at bank.c:13 deposit\n      \
+in block 7 at bank.c:10 deposit\n  \
+block 7, from line 3: line 5 `1 wr 0 5` must come after its begin and before line 6\n\
+atomic 0 labels\n\
+rounds 2\n";
+
+const COUNTED: &str = "\
+not atomic 7\n  \
+1 of 1 blocks\n  \
+block 7 begins at bank.c:10 deposit\n  \
+Line 6 `0 wr 0 1` closes a cycle of 2 transactions:\n  \
+T1: thread 0, block 7, lines 3 to 6\n  \
+T2: thread 1, outside blocks, line 5\n  \
+T1 before T2:\n    \
+line 4 `0 rd 0 0` at bank.c:12 deposit\n      \
+in block 7 at bank.c:10 deposit\n    \
+line 5 `1 wr 0 5` at bank.c:20 audit\n  \
+T2 before T1:\n    \
+line 5 `1 wr 0 5` at bank.c:20 audit\n    \
+line 6 `0 wr 0 1` at bank.c:12 deposit\n      \
+in block 7 at bank.c:10 deposit\n  \
+block 7, from line 3: line 5 `1 wr 0 5` must come after its begin and before line 6\n    \
+line 5 at bank.c:20 audit\n\
+atomic 0 labels\n\
+rounds 2\n";
+
+/// What the program prints for these files, of which one is a file of sites.
+struct Sited {
+    words: &'static [&'static str],
+    log: &'static str,
+    sites: &'static str,
+    out: &'static str,
+    err: &'static str,
+    status: u8,
+}
+
+static SITED: [Sited; 9] = [
+    Sited {
+        words: &["velodrome", "audit", "a", "--sites", "s"],
+        log: LOST_UPDATE,
+        sites: SITES,
+        out: WITNESS,
+        err: "",
+        status: 3,
+    },
+    Sited {
+        words: &["velodrome", "audit", "a", "--sites", "s", "--counts"],
+        log: LOST_UPDATE,
+        sites: ALL_SITES,
+        out: COUNTED,
+        err: "",
+        status: 3,
+    },
+    // without a witness the blocks have their places all the same
+    Sited {
+        words: &["velodrome", "audit", "a", "--sites=s", "--no-witness"],
+        log: LOST_UPDATE,
+        sites: SITES,
+        out: "not atomic 7\n  block 7 begins at bank.c:10 deposit\natomic 0 labels\nrounds 2\n",
+        err: "",
+        status: 3,
+    },
+    // no site is known
+    Sited {
+        words: &["velodrome", "audit", "a", "--sites", "s", "--no-witness"],
+        log: LOST_UPDATE,
+        sites: "vsites 1 0 5\n0\n0\n0\n0\n0\n",
+        out: "not atomic 7\natomic 0 labels\nrounds 2\n",
+        err: "",
+        status: 3,
+    },
+    // of another log, which is read before
+    Sited {
+        words: &["velodrome", "audit", "a", "--sites", "s"],
+        log: LOST_UPDATE,
+        sites: "vsites 1 0 4\n0\n0\n0\n0\n",
+        out: "",
+        err: "velodrome: s: these are the sites of a log with another number of events\nhelp: take the log and its sites from one run\nsites fault 5 line 0\n",
+        status: 2,
+    },
+    Sited {
+        words: &["velodrome", "predict", "a", "--sites", "s"],
+        log: LOST_UPDATE,
+        sites: "vsites 1 0 6\n0\n0\n0\n0\n0\n0\n",
+        out: "",
+        err: "velodrome: s: these are the sites of a log with another number of events\nhelp: take the log and its sites from one run\nsites fault 5 line 0\n",
+        status: 2,
+    },
+    // the sites are read before the log
+    Sited {
+        words: &["velodrome", "predict", "a", "--sites", "s"],
+        log: UNREADABLE,
+        sites: "vsites 1 0\n",
+        out: "",
+        err: "velodrome: s:1: this is not a file of sites: expected a first line `vsites 1 SITES EVENTS`\n    vsites 1 0\nsites fault 1 line 1\n",
+        status: 2,
+    },
+    Sited {
+        words: &["velodrome", "audit", "a", "--sites", "t"],
+        log: LOST_UPDATE,
+        sites: SITES,
+        out: "",
+        err: "cannot open\n",
+        status: 5,
+    },
+    // what is left out is looked up before the sites are read
+    Sited {
+        words: &[
+            "velodrome",
+            "audit",
+            "a",
+            "--sites",
+            "s",
+            "--ignore-lock",
+            "m",
+        ],
+        log: LOST_UPDATE,
+        sites: "",
+        out: "",
+        err: "velodrome: --ignore-lock: no lock has this name, and numbers go from 0 to 65535\n    m\nhelp: for names, give their file: see --names\nignored fault 1\n",
+        status: 2,
+    },
+];
+
+/// Compares what the program shows of the files with what it is to show.
+fn try_sited<R: Threads + Wait + Sync + Abort>(rt: &R, alloc: Global, told: &Sited) {
+    let files = [("a", told.log), ("s", told.sites)];
+    let mut folder = Folder::new(alloc, &files, 5);
+    let shown = show(rt, told.words, &mut folder);
+    compare(rt, &shown, told.out, told.err, told.status, told.sites);
+    drop((shown, folder));
+}
+
+#[test]
+fn where_events_happened(rt: HostRuntime) {
+    for told in &SITED {
+        try_sited(&rt, rt.alloc(), told);
+    }
+}
