@@ -5,18 +5,18 @@ _velodrome() {
         COMPREPLY=($(compgen -W "check replay run explain carry explore watch audit thin predict verify help --help --version" -- "$word"))
         return
     fi
-    case $before in --events|--ignore-lock|--ignore-variable|--nodes|--random|--schedule|--seed|--states|--tries|--turns) COMPREPLY=(); return ;; esac
+    case $before in --events|--format|--ignore-label|--ignore-lock|--ignore-variable|--nodes|--random|--schedule|--seconds|--seed|--states|--tries|--turns) COMPREPLY=(); return ;; esac
     case ${COMP_WORDS[1]} in
         check) words="--names --why --events --nodes --certificate --help" ;;
         replay) words="--schedule --turns --stop --why --log --names-out --events --nodes --certificate --help" ;;
         run) words="--stop --why --log --names-out --events --nodes --certificate --help" ;;
         explain) words="--dot --svg --names --sites --help" ;;
         carry) words="--log --why --help" ;;
-        explore) words="--states --first --progress --random --seed --log --names-out --events --nodes --certificate --help" ;;
+        explore) words="--states --seconds --first --progress --random --seed --log --names-out --events --nodes --certificate --help" ;;
         watch) words="--names --stop --endless --events --nodes --certificate --help" ;;
-        audit) words="--no-witness --counts --by-count --innermost --names --not-atomic --ignore-lock --ignore-variable --events --nodes --help" ;;
+        audit) words="--no-witness --counts --by-count --innermost --format --names --sites --not-atomic --ignore-label --ignore-lock --ignore-locks --ignore-variable --events --nodes --help" ;;
         thin) words="--log --map --help" ;;
-        predict) words="--log --values --tries --seed --names --not-atomic --ignore-lock --ignore-variable --events --nodes --help" ;;
+        predict) words="--log --values --tries --seed --names --sites --not-atomic --ignore-label --ignore-lock --ignore-locks --ignore-variable --events --nodes --help" ;;
         verify) words="--help" ;;
     esac
     case $word in
