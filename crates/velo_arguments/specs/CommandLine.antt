@@ -71,7 +71,7 @@ random = numbered (codes "random") MAX_RUNS
 abbrev pub seed : Rule
 seed = wide (codes "seed")
 
--- the options of each command that keeps a graph
+-- the options of each command that prints one report of a log or of a run
 abbrev pub graph_options : List Rule
 graph_options =
     events (codes "1048576") ∷ nodes (codes "1024") ∷ flag (codes "certificate") ∷ []
@@ -84,7 +84,7 @@ saved_options = valued (codes "log") ∷ valued (codes "names-out") ∷ graph_op
 abbrev pub run_options : List Rule
 run_options = flag (codes "stop") ∷ flag (codes "why") ∷ saved_options
 
--- the options of each command that searches
+-- the options of explore
 abbrev pub search_options : List Rule
 search_options =
     states ∷ seconds ∷ flag (codes "first") ∷ flag (codes "progress") ∷ random ∷ seed

@@ -40,8 +40,8 @@ use Rattle.velo_delivery.specs.Writing.{Writing, WritesNothing}
 
 -- ---- what is left out
 
--- at first: the labels, the locks and the variables that were asked for. Where all locks were, so is
--- each that a log can have: its number is below the most
+-- at first: the labels, the locks and the variables that were asked for. If all locks were, so is each
+-- that a log can have: its number is below the most
 abbrev pub left_at_first : Asked → Left
 left_at_first asked =
     record {
@@ -59,7 +59,8 @@ left_at_last log left rounds = with_labels left (labels_found log (map told_as r
 
 -- These are the rounds of the log: each is that of the first alarm of what was left, and there are
 -- no others; what each reports as blamed is so in the log as read; each label found begins a block
--- of it and was not left out; they are few; and what is left at last is serializable.
+-- of it and was not left out; each round uses up a label, so there are at most as many as labels; and
+-- what is left at last is serializable.
 pub record AreRoundsOf (witness : Bool) (log : List Event) (left : Left) (rounds : List Told)
     : Type 0 where
   pub each : Rounds log left (map told_as rounds)
@@ -106,7 +107,7 @@ IsAuditText names sites log asked (Some listing) rounds atomic page =
     IsListingText names sites log asked listing (rest_of (left_at_first asked) log) rounds atomic page
 
 -- The page in the form that was asked for: that text, or one JSON object; or the blocks that the
--- rounds report as a SARIF log or a JUnit report. All but the text have the path of the log
+-- rounds report as a SARIF log or a JUnit report. All but the text have the path of the log.
 abbrev pub IsPageIn : OutputFormat → NameLists → Option Table → List Event → List ℕ → Asked
     → Option Listing → List Told → ℕ → List ℕ → Type 0
 IsPageIn Text names sites log path asked listing rounds atomic page =
@@ -156,7 +157,7 @@ pub record IsOfOther (sites : Option Table) (log : List Event) (answer : Answer)
   pub of_other : ¬ AreOfLog sites log
   pub said : answer ≡ silent OtherSites
 
--- that much is said where the sites are of the log
+-- with as many sites as events it is audited, and else nothing is said
 abbrev pub AuditsSited : NameLists → Option Table → Asked → AuditOptions → Bounds → List Event → Answer
     → Type 0
 AuditsSited names sites asked options bounds log answer =

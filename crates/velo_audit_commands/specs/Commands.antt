@@ -1,4 +1,5 @@
--- What audit and predict do: one definition a command, whose lines are its steps.
+-- What audit and predict do: the last definition of each section. The definitions before it are its
+-- later steps. `asked` is what is left out.
 --
 -- The store is the files that the command finds and leaves, stdout is standard output before and
 -- after, and f is the command's fate. Each command names in parentheses the page that says what it
@@ -21,12 +22,12 @@ use Rattle.velo_delivery.specs.Reading.{Reading}
 use Rattle.velo_delivery.specs.Writing.{Writing}
 use Rattle.velo_inputs.specs.Before.{DoesAsked, DoesByNames, DoesBySites}
 
--- ---- velodrome audit LOG [--names FILE] [--sites FILE] [--not-atomic FILE] [--ignore-label N]..
--- ---- [--ignore-lock N].. [--ignore-locks] [--ignore-variable N].. [--format FORM] [--no-witness]
+-- ---- velodrome audit LOG [--names FILE] [--sites FILE] [--not-atomic FILE] [--ignore-label WORD]..
+-- ---- [--ignore-lock WORD].. [--ignore-locks] [--ignore-variable WORD].. [--format FORM] [--no-witness]
 -- ---- [--counts] [--by-count] [--innermost] [--events N] [--nodes N]
 
--- LOG is read whole and judged as by a check, and then audited, where this is left out. The page of
--- the rounds goes to standard output, in the form that was asked for, by these names and with these
+-- LOG is read whole and judged as by a check, and then audited without what `asked` leaves out. The
+-- page of the rounds goes to standard output, in the form that was asked for, by these names and with these
 -- sites; or nothing, for a reason (`Auditing`).
 abbrev pub AuditsLog : NameLists → Option Table → Asked → AuditOptions → Store → Writing → Fate → Type 0
 AuditsLog names sites asked options store stdout f =
@@ -48,12 +49,12 @@ abbrev pub DoesAudit : AuditOptions → Store → Writing → Fate → Type 0
 DoesAudit options store stdout f =
     DoesByNames (λ names. AuditsNamed names options) options.names store stdout f
 
--- ---- velodrome predict LOG [--names FILE] [--sites FILE] [--not-atomic FILE] [--ignore-label N]..
--- ---- [--ignore-lock N].. [--ignore-locks] [--ignore-variable N].. [--values] [--tries N] [--seed S]
+-- ---- velodrome predict LOG [--names FILE] [--sites FILE] [--not-atomic FILE] [--ignore-label WORD]..
+-- ---- [--ignore-lock WORD].. [--ignore-locks] [--ignore-variable WORD].. [--values] [--tries N] [--seed S]
 -- ---- [--log OUT] [--events N] [--nodes N]
 
--- LOG is read whole and judged as by a check. Where this is left out it is audited, and then searched
--- for what other runs can show. The trace of the first prediction is saved at OUT, if there is one,
+-- LOG is read whole and judged as by a check. Without what `asked` leaves out it is audited, and then
+-- searched for what other runs can show. The trace of the first prediction is saved at OUT, if there is one,
 -- and then the text goes to standard output, by these names and with these sites; or nothing, for a
 -- reason (`Predicting`). Where nothing is predicted OUT is untouched.
 abbrev pub PredictsLog : NameLists → Option Table → Asked → PredictOptions → Store → Writing → Fate → Type 0

@@ -37,15 +37,15 @@ abbrev pub IsSearched : Bool → List Event → List Event → Type 0
 IsSearched true log searched = searched ≡ log
 IsSearched false log searched = IsAnew log searched
 
--- What the search found are predictions of this log without what is left out. The trace of each is
--- foretold, and the reads told are those that have another value than in the log. That there are no
--- others is not claimed.
+-- What the search found are predictions of this log without what is left out. It predicts the trace of
+-- each (`PredictsCycle` of `velo_predict`), and the reads told are those that have another value than
+-- in the log. That there are no others is not claimed.
 pub record ArePredictionsOf (values : Bool) (bounds : Bounds) (log : List Event) (left : Left)
     (findings : PredictedFindings) : Type 0 where
   pub searched : List Event
   pub is_searched : IsSearched values log searched
-  -- The blocks of some more labels dissolved (`IsFound`): the trace has a cycle, and the blocks told
-  -- are those to blame at its first alarm.
+  -- Without the begins and ends of some more labels (`IsFoundIn`) the trace has a cycle, and the
+  -- blocks told are those to blame at its first alarm.
   pub labels : All (IsFoundIn bounds searched left) findings.labels.items
   -- After the trace threads wait in a circle (`IsDeadlock`), to do the events that are told.
   pub deadlocks : All (IsDeadlockIn bounds searched left) findings.deadlocks.items

@@ -16,9 +16,10 @@ use Rattle.velo_words.specs.declared.failing.SystemReason.{SystemReason}
 use Rattle.velo_words.specs.Saying.{EndsInWords}
 use Rattle.velo_arguments.specs.declared.together.Clash.{Clash}
 
--- a request that was asked for, whose options go together, was done, and the end is that of its
--- fate; what is wrong may be said in words before the line, by a file as it was left, or by the one
--- that failed, as the files say
+-- A request that was asked for, whose options go together, was done, and the end is that of its fate.
+-- Standard error may have words before the line: by an input that is read once more, as it was left,
+-- or by `failed path reason`, which says that the last call of the system for this path failed for
+-- this reason.
 pub record DoesRequest (asked : Asked) (store : Store) (failed : List ℕ → SystemReason → Type 0)
     (console : Console) : Type 0 where
   pub request : Request

@@ -1,9 +1,12 @@
--- What the program does: the table of its commands. Read this page first.
+-- The table of the commands: which definition says what a command does to files and to standard
+-- output. Read this page first; docs/internals/COMMANDS.md says the same in words.
 --
--- What a command does is one definition, whose lines are its steps, in `Commands` of its crate:
--- `velo_log_commands`, `velo_audit_commands`, `velo_verify` or `velo_workload_commands`. The store is
--- the files that the command finds and leaves, stdout is standard output before and after, and f is
--- the command's fate.
+-- Each definition is in `Commands` of its crate: `velo_log_commands`, `velo_audit_commands`,
+-- `velo_verify` or `velo_workload_commands`. The store is the files that the command finds and leaves,
+-- stdout is standard output before and after, and f is the fate: how the command ended. `AsksFor` of
+-- `velo_arguments` says which request the words of a command line make, `EndsInWords` of `velo_words`
+-- what goes to standard error and with which status the program ends, and `Runs` of `velo_cli` all of
+-- it together.
 use Rattle.velo_delivery.specs.Disk.{Store}
 use Rattle.velo_delivery.specs.Writing.{Writing}
 use Rattle.velo_fate.specs.declared.fate.Fate.{Fate}
@@ -14,7 +17,7 @@ use Rattle.velo_request.specs.declared.request.Request.TheVariants.{Audit, Carry
 use Rattle.velo_verify.specs.Commands.{DoesVerify}
 use Rattle.velo_workload_commands.specs.Commands.{DoesExplore, DoesReplay, DoesRun}
 
--- What was asked for was done. (Callers take it as a word: only what is proved of it here opens it.)
+-- What was asked for was done. (It is opaque to the crates above: only `do_by` unfolds it.)
 unfoldable pub Does : Store → Request → Writing → Fate → Type 0
 Does store (Check options) stdout f = DoesCheck options store stdout f
 Does store (Explain options) stdout f = DoesExplain options store stdout f

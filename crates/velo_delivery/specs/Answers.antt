@@ -1,5 +1,6 @@
 -- What becomes of an answer on its way out: first its texts are saved, one after another, and then
--- it is printed. Where one of them fails, nothing behind it goes out.
+-- it is printed. If one of them fails, nothing after it goes out. (`Delivery` of `velo_fate` is for
+-- the commands that save one text or two; this is for any number of them, and serves thin.)
 use Rattle.std.specs.Prelude.{◌≡◌, ◌⊎◌, ⊤, ℕ, [], ◌∷◌, List, Option, Some, None, Result, Ok, Err}
 use Rattle.std.specs.Borrow.{Bor}
 use Rattle.velo_delivery.specs.declared.answer.Answer.{Answer}

@@ -4,16 +4,18 @@ use Rattle.std.specs.Borrow.{Bor}
 use Rattle.velo_delivery.specs.Reading.{Reading, reading}
 use Rattle.velo_delivery.specs.Writing.{Writing}
 
--- What is said of a path at one time. The path `-` is that of standard input.
+-- What an implementation of `Files` promises of each path at one time: a field holds of what may
+-- happen there, and of everything where nothing is promised (`untold`). The path `-` is that of
+-- standard input.
 pub record Disk : Type 1 where
-  -- a source that opens there may be read so
+  -- a source that opens there may be read in this way
   pub gives : List ℕ → Reading → Type 0
   -- an opening there to read may fail
   pub fails_to_read : List ℕ → Type 0
   -- an opening there to write may fail
   pub fails_to_write : List ℕ → Type 0
-  -- a file that opens there to be written has these bytes, where they are known, and has failed so
-  -- often
+  -- a file that opens there to be written has these bytes, if they are known, and this count of
+  -- failures
   pub empties : List ℕ → Option (List ℕ) → ℕ → Type 0
   -- the last call on the files closed the file there, and left it with these bytes and failures
   pub closed : List ℕ → Option (List ℕ) → ℕ → Type 0
@@ -56,7 +58,7 @@ store {F = F} disk old new =
       left = new;
     }
 
--- what was done up to a state, and what was done behind it
+-- what was done up to a state, and what was done after it
 abbrev pub up_to : (store : Store) → store.State → Store
 up_to whole between = store whole.said whole.found between
 
@@ -89,7 +91,7 @@ AreOneTarget disk (Some target) (Some names) = disk.one target.now names.now
 -- ---- a file that is written
 
 -- A file was opened at the path to be written, written so, and closed; and nothing was done to the
--- files behind this. What it has when it opens, where this is known, the disk says (`empties`).
+-- files after this. What it has when it opens, if this is known, the disk says (`empties`).
 abbrev pub IsWritten : Store → List ℕ → Writing → Type 0
 IsWritten store path file =
     store.disk.empties path file.old file.failures_before × store.closed path file.new file.failures_after

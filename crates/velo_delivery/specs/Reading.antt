@@ -5,7 +5,8 @@ use Rattle.velo_bytes.specs.Device.{with_failure}
 use Rattle.velo_delivery.specs.declared.reading.ReadFault.{ReadFault}
 use Rattle.velo_delivery.specs.declared.reading.ReadFault.TheVariants as read_fault
 
--- the bytes that a source still gives, where they are known, and how often it has failed
+-- a source: the bytes that it still gives, if they are known, and how often it has failed before
+-- and after
 pub record Reading : Type 0 where
   pub bytes : Option (List ℕ)
   pub failures_before : ℕ
@@ -36,7 +37,7 @@ pub record GrowsByPiece (before after : Option (List ℕ)) (old new : List ℕ) 
   pub given : Consumes before after piece
   pub last : count ≡ 0 → IsAtEnd after
 
--- the count of failures of the source behind a read
+-- the count of failures of the source after a read
 abbrev pub failures_by : {X : Type 0} → Result X ReadFault → ℕ → ℕ
 failures_by (Ok x) failures = failures
 failures_by (Err read_fault.Failed) failures = with_failure failures

@@ -4,7 +4,7 @@ use Rattle.std.specs.Prelude.{◌≡◌, ℕ, List, Option, Result, Ok, Err}
 use Rattle.std.specs.Io.KnownBytes.{Appends}
 use Rattle.velo_bytes.specs.Device.{AppendsBeginning, with_failure}
 
--- the bytes of a sink, where they are known, and how often it has failed
+-- a sink before and after: its bytes, if they are known, and how often it has failed
 pub record Writing : Type 0 where
   pub old : Option (List ℕ)
   pub new : Option (List ℕ)

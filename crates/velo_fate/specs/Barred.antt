@@ -10,8 +10,8 @@ use Rattle.velo_delivery.specs.declared.failure.Operand.TheVariants.{File, Names
 use Rattle.velo_fate.specs.declared.files.Beside.{Beside}
 use Rattle.velo_delivery.specs.Writing.{Writing, WritesNothing}
 
--- Why the input of this operand is not read: it does not open; or it opens, and is the target, of
--- which nothing but this is asked.
+-- Why the input of this operand is not read: it does not open; or it opens, whatever it gives, and is
+-- the file of the target.
 abbrev pub IsBarred : Disk → Operand → List ℕ → Option (Bor (List ℕ)) → Fate → Type 0
 IsBarred disk operand input target f =
     ((f ≡ CannotOpen) × FailsToOpen disk input)
@@ -53,7 +53,7 @@ abbrev pub DoesNotRead : Store → Operand → List ℕ → Option (Bor (List �
 DoesNotRead store operand input target stdout f =
     IsBarred store.disk operand input target f × WritesNowhere store stdout
 
--- the same where a file is to be written beside the target: or this is the target, or the input
+-- the same if a second file is to be written, which may be neither the target nor the input
 abbrev pub DoesNotReadApart : Store → Operand → List ℕ → Option (Bor (List ℕ)) → Beside → Writing
     → Fate → Type 0
 DoesNotReadApart store operand input target beside stdout f =

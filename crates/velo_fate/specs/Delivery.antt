@@ -1,4 +1,4 @@
--- An answer, and what becomes of it on the way out.
+-- An answer of a command that saves at most two texts, and what becomes of it on the way out.
 use Rattle.std.specs.Prelude.{◌≡◌, ◌⊎◌, ℕ, List, Option, Some, None}
 use Rattle.std.specs.Borrow.{Bor}
 use Rattle.velo_events.specs.Refusals.{GrowthRefused}
@@ -8,8 +8,8 @@ use Rattle.velo_fate.specs.declared.fate.Fate.{Fate}
 use Rattle.velo_fate.specs.declared.fate.Fate.TheVariants.{CannotOpen, Memory, WriteFailed}
 
 -- What a command has to say: a text to be saved at its target, if it has one; a text to be printed
--- on standard output, if it has one; and its fate. This is never `CannotOpen` nor `WriteFailed`:
--- they come on the way out alone.
+-- on standard output, if it has one; and its fate. `CannotOpen` and `WriteFailed` come on the way out:
+-- no definition of an answer (`IsCheckAnswer` and so on) has them.
 pub record Answer : Type 0 where
   pub saved : Option (List ℕ)
   pub printed : Option (List ℕ)
@@ -82,7 +82,7 @@ IsDelivered store target stdout answer WriteFailed =
 IsDelivered store target stdout answer f =
     (f ≡ answer.fate) × Saves store target answer.saved × Takes stdout answer.printed
 
--- ---- a log at the target, and after it names at their path
+-- ---- one text at the target, and after it a second one at a path of its own
 
 -- the text was not saved, or not whole, and this is the fate
 abbrev pub FailsSaving : Store → Option (Bor (List ℕ)) → Option (List ℕ) → Fate → Type 0
@@ -90,9 +90,10 @@ FailsSaving store target saved CannotOpen = FailsToSave store target saved
 FailsSaving store target saved WriteFailed = SavesPart store target saved
 FailsSaving store target saved f = ⊥
 
--- What became of an answer whose log is to be saved, if it has one, and then the names at their
--- path, if there is one. The log is saved first: where this fails nothing else is done. Then it is
--- as if the names were what is to be saved. Without a log, or a path for them, there are no names.
+-- What became of an answer with a text to save, if it has one, and after it a second text at its own
+-- path, if there is one: names after a log, a drawing after a picture. If the first is not saved,
+-- nothing else is done. Then it is as if the second were what is to be saved. Without the first, or a
+-- path for the second, the second is not saved.
 abbrev pub DeliversBy : Option (List ℕ) → Option (Bor (List ℕ)) → Store → Option (Bor (List ℕ))
     → List ℕ → Writing → Answer → Fate → Type 0
 DeliversBy (Some log) (Some path) store target names stdout answer f =

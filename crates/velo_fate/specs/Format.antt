@@ -1,4 +1,5 @@
--- A file that means a value, or has a fault: of names, of labels, of a schedule, a workload.
+-- A file that means a value, or has a fault: of names, of labels, of sites, of a report, of a schedule,
+-- a workload.
 use Rattle.std.specs.Prelude.{◌≡◌, ◌⊎◌, ⊤, ℕ, List, Option, Some, None}
 use Rattle.std.specs.Borrow.{Bor}
 use Rattle.velo_delivery.specs.Disk.{Disk, FailsToOpen}
@@ -17,9 +18,9 @@ pub record Format (X : Type 0) : Type 1 where
 -- Why there is no value: by the format, or the source failed, or an allocation failed. That the
 -- source failed is in `FailuresAsTold`.
 abbrev pub SaysNone : {X : Type 0} → Format X → Option (List ℕ) → Fate → Type 0
-SaysNone format read ReadFailed = ⊤
-SaysNone format read Memory = GrowthRefused
-SaysNone format read f = format.lacks read f
+SaysNone format bytes ReadFailed = ⊤
+SaysNone format bytes Memory = GrowthRefused
+SaysNone format bytes f = format.lacks bytes f
 
 -- ---- by its path
 
@@ -60,4 +61,4 @@ LacksGiven format disk (Some path) f = LacksAt format disk path.now f
 
 -- its bytes; or if there are more than the most that are wanted, more than that many of them
 abbrev pub bytes_up_to : ℕ → Format (List ℕ)
-bytes_up_to most = record { says = IsReadOf most; lacks = λ read f. ⊥ }
+bytes_up_to most = record { says = IsReadOf most; lacks = λ bytes f. ⊥ }

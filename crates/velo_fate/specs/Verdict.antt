@@ -71,6 +71,6 @@ abbrev pub is_alarm : Verdict → Bool
 is_alarm Alarm = true
 is_alarm Clean = false
 
--- the alarm of a log is known: one, or none
+-- which alarm the log has is known: one, or none
 abbrev pub HasAlarm : List Event → Type 0
 HasAlarm log = (alarm : Option analysis.Alarm) × AlarmOf log alarm

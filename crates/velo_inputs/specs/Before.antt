@@ -28,16 +28,16 @@ DoesByNames does path store stdout f =
     DoesNotName store path stdout f
     ⊎ ((names : NameLists) × AreNamesOf store.disk path names × does names store stdout f)
 
--- What is to be ignored is judged by these names (`Ignoring`) before LOG is opened. It is left out,
--- and so are the labels that are known; and then what is to be done is done without them.
+-- By these names the words of what is to be ignored are judged (`Ignoring`), before LOG is opened.
+-- `asked` is what they mean and the labels that are known; without it what is to be done is done.
 abbrev pub DoesKnown : (Asked → Store → Writing → Fate → Type 0) → NameLists → Ignored → List ℕ
     → Store → Writing → Fate → Type 0
 DoesKnown does names ignored known store stdout f =
     (AsksInVain names ignored f × WritesNowhere store stdout)
     ⊎ ((asked : Asked) × IsAsked names known ignored asked × does asked store stdout f)
 
--- The list of the labels that are known is read before this by these names (`Listing`), where one is
--- given, and else none is.
+-- Before this the list of the labels that are known is read by these names (`Listing`), if one is
+-- given; without one none is known.
 abbrev pub DoesAsked : (Asked → Store → Writing → Fate → Type 0) → NameLists → Ignored → Store
     → Writing → Fate → Type 0
 DoesAsked does names ignored store stdout f =

@@ -69,7 +69,8 @@ pub record IsAsked (names : NameLists) (known : List ℕ) (ignored : Ignored) (a
       ≡ Some (map (λ (x : VarId). x.0) asked.variables.now)
   pub all_locks : asked.all_locks ≡ ignored.all_locks
 
--- the labels are judged first, and then the locks
+-- Why nothing can be left out as asked: the first word that means nothing, among the labels, then
+-- the locks, then the variables; or an allocation failed.
 abbrev pub AsksInVain : NameLists → Ignored → Fate → Type 0
 AsksInVain names ignored f =
     MeanNothing names Label ignored.labels.now f

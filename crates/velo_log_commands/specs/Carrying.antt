@@ -32,7 +32,7 @@ IsCarryAnswer read answer =
 abbrev pub IsPut : Writing → Answer → Fate → Type 0
 IsPut sink answer f = IsTaken sink answer.saved answer.fate f
 
--- an answer to what was read was put into the sink
+-- one source was carried over into one sink (`carry_run`): an answer to what was read was put there
 abbrev pub Carries : Option (List ℕ) → Writing → Fate → Type 0
 Carries read sink f = (answer : Answer) × IsCarryAnswer read answer × IsPut sink answer f
 

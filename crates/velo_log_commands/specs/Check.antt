@@ -33,7 +33,8 @@ abbrev pub IsCheckAnswer : Names → ℕ → ℕ → Bool → Option (List ℕ) 
 IsCheckAnswer names limit nodes certificate read answer =
     IsChecked names limit certificate read answer ⊎ IsUnchecked limit nodes read answer
 
--- The fate of a check: an answer to what was read was printed on the sink.
+-- The fate of a check of one source on one sink (`check_run`): an answer to what was read was
+-- printed.
 abbrev pub Checks : Names → ℕ → ℕ → Bool → Option (List ℕ) → Writing → Fate → Type 0
 Checks names limit nodes certificate read sink f =
     (answer : Answer) × IsCheckAnswer names limit nodes certificate read answer

@@ -1,4 +1,5 @@
--- What each command on a recorded log does: one definition a command, whose lines are its steps.
+-- What each command on a recorded log does: the last definition of its section, `DoesCheck` and so on.
+-- The definitions before it are its later steps.
 --
 -- The store is the files that the command finds and leaves, stdout is standard output before and
 -- after, and f is the command's fate. Each command names in parentheses the page that says what it
@@ -33,7 +34,9 @@ use Rattle.velo_log_commands.specs.Watching.{Terms, Watches, terms_of_watch}
 use Rattle.velo_delivery.specs.Writing.{Writing, WritesNothing}
 use Rattle.velo_inputs.specs.Before.{DoesByNames}
 
--- ---- velodrome check LOG [--names FILE] [--events N] [--nodes N] [--certificate]
+-- ---- velodrome check LOG [--names FILE] [--events N] [--nodes N] [--certificate] [--why]
+
+-- (--why concerns standard error alone: `EndsInWords` of `velo_words`.)
 
 -- LOG is read whole. The report by these names goes to standard output, and the certificate after
 -- it; or nothing, for a reason (`Check`).
@@ -63,8 +66,8 @@ drawing_of options = record { operand = Svg; path = options.drawing }
 
 -- LOG is read whole. If there is a cycle, its picture is saved at OUT, if that is given, and then
 -- its drawing at SVG, if that is given; and then the explanation goes to standard output, all by
--- these names; or nothing, for a reason (`Explaining`). Behind a log without a cycle OUT and SVG are
--- untouched.
+-- these names; or nothing, for a reason (`Explaining`). If the log has no cycle, OUT and SVG are not
+-- opened.
 abbrev pub ExplainsLog : NameLists → Option Table → ExplainOptions → Store → Writing → Fate → Type 0
 ExplainsLog names sites options store stdout f =
     DoesNotReadApart store Log options.input.now options.target (drawing_of options) stdout f
@@ -85,7 +88,7 @@ abbrev pub DoesExplain : ExplainOptions → Store → Writing → Fate → Type 
 DoesExplain options store stdout f =
     DoesByNames (λ names. ExplainsBy names options) options.names store stdout f
 
--- ---- velodrome carry LOG --log OUT
+-- ---- velodrome carry LOG --log OUT [--why]
 
 -- OUT is opened to be written, and LOG is read whole. Its text of version 2 goes to OUT; or
 -- nothing, for a reason, and then OUT stays as it opened (`Carrying`). Nothing goes to standard

@@ -46,15 +46,16 @@ fate_of_delivery (Err failure) = fate_of_failure failure
 
 -- ---- what is done
 
--- what is left of a log went out, or a part of it, and this is the fate
+-- What is left of a log went out, or a part of it, and this is the fate. (`held` is a reference to
+-- it, as `GoesOut` takes one.)
 abbrev pub GoesOutTo : ThinOptions → ThinnedLog → Store → Writing → Fate → Type 0
 GoesOutTo options thinned store stdout f =
     (held : Bor ThinnedLog) × (held.now ≡ thinned) × (result : Result ⊤ Failure)
     × GoesOut held (targets_of options) store stdout result × (f ≡ fate_of_delivery result)
 
--- The log of the input can come about, and what is left of it went out. With every block there, and
--- whichever labels are left out, the log has a cycle exactly where what is left has one, the same
--- event closes the first one, and the same blocks are to blame (`IsThinnedLog`).
+-- The log of the input can come about, and what is left of it went out. Whether all blocks are kept
+-- or those of some labels are left out, both logs have the same verdict, the same event closes the
+-- first cycle, and the same blocks are to blame (`IsThinnedLog` of `velo_thinning`).
 pub record ThinsLog (options : ThinOptions) (read : Option (List ℕ)) (store : Store) (stdout : Writing)
     (f : Fate) : Type 0 where
   pub thinned : ThinnedLog

@@ -38,18 +38,22 @@ use Rattle.velo_delivery.specs.Writing.{BreaksOff, Writes, Writing}
 
 -- ---- what is asked of a watch, and what bounds it
 
--- The path of the log, and that of the names of its report; whether its alarm ends the watch, and
--- whether its certificate is asked for. The text has so many events at most, and so many happen at
--- most. After so many events a fault of the text is met here; and after these events the next one
--- cannot happen, for this reason.
 pub record Terms : Type 1 where
+  -- the path of the log
   pub input : List ℕ
+  -- the path of the names of its report
   pub names : Option (Bor (List ℕ))
+  -- the alarm ends the watch
   pub stop : Bool
+  -- the certificate is asked for
   pub certificate : Bool
+  -- the most events that the text may have
   pub longest : ℕ
+  -- the most events that may happen
   pub most : ℕ
+  -- after so many events the reader meets this fault of the text
   pub IsMet : ℕ → LogFault → Type 0
+  -- after these events the next one cannot happen, for this reason
   pub IsFaultAt : Bounds → List Event → Event → LogReplayFault → Type 0
 
 -- ---- the events so far

@@ -1,8 +1,10 @@
--- What each command on a workload does: one definition a command, whose lines are its steps.
+-- What each command on a workload does: the last definition of its section. The definitions before
+-- it are its later steps.
 --
 -- The store is the files that the command finds and leaves, stdout is standard output before and
--- after, and f is what the command comes to. Each command names in parentheses the page that says
--- how it answers the bytes of its input.
+-- after, and f is the command's fate. Each command names in parentheses the page that says what it
+-- answers to the bytes of its input. (--why and --progress concern standard error alone: `EndsInWords`
+-- of `velo_words`.)
 use Rattle.std.specs.Prelude.{◌⊎◌, ℕ, List, Option}
 use Rattle.std.specs.Borrow.{Bor}
 use Rattle.velo_events.specs.declared.event.ThreadId.{ThreadId}
@@ -30,11 +32,11 @@ DoesNotPlay store input target names stdout f =
     IsBarredRun store.disk input target names f × WritesNowhere store stdout
 
 -- ---- velodrome run FILE [--stop] [--log OUT] [--names-out NAMES] [--events N] [--nodes N]
--- ---- [--certificate]
+-- ---- [--certificate] [--why]
 
--- FILE is read whole, and its threads are played. The log of the run is saved at OUT, then the
--- names of the workload at NAMES, and then the report goes to standard output, and the certificate
--- behind it; or nothing, for a reason (`Playing`).
+-- FILE is read whole, and its threads are run. The log of the run is saved at OUT, then the names of
+-- the workload at NAMES, and then the report goes to standard output, and the certificate after it; or
+-- nothing, for a reason (`Playing`).
 abbrev pub DoesPlay : Play → RunOptions → Store → Writing → Fate → Type 0
 DoesPlay play options store stdout f =
     DoesNotPlay store options.input.now options.target options.names_target stdout f
@@ -48,23 +50,22 @@ DoesRun options store stdout f = DoesPlay ByThreads options store stdout f
 
 -- ---- velodrome replay FILE [--schedule TEXT | --turns TEXT|@PATH] and the options of run
 
--- The schedule is that of the text, or of the file at the path, which is read first. There is none,
--- and no file was opened to be written; or FILE is played by its turns (`Scheduling`, `Playing`).
+-- The schedule comes first: that of TEXT, of the turns, or of the file at PATH (`Scheduling`). If there
+-- is none, nothing is written; else FILE is run by it (`Playing`).
 abbrev pub DoesReplay : ReplayOptions → Store → Writing → Fate → Type 0
 DoesReplay options store stdout f =
     (LacksSchedule store.disk options.schedule f × WritesNowhere store stdout)
     ⊎ ((schedule : List ThreadId) × IsScheduleOf store.disk options.schedule schedule
     × DoesPlay (ByTurns schedule) options.run store stdout f)
 
--- ---- velodrome explore FILE [--states N] [--seconds N] [--first] [--random N] [--seed S]
+-- ---- velodrome explore FILE [--states N] [--seconds N] [--first] [--progress] [--random N] [--seed S]
 -- ---- [--log OUT] [--names-out NAMES] [--events N] [--nodes N] [--certificate]
 
 -- FILE is read whole, and all its schedules are tried; or with --random so many that are drawn by
--- chance (`ByChance`). Where one of them was found to have an alarm, a deadlock or a refusal, the
--- log of its replay is saved at OUT, and then the names of the workload at NAMES. What was found
--- and who is to blame goes to standard output, and then the report of this replay, and its
--- certificate, and behind that of a deadlock who waits for what; or nothing, for a reason
--- (`Exploring`).
+-- chance (`ByChance`). If one of them was found to have an alarm, a deadlock or a refusal, the log of
+-- its replay is saved at OUT, and then the names of the workload at NAMES. What was found and who is
+-- to blame goes to standard output, and then the report of this replay, and its certificate, and after
+-- that of a deadlock who waits for what; or nothing, for a reason (`Exploring`).
 abbrev pub DoesExplore : ExploreOptions → Store → Writing → Fate → Type 0
 DoesExplore options store stdout f =
     DoesNotPlay store options.input.now options.target options.names_target stdout f

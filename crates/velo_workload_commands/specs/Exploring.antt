@@ -81,11 +81,12 @@ IsToldOf program config options over told = IsToldBy program config options over
 
 -- ---- its text
 
--- a schedule behind a word, in its longest stretches; an empty one leaves the word alone
+-- the turns of a schedule, each after a space, those of one thread in a row joined (`0*3`); nothing
+-- for an empty one
 abbrev pub turns_text : List ThreadId → List ℕ
 turns_text schedule = spaced (longest schedule)
 
--- a name behind a space, if there is one
+-- a name after a space, if there is one
 abbrev pub name_text : Option (List ℕ) → List ℕ
 name_text None = []
 name_text (Some name) = codes " " ++ name
@@ -143,7 +144,8 @@ abbrev pub is_never : Finding → Bool
 is_never Never = true
 is_never finding = false
 
--- nothing, if no schedule has any fault
+-- `Done` without an alarm if each finding is `Never`, of all schedules or, with --random, of those
+-- that were drawn; else `Open`
 abbrev pub fate_of_rest : Findings → Fate
 fate_of_rest found =
     if is_never found.alarm && (is_never found.stuck && is_never found.refused) then fate.Finished Done false
@@ -173,7 +175,7 @@ run_of options =
       why = false;
     }
 
--- behind the report of a deadlock, who waits for what (`Waits` of `velo_deadlock`)
+-- after the report of a deadlock, who waits for what (`Waits` of `velo_deadlock`)
 abbrev pub waits_of : Goal → Program → List Event → List ℕ
 waits_of goals.Stuck program log = waits_text program log
 waits_of goal program log = []
@@ -181,9 +183,8 @@ waits_of goal program log = []
 abbrev pub waits_after : Program → Replay → List ℕ
 waits_after program replay = waits_of replay.goal program replay.closed.log
 
--- What is told is printed, and behind it the replay of the first finding is reported, and behind a
--- deadlock who waits for what; where none is shown the text is printed alone, and there is nothing
--- to be saved.
+-- What is told is printed, then the report of the replay of the first finding, and after that of a
+-- deadlock who waits for what. If none is shown the text is printed alone, and nothing is saved.
 abbrev pub IsSaidOf : Program → Bool → Told → Option Replay → Answer → Type 0
 IsSaidOf program certificate told (Some replay) answer =
     IsReported program certificate (told_text program told) replay.closed (waits_after program replay)

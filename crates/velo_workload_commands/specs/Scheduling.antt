@@ -53,7 +53,7 @@ LacksSchedule disk (source.File path) f = LacksAt turns_file disk path.now f
 
 -- ---- on the way. Contracts within the crate cite these words
 
--- the schedule that these bytes say, or the fault for which they say none
+-- the fault for which these bytes say no schedule
 abbrev pub IsNoScheduleIn : List ℕ → Fate → Type 0
 IsNoScheduleIn bytes (fate.Schedule schedule_fault.Memory) = GrowthRefused
 IsNoScheduleIn bytes (fate.Schedule schedule_fault.Bad) =
