@@ -1,6 +1,7 @@
 //! `velodrome explain`.
-ghost use Rattle.std.specs.Prelude.{◌≡◌, ◌≤◌, ◌++◌, false, Some, IfOk, length};
+ghost use Rattle.std.specs.Prelude.{◌≡◌, ◌≤◌, ◌++◌, Some, IfOk, length};
 ghost use Rattle.velo_events.specs.Graph.{HasCycle};
+ghost use Rattle.velo_events.specs.WellFormed.{IsWellFormed};
 ghost use Rattle.velo_events.specs.declared.limits.TheConstants.{MAX_EVENTS};
 ghost use Rattle.velo_explain.specs.Count.{transactions_of};
 ghost use Rattle.velo_explain.specs.Evidence.{IsWithin};
@@ -8,7 +9,6 @@ ghost use Rattle.velo_explain.specs.Picture.{named_picture_text};
 ghost use Rattle.velo_explain.specs.Text.{clean_text};
 ghost use Rattle.velo_filter.specs.Left.{rest_of};
 ghost use Rattle.velo_filter.specs.Tables.{left_of};
-ghost use Rattle.velo_filter.specs.Thinned.{CanComeAbout};
 ghost use Rattle.velo_log_commands.specs.Explaining.{ExplainsRest, ExplainsVerdict, ExplainsWhole, counted, explained, is_whole, opening, saying, words_of};
 ghost use Rattle.velo_log_commands.specs.Commands.{DoesExplain, ExplainsAsked, ExplainsLog, ExplainsNamed};
 ghost use Rattle.velo_picture.specs.Drawing.{drawing_text};
@@ -27,7 +27,7 @@ use velo_audit_text::{Asked, add_asked};
 use velo_bytes::{Sink, Source};
 use velo_certify::CertFault;
 use velo_delivery::{Files, Operand};
-use velo_events::{MAX_EVENTS, MAX_NODES, Memory};
+use velo_events::{Bounds, MAX_EVENTS, MAX_NODES, Memory};
 use velo_explain::{
     Evidence, Page, evidence_of, explain_clean, explain_named, explain_sited, picture_named,
 };
@@ -301,13 +301,14 @@ fn explain_whole<F: Files, O: Sink>(
 /// Explains that what is left of a log has no cycle.
 fn explain_clean_rest<O: Sink>(
     alloc: Global,
+    bounds: Bounds,
     log: &Trace,
     left: &LeftOut,
     before: &[u8],
     out: &mut O,
 ) -> Fate
     requires few { length log.now.events ≤ MAX_EVENTS }
-    requires can_come_about { CanComeAbout log.now.events }
+    requires well_formed { IsWellFormed bounds log.now.events }
     requires clean { ¬ HasCycle (rest_of (left_of left.now) log.now.events) }
     ensures { PrintsOrLacks (counted before.now (rest_of (left_of left.now) log.now.events))
         (writing O.contents O.failures out.old out.new) result }
@@ -345,7 +346,7 @@ fn explain_left<F: Files, O: Sink>(
     let config = config_of_rounds(closed, greatest);
     let log = closed.log();
     match first_alarm(alloc, &config, log, left) {
-        Ok(None) => explain_clean_rest(alloc, log, left, legend.before, out),
+        Ok(None) => explain_clean_rest(alloc, config.bounds, log, left, legend.before, out),
         Ok(Some(first)) => {
             let position = first.position;
             let fate = explain_by(
