@@ -152,9 +152,9 @@ replay_file_asks options path schedule says file stop log names events nodes cer
   ),
 )
 
--- a log, a picture and a drawing
+-- a log without a label and a lock, a picture and a drawing
 abbrev explain_words : List Text
-explain_words = codes "velodrome" ∷ codes "explain" ∷ codes "a" ∷ codes "--dot" ∷ codes "p" ∷ codes "--svg=d" ∷ codes "--names=n" ∷ codes "--sites" ∷ codes "s" ∷ []
+explain_words = codes "velodrome" ∷ codes "explain" ∷ codes "a" ∷ codes "--dot" ∷ codes "p" ∷ codes "--svg=d" ∷ codes "--names=n" ∷ codes "--sites" ∷ codes "s" ∷ codes "--ignore-lock=m" ∷ codes "--ignore-label" ∷ codes "7" ∷ []
 
 explain_is_right : faults_of explain_words ≡ []
 unfolding faults_of walk_fault walked defaults_fault
@@ -162,7 +162,7 @@ explain_is_right = refl
 
 explain_asks : (options : ExplainOptions) → options.input.now ≡ codes "a" → option_map (λ path. path.now) options.target ≡ Some (codes "p")
     → option_map (λ path. path.now) options.drawing ≡ Some (codes "d") → option_map (λ path. path.now) options.names ≡ Some (codes "n") → option_map (λ path. path.now) options.sites ≡ Some (codes "s")
-    → options.ignored.known ≡ None → map (λ w. w.now) options.ignored.labels.now ≡ [] → map (λ w. w.now) options.ignored.locks.now ≡ [] → map (λ w. w.now) options.ignored.variables.now ≡ []
+    → options.ignored.known ≡ None → map (λ w. w.now) options.ignored.labels.now ≡ codes "7" ∷ [] → map (λ w. w.now) options.ignored.locks.now ≡ codes "m" ∷ [] → map (λ w. w.now) options.ignored.variables.now ≡ []
     → options.ignored.all_locks ≡ false → AsksFor (asked_by explain_words) (Explain options)
 unfolding asked_by walked
 explain_asks options log dot svg names sites known labels locks variables all =

@@ -105,7 +105,18 @@ fn explain<'a>(alloc: Global) -> Result<Command<'a>, Memory>
     ensures { IfOk result (IsSubcommand explain) }
 {
     let about = "Reads a recorded log and explains the verdict in lanes and words";
-    let arguments = [LOG, DOT, SVG, NAMES, SITES];
+    let arguments = [
+        LOG,
+        DOT,
+        SVG,
+        NAMES,
+        SITES,
+        NOT_ATOMIC,
+        IGNORE_LABEL,
+        IGNORE_LOCK,
+        IGNORE_LOCKS,
+        IGNORE_VARIABLE,
+    ];
     subcommand(alloc, "explain", about, help::OF_EXPLAIN, &arguments)
 }
 

@@ -181,7 +181,12 @@ the drawing have names after the numbers. A text that is too long for its lane e
 The sites: a file that a recorder writes beside the log, 'vsites 1 SITES EVENTS', then a line
 'FILE:LINE FUNCTION' for each site, then for each event a line with the number of its site, or 0.
 With --sites the words end with the place of each event that they mention. Only one of LOG and the
-files of --names and --sites can be -.
+files of --names, --sites and --not-atomic can be -.
+
+--not-atomic, --ignore-label, --ignore-lock, --ignore-locks and --ignore-variable are those of
+'velodrome audit'. What they name is left out, and the first alarm of what is left is explained, with
+the lines of the whole log. What was left out is printed first, as 'velodrome audit' prints it, and then
+'What is left of the log:'.
 
 It uses the greatest limits, 16777216 events and 4096 nodes, which no log exceeds.
 
@@ -194,8 +199,9 @@ Statuses, each with the lines on standard error:
      LOG and SVG, and of OUT and SVG; the text is no log: 'log fault K', 'log fault K line N'; an event
      cannot happen: 'refused K at P', 'wrong value at P'; the text of --names is no file of names:
      'names fault K line N'; the text of --sites is no file of sites, or of another log:
-     'sites fault K line N'
-  3  an alarm: no serial reordering of the log exists
+     'sites fault K line N'; the text of --not-atomic is no list: 'list fault K line N'; a word of
+     --ignore-label, --ignore-lock or --ignore-variable means nothing: 'ignored fault K'
+  3  an alarm: no serial reordering of the log, or of what is left of it, exists
   5  memory or a device failed: 'out of memory', 'read failed', 'write failed', 'cannot open'
 
 Sites faults, line 0 for the whole file:
@@ -205,7 +211,8 @@ Sites faults, line 0 for the whole file:
   4  it is not UTF-8
   5  it gives the sites of another number of events than the log has
 
-Log, names, faults and refusals: see 'velodrome check --help'.";
+Lists, ignored words: see 'velodrome audit --help'. Log, names, faults and refusals: see
+'velodrome check --help'.";
 
 /// After the help of `carry`.
 pub const OF_CARRY: &str = "\

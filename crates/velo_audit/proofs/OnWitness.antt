@@ -1,5 +1,5 @@
 -- The witness of a round.
-use Rattle.std.proofs.Common.{◌≡◌, ℕ, ◌+◌, ◌<◌, Bool, List, [], ◌∷◌, ◌++◌, length, take, Option, Some, None, sym, ap, ◌∙◌, subst, arith}
+use Rattle.std.proofs.Common.{◌≡◌, ℕ, ◌+◌, ◌<◌, Bool, true, List, [], ◌∷◌, ◌++◌, length, take, Option, Some, None, sym, ap, ◌∙◌, subst, arith}
 use Rattle.std.specs.Prelude.{◌⊎◌, slice_index, slice_index_or}
 use Rattle.std.proofs.lemmas.List.{length-map, get_or-map}
 use Rattle.velo_events.specs.declared.event.Event.{Event}
@@ -15,8 +15,9 @@ use Rattle.velo_world.specs.declared.analysis.Alarm.{Alarm}
 use Rattle.velo_world.specs.World.{IsAlarm}
 use Rattle.velo_filter.specs.Left.{Left, rest_of, places_of, place_of}
 use Rattle.velo_filter.proofs.OnLeft.{rest_of-is, stands_for}
+use Rattle.velo_audit.specs.Audit.{RoundTells}
 use Rattle.velo_audit.specs.Tells.{Tells}
-use Rattle.velo_audit.specs.Witness.{span_as_read, edge_as_read, blame_as_read, ReadsAs, IsWitness, HasWitness, IsWitnessWithin, IsEvidenceOf, WitnessTells}
+use Rattle.velo_audit.specs.Witness.{span_as_read, edge_as_read, blame_as_read, ReadsAs, IsWitness, IsFirstAlarm, HasWitness, IsWitnessWithin, IsEvidenceOf, WitnessTells}
 use Rattle.velo_audit.specs.declared.told.Told.{Told}
 use Rattle.velo_certify.proofs.OnClosing.{no_cycle_before}
 
@@ -115,3 +116,13 @@ IsEvidenceOf-read what places alarm is blamed same inside evidence e reasons rea
 
 pub blames-within : (what : List Event) (places : List ℕ) (p : ℕ) (blamed : List Block) (inside : Evidence) → length places ≡ length what → IsEvidence what p blamed inside → AreBlamesWithin (length places) inside.blames.items
 blames-within what places p blamed inside long e = subst (λ n. AreBlamesWithin n inside.blames.items) (sym long) (IsWithin-of what p blamed inside e).blames
+
+-- ---- the first alarm
+
+-- it is what a round tells with a witness
+pub first-alarm-told : (log : List Event) (left : Left) (answer : Option Told) (told : Told) (evidence : Evidence) → RoundTells true log left answer → answer ≡ Some told → told.witness ≡ Some evidence
+    → IsFirstAlarm log left (Some (record { position = told.closing; evidence = evidence }))
+first-alarm-told log left answer told evidence tells is has =
+    let told-so = subst (RoundTells true log left) is tells in
+    let witness = subst (HasWitness true log left told.closing) has told-so.2 in
+    (witness.1, IsWithin-read log left told.closing evidence witness.1)

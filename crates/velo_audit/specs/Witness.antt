@@ -1,7 +1,7 @@
 -- The witness of a round: the evidence of the rest's first alarm, by the positions of the log as read.
-use Rattle.std.specs.Prelude.{◌≡◌, ⊤, ℕ, Bool, true, false, List, map, slice_index, Option, Some, None}
+use Rattle.std.specs.Prelude.{◌≡◌, ⊤, ℕ, Bool, true, false, List, length, map, slice_index, Option, Some, None}
 use Rattle.velo_events.specs.declared.event.Event.{Event}
-use Rattle.velo_events.specs.Graph.{IsClosing}
+use Rattle.velo_events.specs.Graph.{HasCycle, IsClosing}
 use Rattle.velo_traces.specs.declared.block.Block.{Block}
 use Rattle.velo_certify.specs.declared.edges.EdgeEvents.{EdgeEvents}
 use Rattle.velo_blame.specs.Blamed.{AreBlamedAt, begins_of}
@@ -11,6 +11,7 @@ use Rattle.velo_explain.specs.declared.evidence.Evidence.{Evidence}
 use Rattle.velo_explain.specs.Evidence.{IsEvidence, HaveReasons, IsWithin}
 use Rattle.velo_world.specs.declared.analysis.Alarm.{Alarm}
 use Rattle.velo_filter.specs.Left.{Left, rest_of, place_of}
+use Rattle.velo_audit.specs.declared.first.FirstAlarm.{FirstAlarm}
 
 -- ---- each position as that for which it stands
 
@@ -48,6 +49,12 @@ pub record IsWitness (log : List Event) (left : Left) (closing : ℕ) (evidence 
   -- and in the log as read
   pub there : closing ≡ place_of left log position
   pub reads : ReadsAs (place_of left log) inside evidence
+
+-- the rest has no cycle; or this is its first alarm, whose positions are those of the log as read
+abbrev pub IsFirstAlarm : List Event → Left → Option FirstAlarm → Type 0
+IsFirstAlarm log left None = ¬ HasCycle (rest_of left log)
+IsFirstAlarm log left (Some first) =
+    IsWitness log left first.position first.evidence × IsWithin (length log) first.position first.evidence
 
 -- one is there exactly where it was asked for
 abbrev pub HasWitness : Bool → List Event → Left → ℕ → Option Evidence → Type 0

@@ -5,6 +5,7 @@
 mod checked;
 mod count;
 mod cut;
+mod first;
 mod piece;
 mod pieces;
 mod round;
@@ -14,6 +15,7 @@ mod witness;
 
 pub use checked::audit_checked;
 pub use count::count_atomic;
+pub use first::{FirstAlarm, first_alarm};
 pub use round::AuditFault;
 pub use rounds::audit;
 pub use told::Told;

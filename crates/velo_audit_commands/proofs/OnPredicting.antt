@@ -23,7 +23,8 @@ use Rattle.velo_delivery.specs.Disk.{Store}
 use Rattle.velo_delivery.specs.Writing.{Writing, WritesNothing}
 use Rattle.velo_request.specs.declared.request.PredictOptions.{PredictOptions}
 use Rattle.velo_audit_commands.specs.declared.predicting.PredictedFindings.{PredictedFindings}
-use Rattle.velo_audit_commands.specs.Auditing.{AreRoundsOf, LacksRounds, left_at_first, left_at_last}
+use Rattle.velo_audit_commands.specs.Auditing.{AreRoundsOf, LacksRounds, left_at_last}
+use Rattle.velo_inputs.specs.Leaving.{left_at_first}
 use Rattle.velo_audit_commands.specs.Predicting.{ArePredictionsOf, IsSearched, Predicts, PredictsIfOf, PredictsSited, predicted}
 use Rattle.velo_inputs.specs.Sending.{DeliversOrLacks}
 use Rattle.velo_inputs.specs.Siting.{AreOfLog}

@@ -1,18 +1,14 @@
 -- What an audit has to say, by the bytes of its input and by the definitions.
-use Rattle.std.specs.Prelude.{◌≡◌, ◌⊎◌, ◌||◌, ◌&&◌, ◌+◌, ◌≤◌, nat_lt, ℕ, Bool, true, false, All, List, [], ◌∷◌, length, map, Option, Some, None}
+use Rattle.std.specs.Prelude.{◌≡◌, ◌⊎◌, ◌||◌, ◌+◌, ◌≤◌, ℕ, Bool, true, false, All, List, [], ◌∷◌, length, map, Option, Some, None}
 use Rattle.velo_events.specs.declared.config.Bounds.{Bounds}
 use Rattle.velo_events.specs.declared.config.Config.{Config}
 use Rattle.velo_events.specs.declared.event.Event.{Event}
-use Rattle.velo_events.specs.declared.event.Label.{Label}
-use Rattle.velo_events.specs.declared.event.LockId.{LockId}
-use Rattle.velo_events.specs.declared.event.VarId.{VarId}
-use Rattle.velo_events.specs.declared.limits.TheConstants.{MAX_LOCKS}
 use Rattle.velo_events.specs.declared.refusal.Refusal.TheVariants.{GraphFull}
 use Rattle.velo_events.specs.Refusals.{GrowthRefused}
 use Rattle.velo_events.specs.Reordering.{IsSerializable}
 use Rattle.velo_names.specs.Names.{NameLists}
 use Rattle.velo_sites.specs.Sites.{Table}
-use Rattle.velo_filter.specs.Left.{Left, is_listed, rest_of, with_labels}
+use Rattle.velo_filter.specs.Left.{Left, rest_of, with_labels}
 use Rattle.velo_audit.specs.declared.told.Told.{Told}
 use Rattle.velo_audit.specs.Audit.{AreWitnessed, IsFullAfter, TellsTruly}
 use Rattle.velo_audit.specs.Rounds.{AreFound, AreTheOnlyRounds, Rounds, atomic_labels, labels_found}
@@ -32,6 +28,7 @@ use Rattle.velo_audit_forms.specs.Answer.{IsJsonText}
 use Rattle.velo_audit_findings.specs.Junit.{junit_text}
 use Rattle.velo_audit_findings.specs.Sarif.{sarif_text}
 use Rattle.velo_inputs.specs.Input.{ComesAbout, IsUnchecked}
+use Rattle.velo_inputs.specs.Leaving.{left_at_first}
 use Rattle.velo_inputs.specs.Siting.{AreOfLog}
 use Rattle.velo_fate.specs.Delivery.{Answer, IsPrinted, LacksMemory, printing, silent}
 use Rattle.velo_fate.specs.Failures.{FailuresAsTold}
@@ -40,18 +37,7 @@ use Rattle.velo_delivery.specs.Writing.{Writing, WritesNothing}
 
 -- ---- what is left out
 
--- at first: the labels, the locks and the variables that were asked for. If all locks were, so is each
--- that a log can have: its number is below the most
-abbrev pub left_at_first : Asked → Left
-left_at_first asked =
-    record {
-      labels = is_listed (map (λ (l : Label). l.0) asked.labels.now);
-      locks = λ m. is_listed (map (λ (l : LockId). l.0) asked.locks.now) m
-          || (asked.all_locks && nat_lt m MAX_LOCKS);
-      variables = is_listed (map (λ (x : VarId). x.0) asked.variables.now);
-    }
-
--- and after the rounds: the labels that they found, too
+-- after the rounds: the labels that they found, too
 abbrev pub left_at_last : List Event → Left → List Told → Left
 left_at_last log left rounds = with_labels left (labels_found log (map told_as rounds))
 
@@ -196,17 +182,6 @@ PrintsRounds names sites log asked options rounds stdout f =
     × IsAuditPage names sites log asked options rounds (atomic_of log asked rounds) page
     × IsPrinted stdout (printing page (Finished Done (is_found rounds))) f)
     ⊎ (GrowthRefused × (f ≡ Memory) × WritesNothing stdout)
-
--- these locks, all locks below n, these variables are left out as well
-abbrev pub with_locks : Left → List ℕ → Left
-with_locks left locks = record left { locks = λ m. left.locks m || is_listed locks m }
-
-abbrev pub with_locks_below : Left → Bool → ℕ → Left
-with_locks_below left all n = record left { locks = λ m. left.locks m || (all && nat_lt m n) }
-
-abbrev pub with_variables : Left → List ℕ → Left
-with_variables left variables =
-    record left { variables = λ x. left.variables x || is_listed variables x }
 
 -- what was made of a log was printed: its audit, or that memory was wanting
 abbrev pub Audits : NameLists → Option Table → Asked → AuditOptions → Bounds → List Event → Writing → Fate

@@ -25,7 +25,8 @@ use Rattle.velo_delivery.specs.Reading.{Reading}
 use Rattle.velo_delivery.specs.Writing.{Writing}
 use Rattle.velo_request.specs.declared.request.PredictOptions.{PredictOptions}
 use Rattle.velo_audit_commands.specs.declared.predicting.PredictedFindings.{PredictedFindings}
-use Rattle.velo_audit_commands.specs.Auditing.{AreRoundsOf, HasFullGraph, IsOfOther, left_at_first, left_at_last}
+use Rattle.velo_audit_commands.specs.Auditing.{AreRoundsOf, HasFullGraph, IsOfOther, left_at_last}
+use Rattle.velo_inputs.specs.Leaving.{left_at_first}
 use Rattle.velo_inputs.specs.Input.{ComesAbout, IsUnchecked}
 use Rattle.velo_inputs.specs.Siting.{AreOfLog}
 

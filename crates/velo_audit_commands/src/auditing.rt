@@ -1,15 +1,12 @@
 //! `velodrome audit`.
-ghost use Rattle.std.specs.Prelude.{◌≡◌, ◌≤◌, All, false, true, length, map, IfErr, IfOk, OnOk, IsTrue};
-ghost use Rattle.velo_events.specs.declared.event.Label.{Label as LabelOf};
-ghost use Rattle.velo_events.specs.declared.event.LockId.{LockId as LockOf};
-ghost use Rattle.velo_events.specs.declared.event.VarId.{VarId as VariableOf};
-ghost use Rattle.velo_events.specs.declared.limits.TheConstants.{MAX_EVENTS, MAX_LOCKS};
+ghost use Rattle.std.specs.Prelude.{◌≡◌, ◌≤◌, All, false, length, IfErr, IfOk, IsTrue};
+ghost use Rattle.velo_events.specs.declared.limits.TheConstants.{MAX_EVENTS};
 ghost use Rattle.velo_events.specs.Graph.{HasCycle};
 ghost use Rattle.velo_events.specs.WellFormed.{IsWellFormed};
-ghost use Rattle.velo_filter.specs.Left.{with_labels};
 ghost use Rattle.velo_filter.specs.Tables.{left_of};
 ghost use Rattle.velo_audit.specs.Audit.{TellsTruly};
-ghost use Rattle.velo_audit_commands.specs.Auditing.{AreRoundsOf, Audits, AuditsIfOf, AuditsInput, LacksRounds, PrintsRounds, is_found, left_at_first, left_at_last, with_locks, with_locks_below, with_variables};
+ghost use Rattle.velo_audit_commands.specs.Auditing.{AreRoundsOf, Audits, AuditsIfOf, AuditsInput, LacksRounds, PrintsRounds, is_found, left_at_last};
+ghost use Rattle.velo_inputs.specs.Leaving.{left_at_first};
 ghost use Rattle.velo_delivery.specs.Disk.{store};
 ghost use Rattle.velo_audit_commands.specs.Commands.{AuditsAsked, AuditsLog, AuditsNamed, DoesAudit};
 ghost use Rattle.velo_delivery.specs.Reading.{reading};
@@ -22,95 +19,18 @@ use velo_audit::{AuditFault, Told, audit_checked, count_atomic};
 use velo_audit_text::Asked;
 use velo_bytes::{Sink, Source};
 use velo_delivery::{Files, Operand};
-use velo_events::{Bounds, Config, Label, LockId, MAX_LOCKS, Memory, Refusal, VarId};
+use velo_events::{Bounds, Config, Memory, Refusal};
 use velo_fate::{CheckFault, Fate, open_input};
 use velo_filter::LeftOut;
 use velo_inputs::{
-    ByAsked, ByNames, BySites, are_of_log, do_by_asked, do_by_names, do_by_sites, do_input, print,
+    ByAsked, ByNames, BySites, are_of_log, config_of_rounds, do_by_asked, do_by_names, do_by_sites,
+    do_input, left_out, print,
 };
 use velo_names::Names;
-use velo_request::{AuditOptions, Limits};
+use velo_request::AuditOptions;
 use velo_sites::Sites;
 use velo_traces::Trace;
 use velo_world::Closed;
-
-/// Leaves out the labels.
-fn leave_out_labels(left: &mut LeftOut, labels: &[Label]) -> Result<(), Memory>
-    ensures { OnOk result (left_of left.new
-        ≡ with_labels (left_of left.old) (map (λ (l : LabelOf). l.0) labels.now)) }
-{
-    for label in labels {
-        left.leave_out_label(*label)?;
-    }
-    Ok(())
-}
-
-/// Leaves out the locks.
-fn leave_out_locks(left: &mut LeftOut, locks: &[LockId]) -> Result<(), Memory>
-    ensures { OnOk result (left_of left.new
-        ≡ with_locks (left_of left.old) (map (λ (m : LockOf). m.0) locks.now)) }
-{
-    for lock in locks {
-        left.leave_out_lock(*lock)?;
-    }
-    Ok(())
-}
-
-/// Leaves out all locks that a log can have.
-fn leave_out_all_locks(left: &mut LeftOut) -> Result<(), Memory>
-    ensures { OnOk result (left_of left.new ≡ with_locks_below (left_of left.old) true MAX_LOCKS) }
-{
-    for number in 0..MAX_LOCKS {
-        left.leave_out_lock(LockId(number))?;
-    }
-    Ok(())
-}
-
-/// Leaves them out, if this was asked for.
-fn leave_out_all_locks_if(left: &mut LeftOut, all: bool) -> Result<(), Memory>
-    ensures { OnOk result (left_of left.new ≡ with_locks_below (left_of left.old) all MAX_LOCKS) }
-{
-    if !all {
-        return Ok(());
-    }
-    leave_out_all_locks(left)
-}
-
-/// Leaves out the variables.
-fn leave_out_variables(left: &mut LeftOut, variables: &[VarId]) -> Result<(), Memory>
-    ensures { OnOk result (left_of left.new
-        ≡ with_variables (left_of left.old) (map (λ (x : VariableOf). x.0) variables.now)) }
-{
-    for variable in variables {
-        left.leave_out_variable(*variable)?;
-    }
-    Ok(())
-}
-
-/// What was asked for, left out.
-pub fn left_out(alloc: Global, asked: &Asked) -> Result<LeftOut, Memory>
-    ensures { IfOk result (λ left. left_of left ≡ left_at_first asked.now) }
-{
-    let mut left = LeftOut::new(alloc);
-    leave_out_labels(&mut left, asked.labels)?;
-    leave_out_locks(&mut left, asked.locks)?;
-    leave_out_all_locks_if(&mut left, asked.all_locks)?;
-    leave_out_variables(&mut left, asked.variables)?;
-    Ok(left)
-}
-
-/// The configuration of the rounds: that of the log, within the limits.
-pub fn config_of_rounds(closed: &Closed, limits: Limits) -> Config
-    ensures bounds { result.bounds ≡ closed.now.config.bounds }
-    ensures events { result.events ≡ limits.events }
-    ensures nodes { result.nodes ≡ limits.nodes }
-    ensures goes_on { result.stop ≡ false }
-{
-    match Config::new(0, closed.bounds(), limits.events, limits.nodes, false) {
-        Ok(config) => config,
-        Err(_) => unreachable!(),
-    }
-}
 
 /// Whether the log has no cycle.
 pub fn is_clean(closed: &Closed) -> bool

@@ -7,7 +7,8 @@ ghost use Rattle.velo_audit.specs.Audit.{TellsTruly};
 ghost use Rattle.velo_audit_text.specs.Entries.{IsListed};
 ghost use Rattle.velo_audit_text.specs.Listing.{IsListingText};
 ghost use Rattle.velo_audit_forms.specs.Answer.{IsJsonText};
-ghost use Rattle.velo_audit_commands.specs.Auditing.{IsAuditPage, IsAuditText, left_at_first, listing_of};
+ghost use Rattle.velo_audit_commands.specs.Auditing.{IsAuditPage, IsAuditText, listing_of};
+ghost use Rattle.velo_inputs.specs.Leaving.{left_at_first};
 
 use crate::auditing::left_out;
 use std::alloc::Global;

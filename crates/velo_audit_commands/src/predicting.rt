@@ -12,12 +12,13 @@ ghost use Rattle.velo_delivery.specs.Disk.{store};
 ghost use Rattle.velo_delivery.specs.Reading.{reading};
 ghost use Rattle.velo_delivery.specs.Writing.{writing};
 ghost use Rattle.velo_fate.specs.declared.fate.Fate.TheVariants.{Finished};
-ghost use Rattle.velo_audit_commands.specs.Auditing.{AreRoundsOf, left_at_first, left_at_last};
+ghost use Rattle.velo_audit_commands.specs.Auditing.{AreRoundsOf, left_at_last};
+ghost use Rattle.velo_inputs.specs.Leaving.{left_at_first};
 ghost use Rattle.velo_audit_commands.specs.Commands.{DoesPredict, PredictsAsked, PredictsLog, PredictsNamed};
 ghost use Rattle.velo_audit_commands.specs.Predicting.{ArePredictionsOf, Predicts, PredictsIfOf, PredictsInput, first_trace, predicted};
 ghost use Rattle.velo_inputs.specs.Sending.{DeliversOrLacks};
 
-use crate::auditing::{config_of_rounds, is_clean, left_out, rounds_of};
+use crate::auditing::{is_clean, rounds_of};
 use crate::command::{Command, Inquiry};
 use std::alloc::Global;
 use velo_audit::Told;
@@ -29,8 +30,8 @@ use velo_events::{Bounds, Config, Event, Memory};
 use velo_fate::{Fate, open_input};
 use velo_filter::LeftOut;
 use velo_inputs::{
-    ByAsked, ByNames, BySites, are_of_log, do_by_asked, do_by_names, do_by_sites, do_input, print,
-    save_text,
+    ByAsked, ByNames, BySites, are_of_log, config_of_rounds, do_by_asked, do_by_names, do_by_sites,
+    do_input, left_out, print, save_text,
 };
 use velo_names::Names;
 use velo_predict_text::{is_something_told, predictions_text, trace_text};

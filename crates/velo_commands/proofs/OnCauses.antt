@@ -20,6 +20,7 @@ use Rattle.velo_fate.specs.declared.fault.CheckFault.TheVariants as check_fault
 use Rattle.velo_fate.specs.declared.fate.Fate.{Fate}
 use Rattle.velo_fate.specs.declared.fate.Fate.TheVariants as fate
 use Rattle.velo_request.specs.declared.request.AuditOptions.{AuditOptions}
+use Rattle.velo_request.specs.declared.request.ExplainOptions.{ExplainOptions}
 use Rattle.velo_request.specs.declared.request.ExploreOptions.{ExploreOptions}
 use Rattle.velo_request.specs.declared.request.Ignorable.{Ignorable}
 use Rattle.velo_request.specs.declared.request.Ignorable.TheVariants.{Label, Lock, Variable}
@@ -68,7 +69,7 @@ use Rattle.velo_schedule_text.specs.Schedule.{IsFaultOfSchedule, IsFaultOfTurns}
 use Rattle.velo_workload_commands.specs.Scheduling.{HaveFaultOfSchedule, LacksSchedule, turns_file}
 use Rattle.velo_log_commands.specs.Watching.{EndsAfter, IsFaultOfHeader, IsFaultWithin, IsWatchAnswer, Terms, Watches, terms_of_watch}
 use Rattle.velo_log_commands.specs.Endless.{IsFaultOfWhole, terms_of_endless}
-use Rattle.velo_log_commands.specs.Commands.{DoesWatchBy, drawing_of}
+use Rattle.velo_log_commands.specs.Commands.{DoesWatchBy, ExplainsAsked, ExplainsLog, drawing_of}
 use Rattle.velo_world.specs.declared.log_replay.LogReplayFault.TheVariants as replay
 use Rattle.velo_delivery.specs.Writing.{Writing}
 use Rattle.velo_log_commands.specs.Thinning.{map_of}
@@ -100,11 +101,16 @@ module _ (needs : Needs) where
   of_check names limit nodes certificate read answer done (inl c) = said answer _ c.said done
   of_check names limit nodes certificate read answer done (inr f) = said answer (silent (fate.Check f.0)) f.2 (of_fault limit nodes read f.0 f.1)
 
-  of_explanation : (names : NameLists) (sites : Option Table) (read : Option (List ℕ)) (answer : Answer) (drawing : List ℕ) → EndsByRefusal needs ending.Done → IsExplanation names sites read answer drawing → HasCause answer
-  of_explanation names sites read answer drawing done (inl e) = ⊎_elim (λ alarm. said answer _ alarm.said done) (λ clean. said answer _ clean.1 done) e.verdict
-  of_explanation names sites read answer drawing done (inr (inl other)) = said answer (silent fate.OtherSites) other.said tt
-  of_explanation names sites read answer drawing done (inr (inr (inl f))) = said answer (silent (fate.Check f.0)) f.2 (of_fault _ _ read f.0 f.1)
-  of_explanation names sites read answer drawing done (inr (inr (inr lacks))) = of_lack answer lacks
+  of_explanation : (names : NameLists) (sites : Option Table) (asked : Asked) (read : Option (List ℕ)) (answer : Answer) (drawing : List ℕ) → EndsByRefusal needs ending.Done → IsExplanation names sites asked read answer drawing
+      → HasCause answer
+  of_explanation names sites asked read answer drawing done (inl e) =
+      ⊎_elim
+      (λ whole. ⊎_elim (λ alarm. said answer _ alarm.said done) (λ clean. said answer _ clean.1 done) whole.1)
+      (λ rest. ⊎_elim (λ first. said answer _ first.said done) (λ clean. said answer _ clean.1 done) rest.1)
+      e.verdict
+  of_explanation names sites asked read answer drawing done (inr (inl other)) = said answer (silent fate.OtherSites) other.said tt
+  of_explanation names sites asked read answer drawing done (inr (inr (inl f))) = said answer (silent (fate.Check f.0)) f.2 (of_fault _ _ read f.0 f.1)
+  of_explanation names sites asked read answer drawing done (inr (inr (inr lacks))) = of_lack answer lacks
 
   of_audit : (names : NameLists) (sites : Option Table) (asked : Asked) (options : AuditOptions) (read : Option (List ℕ)) (answer : Answer) → EndsByRefusal needs ending.Done → IsAuditAnswer names sites asked options read answer
       → HasCause answer
@@ -302,6 +308,11 @@ of_audited : (names : NameLists) (asked : Asked) (options : AuditOptions) (store
 of_audited names asked options store stdout f sites (inl h) = unread Growths store.disk Log options.input.now None f h.0
 of_audited names asked options store stdout f sites (inr h) = of_delivered Growths store None stdout h.1 f (of_audit Growths names sites asked options h.0.bytes h.1 tt h.4) h.5
 
+of_explained : (names : NameLists) (asked : Asked) (options : ExplainOptions) (store : Store) (stdout : Writing) (f : Fate) (sites : Option Table) → ExplainsLog names sites asked options store stdout f → ComesByRefusal Growths f
+of_explained names asked options store stdout f sites (inl h) = unread_apart Growths store.disk Log options.input.now options.target (drawing_of options) f h.0
+of_explained names asked options store stdout f sites (inr h) =
+    of_in_turn Growths store options.target options.drawing h.2 stdout h.1 f (of_explanation Growths names sites asked h.0.bytes h.1 h.2 tt h.5) h.6
+
 of_predicted : (names : NameLists) (asked : Asked) (options : PredictOptions) (store : Store) (stdout : Writing) (f : Fate) (sites : Option Table) → PredictsLog names sites asked options store stdout f → ComesByRefusal Growths f
 of_predicted names asked options store stdout f sites (inl h) = unread Growths store.disk Log options.input.now options.target f h.0
 of_predicted names asked options store stdout f sites (inr h) = of_delivered Growths store options.target stdout h.1 f (of_prediction Growths names sites asked options h.0.bytes h.1 tt h.4) h.5
@@ -369,10 +380,8 @@ of_done store (request.Check options) stdout f (inl h) = unnamed Growths store.d
 of_done store (request.Check options) stdout f (inr (names, read, (shown, are, inl h))) = unread Growths store.disk Log options.input.now None f h.0
 of_done store (request.Check options) stdout f (inr (names, read, (shown, are, inr h))) = of_delivered Growths store None stdout h.1 f (of_check Growths shown _ _ _ h.0.bytes h.1 tt h.4) h.5
 of_done store (request.Explain options) stdout f (inl h) = unnamed Growths store.disk options.names f h.0
-of_done store (request.Explain options) stdout f (inr (names, read, inl h)) = unsited Growths store.disk options.sites f h.0
-of_done store (request.Explain options) stdout f (inr (names, read, inr (sites, given, inl h))) = unread_apart Growths store.disk Log options.input.now options.target (drawing_of options) f h.0
-of_done store (request.Explain options) stdout f (inr (names, read, inr (sites, given, inr h))) =
-    of_in_turn Growths store options.target options.drawing h.2 stdout h.1 f (of_explanation Growths names sites h.0.bytes h.1 h.2 tt h.5) h.6
+of_done store (request.Explain options) stdout f (inr (names, read, h)) = of_asked (λ asked. ExplainsAsked names asked options) names options.ignored store stdout f
+    (λ asked. of_sited (λ sites. ExplainsLog names sites asked options) options.sites store stdout f (of_explained names asked options store stdout f)) h
 of_done store (request.Carry options) stdout f (inl h) = unread Growths store.disk Log options.input.now (Some options.target) f h.0
 of_done store (request.Carry options) stdout f (inr (inl h)) = subst (ComesByRefusal Growths) (sym h.0) tt
 of_done store (request.Carry options) stdout f (inr (inr h)) = of_put Growths h.2 h.1 f (of_carry Growths h.0.bytes h.1 tt h.5) h.7

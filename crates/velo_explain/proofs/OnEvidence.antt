@@ -15,7 +15,7 @@ use Rattle.velo_explain.specs.declared.spans.Span.{Span}
 use Rattle.velo_explain.specs.declared.evidence.Blame.{Blame}
 use Rattle.velo_explain.specs.declared.evidence.Evidence.{Evidence}
 use Rattle.velo_explain.specs.Spans.{IsSpan, AreSpansSoFar, span_at, AreTransactions}
-use Rattle.velo_explain.specs.Evidence.{no_block, blame_at, IsBlame, AreBlamesSoFar, IsEvidence, IsEvidenceAt, IsWithin}
+use Rattle.velo_explain.specs.Evidence.{no_block, blame_at, IsBlame, AreBlamesSoFar, IsEvidence, IsWithin}
 
 -- ---- spans
 
@@ -107,6 +107,3 @@ module _ (trace : List Event) (p : ℕ) (blamed : List Block) (evidence : Eviden
       witness = λ i l. (HappensBefore-within trace _ _ (w.blames.sound i l).witness.after_begin).1;
     };
   }
-
-pub IsWithin-at : (trace : List Event) (p : ℕ) (evidence : Evidence) → IsEvidenceAt trace p evidence → IsWithin (length trace) p evidence
-IsWithin-at trace p evidence w = IsWithin-of trace p w.blamed evidence w.is_evidence

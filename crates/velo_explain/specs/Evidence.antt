@@ -53,17 +53,12 @@ pub record IsEvidence (trace : List Event) (p : ℕ) (blamed : List Block) (evid
   pub edges : ShowEdges (take (p + 1) trace) cycle evidence.edges.items
   pub blames : AreBlames trace p blamed evidence.blames.items
 
--- the same, whichever blocks are to blame
-pub record IsEvidenceAt (trace : List Event) (p : ℕ) (evidence : Evidence) : Type 0 where
-  pub blamed : List Block
-  pub is_evidence : IsEvidence trace p blamed evidence
-
 -- Each block that is to blame by the definition (open at p in its thread, and not self-serializable
 -- in the events up to p) has its witness
 pub record HaveReasons (trace : List Event) (p : ℕ) (blamed : List Block) (evidence : Evidence) : Type 0 where
   pub each : (j : ℕ) → j < length blamed → Contains (open_blocks (take (p + 1) trace) (thread_at trace p)) (slice_index_or blamed j no_block).first → ¬ IsSelfSerializable (take (p + 1) trace) (slice_index_or blamed j no_block).first → HasBlame evidence.blames.items (slice_index_or blamed j no_block)
 
--- ---- positions that are there. Private contracts cite these words.
+-- ---- positions that are there
 
 pub record AreSpansWithin (n : ℕ) (spans : List Span) : Type 0 where
   pub first : (i : ℕ) → i < length spans → (span_at spans i).first < n

@@ -3,7 +3,7 @@
 ghost use Rattle.std.specs.Prelude.{◌≡◌, ◌<◌, length, take, IfOk, IfErr};
 ghost use Rattle.velo_events.specs.Graph.{HasCycle};
 ghost use Rattle.velo_certify.specs.Cycle.{IsCycleFault};
-ghost use Rattle.velo_explain.specs.Evidence.{AreBlames, IsEvidence, IsEvidenceAt, HaveReasons};
+ghost use Rattle.velo_explain.specs.Evidence.{AreBlames, IsEvidence, IsWithin, HaveReasons};
 
 use crate::spans::{Span, spans_of};
 use std::alloc::Global;
@@ -68,7 +68,7 @@ pub fn evidence_of(
     blamed: &[Block],
 ) -> Result<Evidence, CertFault>
     ensures evidence { IfOk result (λ evidence. IsEvidence trace.now.events position blamed.now evidence) }
-    ensures some { IfOk result (λ evidence. IsEvidenceAt trace.now.events position evidence) }
+    ensures within { IfOk result (λ evidence. IsWithin (length trace.now.events) position evidence) }
     // Where the events before the position have no cycle, no block that is to blame is left out.
     ensures reasons { IfOk result (λ evidence. ¬ HasCycle (take position trace.now.events) → HaveReasons trace.now.events position blamed.now evidence) }
     ensures fault { IfErr result (IsCycleFault trace.now.events position) }

@@ -3,7 +3,7 @@ ghost use Rattle.std.specs.Prelude.{◌≡◌, ◌≤◌, length, IfOk};
 ghost use Rattle.velo_events.specs.Graph.{HasCycle};
 ghost use Rattle.velo_events.specs.declared.limits.TheConstants.{MAX_EVENTS};
 ghost use Rattle.velo_explain.specs.Count.{transactions_of};
-ghost use Rattle.velo_explain.specs.Evidence.{IsEvidenceAt};
+ghost use Rattle.velo_explain.specs.Evidence.{IsWithin};
 ghost use Rattle.velo_explain.specs.Picture.{picture_text, named_picture_text};
 ghost use Rattle.velo_explain.specs.Places.{sited_explanation_text};
 ghost use Rattle.velo_explain.specs.Text.{explanation_text, named_explanation_text, clean_text};
@@ -30,8 +30,8 @@ use velo_traces::Trace;
 /// the events that part the blocks to blame, the first events of the transactions, and those of
 /// these blocks. A text that is too long for its lane ends in `..`.
 ///
-/// The evidence has to be as `evidence_of` gives it for the trace and the position, and the trace
-/// has at most [`MAX_EVENTS`](velo_events::MAX_EVENTS) events.
+/// The position and those of the evidence are positions of the trace, as those that `evidence_of`
+/// gives are. The trace has at most [`MAX_EVENTS`](velo_events::MAX_EVENTS) events.
 ///
 /// # Errors
 /// `Memory` if an allocation failed.
@@ -42,7 +42,7 @@ pub fn explain(
     evidence: &Evidence,
 ) -> Result<Page, Memory>
     requires few { length trace.now.events ≤ MAX_EVENTS }
-    requires evidence { IsEvidenceAt trace.now.events position evidence.now }
+    requires within { IsWithin (length trace.now.events) position evidence.now }
     ensures { IfOk result (λ page.
         page ≡ explanation_text trace.now.events position evidence.now) }
 {
@@ -64,7 +64,7 @@ pub fn explain_named(
     names: &Names,
 ) -> Result<Page, Memory>
     requires few { length trace.now.events ≤ MAX_EVENTS }
-    requires evidence { IsEvidenceAt trace.now.events position evidence.now }
+    requires within { IsWithin (length trace.now.events) position evidence.now }
     ensures { IfOk result (λ page.
         page ≡ named_explanation_text names.now trace.now.events position evidence.now) }
 {
@@ -85,7 +85,7 @@ pub fn explain_sited(
     sites: &Sites,
 ) -> Result<Page, Memory>
     requires few { length trace.now.events ≤ MAX_EVENTS }
-    requires evidence { IsEvidenceAt trace.now.events position evidence.now }
+    requires within { IsWithin (length trace.now.events) position evidence.now }
     ensures { IfOk result (λ page. page ≡ sited_explanation_text names.now sites.now
         trace.now.events position evidence.now) }
 {
@@ -107,7 +107,7 @@ pub fn picture(
     evidence: &Evidence,
 ) -> Result<Page, Memory>
     requires few { length trace.now.events ≤ MAX_EVENTS }
-    requires evidence { IsEvidenceAt trace.now.events position evidence.now }
+    requires within { IsWithin (length trace.now.events) position evidence.now }
     ensures { IfOk result (λ page. page ≡ picture_text trace.now.events evidence.now) }
 {
     let names = Names::new(alloc);
@@ -129,7 +129,7 @@ pub fn picture_named(
     names: &Names,
 ) -> Result<Page, Memory>
     requires few { length trace.now.events ≤ MAX_EVENTS }
-    requires evidence { IsEvidenceAt trace.now.events position evidence.now }
+    requires within { IsWithin (length trace.now.events) position evidence.now }
     ensures { IfOk result (λ page.
         page ≡ named_picture_text names.now trace.now.events evidence.now) }
 {

@@ -1,5 +1,6 @@
 mod OnIgnoring
 pub mod OnInputs
+mod OnLeaving
 mod OnListing
 mod OnNaming
 pub mod OnSiting

@@ -2,6 +2,7 @@ pub mod Before
 pub mod Faults
 pub mod Ignoring
 pub mod Input
+pub mod Leaving
 pub mod Listing
 pub mod Naming
 pub mod Sending

@@ -3,6 +3,7 @@
 
 mod asking;
 mod ignoring;
+mod leaving;
 mod listing;
 mod naming;
 mod replaying;
@@ -11,6 +12,7 @@ mod siting;
 
 pub use asking::{ByAsked, do_by_asked};
 pub use ignoring::{add_ignored_labels, ignored_locks, ignored_variables};
+pub use leaving::{config_of_rounds, left_out};
 pub use listing::labels_of;
 pub use naming::{ByNames, do_by_names, read_given, shown_by};
 pub use replaying::{config_of, do_input, do_log, fault_of};

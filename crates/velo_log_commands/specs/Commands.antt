@@ -8,6 +8,7 @@ use Rattle.std.specs.Prelude.{◌≡◌, ◌⊎◌, ℕ, List, Option, Some, Non
 use Rattle.velo_names.specs.Names.{NameLists}
 use Rattle.velo_sites.specs.Sites.{Table}
 use Rattle.velo_report.specs.declared.names.Names.{Names}
+use Rattle.velo_audit_text.specs.declared.words.Asked.{Asked}
 use Rattle.velo_fate.specs.declared.fate.Fate.{Fate}
 use Rattle.velo_fate.specs.declared.fate.Fate.TheVariants.{CannotOpen}
 use Rattle.velo_request.specs.declared.request.CarryOptions.{CarryOptions}
@@ -28,11 +29,10 @@ use Rattle.velo_log_commands.specs.Explaining.{IsExplanation}
 use Rattle.velo_inputs.specs.Naming.{AreShown}
 use Rattle.velo_fate.specs.Failures.{FailuresAsTold}
 use Rattle.velo_delivery.specs.Reading.{Reading}
-use Rattle.velo_inputs.specs.Siting.{AreSitesOf, LacksSites}
 use Rattle.velo_log_commands.specs.Thinning.{ThinsInput, map_of}
 use Rattle.velo_log_commands.specs.Watching.{Terms, Watches, terms_of_watch}
 use Rattle.velo_delivery.specs.Writing.{Writing, WritesNothing}
-use Rattle.velo_inputs.specs.Before.{DoesByNames}
+use Rattle.velo_inputs.specs.Before.{DoesAsked, DoesByNames, DoesBySites}
 
 -- ---- velodrome check LOG [--names FILE] [--events N] [--nodes N] [--certificate] [--why]
 
@@ -58,35 +58,37 @@ abbrev pub DoesCheck : CheckOptions → Store → Writing → Fate → Type 0
 DoesCheck options store stdout f =
     DoesByNames (λ names. ChecksBy names options) options.names store stdout f
 
--- ---- velodrome explain LOG [--names FILE] [--sites FILE] [--dot OUT] [--svg SVG]
+-- ---- velodrome explain LOG [--names FILE] [--sites FILE] [--not-atomic FILE]
+-- ---- [--ignore-label WORD].. [--ignore-lock WORD].. [--ignore-locks] [--ignore-variable WORD]..
+-- ---- [--dot OUT] [--svg SVG]
 
 -- the drawing, beside the picture
 abbrev pub drawing_of : ExplainOptions → Beside
 drawing_of options = record { operand = Svg; path = options.drawing }
 
--- LOG is read whole. If there is a cycle, its picture is saved at OUT, if that is given, and then
--- its drawing at SVG, if that is given; and then the explanation goes to standard output, all by
--- these names; or nothing, for a reason (`Explaining`). If the log has no cycle, OUT and SVG are not
--- opened.
-abbrev pub ExplainsLog : NameLists → Option Table → ExplainOptions → Store → Writing → Fate → Type 0
-ExplainsLog names sites options store stdout f =
+-- LOG is read whole, and explained without what `asked` leaves out. If that has a cycle, its picture is
+-- saved at OUT, if that is given, and then its drawing at SVG, if that is given; and then the
+-- explanation goes to standard output, all by these names; or nothing, for a reason (`Explaining`). If
+-- it has no cycle, OUT and SVG are not opened.
+abbrev pub ExplainsLog : NameLists → Option Table → Asked → ExplainOptions → Store → Writing → Fate → Type 0
+ExplainsLog names sites asked options store stdout f =
     DoesNotReadApart store Log options.input.now options.target (drawing_of options) stdout f
     ⊎ ((read : Reading) × (answer : Answer) × (drawing : List ℕ)
     × store.disk.gives options.input.now read × FailuresAsTold read f
-    × IsExplanation names sites read.bytes answer drawing
+    × IsExplanation names sites asked read.bytes answer drawing
     × IsDeliveredInTurn store options.target options.drawing drawing stdout answer f)
 
--- The sites are read after the names (`Siting`), where a file of them is given; where it is not read
--- or gives none, no file is opened to be written and nothing is printed.
-abbrev pub ExplainsBy : NameLists → ExplainOptions → Store → Writing → Fate → Type 0
-ExplainsBy names options store stdout f =
-    (LacksSites store.disk options.sites f × WritesNowhere store stdout)
-    ⊎ ((sites : Option Table) × AreSitesOf store.disk options.sites sites
-    × ExplainsLog names sites options store stdout f)
+abbrev pub ExplainsAsked : NameLists → Asked → ExplainOptions → Store → Writing → Fate → Type 0
+ExplainsAsked names asked options store stdout f =
+    DoesBySites (λ sites. ExplainsLog names sites asked options) options.sites store stdout f
+
+abbrev pub ExplainsNamed : NameLists → ExplainOptions → Store → Writing → Fate → Type 0
+ExplainsNamed names options store stdout f =
+    DoesAsked (λ asked. ExplainsAsked names asked options) names options.ignored store stdout f
 
 abbrev pub DoesExplain : ExplainOptions → Store → Writing → Fate → Type 0
 DoesExplain options store stdout f =
-    DoesByNames (λ names. ExplainsBy names options) options.names store stdout f
+    DoesByNames (λ names. ExplainsNamed names options) options.names store stdout f
 
 -- ---- velodrome carry LOG --log OUT [--why]
 

@@ -1,5 +1,5 @@
 -- What an explanation has to say, by the bytes of its input and by the definitions.
-use Rattle.std.specs.Prelude.{◌≡◌, ◌⊎◌, ℕ, true, false, List, length, Option, Some, None}
+use Rattle.std.specs.Prelude.{◌≡◌, ◌⊎◌, ◌&&◌, ◌==◌, ◌++◌, ℕ, Bool, true, false, not, List, [], length, codes, Option, Some, None}
 use Rattle.velo_events.specs.declared.config.Bounds.{Bounds}
 use Rattle.velo_events.specs.declared.event.Event.{Event}
 use Rattle.velo_events.specs.declared.limits.TheConstants.{MAX_EVENTS, MAX_NODES}
@@ -8,6 +8,10 @@ use Rattle.velo_world.specs.declared.analysis.Alarm.{Alarm}
 use Rattle.velo_world.specs.World.{IsAlarm}
 use Rattle.velo_names.specs.Names.{NameLists}
 use Rattle.velo_sites.specs.Sites.{Table}
+use Rattle.velo_filter.specs.Left.{Left, rest_of}
+use Rattle.velo_audit.specs.Witness.{IsWitness}
+use Rattle.velo_audit_text.specs.declared.words.Asked.{Asked}
+use Rattle.velo_audit_text.specs.Words.{asked_text}
 use Rattle.velo_explain.specs.declared.evidence.Evidence.{Evidence}
 use Rattle.velo_explain.specs.Count.{transactions_of}
 use Rattle.velo_explain.specs.Evidence.{IsEvidence, HaveReasons}
@@ -18,8 +22,22 @@ use Rattle.velo_picture.specs.Drawing.{drawing_text}
 use Rattle.velo_worker.specs.declared.ending.Ending.TheVariants.{Done}
 use Rattle.velo_fate.specs.declared.fate.Fate.TheVariants.{Finished, OtherSites}
 use Rattle.velo_inputs.specs.Input.{ComesAbout, IsUnchecked}
+use Rattle.velo_inputs.specs.Leaving.{left_at_first}
 use Rattle.velo_inputs.specs.Siting.{AreOfLog}
 use Rattle.velo_fate.specs.Delivery.{Answer, LacksMemory, printing, silent}
+
+-- ---- what is explained
+
+-- the whole log: nothing was asked to be left out
+abbrev pub is_whole : Asked → Bool
+is_whole asked =
+    (length asked.labels.now == 0)
+    && ((length asked.locks.now == 0) && ((length asked.variables.now == 0) && not asked.all_locks))
+
+-- what comes before the words where something was: the same lines that an audit begins with, and a
+-- title
+abbrev pub opening : NameLists → Asked → List ℕ
+opening names asked = asked_text names asked ++ codes "What is left of the log:\n"
 
 -- ---- the words of a verdict
 
@@ -32,16 +50,19 @@ words_of names (Some sites) log p evidence = sited_explanation_text names sites 
 abbrev pub saying : List ℕ → List ℕ → Answer
 saying text words = record { saved = Some text; printed = Some words; fate = Finished Done true }
 
--- what is said of an alarm at position p by its evidence: the picture of its cycle is to be saved,
--- and its words printed, both by these names
-abbrev pub explained : NameLists → Option Table → List Event → ℕ → Evidence → Answer
-explained names sites log p evidence =
-    saying (named_picture_text names log evidence) (words_of names sites log p evidence)
+-- what is said of an alarm at position p by its evidence, behind some text: the picture of its cycle
+-- is to be saved, and its words printed, both by these names
+abbrev pub explained : List ℕ → NameLists → Option Table → List Event → ℕ → Evidence → Answer
+explained before names sites log p evidence =
+    saying (named_picture_text names log evidence) (before ++ words_of names sites log p evidence)
 
--- what is said of a log without a cycle: how many events and how many transactions it has; there is
+-- what is said of events without a cycle: how many there are, and how many transactions; there is
 -- nothing to be saved
-abbrev pub counted : List Event → Answer
-counted log = printing (clean_text (length log) (transactions_of log)) (Finished Done false)
+abbrev pub counted : List ℕ → List Event → Answer
+counted before log =
+    printing (before ++ clean_text (length log) (transactions_of log)) (Finished Done false)
+
+-- ---- the whole log
 
 -- The answer, and the drawing beside it, explain an alarm of the log, which is at the first event
 -- that closes a cycle and blames exactly the blocks to blame: by a shortest cycle there, and by a
@@ -53,25 +74,51 @@ pub record ExplainsAlarm (names : NameLists) (sites : Option Table) (log : List 
   pub evidence : Evidence
   pub is_evidence : IsEvidence log alarm.position alarm.blamed.items evidence
   pub reasons : HaveReasons log alarm.position alarm.blamed.items evidence
-  pub said : answer ≡ explained names sites log alarm.position evidence
+  pub said : answer ≡ explained [] names sites log alarm.position evidence
   pub drawn : drawing ≡ drawing_text names sites log alarm.position evidence
 
 -- a log without a cycle has no drawing
-abbrev pub ExplainsVerdict : NameLists → Option Table → List Event → Answer → List ℕ → Type 0
-ExplainsVerdict names sites log answer drawing =
-    ExplainsAlarm names sites log answer drawing ⊎ ((¬ HasCycle log) × (answer ≡ counted log))
+abbrev pub ExplainsWhole : NameLists → Option Table → List Event → Answer → List ℕ → Type 0
+ExplainsWhole names sites log answer drawing =
+    ExplainsAlarm names sites log answer drawing ⊎ ((¬ HasCycle log) × (answer ≡ counted [] log))
+
+-- ---- what is left of it
+
+-- The same of the first alarm of what is left: all positions are those of the whole log, whose events
+-- are shown.
+pub record ExplainsFirst (before : List ℕ) (names : NameLists) (sites : Option Table) (left : Left)
+    (log : List Event) (answer : Answer) (drawing : List ℕ) : Type 0 where
+  pub position : ℕ
+  pub evidence : Evidence
+  pub is_witness : IsWitness log left position evidence
+  pub said : answer ≡ explained before names sites log position evidence
+  pub drawn : drawing ≡ drawing_text names sites log position evidence
+
+-- where what is left has no cycle, its events and its transactions are counted
+abbrev pub ExplainsRest : List ℕ → NameLists → Option Table → Left → List Event → Answer → List ℕ → Type 0
+ExplainsRest before names sites left log answer drawing =
+    ExplainsFirst before names sites left log answer drawing
+    ⊎ ((¬ HasCycle (rest_of left log)) × (answer ≡ counted before (rest_of left log)))
+
+-- ---- either, by what was asked for
+
+abbrev pub ExplainsVerdict : NameLists → Option Table → Asked → List Event → Answer → List ℕ → Type 0
+ExplainsVerdict names sites asked log answer drawing =
+    ((is_whole asked ≡ true) × ExplainsWhole names sites log answer drawing)
+    ⊎ ((is_whole asked ≡ false)
+    × ExplainsRest (opening names asked) names sites (left_at_first asked) log answer drawing)
 
 -- ---- the answer
 
 -- the verdict of the log of the input, which the sites are of; the limits are the greatest that a
 -- check can have
-pub record IsExplained (names : NameLists) (sites : Option Table) (read : Option (List ℕ))
-    (answer : Answer) (drawing : List ℕ) : Type 0 where
+pub record IsExplained (names : NameLists) (sites : Option Table) (asked : Asked)
+    (read : Option (List ℕ)) (answer : Answer) (drawing : List ℕ) : Type 0 where
   pub bounds : Bounds
   pub log : List Event
   pub comes_about : ComesAbout MAX_EVENTS read bounds log
   pub of_log : AreOfLog sites log
-  pub verdict : ExplainsVerdict names sites log answer drawing
+  pub verdict : ExplainsVerdict names sites asked log answer drawing
 
 -- nothing is said of the log of the input: the sites are of another number of events
 pub record IsOfOtherLog (sites : Option Table) (read : Option (List ℕ)) (answer : Answer)
@@ -84,8 +131,8 @@ pub record IsOfOtherLog (sites : Option Table) (read : Option (List ℕ)) (answe
 
 -- What an explanation has to say: the verdict in words, the cycle of an alarm, and its drawing; or
 -- nothing, for a reason.
-abbrev pub IsExplanation : NameLists → Option Table → Option (List ℕ) → Answer → List ℕ → Type 0
-IsExplanation names sites read answer drawing =
-    IsExplained names sites read answer drawing
+abbrev pub IsExplanation : NameLists → Option Table → Asked → Option (List ℕ) → Answer → List ℕ → Type 0
+IsExplanation names sites asked read answer drawing =
+    IsExplained names sites asked read answer drawing
     ⊎ (IsOfOtherLog sites read answer
     ⊎ (IsUnchecked MAX_EVENTS MAX_NODES read answer ⊎ LacksMemory answer))

@@ -6,6 +6,7 @@ use Rattle.velo_events.specs.declared.event.Event.{Event}
 use Rattle.velo_names.specs.Names.{NameLists}
 use Rattle.velo_sites.specs.Sites.{Table}
 use Rattle.velo_report.specs.declared.names.Names.{Names}
+use Rattle.velo_audit_text.specs.declared.words.Asked.{Asked}
 use Rattle.velo_world.specs.World.{WorldState}
 use Rattle.velo_fate.specs.declared.fault.CheckFault.{CheckFault}
 use Rattle.velo_fate.specs.declared.fault.CheckFault.TheVariants as check_fault
@@ -51,27 +52,27 @@ DrawsOrLacks answer drawing store options stdout f =
     IsDeliveredInTurn store options.target options.drawing drawing stdout answer f
     ⊎ (GrowthRefused × (f ≡ Memory) × store.is_kept × WritesNothing stdout)
 
--- what was made of a verdict was delivered: its explanation, or that memory was wanting
-abbrev pub Explains : NameLists → Option Table → List Event → Store → ExplainOptions → Writing
-    → Fate → Type 0
-Explains names sites log store options stdout f =
+-- an answer that explains so was delivered, or that memory was wanting
+abbrev pub Explains : (Answer → List ℕ → Type 0) → Store → ExplainOptions → Writing → Fate → Type 0
+Explains explains store options stdout f =
     (answer : Answer) × (drawing : List ℕ)
-    × (ExplainsVerdict names sites log answer drawing ⊎ LacksMemory answer)
+    × (explains answer drawing ⊎ LacksMemory answer)
     × IsDeliveredInTurn store options.target options.drawing drawing stdout answer f
 
 -- so it was, of a log that the sites are of; or they are not, and nothing was written
-abbrev pub ExplainsIfOf : NameLists → Option Table → List Event → Store → ExplainOptions
+abbrev pub ExplainsIfOf : NameLists → Option Table → Asked → List Event → Store → ExplainOptions
     → Writing → Fate → Type 0
-ExplainsIfOf names sites log store options stdout f =
-    (AreOfLog sites log × Explains names sites log store options stdout f)
+ExplainsIfOf names sites asked log store options stdout f =
+    (AreOfLog sites log × Explains (ExplainsVerdict names sites asked log) store options stdout f)
     ⊎ ((¬ AreOfLog sites log) × (f ≡ OtherSites) × store.is_kept × WritesNothing stdout)
 
 -- what was made of an input was delivered
-abbrev pub ExplainsInput : NameLists → Option Table → ExplainOptions → Store → Reading
+abbrev pub ExplainsInput : NameLists → Option Table → Asked → ExplainOptions → Store → Reading
     → Writing → Fate → Type 0
-ExplainsInput names sites options store read stdout f =
+ExplainsInput names sites asked options store read stdout f =
     FailuresAsTold read f
-    × ((answer : Answer) × (drawing : List ℕ) × IsExplanation names sites read.bytes answer drawing
+    × ((answer : Answer) × (drawing : List ℕ)
+    × IsExplanation names sites asked read.bytes answer drawing
     × IsDeliveredInTurn store options.target options.drawing drawing stdout answer f)
 
 -- ---- carrying over

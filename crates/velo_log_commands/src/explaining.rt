@@ -1,14 +1,19 @@
 //! `velodrome explain`.
-ghost use Rattle.std.specs.Prelude.{◌≡◌, ◌≤◌, false, Some, IfOk, IsTrue, length};
+ghost use Rattle.std.specs.Prelude.{◌≡◌, ◌≤◌, ◌++◌, Some, IfOk, length};
 ghost use Rattle.velo_events.specs.Graph.{HasCycle};
+ghost use Rattle.velo_events.specs.WellFormed.{IsWellFormed};
 ghost use Rattle.velo_events.specs.declared.limits.TheConstants.{MAX_EVENTS};
-ghost use Rattle.velo_explain.specs.Evidence.{IsEvidenceAt};
-ghost use Rattle.velo_log_commands.specs.Explaining.{counted, explained, saying, words_of};
-ghost use Rattle.velo_log_commands.specs.Commands.{DoesExplain, ExplainsBy, ExplainsLog};
+ghost use Rattle.velo_explain.specs.Count.{transactions_of};
+ghost use Rattle.velo_explain.specs.Evidence.{IsWithin};
 ghost use Rattle.velo_explain.specs.Picture.{named_picture_text};
+ghost use Rattle.velo_explain.specs.Text.{clean_text};
+ghost use Rattle.velo_filter.specs.Left.{rest_of};
+ghost use Rattle.velo_filter.specs.Tables.{left_of};
+ghost use Rattle.velo_log_commands.specs.Explaining.{ExplainsRest, ExplainsVerdict, ExplainsWhole, counted, explained, is_whole, opening, saying, words_of};
+ghost use Rattle.velo_log_commands.specs.Commands.{DoesExplain, ExplainsAsked, ExplainsLog, ExplainsNamed};
 ghost use Rattle.velo_picture.specs.Drawing.{drawing_text};
 ghost use Rattle.velo_fate.specs.Delivery.{IsDelivered, IsDeliveredInTurn};
-ghost use Rattle.velo_inputs.specs.Siting.{AreOfLog};
+ghost use Rattle.velo_inputs.specs.Leaving.{left_at_first};
 ghost use Rattle.velo_delivery.specs.Reading.{reading};
 ghost use Rattle.velo_delivery.specs.Disk.{store};
 ghost use Rattle.velo_delivery.specs.Writing.{writing};
@@ -17,27 +22,72 @@ ghost use Rattle.velo_log_commands.specs.Steps.{DrawsOrLacks, Explains, Explains
 
 use crate::command::Command;
 use std::alloc::Global;
+use velo_audit::{AuditFault, first_alarm};
+use velo_audit_text::{Asked, add_asked};
 use velo_bytes::{Sink, Source};
 use velo_certify::CertFault;
 use velo_delivery::{Files, Operand};
-use velo_events::{MAX_EVENTS, MAX_NODES, Memory};
+use velo_events::{Bounds, MAX_EVENTS, MAX_NODES, Memory};
 use velo_explain::{
     Evidence, Page, evidence_of, explain_clean, explain_named, explain_sited, picture_named,
 };
 use velo_fate::{Beside, Fate, open_apart};
-use velo_inputs::{ByNames, do_by_names, do_input, print, read_given, save_text, sites_in};
+use velo_filter::{LeftOut, thin};
+use velo_inputs::{
+    ByAsked, ByNames, BySites, are_of_log, config_of_rounds, do_by_asked, do_by_names, do_by_sites,
+    do_input, left_out, print, save_text,
+};
 use velo_names::Names;
 use velo_picture::drawing;
-use velo_request::ExplainOptions;
-use velo_sites::{MAX_SITES_BYTES, Sites};
+use velo_request::{ExplainOptions, Limits};
+use velo_sites::Sites;
 use velo_traces::Trace;
 use velo_world::Closed;
 
-/// What an explanation calls things by, and where the events happened.
+/// What is explained by which names, without what.
 #[derive(Clone, Copy)]
-struct Legend<'n, 'a, 's, 'b> {
+struct Inquiry<'i, 'n, 'a, 'o> {
+    names: &'i Names<'n>,
+    asked: &'i Asked<'a>,
+    options: &'i ExplainOptions<'o>,
+}
+
+/// What an explanation calls things by, where the events happened, and what comes before its words.
+#[derive(Clone, Copy)]
+struct Legend<'n, 'a, 's, 'b, 'p> {
     names: &'n Names<'a>,
     sites: &'s Option<Sites<'b>>,
+    before: &'p [u8],
+}
+
+/// Whether nothing was asked to be left out.
+fn is_whole(asked: &Asked) -> bool
+    ensures { result ≡ is_whole asked.now }
+{
+    asked.labels.is_empty()
+        && asked.locks.is_empty()
+        && asked.variables.is_empty()
+        && !asked.all_locks
+}
+
+/// What comes before the words where something was.
+fn opening(alloc: Global, names: &Names, asked: &Asked) -> Result<Page, Memory>
+    ensures { IfOk result (λ page. page ≡ opening names.now asked.now) }
+{
+    let mut page = Page::new(alloc);
+    add_asked(&mut page, names, asked)?;
+    page.add_bytes(b"What is left of the log:\n")?;
+    Ok(page)
+}
+
+/// The words behind some text.
+fn words_behind(alloc: Global, before: &[u8], words: &[u8]) -> Result<Page, Memory>
+    ensures { IfOk result (λ page. page ≡ before.now ++ words.now) }
+{
+    let mut page = Page::new(alloc);
+    page.add_bytes(before)?;
+    page.add_bytes(words)?;
+    Ok(page)
 }
 
 /// The words of an alarm by its evidence.
@@ -49,7 +99,7 @@ fn words_of(
     legend: &Legend,
 ) -> Result<Page, Memory>
     requires few { length log.now.events ≤ MAX_EVENTS }
-    requires evidence { IsEvidenceAt log.now.events position evidence.now }
+    requires within { IsWithin (length log.now.events) position evidence.now }
     ensures { IfOk result (λ words. words ≡ words_of legend.now.names.now legend.now.sites.now
         log.now.events position evidence.now) }
 {
@@ -59,15 +109,22 @@ fn words_of(
     }
 }
 
-/// Whether the sites, if there are some, are of as many events as the log has.
-fn are_of(sites: &Option<Sites>, log: &Trace) -> bool
-    ensures same { IsTrue result → AreOfLog sites.now log.now.events }
-    ensures other { result ≡ false → ¬ AreOfLog sites.now log.now.events }
+/// The same behind what comes before them.
+fn all_words(
+    alloc: Global,
+    log: &Trace,
+    position: usize,
+    evidence: &Evidence,
+    legend: &Legend,
+) -> Result<Page, Memory>
+    requires few { length log.now.events ≤ MAX_EVENTS }
+    requires within { IsWithin (length log.now.events) position evidence.now }
+    ensures { IfOk result (λ words. words ≡ legend.now.before.now
+        ++ words_of legend.now.names.now legend.now.sites.now log.now.events position
+        evidence.now) }
 {
-    match sites {
-        Some(sites) => sites.count_events() == log.len(),
-        None => true,
-    }
+    let words = words_of(alloc, log, position, evidence, legend)?;
+    words_behind(alloc, legend.before, words.as_slice())
 }
 
 /// Saves a text at a path, and then prints words.
@@ -95,7 +152,7 @@ fn put_picture<F: Files, O: Sink>(
     out: &mut O,
 ) -> Fate
     requires few { length log.now.events ≤ MAX_EVENTS }
-    requires evidence { IsEvidenceAt log.now.events position evidence.now }
+    requires within { IsWithin (length log.now.events) position evidence.now }
     ensures { DeliversOrLacks
         (saying (named_picture_text names.now log.now.events evidence.now) words.now)
         (store F.disk files.old files.new) target.entry
@@ -143,15 +200,16 @@ fn explain_by<F: Files, O: Sink>(
     out: &mut O,
 ) -> Fate
     requires few { length log.now.events ≤ MAX_EVENTS }
-    requires evidence { IsEvidenceAt log.now.events position evidence.now }
+    requires within { IsWithin (length log.now.events) position evidence.now }
     ensures { DrawsOrLacks
-        (explained legend.now.names.now legend.now.sites.now log.now.events position evidence.now)
+        (explained legend.now.before.now legend.now.names.now legend.now.sites.now log.now.events
+        position evidence.now)
         (drawing_text legend.now.names.now legend.now.sites.now log.now.events position
         evidence.now)
         (store F.disk files.old files.new) options.now
         (writing O.contents O.failures out.old out.new) result }
 {
-    let words = match words_of(alloc, log, position, evidence, legend) {
+    let words = match all_words(alloc, log, position, evidence, legend) {
         Ok(words) => words,
         Err(Memory) => return Fate::Memory,
     };
@@ -178,40 +236,59 @@ fn explain_by<F: Files, O: Sink>(
     }
 }
 
-/// Explains that a log has no cycle.
-fn explain_without<O: Sink>(alloc: Global, log: &Trace, out: &mut O) -> Fate
+/// The words of events without a cycle, behind some text.
+fn words_without(alloc: Global, log: &Trace, before: &[u8]) -> Result<Page, Memory>
     requires { ¬ HasCycle log.now.events }
-    ensures { PrintsOrLacks (counted log.now.events)
+    ensures { IfOk result (λ words. words ≡ before.now
+        ++ clean_text (length log.now.events) (transactions_of log.now.events)) }
+{
+    let words = explain_clean(alloc, log)?;
+    words_behind(alloc, before, words.as_slice())
+}
+
+/// Explains that events have no cycle.
+fn explain_without<O: Sink>(alloc: Global, log: &Trace, before: &[u8], out: &mut O) -> Fate
+    requires { ¬ HasCycle log.now.events }
+    ensures { PrintsOrLacks (counted before.now log.now.events)
         (writing O.contents O.failures out.old out.new) result }
 {
-    match explain_clean(alloc, log) {
+    match words_without(alloc, log, before) {
         Ok(words) => print(words.as_slice(), false, out),
         Err(Memory) => Fate::Memory,
     }
 }
 
-/// Explains what a closed world shows.
-fn explain_closed<F: Files, O: Sink>(
+/// Explains what a closed world shows of its whole log.
+fn explain_whole<F: Files, O: Sink>(
     alloc: Global,
     closed: &Closed,
-    legend: &Legend,
+    names: &Names,
+    sites: &Option<Sites>,
     options: &ExplainOptions,
     files: &mut F,
     out: &mut O,
 ) -> Fate
     requires { length closed.now.log ≤ MAX_EVENTS }
-    ensures { Explains legend.now.names.now legend.now.sites.now closed.now.log
+    ensures { Explains (ExplainsWhole names.now sites.now closed.now.log)
         (store F.disk files.old files.new) options.now
         (writing O.contents O.failures out.old out.new) result }
 {
     let log = closed.log();
+    let before = b"";
     let Some(alarm) = closed.alarm() else {
-        return explain_without(alloc, log, out);
+        return explain_without(alloc, log, before, out);
+    };
+    let legend = Legend {
+        names,
+        sites,
+        before,
     };
     let position = alarm.position;
     match evidence_of(alloc, log, position, alarm.blamed.as_slice()) {
         Ok(evidence) => {
-            let fate = explain_by(alloc, log, position, &evidence, legend, options, files, out);
+            let fate = explain_by(
+                alloc, log, position, &evidence, &legend, options, files, out,
+            );
             drop(evidence);
             fate
         }
@@ -221,43 +298,173 @@ fn explain_closed<F: Files, O: Sink>(
     }
 }
 
-/// Explains what a closed world shows, if the sites are of its log.
-fn explain_if_of<F: Files, O: Sink>(
+/// Explains that what is left of a log has no cycle.
+fn explain_clean_rest<O: Sink>(
+    alloc: Global,
+    bounds: Bounds,
+    log: &Trace,
+    left: &LeftOut,
+    before: &[u8],
+    out: &mut O,
+) -> Fate
+    requires few { length log.now.events ≤ MAX_EVENTS }
+    requires well_formed { IsWellFormed bounds log.now.events }
+    requires clean { ¬ HasCycle (rest_of (left_of left.now) log.now.events) }
+    ensures { PrintsOrLacks (counted before.now (rest_of (left_of left.now) log.now.events))
+        (writing O.contents O.failures out.old out.new) result }
+{
+    match thin(alloc, log, left) {
+        Ok(rest) => {
+            let fate = explain_without(alloc, &rest.trace, before, out);
+            drop(rest);
+            fate
+        }
+        Err(Memory) => Fate::Memory,
+    }
+}
+
+/// Explains what is left of the log of a closed world, by the legend.
+fn explain_left<F: Files, O: Sink>(
     alloc: Global,
     closed: &Closed,
+    left: &LeftOut,
     legend: &Legend,
     options: &ExplainOptions,
     files: &mut F,
     out: &mut O,
 ) -> Fate
     requires { length closed.now.log ≤ MAX_EVENTS }
-    ensures { ExplainsIfOf legend.now.names.now legend.now.sites.now closed.now.log
+    ensures { Explains (ExplainsRest legend.now.before.now legend.now.names.now
+        legend.now.sites.now (left_of left.now) closed.now.log)
         (store F.disk files.old files.new) options.now
         (writing O.contents O.failures out.old out.new) result }
 {
-    if !are_of(legend.sites, closed.log()) {
+    let greatest = Limits {
+        events: MAX_EVENTS,
+        nodes: MAX_NODES,
+    };
+    let config = config_of_rounds(closed, greatest);
+    let log = closed.log();
+    match first_alarm(alloc, &config, log, left) {
+        Ok(None) => explain_clean_rest(alloc, config.bounds, log, left, legend.before, out),
+        Ok(Some(first)) => {
+            let position = first.position;
+            let fate = explain_by(
+                alloc,
+                log,
+                position,
+                &first.evidence,
+                legend,
+                options,
+                files,
+                out,
+            );
+            drop(first);
+            fate
+        }
+        Err(AuditFault::Memory) => Fate::Memory,
+        // As many nodes as there may be at most are enough for any log.
+        Err(AuditFault::GraphFull { .. }) => unreachable!(),
+    }
+}
+
+/// Explains what is left of the log of a closed world.
+fn explain_rest<F: Files, O: Sink>(
+    alloc: Global,
+    closed: &Closed,
+    inquiry: &Inquiry,
+    sites: &Option<Sites>,
+    files: &mut F,
+    out: &mut O,
+) -> Fate
+    requires { length closed.now.log ≤ MAX_EVENTS }
+    ensures { Explains (ExplainsRest (opening inquiry.now.names.now inquiry.now.asked.now)
+        inquiry.now.names.now sites.now (left_at_first inquiry.now.asked.now) closed.now.log)
+        (store F.disk files.old files.new) inquiry.now.options.now
+        (writing O.contents O.failures out.old out.new) result }
+{
+    let names = inquiry.names;
+    let before = match opening(alloc, names, inquiry.asked) {
+        Ok(before) => before,
+        Err(Memory) => return Fate::Memory,
+    };
+    let left = match left_out(alloc, inquiry.asked) {
+        Ok(left) => left,
+        Err(Memory) => return Fate::Memory,
+    };
+    let legend = Legend {
+        names,
+        sites,
+        before: before.as_slice(),
+    };
+    explain_left(alloc, closed, &left, &legend, inquiry.options, files, out)
+}
+
+/// Explains what a closed world shows: of its whole log, or of what is left of it.
+fn explain_closed<F: Files, O: Sink>(
+    alloc: Global,
+    closed: &Closed,
+    inquiry: &Inquiry,
+    sites: &Option<Sites>,
+    files: &mut F,
+    out: &mut O,
+) -> Fate
+    requires { length closed.now.log ≤ MAX_EVENTS }
+    ensures { Explains (ExplainsVerdict inquiry.now.names.now sites.now inquiry.now.asked.now
+        closed.now.log) (store F.disk files.old files.new) inquiry.now.options.now
+        (writing O.contents O.failures out.old out.new) result }
+{
+    if is_whole(inquiry.asked) {
+        return explain_whole(
+            alloc,
+            closed,
+            inquiry.names,
+            sites,
+            inquiry.options,
+            files,
+            out,
+        );
+    }
+    explain_rest(alloc, closed, inquiry, sites, files, out)
+}
+
+/// Explains what a closed world shows, if the sites are of its log.
+fn explain_if_of<F: Files, O: Sink>(
+    alloc: Global,
+    closed: &Closed,
+    inquiry: &Inquiry,
+    sites: &Option<Sites>,
+    files: &mut F,
+    out: &mut O,
+) -> Fate
+    requires { length closed.now.log ≤ MAX_EVENTS }
+    ensures { ExplainsIfOf inquiry.now.names.now sites.now inquiry.now.asked.now closed.now.log
+        (store F.disk files.old files.new) inquiry.now.options.now
+        (writing O.contents O.failures out.old out.new) result }
+{
+    if !are_of_log(sites, closed.log()) {
         return Fate::OtherSites;
     }
-    explain_closed(alloc, closed, legend, options, files, out)
+    explain_closed(alloc, closed, inquiry, sites, files, out)
 }
 
 /// Reads a whole log, does its events, and explains what they show.
 fn explain_log<I: Source, F: Files, O: Sink>(
     alloc: Global,
-    options: &ExplainOptions,
-    legend: &Legend,
+    inquiry: &Inquiry,
+    sites: &Option<Sites>,
     source: &mut I,
     files: &mut F,
     out: &mut O,
 ) -> Fate
-    ensures { ExplainsInput legend.now.names.now legend.now.sites.now options.now
-        (store F.disk files.old files.new)
+    ensures { ExplainsInput inquiry.now.names.now sites.now inquiry.now.asked.now
+        inquiry.now.options.now (store F.disk files.old files.new)
         (reading I.remaining I.failures source.old source.new)
         (writing O.contents O.failures out.old out.new) result }
 {
     match do_input(alloc, source, MAX_EVENTS, MAX_NODES) {
         Ok(closed) => {
-            let fate = explain_if_of(alloc, &closed, legend, options, files, out);
+            let fate = explain_if_of(alloc, &closed, inquiry, sites, files, out);
             drop(closed);
             fate
         }
@@ -265,30 +472,65 @@ fn explain_log<I: Source, F: Files, O: Sink>(
     }
 }
 
-/// Explains the log that was asked for by the legend.
+/// Explains the log that was asked for.
 fn explain_input<F: Files, O: Sink>(
     alloc: Global,
-    options: &ExplainOptions,
-    legend: &Legend,
+    inquiry: &Inquiry,
+    sites: &Option<Sites>,
     files: &mut F,
     out: &mut O,
 ) -> Fate
-    ensures { ExplainsLog legend.now.names.now legend.now.sites.now options.now
-        (store F.disk files.old files.new)
+    ensures { ExplainsLog inquiry.now.names.now sites.now inquiry.now.asked.now
+        inquiry.now.options.now (store F.disk files.old files.new)
         (writing O.contents O.failures out.old out.new) result }
 {
+    let options = inquiry.options;
     let drawing = Beside {
         operand: Operand::Svg,
         path: options.drawing,
     };
     match open_apart(files, Operand::Log, options.input, options.target, drawing) {
-        Ok(mut log) => explain_log(alloc, options, legend, &mut log, files, out),
+        Ok(mut log) => explain_log(alloc, inquiry, sites, &mut log, files, out),
         Err(fate) => fate,
     }
 }
 
+impl BySites for Inquiry<'_, '_, '_, '_> {
+    ghost does = { λ inquiry sites. ExplainsLog inquiry.names.now sites inquiry.asked.now inquiry.options.now };
+
+    fn do_by_sites<F: Files, O: Sink>(
+        &self,
+        alloc: Global,
+        sites: &Option<Sites>,
+        files: &mut F,
+        out: &mut O,
+    ) -> Fate {
+        explain_input(alloc, self, sites, files, out)
+    }
+}
+
+impl ByAsked for Command<'_, ExplainOptions<'_>> {
+    ghost does = { λ command names asked. ExplainsAsked names asked command.options.now };
+
+    fn do_asked<F: Files, O: Sink>(
+        &self,
+        alloc: Global,
+        names: &Names,
+        asked: &Asked,
+        files: &mut F,
+        out: &mut O,
+    ) -> Fate {
+        let inquiry = Inquiry {
+            names,
+            asked,
+            options: self.options,
+        };
+        do_by_sites(alloc, &inquiry, self.options.sites, files, out)
+    }
+}
+
 impl ByNames for Command<'_, ExplainOptions<'_>> {
-    ghost does = { λ command names. ExplainsBy names command.options.now };
+    ghost does = { λ command names. ExplainsNamed names command.options.now };
 
     fn do_by<F: Files, O: Sink>(
         &self,
@@ -297,28 +539,12 @@ impl ByNames for Command<'_, ExplainOptions<'_>> {
         files: &mut F,
         out: &mut O,
     ) -> Fate {
-        let bytes = match read_given(alloc, self.options.sites, MAX_SITES_BYTES, files) {
-            Ok(bytes) => bytes,
-            Err(fate) => return fate,
-        };
-        let fate = match sites_in(alloc, self.options.sites, &bytes) {
-            Ok(sites) => {
-                let legend = Legend {
-                    names,
-                    sites: &sites,
-                };
-                let fate = explain_input(alloc, self.options, &legend, files, out);
-                drop(sites);
-                fate
-            }
-            Err(fate) => fate,
-        };
-        drop(bytes);
-        fate
+        do_by_asked(alloc, self, names, &self.options.ignored, files, out)
     }
 }
 
-/// Explains the log that was asked for. The names are read first, and then the sites.
+/// Explains the log that was asked for. The names are read first, then the list of known labels, and
+/// then the sites.
 pub fn explain_file<F: Files, O: Sink>(
     alloc: Global,
     options: &ExplainOptions,

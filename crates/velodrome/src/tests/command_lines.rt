@@ -142,9 +142,13 @@ const WRONG_WORDS: [&[&str]; 49] = [
 ];
 
 /// Right words that do not go together, with the line that says so.
-const WORDS_APART: [(&[&str], &str); 26] = [
+const WORDS_APART: [(&[&str], &str); 27] = [
     (
         &["velodrome", "check", "-", "--names", "-"],
+        "error: standard input can be read once\n",
+    ),
+    (
+        &["velodrome", "explain", "-", "--not-atomic", "-"],
         "error: standard input can be read once\n",
     ),
     (

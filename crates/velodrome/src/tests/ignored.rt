@@ -334,6 +334,89 @@ static ALL_LOCKS: [Listed; 4] = [
     },
 ];
 
+const LOCKED_UPDATE: &str = "vlog 2 2 1 1\n0 fork 1\n0 begin 7\n0 acq 0\n0 rd 0 0\n0 rel 0\n1 acq 0\n1 wr 0 5\n1 rel 0\n0 acq 0\n0 wr 0 1\n0 rel 0\n0 end\n";
+
+static EXPLAINED: [Listed; 5] = [
+    // the lines are those of the whole log; the events on the lock have no rows
+    Listed {
+        words: &["velodrome", "explain", "a", "--ignore-lock", "0"],
+        log: LOCKED_UPDATE,
+        names: BAD,
+        list: "",
+        out: "\
+left out lock 0
+What is left of the log:
+The blocks of this log cannot be serialized.
+    line  thread 0                            thread 1
+       3  begin 7
+      .. 1 line ..
+       5  rd 0 0
+      .. 2 lines ..
+       8                                      wr 0 5
+      .. 2 lines ..
+      11  wr 0 1
+Line 11 `0 wr 0 1` closes a cycle of 2 transactions:
+  T1: thread 0, block 7, lines 3 to 11
+  T2: thread 1, outside blocks, line 8
+Each must come before the next, and the last before the first:
+  T1 before T2: line 5 `0 rd 0 0`, then line 8 `1 wr 0 5`
+  T2 before T1: line 8 `1 wr 0 5`, then line 11 `0 wr 0 1`
+To blame in thread 0:
+  block 7, from line 3: line 8 `1 wr 0 5` must come after its begin and before line 11
+",
+        err: "",
+        status: 3,
+    },
+    // nothing else collides
+    Listed {
+        words: &[
+            "velodrome",
+            "explain",
+            "a",
+            "--names",
+            "n",
+            "--ignore-lock",
+            "m*",
+        ],
+        log: LOCKED,
+        names: BOTH,
+        list: "",
+        out: "left out lock 0 m\nleft out lock 1 m\nWhat is left of the log:\nThe blocks of this log can be serialized.\nEvents: 2\nTransactions, which can follow one another: 2\n",
+        err: "",
+        status: 0,
+    },
+    // each event of the block is alone
+    Listed {
+        words: &["velodrome", "explain", "a", "--not-atomic", "l"],
+        log: LOST_UPDATE,
+        names: BAD,
+        list: "not atomic 7\n",
+        out: "left out label 7\nWhat is left of the log:\nThe blocks of this log can be serialized.\nEvents: 4\nTransactions, which can follow one another: 4\n",
+        err: "",
+        status: 0,
+    },
+    // an empty list leaves nothing out
+    Listed {
+        words: &["velodrome", "explain", "a", "--not-atomic", "l"],
+        log: "vlog 1 1 0 0\n0 begin 7\n0 end\n",
+        names: BAD,
+        list: "",
+        out: "The blocks of this log can be serialized.\nEvents: 2\nTransactions, which can follow one another: 1\n",
+        err: "",
+        status: 0,
+    },
+    // words are judged before the log
+    Listed {
+        words: &["velodrome", "explain", "a", "--ignore-lock", "x"],
+        log: UNREADABLE,
+        names: BAD,
+        list: "",
+        out: "",
+        err: "velodrome: --ignore-lock: no lock has this name, and numbers go from 0 to 65535\n    x\nhelp: for names, give their file: see --names\nignored fault 1\n",
+        status: 2,
+    },
+];
+
 #[test]
 fn what_is_ignored(rt: HostRuntime) {
     for told in &IGNORED {
@@ -351,6 +434,13 @@ fn labels_that_are_ignored(rt: HostRuntime) {
 #[test]
 fn all_locks_are_ignored(rt: HostRuntime) {
     for told in &ALL_LOCKS {
+        try_listed(&rt, rt.alloc(), told);
+    }
+}
+
+#[test]
+fn what_is_left_is_explained(rt: HostRuntime) {
+    for told in &EXPLAINED {
         try_listed(&rt, rt.alloc(), told);
     }
 }

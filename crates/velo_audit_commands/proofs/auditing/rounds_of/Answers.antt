@@ -1,5 +1,5 @@
 use Rattle.std.proofs.Common.{inl, inr, refl}
-use Rattle.velo_audit_commands.specs.Auditing.{left_at_first}
+use Rattle.velo_inputs.specs.Leaving.{left_at_first}
 use Rattle.velo_audit_commands.proofs.OnAuditing.{are_rounds_of, full_said, left_from}
 use Rattle.velo_audit_commands.proofs.auditing.rounds_of.Goals as goal
 

@@ -3,7 +3,7 @@ use Rattle.std.specs.Prelude.{Option, Some}
 use Rattle.velo_filter.specs.Left.{rest_of}
 use Rattle.velo_audit_text.specs.declared.entries.Listing.{Listing}
 use Rattle.velo_audit_forms.specs.Answer.{IsJsonText}
-use Rattle.velo_audit_commands.specs.Auditing.{left_at_first}
+use Rattle.velo_inputs.specs.Leaving.{left_at_first}
 use Rattle.velo_audit_commands.proofs.page.json_of.Goals as goal
 
 pub audit_json-requires-clause-can_come_about : goal.audit_json-requires-clause-can_come_about

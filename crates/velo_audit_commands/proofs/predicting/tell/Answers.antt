@@ -3,7 +3,8 @@ use Rattle.std.specs.Prelude.{All}
 use Rattle.velo_delays.specs.declared.judged.PredictedCycle.{PredictedCycle}
 use Rattle.velo_delays.specs.declared.stuck.Deadlock.{Deadlock}
 use Rattle.velo_predict_text.specs.Text.{CanBeTold, CanTellDeadlock}
-use Rattle.velo_audit_commands.specs.Auditing.{left_at_first, left_at_last}
+use Rattle.velo_audit_commands.specs.Auditing.{left_at_last}
+use Rattle.velo_inputs.specs.Leaving.{left_at_first}
 use Rattle.velo_audit_commands.proofs.OnPredicting.{can_be_told, can_tell_deadlocks}
 use Rattle.velo_audit_commands.proofs.predicting.tell.Goals as goal
 

@@ -1,11 +1,10 @@
-use Rattle.std.proofs.Common.{◌∙◌, List, ap, inl, inr, length, refl, subst, sym, rules}
+use Rattle.std.proofs.Common.{◌∙◌, ◌++◌, List, ap, inl, inr, length, refl, subst, sym, rules}
 use Rattle.std.specs.Prelude.{ℕ}
 use Rattle.velo_events.specs.declared.event.Event.{Event}
 use Rattle.velo_delivery.specs.Disk.{store}
 use Rattle.velo_delivery.specs.Writing.{writing}
 use Rattle.velo_explain.specs.Evidence.{IsWithin}
 use Rattle.velo_explain.specs.Picture.{named_picture_text}
-use Rattle.velo_explain.proofs.OnEvidence.{IsWithin-at}
 use Rattle.velo_inputs.specs.Sending.{DeliversOrLacks}
 use Rattle.velo_picture.specs.Drawing.{drawing_text}
 use Rattle.velo_log_commands.specs.Explaining.{saying, words_of}
@@ -25,7 +24,7 @@ returns-in_default g c =
 pub drawing-requires-clause-within : goal.drawing-requires-clause-within
 drawing-requires-clause-within g c =
     subst (λ (events : List Event). IsWithin (length events) c.args.position c.args.evidence.now) (sym c.as_slice-events.ensures)
-    (IsWithin-at c.args.log.now.events c.args.position c.args.evidence.now c.requires.evidence)
+    c.requires.within
 
 pub returns-in-Err-drawing : goal.returns-in-Err-drawing
 returns-in-Err-drawing g c = inr (search rules, refl, refl, (refl, refl))
@@ -39,7 +38,7 @@ returns-in_default-target g c =
     let evidence = c.args.evidence.now in
     rw (c.in-Some.is, c.in_default-target.is)
     (inl (drawn_alone g.F.Files.disk c.args.files.now c.put.new.files c.in-Some.path (writing g.O.Sink.contents g.O.Sink.failures c.args.out.now c.put.new.out)
-    (named_picture_text names log evidence) c.as_slice-words.result.now (words_of names sites log p evidence) c.as_slice-drawn.result.now (drawing_text names sites log p evidence) c.put.result
+    (named_picture_text names log evidence) c.as_slice-words.result.now (c.args.legend.now.before.now ++ words_of names sites log p evidence) c.as_slice-drawn.result.now (drawing_text names sites log p evidence) c.put.result
     (c.as_slice-words.ensures ∙ c.in-Ok.ensures)
     (c.as_slice-drawn.ensures ∙ (c.in-Ok-drawing.ensures ∙ ap (λ (events : List Event). drawing_text names sites events p evidence) c.as_slice-events.ensures))
     c.put.ensures))
@@ -53,7 +52,7 @@ returns-in-Ok-picture_named g c =
     let evidence = c.args.evidence.now in
     rw (c.in-Some.is, c.in-Some-target.is)
     (inl (drawn_both (store g.F.Files.disk c.args.files.now c.put_both.new.files) c.in-Some-target.target c.in-Some.path (writing g.O.Sink.contents g.O.Sink.failures c.args.out.now c.put_both.new.out)
-    c.as_slice.result.now (named_picture_text names log evidence) c.as_slice-words.result.now (words_of names sites log p evidence) c.as_slice-drawn.result.now (drawing_text names sites log p evidence) c.put_both.result
+    c.as_slice.result.now (named_picture_text names log evidence) c.as_slice-words.result.now (c.args.legend.now.before.now ++ words_of names sites log p evidence) c.as_slice-drawn.result.now (drawing_text names sites log p evidence) c.put_both.result
     (c.as_slice.ensures ∙ c.in-Ok-picture_named.ensures)
     (c.as_slice-words.ensures ∙ c.in-Ok.ensures)
     (c.as_slice-drawn.ensures ∙ (c.in-Ok-drawing.ensures ∙ ap (λ (events : List Event). drawing_text names sites events p evidence) c.as_slice-events.ensures))

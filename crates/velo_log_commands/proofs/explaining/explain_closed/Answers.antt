@@ -1,40 +1,23 @@
-use Rattle.std.proofs.Common.{[], List, inl, inr, refl, sym, subst}
-use Rattle.velo_events.specs.declared.event.Event.{Event}
-use Rattle.velo_events.specs.Graph.{IsClosing}
-use Rattle.velo_fate.specs.declared.fate.Fate.TheVariants.{Memory}
-use Rattle.velo_fate.specs.Delivery.{silent}
+use Rattle.std.proofs.Common.{◌∙◌, inl, inr, sym}
 use Rattle.velo_delivery.specs.Disk.{store}
-use Rattle.velo_log_commands.specs.Explaining.{counted, explained}
 use Rattle.velo_delivery.specs.Writing.{writing}
-use Rattle.velo_picture.specs.Drawing.{drawing_text}
-use Rattle.velo_inputs.specs.Sending.{PrintsOrLacks}
-use Rattle.velo_log_commands.proofs.OnExplaining.{explains_by, explains_clean, of_evidence}
-use Rattle.velo_certify.proofs.OnClosing.{closing_cycle}
+use Rattle.velo_inputs.specs.Leaving.{left_at_first}
+use Rattle.velo_log_commands.specs.Explaining.{ExplainsRest, ExplainsVerdict, ExplainsWhole, opening}
+use Rattle.velo_log_commands.proofs.OnExplaining.{explains_as}
 use Rattle.velo_log_commands.proofs.explaining.explain_closed.Goals as goal
 
-pub returns-in_default : goal.returns-in_default
-returns-in_default g c =
-    let stdout = writing g.O.Sink.contents g.O.Sink.failures c.args.out.now c.explain_without.new.out in
-    explains_clean (store g.F.Files.disk c.args.files.now c.args.files.now) c.args.options.now stdout c.args.legend.now.names.now c.args.legend.now.sites.now c.args.closed.now.log c.explain_without.result c.in_default.ensures.none refl
-    (subst (λ (log : List Event). PrintsOrLacks (counted log) stdout c.explain_without.result) c.log-log.ensures.events c.explain_without.ensures)
+pub returns-then-is_whole : goal.returns-then-is_whole
+returns-then-is_whole g c =
+    let inquiry = c.args.inquiry.now in
+    let log = c.args.closed.now.log in
+    explains_as (store g.F.Files.disk c.args.files.now c.explain_whole.new.files) inquiry.options.now (writing g.O.Sink.contents g.O.Sink.failures c.args.out.now c.explain_whole.new.out)
+    (ExplainsWhole inquiry.names.now c.args.sites.now log) (ExplainsVerdict inquiry.names.now c.args.sites.now inquiry.asked.now log) c.explain_whole.result
+    (λ answer drawing is. inl (sym c.is_whole.ensures ∙ c.if-is_whole.true, is)) c.explain_whole.ensures
 
-pub unreachable-requires : goal.unreachable-requires
-unreachable-requires g c =
-    let p = c.in-Some.alarm.now.position in
-    closing_cycle c.log-log.result.now.events p
-    (subst (λ (log : List Event). IsClosing log p) (sym c.log-log.ensures.events) c.in-Some.ensures.some.closing)
-    (rw c.in-Err-NoCycle.field-0-is at c.in-Err-NoCycle.ensures.fault)
-
-pub returns-in-Ok : goal.returns-in-Ok
-returns-in-Ok g c =
-    explains_by (store g.F.Files.disk c.args.files.now c.explain_by-fate.new.files) c.args.options.now (writing g.O.Sink.contents g.O.Sink.failures c.args.out.now c.explain_by-fate.new.out)
-    c.args.legend.now.names.now c.args.legend.now.sites.now c.args.closed.now.log (explained c.args.legend.now.names.now c.args.legend.now.sites.now c.log-log.result.now.events c.in-Some.alarm.now.position c.in-Ok.evidence)
-    (drawing_text c.args.legend.now.names.now c.args.legend.now.sites.now c.log-log.result.now.events c.in-Some.alarm.now.position c.in-Ok.evidence) c.explain_by-fate.result
-    (inl (of_evidence c.args.legend.now.names.now c.args.legend.now.sites.now c.log-log.result.now.events c.args.closed.now.log c.log-log.ensures.events c.in-Some.alarm.now c.as_slice.result.now c.as_slice.ensures
-    c.in-Ok.evidence c.in-Some.ensures.some c.in-Ok.ensures.evidence c.in-Ok.ensures.reasons))
-    c.explain_by-fate.ensures
-
-pub returns-in-Err-Memory : goal.returns-in-Err-Memory
-returns-in-Err-Memory g c =
-    let refused = rw c.in-Err-Memory.field-0-is at c.in-Err-Memory.ensures.fault in
-    (silent Memory, [], inr (refused, refl), (refl, refl, (refl, refl)))
+pub returns : goal.returns
+returns g c =
+    let inquiry = c.args.inquiry.now in
+    let log = c.args.closed.now.log in
+    explains_as (store g.F.Files.disk c.args.files.now c.explain_rest.new.files) inquiry.options.now (writing g.O.Sink.contents g.O.Sink.failures c.args.out.now c.explain_rest.new.out)
+    (ExplainsRest (opening inquiry.names.now inquiry.asked.now) inquiry.names.now c.args.sites.now (left_at_first inquiry.asked.now) log) (ExplainsVerdict inquiry.names.now c.args.sites.now inquiry.asked.now log) c.explain_rest.result
+    (λ answer drawing is. inr (sym c.is_whole.ensures ∙ c.if-is_whole.false, is)) c.explain_rest.ensures

@@ -9,8 +9,9 @@ use Rattle.velo_log_commands.proofs.explaining.explain_log.Goals as goal
 
 pub returns-in-Ok : goal.returns-in-Ok
 returns-in-Ok g c =
-    of_input (store g.F.Files.disk c.args.files.now c.explain_if_of-fate.new.files) c.args.options.now (writing g.O.Sink.contents g.O.Sink.failures c.args.out.now c.explain_if_of-fate.new.out)
-    c.args.legend.now.names.now c.args.legend.now.sites.now c.in-Ok.closed.config.bounds c.in-Ok.closed.log (reading g.I.Source.remaining g.I.Source.failures c.args.source.now c.do_input.new.source) c.explain_if_of-fate.result
+    let inquiry = c.args.inquiry.now in
+    of_input (store g.F.Files.disk c.args.files.now c.explain_if_of-fate.new.files) inquiry.options.now (writing g.O.Sink.contents g.O.Sink.failures c.args.out.now c.explain_if_of-fate.new.out)
+    inquiry.names.now c.args.sites.now inquiry.asked.now c.in-Ok.closed.config.bounds c.in-Ok.closed.log (reading g.I.Source.remaining g.I.Source.failures c.args.source.now c.do_input.new.source) c.explain_if_of-fate.result
     c.in-Ok.ensures.ok c.in-Ok.ensures.read c.explain_if_of-fate.ensures
 
 pub returns-in-Err : goal.returns-in-Err

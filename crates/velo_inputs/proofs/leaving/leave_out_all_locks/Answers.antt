@@ -1,8 +1,8 @@
 use Rattle.std.proofs.Common.{ap, ◌∙◌}
 use Rattle.velo_filter.specs.Left.{with_lock}
 use Rattle.velo_filter.specs.Tables.{left_of}
-use Rattle.velo_audit_commands.proofs.OnAuditing.{with_locks_below-more, with_locks_below-none}
-use Rattle.velo_audit_commands.proofs.auditing.leave_out_all_locks.Goals as goal
+use Rattle.velo_inputs.proofs.OnLeaving.{with_locks_below-more, with_locks_below-none}
+use Rattle.velo_inputs.proofs.leaving.leave_out_all_locks.Goals as goal
 
 pub loop-number-init : goal.loop-number-init
 loop-number-init c = record { left = with_locks_below-none (left_of c.args.left.now) }

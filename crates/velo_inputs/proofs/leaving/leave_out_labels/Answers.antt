@@ -4,7 +4,7 @@ use Rattle.velo_events.specs.declared.event.Label.{Label}
 use Rattle.velo_filter.specs.Left.{with_labels}
 use Rattle.velo_filter.specs.Tables.{left_of}
 use Rattle.velo_filter.proofs.OnTables.{with_labels-nil, with_labels-push}
-use Rattle.velo_audit_commands.proofs.auditing.leave_out_labels.Goals as goal
+use Rattle.velo_inputs.proofs.leaving.leave_out_labels.Goals as goal
 
 abbrev number : Label → ℕ
 number n = n.0

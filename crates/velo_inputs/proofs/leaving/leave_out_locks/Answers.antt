@@ -3,9 +3,9 @@ use Rattle.std.proofs.lemmas.List.{take_more, map-append}
 use Rattle.velo_events.specs.declared.event.LockId.{LockId}
 use Rattle.velo_filter.specs.Tables.{left_of}
 use Rattle.velo_filter.specs.Left.{with_lock}
-use Rattle.velo_audit_commands.specs.Auditing.{with_locks}
-use Rattle.velo_audit_commands.proofs.OnAuditing.{with_locks-nil, with_locks-push}
-use Rattle.velo_audit_commands.proofs.auditing.leave_out_locks.Goals as goal
+use Rattle.velo_inputs.specs.Leaving.{with_locks}
+use Rattle.velo_inputs.proofs.OnLeaving.{with_locks-nil, with_locks-push}
+use Rattle.velo_inputs.proofs.leaving.leave_out_locks.Goals as goal
 
 abbrev number : LockId → ℕ
 number n = n.0

@@ -3,9 +3,9 @@ use Rattle.std.proofs.lemmas.List.{take_more, map-append}
 use Rattle.velo_events.specs.declared.event.VarId.{VarId}
 use Rattle.velo_filter.specs.Tables.{left_of}
 use Rattle.velo_filter.specs.Left.{with_variable}
-use Rattle.velo_audit_commands.specs.Auditing.{with_variables}
-use Rattle.velo_audit_commands.proofs.OnAuditing.{with_variables-nil, with_variables-push}
-use Rattle.velo_audit_commands.proofs.auditing.leave_out_variables.Goals as goal
+use Rattle.velo_inputs.specs.Leaving.{with_variables}
+use Rattle.velo_inputs.proofs.OnLeaving.{with_variables-nil, with_variables-push}
+use Rattle.velo_inputs.proofs.leaving.leave_out_variables.Goals as goal
 
 abbrev number : VarId → ℕ
 number n = n.0

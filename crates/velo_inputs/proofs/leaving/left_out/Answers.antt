@@ -1,5 +1,5 @@
-use Rattle.velo_audit_commands.proofs.OnAuditing.{asked_left}
-use Rattle.velo_audit_commands.proofs.auditing.left_out.Goals as goal
+use Rattle.velo_inputs.proofs.OnLeaving.{asked_left}
+use Rattle.velo_inputs.proofs.leaving.left_out.Goals as goal
 
 pub returns : goal.returns
 returns c =
