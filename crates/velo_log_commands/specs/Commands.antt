@@ -62,10 +62,10 @@ DoesCheck options store stdout f =
 abbrev pub drawing_of : ExplainOptions → Beside
 drawing_of options = record { operand = Svg; path = options.drawing }
 
--- LOG is read whole, and explained where this is left out. If there is a cycle, its picture is saved
--- at OUT, if that is given, and then its drawing at SVG, if that is given; and then the explanation
--- goes to standard output, all by these names; or nothing, for a reason (`Explaining`). Behind a log
--- of which nothing with a cycle is left OUT and SVG are untouched.
+-- LOG is read whole, and explained without what is left out. If there is a cycle, its picture is
+-- saved at OUT, if that is given, and then its drawing at SVG, if that is given; and then the
+-- explanation goes to standard output, all by these names; or nothing, for a reason (`Explaining`).
+-- Where what is left has no cycle OUT and SVG are untouched.
 abbrev pub ExplainsLog : NameLists → Option Table → Asked → ExplainOptions → Store → Writing → Fate → Type 0
 ExplainsLog names sites asked options store stdout f =
     DoesNotReadApart store Log options.input.now options.target (drawing_of options) stdout f
