@@ -3,4 +3,4 @@ pub mod OnInputs
 mod OnLeaving
 mod OnListing
 mod OnNaming
-pub mod OnSiting
+mod OnSiting

@@ -34,8 +34,7 @@ is_whole asked =
     (length asked.labels.now == 0)
     && ((length asked.locks.now == 0) && ((length asked.variables.now == 0) && not asked.all_locks))
 
--- what comes before the words where something was: the same lines that an audit begins with, and a
--- title
+-- what comes before the words where something was: what an audit begins with, and a title
 abbrev pub opening : NameLists → Asked → List ℕ
 opening names asked = asked_text names asked ++ codes "What is left of the log:\n"
 
@@ -84,8 +83,7 @@ ExplainsWhole names sites log answer drawing =
 
 -- ---- what is left of it
 
--- The same of the first alarm of what is left: all positions are those of the whole log, whose events
--- are shown.
+-- The same of the first alarm of what is left. Each position is that of its event in the whole log.
 pub record ExplainsFirst (before : List ℕ) (names : NameLists) (sites : Option Table) (left : Left)
     (log : List Event) (answer : Answer) (drawing : List ℕ) : Type 0 where
   pub position : ℕ
