@@ -120,11 +120,16 @@ class Copy:
                 os.makedirs(f"{self.room}/crates/{name}/out")
                 shutil.copytree(built, f"{self.room}/crates/{name}/out/rlib", copy_function=os.link)
 
-    def try_edits(self, crate, batch):
-        """What a check with these edits says: its status, its places, and where the edited functions stand."""
+    def restored(self, crate):
+        """The folder of the crate, with its own text."""
         folder = f"{self.room}/crates/{crate}"
         shutil.rmtree(f"{folder}/src")
         shutil.copytree(f"{TOP}/crates/{crate}/src", f"{folder}/src")
+        return folder
+
+    def try_edits(self, crate, batch):
+        """What a check with these edits says: its status, its places, and where the edited functions stand."""
+        folder = self.restored(crate)
         applied = [it for it in batch if it.apply(folder)]
         ran = subprocess.run(["rt", "check", "--jobs", "1"], cwd=folder, stdin=subprocess.DEVNULL, stdout=subprocess.PIPE, stderr=subprocess.STDOUT, errors="replace")
         said = [SAID.match(line).groups() for line in ran.stdout.splitlines() if SAID.match(line)]
@@ -175,6 +180,7 @@ def main():
             lines = [("BAD", os.path.basename(it), why) for it, why in bad.items() if why]
             for batch in batches_of([Edit(it, folder) for it in paths if not bad[it]]):
                 lines += [(what, edit.name, why) for edit, (what, why) in judged(copy, crate, batch).items()]
+            copy.restored(crate)
             for what, edit, why in lines:
                 counts[what] = counts.get(what, 0) + 1
                 print(f"{crate}/{edit}: {what}: {why}", flush=True)
