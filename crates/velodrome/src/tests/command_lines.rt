@@ -142,7 +142,7 @@ const WRONG_WORDS: [&[&str]; 49] = [
 ];
 
 /// Right words that do not go together, with the line that says so.
-const WORDS_APART: [(&[&str], &str); 26] = [
+const WORDS_APART: [(&[&str], &str); 27] = [
     (
         &["velodrome", "check", "-", "--names", "-"],
         "error: standard input can be read once\n",
@@ -280,6 +280,10 @@ const WORDS_APART: [(&[&str], &str); 26] = [
     (
         &["velodrome", "audit", "a.log", "--format", "xml"],
         "error: --format takes text, json, sarif or junit\n",
+    ),
+    (
+        &["velodrome", "predict", "a.log", "--format", "sarif"],
+        "error: --format takes text or json\n",
     ),
     (
         &["velodrome", "audit", "-", "--sites=-", "--format="],
