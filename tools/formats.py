@@ -1,5 +1,5 @@
-"""Compares the JSON of audits with their text, and SARIF logs and JUnit reports with the JSON, which is validated where the Python
-module `jsonschema` is installed.
+"""Compares the JSON of audits and of predictions with their text, and SARIF logs and JUnit reports with the JSON, which is
+validated where the Python module `jsonschema` is installed.
 
     python3 tools/formats.py PROGRAM LOG..
 
@@ -12,13 +12,15 @@ import subprocess
 import sys
 import xml.etree.ElementTree
 
-SCHEMA = os.path.join(os.path.dirname(os.path.dirname(os.path.abspath(__file__))), "docs", "audit.schema.json")
-CHOICES = ([], ["--no-witness"], ["--counts"], ["--innermost", "--by-count", "--counts"])
+DOCS = os.path.join(os.path.dirname(os.path.dirname(os.path.abspath(__file__))), "docs")
+SCHEMAS = ("audit.schema.json", "predict.schema.json")
+AUDITS = ([], ["--no-witness"], ["--counts"], ["--innermost", "--by-count", "--counts"])
+PREDICTIONS = (["--tries", "20"], ["--tries", "20", "--values"], ["--tries", "20", "--ignore-lock", "0", "--ignore-variable", "0"])
 
 
-def printed(program, log, words):
+def printed(program, command, log, words):
     beside = [word for kind in ("names", "sites") if os.path.exists(log[:-3] + kind) for word in ("--" + kind, log[:-3] + kind)]
-    done = subprocess.run([program, "audit", log, *beside, *words], capture_output=True, check=False)
+    done = subprocess.run([program, command, log, *beside, *words], capture_output=True, check=False)
     return done.stdout.decode(), done.returncode
 
 
@@ -27,8 +29,8 @@ def named(thing):
 
 
 def findings(program, log, words, status, answer):
-    sarif, one = printed(program, log, [*words, "--format", "sarif"])
-    junit, other = printed(program, log, [*words, "--format", "junit"])
+    sarif, one = printed(program, "audit", log, [*words, "--format", "sarif"])
+    junit, other = printed(program, "audit", log, [*words, "--format", "junit"])
     results = [(result["locations"][0]["physicalLocation"]["region"]["startLine"], result["message"]["text"])
                for result in json.loads(sarif)["runs"][0]["results"]]
     cases = [(case.get("name"), case[0].get("message") if len(case) else None)
@@ -43,12 +45,7 @@ def findings(program, log, words, status, answer):
     ) if not right]
 
 
-def faults(program, log, words, validate):
-    text, status = printed(program, log, words)
-    out, same = printed(program, log, [*words, "--format", "json"])
-    if status not in (0, 3) or same != status:
-        return [f"status {status}, {same}"]
-    answer = json.loads(out)
+def audit_faults(program, log, words, text, status, answer):
     listed = answer["counts"]["labels"] if answer["counts"] else [block for alarm in answer["alarms"] for block in alarm["blocks"]]
     labels = list(dict.fromkeys("not atomic " + named(entry["label"]) for entry in listed))
     lines = text.splitlines()
@@ -58,34 +55,89 @@ def faults(program, log, words, validate):
         ("atomic", f"atomic {answer['atomic']} labels" in lines),
         ("rounds", f"rounds {answer['rounds']}" in lines and len(answer["alarms"]) + 1 == answer["rounds"]),
         ("verdict", (answer["verdict"] == "not atomic") == (status == 3)),
-        ("one line", out.count("\n") == 1 and out.endswith("\n")),
         ("closing", "--no-witness" in words or "--counts" in words or all(any(line.startswith(at) for line in lines) for at in closing)),
     ) if not right]
-    return wrong + findings(program, log, words, status, answer) + [error.message for error in validate(answer)]
+    return wrong + findings(program, log, words, status, answer)
 
 
-def validator():
+def left_out(asked):
+    locks = ["all locks"] if asked["all_locks"] else ["lock " + named(lock) for lock in asked["locks"]]
+    return (["left out label " + named(label) for label in asked["labels"]] + ["left out " + lock for lock in locks]
+            + ["left out variable " + named(variable) for variable in asked["variables"]])
+
+
+def about(event):
+    return f"`{event['text']}`" + ("" if event["name"] is None else " " + event["name"])
+
+
+def cycle(alarm):
+    return f"  Line {alarm['closing']['line']} {about(alarm['closing'])} closes a cycle of {len(alarm['witness']['transactions'])} transactions:"
+
+
+def told(prediction):
+    """The lines of a prediction, up to the cycle."""
+    if prediction["kind"] == "deadlock":
+        first, last = [f"deadlock? {len(prediction['circle'])} threads wait in a circle"], [
+            f"  thread {named(one['thread'])} waits at {about(one)}" for one in prediction["circle"]]
+    else:
+        first, last = ["not atomic? " + named(block["label"]) for block in prediction["alarm"]["blocks"]], [cycle(prediction["alarm"])]
+    return [*first, f"  witness {prediction['events']} events",
+            *(f"  line {one['event']['line']} {about(one['event'])} read {one['recorded']} in the log" for one in prediction["differing"]), *last]
+
+
+def prediction_faults(program, log, words, text, status, answer):
+    lines = text.splitlines()
+    heads = [line for line in lines if line[0] != " " or line.startswith(("  witness ", "  line ", "  thread ", "  Line "))]
+    labels = [dict.fromkeys("not atomic " + named(block["label"]) for block in alarm["blocks"]) for alarm in answer["alarms"]]
+    expected = (left_out(answer["left_out"])
+                + [line for some, alarm in zip(labels, answer["alarms"]) for line in (*some, cycle(alarm))]
+                + [line for prediction in answer["predictions"] for line in told(prediction)]
+                + [f"nothing{' else' * answer['found']} found in {answer['tries']} tries"])
+    return [what for what, right in (
+        ("lines", heads == expected),
+        ("found", answer["found"] == bool(answer["alarms"] or answer["predictions"]) == (status == 3)),
+    ) if not right]
+
+
+def faults(program, command, log, words, validate):
+    text, status = printed(program, command, log, words)
+    out, same = printed(program, command, log, [*words, "--format", "json"])
+    if status not in (0, 3) or same != status:
+        return [f"status {status}, {same}"]
+    if out.count("\n") != 1 or not out.endswith("\n"):
+        return ["not one line"]
+    answer, more = json.loads(out), audit_faults if command == "audit" else prediction_faults
+    return more(program, log, words, text, status, answer) + [error.message for error in validate[command](answer)]
+
+
+def validators():
     try:
         import jsonschema
+        import referencing
     except ImportError:
         print("not validated: the Python module jsonschema is not installed")
-        return lambda answer: []
-    with open(SCHEMA, encoding="utf-8") as it:
-        schema = jsonschema.Draft202012Validator(json.load(it))
-    return schema.iter_errors
+        return {"audit": lambda answer: [], "predict": lambda answer: []}
+    schemas = {}
+    for name in SCHEMAS:
+        with open(os.path.join(DOCS, name), encoding="utf-8") as it:
+            schemas[name] = json.load(it)
+    known = referencing.Registry().with_resources((name, referencing.Resource.from_contents(schemas[name])) for name in SCHEMAS)
+    audit, predict = (jsonschema.Draft202012Validator(schemas[name], registry=known) for name in SCHEMAS)
+    return {"audit": audit.iter_errors, "predict": predict.iter_errors}
 
 
 def main(words):
     if len(words) < 2:
         print(__doc__)
         return 2
-    validate, passed, failed = validator(), 0, 0
+    validate, passed, failed = validators(), 0, 0
+    tries = [("audit", choice) for choice in AUDITS] + [("predict", choice) for choice in PREDICTIONS]
     for log in words[1:]:
-        for choice in CHOICES:
-            wrong = faults(os.path.abspath(words[0]), log, choice, validate)
+        for command, choice in tries:
+            wrong = faults(os.path.abspath(words[0]), command, log, choice, validate)
             passed, failed = passed + (not wrong), failed + bool(wrong)
             if wrong:
-                print(log, *choice, ":", *wrong)
+                print(command, log, *choice, ":", *wrong)
     print(f"{passed} passed, {failed} failed")
     return 1 if failed else 0
 

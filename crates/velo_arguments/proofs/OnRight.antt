@@ -298,5 +298,5 @@ pub predict_right : (words : List Text) → AreFaultless predict words
     → HasWord (codes "LOG") (rows_of_leaf predict words) × HasDelays (rows_of_leaf predict words)
 predict_right words e =
     let rows = rows_of_leaf predict words in
-    let level = level_has limits (leaf predict) words refl (makes_word (codes "LOG") refl, (makes_valued (codes "log") refl, (makes_flag (codes "values") refl, (makes_tries, (makes_seed, labels_made))))) e in
-    (word_there (codes "LOG") rows level.passes (level.given.0 refl), (tries_there rows level.passes (level.defaults.1.1.1.0 tt), seed_there rows level.passes, limits_there rows level.passes (level.defaults.1.1.1.1.1.1.1.1.1.1.1.1.0 tt) (level.defaults.1.1.1.1.1.1.1.1.1.1.1.1.1.0 tt)))
+    let level = level_has limits (leaf predict) words refl (makes_word (codes "LOG") refl, (makes_valued (codes "log") refl, (makes_flag (codes "values") refl, (makes_tries, (makes_seed, (makes_valued (codes "format") refl, labels_made)))))) e in
+    (word_there (codes "LOG") rows level.passes (level.given.0 refl), (tries_there rows level.passes (level.defaults.1.1.1.0 tt), seed_there rows level.passes, limits_there rows level.passes (level.defaults.1.1.1.1.1.1.1.1.1.1.1.1.1.0 tt) (level.defaults.1.1.1.1.1.1.1.1.1.1.1.1.1.1.0 tt)))

@@ -16,6 +16,7 @@ use Rattle.velo_request.specs.declared.request.CheckOptions.{CheckOptions}
 use Rattle.velo_request.specs.declared.request.EndlessOptions.{EndlessOptions}
 use Rattle.velo_request.specs.declared.request.ExplainOptions.{ExplainOptions}
 use Rattle.velo_request.specs.declared.request.OutputFormat.TheVariants as form
+use Rattle.velo_request.specs.declared.request.PredictFormat.TheVariants as predict_form
 use Rattle.velo_request.specs.declared.request.PredictOptions.{PredictOptions}
 use Rattle.velo_request.specs.declared.request.ReplayOptions.{ReplayOptions}
 use Rattle.velo_request.specs.declared.request.RunOptions.{RunOptions}
@@ -85,7 +86,7 @@ replay_asks options text schedule says file stop log names events nodes certific
   ),
 )
 
-replay_gives : given_by (asked_by replay_words) ≡ record { states = false; seed = false; schedule = true; certificate = false; other_form = false }
+replay_gives : given_by (asked_by replay_words) ≡ record { states = false; seed = false; schedule = true; certificate = false; other_form = false; other_predict_form = false }
 unfolding asked_by walked
 replay_gives = refl
 
@@ -212,7 +213,7 @@ explore_asks options file states seconds first progress random log names events 
   ),
 )
 
-explore_gives : given_by (asked_by explore_words) ≡ record { states = false; seed = false; schedule = false; certificate = false; other_form = false }
+explore_gives : given_by (asked_by explore_words) ≡ record { states = false; seed = false; schedule = false; certificate = false; other_form = false; other_predict_form = false }
 unfolding asked_by walked
 explore_gives = refl
 
@@ -224,7 +225,7 @@ chance_is_right : faults_of chance_words ≡ []
 unfolding faults_of walk_fault walked defaults_fault
 chance_is_right = refl
 
-chance_gives : given_by (asked_by chance_words) ≡ record { states = false; seed = true; schedule = false; certificate = false; other_form = false }
+chance_gives : given_by (asked_by chance_words) ≡ record { states = false; seed = true; schedule = false; certificate = false; other_form = false; other_predict_form = false }
 unfolding asked_by walked
 chance_gives = refl
 
@@ -256,7 +257,7 @@ unfolding asked_by walked
 endless_asks options log stop events nodes names =
     (refl, (search rules, (ap Some (sym log), search rules, search rules, ap (option_map (λ path. path.now)) (sym names))))
 
-endless_gives : given_by (asked_by endless_words) ≡ record { states = false; seed = false; schedule = false; certificate = true; other_form = false }
+endless_gives : given_by (asked_by endless_words) ≡ record { states = false; seed = false; schedule = false; certificate = true; other_form = false; other_predict_form = false }
 unfolding asked_by walked
 endless_gives = refl
 
@@ -287,7 +288,7 @@ verify_asks options log report = (refl, (ap Some (sym log), ap Some (sym report)
 
 -- a log whose predictions are searched for, with the tries, the seed and the limits that are there by default
 abbrev predict_words : List Text
-predict_words = codes "velodrome" ∷ codes "predict" ∷ codes "a" ∷ codes "--values" ∷ codes "--log" ∷ codes "o" ∷ []
+predict_words = codes "velodrome" ∷ codes "predict" ∷ codes "a" ∷ codes "--values" ∷ codes "--log" ∷ codes "o" ∷ codes "--format=json" ∷ []
 
 predict_is_right : faults_of predict_words ≡ []
 unfolding faults_of walk_fault walked defaults_fault
@@ -297,9 +298,9 @@ predict_asks : (options : PredictOptions) → options.input.now ≡ codes "a" �
     → map (λ w. w.now) options.ignored.labels.now ≡ [] → map (λ w. w.now) options.ignored.locks.now ≡ [] → map (λ w. w.now) options.ignored.variables.now ≡ []
     → options.ignored.all_locks ≡ false → options.values ≡ true
     → options.tries ≡ DEFAULT_TRIES → options.seed ≡ DEFAULT_SEED → option_map (λ path. path.now) options.target ≡ Some (codes "o")
-    → options.limits.events ≡ 16777216 → options.limits.nodes ≡ 4096 → AsksFor (asked_by predict_words) (Predict options)
+    → options.format ≡ predict_form.Json → options.limits.events ≡ 16777216 → options.limits.nodes ≡ 4096 → AsksFor (asked_by predict_words) (Predict options)
 unfolding asked_by walked
-predict_asks options log names sites known labels locks variables all values tries seed out events nodes = (
+predict_asks options log names sites known labels locks variables all values tries seed out format events nodes = (
   refl,
   (
     ap Some (sym log),
@@ -310,9 +311,22 @@ predict_asks options log names sites known labels locks variables all values tri
     writes (codes "200") 32 options.tries refl refl tries,
     inl (refl, seed),
     sym out,
+    format,
     (writes (codes "16777216") 32 options.limits.events refl refl events, writes (codes "4096") 16 options.limits.nodes refl refl nodes),
   ),
 )
+
+-- a form that audits have, and predictions do not
+abbrev sarif_words : List Text
+sarif_words = codes "velodrome" ∷ codes "predict" ∷ codes "a" ∷ codes "--format" ∷ codes "sarif" ∷ []
+
+sarif_is_right : faults_of sarif_words ≡ []
+unfolding faults_of walk_fault walked defaults_fault
+sarif_is_right = refl
+
+sarif_gives : given_by (asked_by sarif_words) ≡ record { states = false; seed = false; schedule = false; certificate = false; other_form = false; other_predict_form = true }
+unfolding asked_by walked
+sarif_gives = refl
 
 -- a log that is audited, without two locks and a label; the limits are the greatest ones by default
 abbrev audit_words : List Text
@@ -349,7 +363,7 @@ no_locks_is_right : faults_of no_locks_words ≡ []
 unfolding faults_of walk_fault walked defaults_fault
 no_locks_is_right = refl
 
-no_locks_gives : given_by (asked_by no_locks_words) ≡ record { states = false; seed = false; schedule = false; certificate = false; other_form = true }
+no_locks_gives : given_by (asked_by no_locks_words) ≡ record { states = false; seed = false; schedule = false; certificate = false; other_form = true; other_predict_form = true }
 unfolding asked_by walked
 no_locks_gives = refl
 

@@ -14,6 +14,8 @@ use Rattle.velo_request.specs.declared.request.CarryOptions.{CarryOptions}
 use Rattle.velo_request.specs.declared.request.CheckOptions.{CheckOptions}
 use Rattle.velo_request.specs.declared.request.EndlessOptions.{EndlessOptions}
 use Rattle.velo_request.specs.declared.request.ExploreOptions.{ExploreOptions}
+use Rattle.velo_request.specs.declared.request.PredictFormat.{PredictFormat}
+use Rattle.velo_request.specs.declared.request.PredictFormat.TheVariants as predict_form
 use Rattle.velo_request.specs.declared.request.PredictOptions.{PredictOptions}
 use Rattle.velo_request.specs.declared.request.RandomRuns.{RandomRuns}
 use Rattle.velo_request.specs.declared.request.RunOptions.{RunOptions}
@@ -198,6 +200,16 @@ IsThinning rows options =
     × (first_of (codes "log") rows ≡ Some options.target.now)
     × IsPath (codes "map") rows options.map
 
+-- the form of predictions that a word names, if it names one
+abbrev pub predict_form_named : Text → Option PredictFormat
+predict_form_named word =
+    if bytes_eq word (codes "text") then Some predict_form.Text
+    else (if bytes_eq word (codes "json") then Some predict_form.Json else None)
+
+-- the form that is asked for: text, where no other one is named
+abbrev pub predict_form_of : Option Text → PredictFormat
+predict_form_of word = unwrap_or (option_and_then predict_form_named word) predict_form.Text
+
 abbrev pub IsPredicting : List Row → PredictOptions → Type 0
 IsPredicting rows options =
     (first_of (codes "LOG") rows ≡ Some options.input.now)
@@ -208,6 +220,7 @@ IsPredicting rows options =
     × WritesNumber 32 (one_of (codes "tries") rows) options.tries
     × IsSeed rows options.seed
     × IsPath (codes "log") rows options.target
+    × (options.format ≡ predict_form_of (first_of (codes "format") rows))
     × AreLimits rows options.limits
 
 abbrev pub IsVerifying : List Row → VerifyOptions → Type 0

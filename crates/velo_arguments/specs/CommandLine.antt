@@ -150,7 +150,7 @@ thin = subcommand (codes "thin")
 abbrev pub predict : Shape
 predict = subcommand (codes "predict")
     (word (codes "LOG") ∷ valued (codes "log") ∷ flag (codes "values") ∷ tries ∷ seed
-    ∷ label_options)
+    ∷ valued (codes "format") ∷ label_options)
 
 abbrev pub verify : Shape
 verify = subcommand (codes "verify") (word (codes "LOG") ∷ word (codes "REPORT") ∷ [])

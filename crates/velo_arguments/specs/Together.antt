@@ -8,15 +8,16 @@ use Rattle.clap.specs.Words.{Row, first_of}
 use Rattle.velo_request.specs.declared.request.AuditOptions.{AuditOptions}
 use Rattle.velo_request.specs.declared.request.EndlessOptions.{EndlessOptions}
 use Rattle.velo_request.specs.declared.request.ExploreOptions.{ExploreOptions}
+use Rattle.velo_request.specs.declared.request.PredictOptions.{PredictOptions}
 use Rattle.velo_request.specs.declared.request.RandomRuns.{RandomRuns}
 use Rattle.velo_request.specs.declared.request.ReplayOptions.{ReplayOptions}
 use Rattle.velo_request.specs.declared.request.Request.{Request}
 use Rattle.velo_request.specs.declared.request.Request.TheVariants.{Audit, Carry, Check, Explain, Explore, Predict, Replay, Run, Thin, Verify, Watch, WatchEndless}
 use Rattle.velo_request.specs.declared.request.ScheduleSource.{ScheduleSource}
 use Rattle.velo_request.specs.declared.request.ScheduleSource.TheVariants as schedule
-use Rattle.velo_arguments.specs.Asked.{Asked, AsksFor, form_named}
+use Rattle.velo_arguments.specs.Asked.{Asked, AsksFor, form_named, predict_form_named}
 use Rattle.velo_arguments.specs.declared.together.Clash.{Clash}
-use Rattle.velo_arguments.specs.declared.together.Clash.TheVariants.{DrawingIsPicture, EndlessCertificate, InputTwice, MapIsLog, NamesWithoutLog, NoSuchForm, OnePath, SearchByChance, SeedAlone, TwoSchedules}
+use Rattle.velo_arguments.specs.declared.together.Clash.TheVariants.{DrawingIsPicture, EndlessCertificate, InputTwice, MapIsLog, NamesWithoutLog, NoSuchForm, NoSuchPredictForm, OnePath, SearchByChance, SeedAlone, TwoSchedules}
 use Rattle.velo_arguments.specs.declared.together.Given.{Given}
 
 -- ---- paths
@@ -63,6 +64,11 @@ abbrev pub is_other_form : Option (List ℕ) → Bool
 is_other_form None = false
 is_other_form (Some word) = not (is_some (form_named word))
 
+-- a word is given that names no form of predictions
+abbrev pub is_other_predict_form : Option (List ℕ) → Bool
+is_other_predict_form None = false
+is_other_predict_form (Some word) = not (is_some (predict_form_named word))
+
 -- which of the options that a request does not show are given by the values of a subcommand
 abbrev pub given_in : List Row → Given
 given_in rows = record {
@@ -71,6 +77,7 @@ given_in rows = record {
   schedule = is_given (codes "schedule") rows;
   certificate = is_given (codes "certificate") rows;
   other_form = is_other_form (first_of (codes "format") rows);
+  other_predict_form = is_other_predict_form (first_of (codes "format") rows);
 }
 
 abbrev pub given_by : Asked → Given
@@ -80,6 +87,7 @@ given_by None = record {
   schedule = false;
   certificate = false;
   other_form = false;
+  other_predict_form = false;
 }
 given_by (Some found) = given_in found.1
 
@@ -122,6 +130,17 @@ clash_of_audit options other_form =
     (options.input.now ∷ path_if options.names ++ path_if options.sites
     ++ path_if options.ignored.known)
 
+-- ---- a search for predictions
+
+-- the same, with the forms that predictions have
+abbrev pub clash_of_predict : PredictOptions → Bool → Option Clash
+clash_of_predict options other_form =
+    if other_form
+    then Some NoSuchPredictForm
+    else clash_of_inputs
+    (options.input.now ∷ path_if options.names ++ path_if options.sites
+    ++ path_if options.ignored.known)
+
 -- ---- an endless watch
 
 -- it has a certificate, for which the whole log is needed; or standard input is read twice
@@ -152,10 +171,7 @@ clash_of (Watch options) given = clash_of_inputs (options.input.now ∷ path_if 
 clash_of (WatchEndless options) given = clash_of_endless options given.certificate
 clash_of (Audit options) given = clash_of_audit options given.other_form
 clash_of (Thin options) given = clash_of_map options.target.now options.map
-clash_of (Predict options) given =
-    clash_of_inputs
-    (options.input.now ∷ path_if options.names ++ path_if options.sites
-    ++ path_if options.ignored.known)
+clash_of (Predict options) given = clash_of_predict options given.other_predict_form
 clash_of (Verify options) given = clash_of_inputs (options.input.now ∷ options.report.now ∷ [])
 
 -- the request that is asked for, whose options go together
@@ -173,6 +189,7 @@ abbrev pub line_of_clash : Clash → List ℕ
 line_of_clash InputTwice = codes "error: standard input can be read once\n"
 line_of_clash NamesWithoutLog = codes "error: --names-out goes only with --log\n"
 line_of_clash NoSuchForm = codes "error: --format takes text, json, sarif or junit\n"
+line_of_clash NoSuchPredictForm = codes "error: --format takes text or json\n"
 line_of_clash OnePath = codes "error: OUT and NAMES are one file\n"
 line_of_clash SearchByChance =
     codes "error: --random goes with neither --states nor --seconds nor --first nor --progress\n"

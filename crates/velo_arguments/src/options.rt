@@ -255,6 +255,12 @@ pub const FORMAT: Argument<'static> = Argument {
     help: "Print the answer as text, json, sarif or junit [default: text]",
 };
 
+pub const PREDICT_FORMAT: Argument<'static> = Argument {
+    name: "format",
+    takes: Takes::Value("FORM"),
+    help: "Print the answer as text or json [default: text]",
+};
+
 pub const COUNTS: Argument<'static> = Argument {
     name: "counts",
     takes: Takes::Nothing,

@@ -15,15 +15,15 @@ ghost use Rattle.velo_request.specs.declared.request.RunOptions.{RunOptions};
 ghost use Rattle.velo_request.specs.declared.request.ThinOptions.{ThinOptions};
 ghost use Rattle.velo_request.specs.declared.request.VerifyOptions.{VerifyOptions};
 ghost use Rattle.velo_request.specs.declared.request.WatchOptions.{WatchOptions};
-ghost use Rattle.velo_arguments.specs.Asked.{AreLeftOut, AreLimits, AreRandomRuns, AreSeconds, AreTurns, AsksFor, AsksForNothing, IsAudit, IsCarrying, IsCheck, IsEndless, IsExplanation, IsExploring, IsPredicting, IsReplay, IsRun, IsSchedule, IsSeed, IsThinning, IsVerifying, IsWatch, WritesNumber, form_named, form_of};
+ghost use Rattle.velo_arguments.specs.Asked.{AreLeftOut, AreLimits, AreRandomRuns, AreSeconds, AreTurns, AsksFor, AsksForNothing, IsAudit, IsCarrying, IsCheck, IsEndless, IsExplanation, IsExploring, IsPredicting, IsReplay, IsRun, IsSchedule, IsSeed, IsThinning, IsVerifying, IsWatch, WritesNumber, form_named, form_of, predict_form_named, predict_form_of};
 
 use clap::ArgMatches;
 use velo_events::{MAX_EVENTS, MAX_NODES};
 use velo_request::{
     AuditOptions, CarryOptions, CheckOptions, DEFAULT_SEED, EndlessOptions, ExplainOptions,
     ExploreOptions, Ignored, Limits, MAX_RUNS, MAX_SECONDS, MAX_STATES, MAX_TRIES, OutputFormat,
-    PredictOptions, RandomRuns, ReplayOptions, Request, RunOptions, ScheduleSource, ThinOptions,
-    VerifyOptions, WatchOptions,
+    PredictFormat, PredictOptions, RandomRuns, ReplayOptions, Request, RunOptions, ScheduleSource,
+    ThinOptions, VerifyOptions, WatchOptions,
 };
 
 /// Reads a number from 1 to `most`; none where it is missing or out of this range.
@@ -317,6 +317,25 @@ fn verify_options<'a>(found: &ArgMatches<'a>) -> Option<VerifyOptions<'a>>
     })
 }
 
+/// The form of predictions that a word names, if it names one.
+pub fn predict_form_named(word: &str) -> Option<PredictFormat>
+    ensures { result ≡ predict_form_named word.now }
+{
+    match word {
+        "text" => Some(PredictFormat::Text),
+        "json" => Some(PredictFormat::Json),
+        _ => None,
+    }
+}
+
+/// The form that is asked for: text, where no other one is named.
+fn predict_form_of(word: Option<&str>) -> PredictFormat
+    ensures { result ≡ predict_form_of (option_map (λ w. w.now) word.entry) }
+{
+    word.and_then(predict_form_named)
+        .unwrap_or(PredictFormat::Text)
+}
+
 fn predict_options<'a>(found: &'a ArgMatches) -> Option<PredictOptions<'a>>
     ensures some { IfSome result (IsPredicting (rows_of (found_of found.now))) }
     ensures none { IfNone result ((options : PredictOptions)
@@ -331,6 +350,7 @@ fn predict_options<'a>(found: &'a ArgMatches) -> Option<PredictOptions<'a>>
         tries: number_of(found, "tries", MAX_TRIES)?,
         seed: seed_of(found)?,
         target: found.get_str("log"),
+        format: predict_form_of(found.get_str("format")),
         limits: limits_of(found)?,
     })
 }

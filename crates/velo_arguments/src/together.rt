@@ -5,14 +5,14 @@ ghost use Rattle.std.specs.Str.{bytes_eq};
 ghost use Rattle.clap.specs.Takes.{is_given};
 ghost use Rattle.clap.specs.Words.{found_of, rows_of, subcommand_rows_of};
 ghost use Rattle.velo_arguments.specs.Asked.{AsksForNothing};
-ghost use Rattle.velo_arguments.specs.Together.{IsApart, IsTogether, clash_of, clash_of_audit, clash_of_chance, clash_of_drawing, clash_of_endless, clash_of_inputs, clash_of_map, clash_of_replay, clash_of_schedule, clash_of_search, clash_of_targets, given_by, given_in, is_other_form, line_of_clash, path_if, schedule_path_if};
+ghost use Rattle.velo_arguments.specs.Together.{IsApart, IsTogether, clash_of, clash_of_audit, clash_of_chance, clash_of_drawing, clash_of_endless, clash_of_inputs, clash_of_map, clash_of_predict, clash_of_replay, clash_of_schedule, clash_of_search, clash_of_targets, given_by, given_in, is_other_form, is_other_predict_form, line_of_clash, path_if, schedule_path_if};
 
-use crate::requests::{form_named, request_of};
+use crate::requests::{form_named, predict_form_named, request_of};
 use clap::ArgMatches;
 use clap::parser::ValueSource;
 use velo_request::{
-    AuditOptions, EndlessOptions, ExploreOptions, RandomRuns, ReplayOptions, Request,
-    ScheduleSource,
+    AuditOptions, EndlessOptions, ExploreOptions, PredictOptions, RandomRuns, ReplayOptions,
+    Request, ScheduleSource,
 };
 
 /// Why the options of a request do not go together.
@@ -30,6 +30,8 @@ pub enum Clash {
     NamesWithoutLog,
     /// No form of an answer has this name.
     NoSuchForm,
+    /// No form of predictions has this name.
+    NoSuchPredictForm,
     /// The log and the names of a run are to be saved at one path.
     OnePath,
     /// Random runs are asked for, and what a search alone has.
@@ -53,6 +55,8 @@ pub struct Given {
     pub certificate: bool,
     /// `--format`, with a word that names no form.
     pub other_form: bool,
+    /// `--format`, with a word that names no form of predictions.
+    pub other_predict_form: bool,
 }
 
 /// Whether the words give this option: a value by default does not count.
@@ -76,6 +80,16 @@ fn is_other_form(word: Option<&str>) -> bool
     }
 }
 
+/// Whether a word is given that names no form of predictions.
+fn is_other_predict_form(word: Option<&str>) -> bool
+    ensures { result ≡ is_other_predict_form (option_map (λ w. w.now) word.entry) }
+{
+    match word {
+        Some(word) => predict_form_named(word).is_none(),
+        None => false,
+    }
+}
+
 /// Which of the options a subcommand is given that a request does not show.
 fn given_in(found: &ArgMatches) -> Given
     ensures { result ≡ given_in (rows_of (found_of found.now)) }
@@ -86,6 +100,7 @@ fn given_in(found: &ArgMatches) -> Given
         schedule: is_given(found, "schedule"),
         certificate: is_given(found, "certificate"),
         other_form: is_other_form(found.get_str("format")),
+        other_predict_form: is_other_predict_form(found.get_str("format")),
     }
 }
 
@@ -101,6 +116,7 @@ fn given_by(matches: &ArgMatches) -> Given
             schedule: false,
             certificate: false,
             other_form: false,
+            other_predict_form: false,
         },
     }
 }
@@ -131,14 +147,7 @@ fn clash_of(request: &Request, given: Given) -> Option<Clash>
         Request::WatchEndless(options) => clash_of_endless(options, given.certificate),
         Request::Audit(options) => clash_of_audit(options, given.other_form),
         Request::Thin(options) => clash_of_map(options.target, options.map),
-        Request::Predict(options) => {
-            clash_of_files(
-                options.input,
-                options.names,
-                options.sites,
-                options.ignored.known,
-            )
-        }
+        Request::Predict(options) => clash_of_predict(options, given.other_predict_form),
         Request::Verify(options) => clash_of_inputs(options.input, Some(options.report)),
     }
 }
@@ -208,6 +217,21 @@ fn clash_of_audit(options: &AuditOptions, other_form: bool) -> Option<Clash>
 {
     if other_form {
         return Some(Clash::NoSuchForm);
+    }
+    clash_of_files(
+        options.input,
+        options.names,
+        options.sites,
+        options.ignored.known,
+    )
+}
+
+/// Predictions have a form that there is, and no clash of their paths.
+fn clash_of_predict(options: &PredictOptions, other_form: bool) -> Option<Clash>
+    ensures { result ≡ clash_of_predict options.now other_form }
+{
+    if other_form {
+        return Some(Clash::NoSuchPredictForm);
     }
     clash_of_files(
         options.input,
@@ -315,6 +339,7 @@ pub fn line_of_clash(clash: Clash) -> &'static [u8]
         Clash::MapIsLog => b"error: OUT and MAP are one file\n",
         Clash::NamesWithoutLog => b"error: --names-out goes only with --log\n",
         Clash::NoSuchForm => b"error: --format takes text, json, sarif or junit\n",
+        Clash::NoSuchPredictForm => b"error: --format takes text or json\n",
         Clash::OnePath => b"error: OUT and NAMES are one file\n",
         Clash::SearchByChance => {
             b"error: --random goes with neither --states nor --seconds nor --first nor --progress\n"

@@ -50,10 +50,10 @@ module _ (names : NameLists) (sites : Option Table) (asked : Asked) (options : P
 
   -- what was found is told, or memory was wanting
   pub told_so : (bounds : Bounds) (log : List Event) (rounds : List Told) (findings : PredictedFindings) (f : Fate) → AreRoundsOf true log (left_at_first asked) rounds
-      → ArePredictionsOf options.values bounds log (left_at_last log (left_at_first asked) rounds) findings → DeliversOrLacks (predicted names sites bounds log asked rounds findings) store options.target stdout f
+      → ArePredictionsOf options.values bounds log (left_at_last log (left_at_first asked) rounds) findings → DeliversOrLacks (predicted names sites options bounds log asked rounds findings) store options.target stdout f
       → Predicts names sites asked options bounds log store stdout f
   told_so bounds log rounds findings f are foretold (inl put) = (
-    predicted names sites bounds log asked rounds findings,
+    predicted names sites options bounds log asked rounds findings,
     inl (inl (record { rounds = rounds; are_rounds = are; findings = findings; are_predictions = foretold; said = refl })),
     put,
   )

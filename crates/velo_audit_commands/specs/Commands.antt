@@ -51,12 +51,12 @@ DoesAudit options store stdout f =
 
 -- ---- velodrome predict LOG [--names FILE] [--sites FILE] [--not-atomic FILE] [--ignore-label WORD]..
 -- ---- [--ignore-lock WORD].. [--ignore-locks] [--ignore-variable WORD].. [--values] [--tries N] [--seed S]
--- ---- [--log OUT] [--events N] [--nodes N]
+-- ---- [--log OUT] [--format FORM] [--events N] [--nodes N]
 
 -- LOG is read whole and judged as by a check. Without what `asked` leaves out it is audited, and then
--- searched for what other runs can show. The trace of the first prediction is saved at OUT, if there is one,
--- and then the text goes to standard output, by these names and with these sites; or nothing, for a
--- reason (`Predicting`). Where nothing is predicted OUT is untouched.
+-- searched for what other runs can show. The trace of the first prediction is saved at OUT, if there is
+-- one, and then the page goes to standard output, in the form that was asked for, by these names and
+-- with these sites; or nothing, for a reason (`Predicting`). If nothing is predicted, OUT is not opened.
 abbrev pub PredictsLog : NameLists → Option Table → Asked → PredictOptions → Store → Writing → Fate → Type 0
 PredictsLog names sites asked options store stdout f =
     DoesNotRead store Log options.input.now options.target stdout f

@@ -15,6 +15,8 @@ use Rattle.velo_delays.specs.Anew.{IsAnew}
 use Rattle.velo_delays.specs.Deadlock.{IsDeadlockIn}
 use Rattle.velo_delays.specs.Found.{IsFoundIn}
 use Rattle.velo_predict_text.specs.Text.{is_something_told, predictions_text}
+use Rattle.velo_audit_forms.specs.Answer.{line_text}
+use Rattle.velo_predict_forms.specs.Answer.{predictions_json}
 use Rattle.velo_worker.specs.declared.ending.Ending.TheVariants.{Done}
 use Rattle.velo_fate.specs.declared.fate.Fate.{Fate}
 use Rattle.velo_fate.specs.declared.fate.Fate.TheVariants.{Finished}
@@ -23,6 +25,8 @@ use Rattle.velo_fate.specs.Failures.{FailuresAsTold}
 use Rattle.velo_delivery.specs.Disk.{Store}
 use Rattle.velo_delivery.specs.Reading.{Reading}
 use Rattle.velo_delivery.specs.Writing.{Writing}
+use Rattle.velo_request.specs.declared.request.PredictFormat.{PredictFormat}
+use Rattle.velo_request.specs.declared.request.PredictFormat.TheVariants.{Json, Text}
 use Rattle.velo_request.specs.declared.request.PredictOptions.{PredictOptions}
 use Rattle.velo_audit_commands.specs.declared.predicting.PredictedFindings.{PredictedFindings}
 use Rattle.velo_audit_commands.specs.Auditing.{AreRoundsOf, HasFullGraph, IsOfOther, left_at_last}
@@ -59,32 +63,43 @@ first_trace (found ∷ founds) deadlocks = Some found.trace.events
 first_trace [] (deadlock ∷ deadlocks) = Some deadlock.trace.events
 first_trace [] [] = None
 
+-- The page of the rounds and the predictions in the form that was asked for: a text, or one JSON
+-- object, which has the path of the log
+abbrev pub predictions_page : PredictFormat → NameLists → Option Table → List Event → List ℕ → Asked
+    → List Told → List PredictedCycle → List Deadlock → ℕ → List ℕ
+predictions_page Text names sites log path asked rounds founds deadlocks tries =
+    predictions_text names sites log asked rounds founds deadlocks tries
+predictions_page Json names sites log path asked rounds founds deadlocks tries =
+    line_text (predictions_json (record { log = log; names = names; sites = sites }) path asked rounds
+    founds deadlocks tries)
+
 -- this trace is to be saved as a log, and the rounds of the log itself and the predictions are to be
 -- printed; it is an alarm where something is told
-abbrev pub predicted : NameLists → Option Table → Bounds → List Event → Asked → List Told → PredictedFindings → Answer
-predicted names sites bounds log asked rounds findings =
+abbrev pub predicted : NameLists → Option Table → PredictOptions → Bounds → List Event → Asked
+    → List Told → PredictedFindings → Answer
+predicted names sites options bounds log asked rounds findings =
     record {
       saved = option_map (log_text bounds) (first_trace findings.labels.items findings.deadlocks.items);
-      printed = Some (predictions_text names sites log asked rounds findings.labels.items
-          findings.deadlocks.items findings.tries);
+      printed = Some (predictions_page options.format names sites log options.input.now asked rounds
+          findings.labels.items findings.deadlocks.items findings.tries);
       fate = Finished Done (is_something_told rounds findings.labels.items findings.deadlocks.items);
     }
 
 -- The rounds of the log are told, as by an audit with witnesses. Their labels are left out, and then
 -- predictions are told. Of the number of tries nothing is claimed.
 pub record TellsPredictions (names : NameLists) (sites : Option Table) (asked : Asked)
-    (values : Bool) (bounds : Bounds) (log : List Event) (answer : Answer) : Type 0 where
+    (options : PredictOptions) (bounds : Bounds) (log : List Event) (answer : Answer) : Type 0 where
   pub rounds : List Told
   pub are_rounds : AreRoundsOf true log (left_at_first asked) rounds
   pub findings : PredictedFindings
-  pub are_predictions : ArePredictionsOf values bounds log
+  pub are_predictions : ArePredictionsOf options.values bounds log
       (left_at_last log (left_at_first asked) rounds) findings
-  pub said : answer ≡ predicted names sites bounds log asked rounds findings
+  pub said : answer ≡ predicted names sites options bounds log asked rounds findings
 
 abbrev pub PredictsEvents : NameLists → Option Table → Asked → PredictOptions → Bounds → List Event
     → Answer → Type 0
 PredictsEvents names sites asked options bounds log answer =
-    TellsPredictions names sites asked options.values bounds log answer
+    TellsPredictions names sites asked options bounds log answer
     ⊎ HasFullGraph asked options.limits.nodes bounds log answer
 
 -- that much is said where the sites are of the log
@@ -104,8 +119,8 @@ pub record IsPredicted (names : NameLists) (sites : Option Table) (asked : Asked
   pub comes_about : ComesAbout options.limits.events read bounds log
   pub verdict : PredictsSited names sites asked options bounds log answer
 
--- What a search for predictions has to say: what the log shows and foretells, in words; or nothing,
--- for a reason.
+-- What a search for predictions has to say: what the log shows and foretells, in the form that was
+-- asked for; or nothing, for a reason.
 abbrev pub IsPredictAnswer : NameLists → Option Table → Asked → PredictOptions → Option (List ℕ)
     → Answer → Type 0
 IsPredictAnswer names sites asked options read answer =

@@ -1,13 +1,16 @@
-//! The page of an audit, in the form that was asked for.
+//! The page of an audit or of predictions, in the form that was asked for.
 ghost use Rattle.std.specs.Prelude.{◌≡◌, ◌≤◌, All, length, IfOk};
 ghost use Rattle.velo_events.specs.declared.limits.TheConstants.{MAX_EVENTS};
 ghost use Rattle.velo_events.specs.WellFormed.{IsWellFormed};
 ghost use Rattle.velo_filter.specs.Left.{rest_of};
+ghost use Rattle.velo_filter.specs.Thinned.{CanComeAbout};
 ghost use Rattle.velo_audit.specs.Audit.{TellsTruly};
 ghost use Rattle.velo_audit_text.specs.Entries.{IsListed};
 ghost use Rattle.velo_audit_text.specs.Listing.{IsListingText};
 ghost use Rattle.velo_audit_forms.specs.Answer.{IsJsonText};
+ghost use Rattle.velo_predict_text.specs.Text.{CanBeTold, CanTellDeadlock};
 ghost use Rattle.velo_audit_commands.specs.Auditing.{IsAuditPage, IsAuditText, listing_of};
+ghost use Rattle.velo_audit_commands.specs.Predicting.{predictions_page};
 ghost use Rattle.velo_inputs.specs.Leaving.{left_at_first};
 
 use crate::auditing::left_out;
@@ -16,11 +19,14 @@ use velo_audit::Told;
 use velo_audit_findings::{audit_junit, audit_sarif};
 use velo_audit_forms::audit_json;
 use velo_audit_text::{Asked, Listed, Listing, audit_text, listed_of, listing_text};
+use velo_delays::{Deadlock, PredictedCycle};
 use velo_events::{Bounds, Memory};
 use velo_explain::Page;
 use velo_filter::thin;
 use velo_names::Names;
-use velo_request::{AuditOptions, OutputFormat};
+use velo_predict_forms::predictions_json;
+use velo_predict_text::predictions_text;
+use velo_request::{AuditOptions, OutputFormat, PredictFormat, PredictOptions};
 use velo_sites::Sites;
 use velo_tally::marks_of;
 use velo_traces::Trace;
@@ -180,5 +186,40 @@ pub(crate) fn page_of(
         ),
         OutputFormat::Sarif => audit_sarif(alloc, names, log, path, rounds),
         OutputFormat::Junit => audit_junit(alloc, names, log, path, rounds),
+    }
+}
+
+/// The page of what a log shows and foretells, in the form that was asked for.
+///
+/// # Errors
+/// `Memory` if an allocation failed.
+pub(crate) fn page_of_predictions(
+    alloc: Global,
+    log: &Trace,
+    names: &Names,
+    sites: &Option<Sites>,
+    asked: &Asked,
+    options: &PredictOptions,
+    rounds: &[Told],
+    founds: &[PredictedCycle],
+    deadlocks: &[Deadlock],
+    tries: u64,
+) -> Result<Page, Memory>
+    requires few { length log.now.events ≤ MAX_EVENTS }
+    requires can_come_about { CanComeAbout log.now.events }
+    requires truly { All (TellsTruly log.now.events) rounds.now }
+    requires founds { All CanBeTold founds.now }
+    requires deadlocks { All CanTellDeadlock deadlocks.now }
+    ensures { IfOk result (λ page. page ≡ predictions_page options.now.format names.now sites.now
+        log.now.events options.now.input.now asked.now rounds.now founds.now deadlocks.now tries) }
+{
+    let input = options.input;
+    match options.format {
+        PredictFormat::Text => predictions_text(
+            alloc, names, sites, log, asked, rounds, founds, deadlocks, tries,
+        ),
+        PredictFormat::Json => predictions_json(
+            alloc, names, sites, log, input, asked, rounds, founds, deadlocks, tries,
+        ),
     }
 }

@@ -20,6 +20,7 @@ ghost use Rattle.velo_inputs.specs.Sending.{DeliversOrLacks};
 
 use crate::auditing::{is_clean, rounds_of};
 use crate::command::{Command, Inquiry};
+use crate::page::page_of_predictions;
 use std::alloc::Global;
 use velo_audit::Told;
 use velo_audit_text::Asked;
@@ -34,7 +35,7 @@ use velo_inputs::{
     do_input, left_out, print, save_text,
 };
 use velo_names::Names;
-use velo_predict_text::{is_something_told, predictions_text, trace_text};
+use velo_predict_text::{is_something_told, trace_text};
 use velo_request::PredictOptions;
 use velo_sites::Sites;
 use velo_traces::Trace;
@@ -149,7 +150,7 @@ fn save_and_print<F: Files, O: Sink>(
     }
 }
 
-/// Tells the rounds of a log, and what was found. The words are made before anything is written.
+/// Tells the rounds of a log, and what was found. The page is made before anything is written.
 fn tell<F: Files, O: Sink>(
     alloc: Global,
     bounds: Bounds,
@@ -167,19 +168,20 @@ fn tell<F: Files, O: Sink>(
     requires found { ArePredictionsOf inquiry.now.options.now.values bounds log.now.events
         (left_at_last log.now.events (left_at_first inquiry.now.asked.now) rounds.now)
         findings.now }
-    ensures { DeliversOrLacks (predicted inquiry.now.names.now sites.now bounds log.now.events
-        inquiry.now.asked.now rounds.now findings.now)
+    ensures { DeliversOrLacks (predicted inquiry.now.names.now sites.now inquiry.now.options.now
+        bounds log.now.events inquiry.now.asked.now rounds.now findings.now)
         (store F.disk files.old files.new) inquiry.now.options.now.target
         (writing O.contents O.failures out.old out.new) result }
 {
     let founds = &findings.labels;
     let deadlocks = &findings.deadlocks;
-    let made = predictions_text(
+    let made = page_of_predictions(
         alloc,
+        log,
         inquiry.names,
         sites,
-        log,
         inquiry.asked,
+        inquiry.options,
         rounds,
         founds,
         deadlocks,

@@ -47,16 +47,52 @@ fn add_blocks(json: JsonWriter, background: &Background, told: &Told) -> Result<
     add_array(json.key("blocks")?, background, &told.blocks)
 }
 
+/// Adds a round with an alarm: its blocks, outermost first, whether they are to blame, the closing
+/// event, and the witness or null.
+///
+/// # Errors
+/// `Memory` if an allocation failed.
+#[tactic(auto, unfolding(crate::specs::Alarms::alarm_json))]
+pub fn add_alarm(
+    json: JsonWriter,
+    background: &Background,
+    told: &Told,
+) -> Result<JsonWriter, Memory>
+    requires few { length background.now.events.now ≤ MAX_EVENTS }
+    requires open { FewAreOpen background.now.events.now }
+    ensures { IfOk result (λ written. written ≡ json ++ json_tokens
+        (alarm_json (known_of background.now) told.now)) }
+{
+    let json = add_blocks(json.begin_object()?, background, told)?.key("to_blame")?;
+    let json = json.boolean(told.to_blame)?.key("closing")?;
+    let json = add_event_at(json, background, told.closing)?.key("witness")?;
+    add_witness_or_null(json, background, &told.witness)?.end_object()
+}
+
 impl Element for Told {
     ghost value = { alarm_json };
 
-    #[tactic(auto, unfolding(crate::specs::Alarms::alarm_json))]
     fn add(&self, json: JsonWriter, background: &Background) -> Result<JsonWriter, Memory> {
-        let json = add_blocks(json.begin_object()?, background, self)?.key("to_blame")?;
-        let json = json.boolean(self.to_blame)?.key("closing")?;
-        let json = add_event_at(json, background, self.closing)?.key("witness")?;
-        add_witness_or_null(json, background, &self.witness)?.end_object()
+        add_alarm(json, background, self)
     }
+}
+
+/// Adds the member with the rounds with an alarm.
+///
+/// # Errors
+/// `Memory` if an allocation failed.
+pub fn add_alarms(
+    json: JsonWriter,
+    background: &Background,
+    rounds: &[Told],
+) -> Result<JsonWriter, Memory>
+    requires few { length background.now.events.now ≤ MAX_EVENTS }
+    requires open { FewAreOpen background.now.events.now }
+    ensures { IfOk result (λ written. written ≡ json
+        ++ key (codes "alarms") ∷ json_tokens
+        (array_of (alarm_json (known_of background.now)) rounds.now)) }
+{
+    add_array(json.key("alarms")?, background, rounds)
 }
 
 impl Element for Entry {

@@ -1,6 +1,7 @@
 //! The whole answer.
 ghost use Rattle.std.specs.Prelude.{◌≡◌, ◌≤◌, ◌+◌, ◌++◌, ◌∷◌, [], codes, length, IfOk};
 ghost use Rattle.std.specs.Option.{option_copied};
+ghost use Rattle.json.specs.Print.{print};
 ghost use Rattle.json.specs.Token.{key, string};
 ghost use Rattle.json.specs.Tree.{json_tokens};
 ghost use Rattle.velo_json.specs.Tree.{count};
@@ -10,7 +11,7 @@ ghost use Rattle.velo_audit_text.specs.Witness.{FewAreOpen};
 ghost use Rattle.velo_audit_forms.specs.Events.{known_of};
 ghost use Rattle.velo_audit_forms.specs.Answer.{asked_json, audit_json, counts_or_null, label_json, line_text, lock_json, variable_json, verdict};
 
-use crate::alarms::add_counts;
+use crate::alarms::{add_alarms, add_counts};
 use crate::background::Background;
 use crate::elements::{Element, add_array};
 use crate::events::add_named;
@@ -50,8 +51,15 @@ impl Element for VarId {
 }
 
 /// Adds what was to be left out.
+///
+/// # Errors
+/// `Memory` if an allocation failed.
 #[tactic(auto, unfolding(crate::specs::Answer::asked_json))]
-fn add_asked(json: JsonWriter, background: &Background, asked: &Asked) -> Result<JsonWriter, Memory>
+pub fn add_asked(
+    json: JsonWriter,
+    background: &Background,
+    asked: &Asked,
+) -> Result<JsonWriter, Memory>
     requires few { length background.now.events.now ≤ MAX_EVENTS }
     requires open { FewAreOpen background.now.events.now }
     ensures { IfOk result (λ written. written ≡ json ++ json_tokens
@@ -92,8 +100,11 @@ fn add_counts_or_null(
     }
 }
 
-/// Adds the path of the log.
-fn add_log(json: JsonWriter, path: &str) -> Result<JsonWriter, Memory>
+/// Adds the member with the path of the log.
+///
+/// # Errors
+/// `Memory` if an allocation failed.
+pub fn add_log(json: JsonWriter, path: &str) -> Result<JsonWriter, Memory>
     ensures { IfOk result (λ written. written ≡ json
         ++ key (codes "log") ∷ string path.now ∷ []) }
 {
@@ -136,11 +147,25 @@ fn add_audit(
     let json = json.begin_object()?.key("schema")?.number(1)?;
     let json = add_log(json, path)?;
     let json = add_verdict(json, rounds)?.key("left_out")?;
-    let json = add_asked(json, background, asked)?.key("alarms")?;
-    let json = add_array(json, background, rounds)?.key("counts")?;
+    let json = add_asked(json, background, asked)?;
+    let json = add_alarms(json, background, rounds)?.key("counts")?;
     let json = add_counts_or_null(json, background, listed)?.key("atomic")?;
     let json = add_round_count(json.number(atomic as u64)?, rounds)?;
     json.end_object()
+}
+
+/// What was written, as a line.
+///
+/// # Errors
+/// `Memory` if an allocation failed.
+pub fn line_of(alloc: Global, json: JsonWriter) -> Result<Page, Memory>
+    ensures { IfOk result (λ page. page ≡ print json ++ codes "\n") }
+{
+    let text = json.into_text();
+    let mut page = Page::new(alloc);
+    page.add_bytes(text.as_slice())?;
+    page.add_bytes(b"\n")?;
+    Ok(page)
 }
 
 /// The answer of an audit of the log at a path, as one JSON object on a line. The labels that are
@@ -173,9 +198,5 @@ pub fn audit_json(
     };
     let json = JsonWriter::new(alloc);
     let json = add_audit(json, &background, path, asked, listed, rounds, atomic)?;
-    let text = json.into_text();
-    let mut page = Page::new(alloc);
-    page.add_bytes(text.as_slice())?;
-    page.add_bytes(b"\n")?;
-    Ok(page)
+    line_of(alloc, json)
 }

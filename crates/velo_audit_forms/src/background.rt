@@ -7,13 +7,13 @@ use velo_sites::Sites;
 
 /// What events are described by.
 #[derive(Clone, Copy)]
-pub(crate) struct Background<'b> {
+pub struct Background<'b> {
     /// Where a text is made.
-    pub(crate) alloc: Global,
+    pub alloc: Global,
     /// The names of what is numbered.
-    pub(crate) names: &'b Names<'b>,
+    pub names: &'b Names<'b>,
     /// Where in the source they happened, if this is known.
-    pub(crate) sites: &'b Option<Sites<'b>>,
+    pub sites: &'b Option<Sites<'b>>,
     /// The events of the log.
-    pub(crate) events: &'b [Event],
+    pub events: &'b [Event],
 }

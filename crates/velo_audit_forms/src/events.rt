@@ -85,7 +85,10 @@ fn add_place(json: JsonWriter, position: usize) -> Result<JsonWriter, Memory>
 }
 
 /// Adds the member that says whose event it is.
-fn add_thread(json: JsonWriter, names: &Names, thread: ThreadId) -> Result<JsonWriter, Memory>
+///
+/// # Errors
+/// `Memory` if an allocation failed.
+pub fn add_thread(json: JsonWriter, names: &Names, thread: ThreadId) -> Result<JsonWriter, Memory>
     ensures { IfOk result (λ written. written ≡ json
         ++ key (codes "thread") ∷ json_tokens (named_json names.now of_name.Thread thread.0)) }
 {
@@ -98,7 +101,10 @@ fn add_thread(json: JsonWriter, names: &Names, thread: ThreadId) -> Result<JsonW
 }
 
 /// Adds the member with the text of an event.
-fn add_words(json: JsonWriter, alloc: Global, event: Event) -> Result<JsonWriter, Memory>
+///
+/// # Errors
+/// `Memory` if an allocation failed.
+pub fn add_words(json: JsonWriter, alloc: Global, event: Event) -> Result<JsonWriter, Memory>
     ensures { IfOk result (λ written. written
         ≡ json ++ key (codes "text") ∷ string (event_text event) ∷ []) }
 {
@@ -107,7 +113,10 @@ fn add_words(json: JsonWriter, alloc: Global, event: Event) -> Result<JsonWriter
 }
 
 /// Adds the member with the name of what an operation is about.
-fn add_about(json: JsonWriter, names: &Names, kind: Kind) -> Result<JsonWriter, Memory>
+///
+/// # Errors
+/// `Memory` if an allocation failed.
+pub fn add_about(json: JsonWriter, names: &Names, kind: Kind) -> Result<JsonWriter, Memory>
     ensures { IfOk result (λ written. written ≡ json
         ++ key (codes "name") ∷ json_tokens (string_or_null (name_about names.now kind))) }
 {
@@ -142,8 +151,11 @@ pub(crate) fn add_event(
 }
 
 /// Adds the event at a position of the log.
+///
+/// # Errors
+/// `Memory` if an allocation failed.
 #[tactic(auto, unfolding(crate::specs::Events::event_at_json))]
-pub(crate) fn add_event_at(
+pub fn add_event_at(
     json: JsonWriter,
     background: &Background,
     position: usize,

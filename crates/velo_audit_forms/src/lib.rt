@@ -1,4 +1,5 @@
-//! The answer of an audit for other programs: one JSON object.
+//! The answer of an audit for other programs: one JSON object. Its parts are those of other answers,
+//! too.
 #![tactic(auto)]
 
 mod alarms;
@@ -8,4 +9,7 @@ mod elements;
 mod events;
 mod witness;
 
-pub use answer::audit_json;
+pub use alarms::{add_alarm, add_alarms};
+pub use answer::{add_asked, add_log, audit_json, line_of};
+pub use background::Background;
+pub use events::{add_about, add_event_at, add_thread, add_words};

@@ -218,6 +218,15 @@ pub const MAX_TRIES: u32 = 1_000_000;
 /// So many delays a search for predictions tries for each label in a round where no number is given.
 pub const DEFAULT_TRIES: u32 = 200;
 
+/// In which form predictions are printed.
+#[derive(Clone, Copy, Debug, PartialEq, Eq)]
+pub enum PredictFormat {
+    /// As text, for a person.
+    Text,
+    /// As one JSON object.
+    Json,
+}
+
 /// What `velodrome predict` was asked for.
 #[derive(Clone, Copy, Debug)]
 pub struct PredictOptions<'a> {
@@ -238,6 +247,8 @@ pub struct PredictOptions<'a> {
     pub seed: u64,
     /// The path where the trace of the first prediction is saved as a log.
     pub target: Option<&'a str>,
+    /// The form in which they are printed.
+    pub format: PredictFormat,
     /// The limits within which the log is checked.
     pub limits: Limits,
     ghost some_try: { 1 ≤ tries },

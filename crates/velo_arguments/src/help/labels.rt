@@ -84,6 +84,7 @@ It prints what 'velodrome audit' prints, up to the last witness. Then come for e
 in the log, and the cycle. Lines are those of the witness. 'deadlock? N threads wait in a circle' is
 followed by such lines, too, and by what each thread waits to do. The last line is
 'nothing found in N tries', or 'nothing else found in N tries': it never says that there is nothing.
+--format json prints the same for other programs, as one JSON object. docs/FORMATS.md describes it.
 
 Predictions are right for a program whose threads do what follows from what they read, whose critical
 sections end, and of which the log has every read. So do not thin the log. Without --values two reads
@@ -98,12 +99,12 @@ not compared with OUT. If nothing is predicted, OUT is not opened.
 
 Statuses, each with the lines on standard error:
   0  nothing was found, or help
-  2  usage; 'error: standard input can be read once'; 'error: LOG and OUT are one file'; the text is
-     no log: 'log fault K', 'log fault K line N'; an event cannot happen: 'refused K at P',
-     'wrong value at P'; the text of --names is no file of names: 'names fault K line N'; the text of
-     --sites is no file of sites, or of another log: 'sites fault K line N'; the text of --not-atomic
-     is no list: 'list fault K line N'; a word of --ignore-label, --ignore-lock or --ignore-variable
-     means nothing: 'ignored fault K'
+  2  usage; 'error: standard input can be read once'; 'error: LOG and OUT are one file';
+     'error: --format takes text or json'; the text is no log: 'log fault K', 'log fault K line N'; an
+     event cannot happen: 'refused K at P', 'wrong value at P'; the text of --names is no file of names:
+     'names fault K line N'; the text of --sites is no file of sites, or of another log:
+     'sites fault K line N'; the text of --not-atomic is no list: 'list fault K line N'; a word of
+     --ignore-label, --ignore-lock or --ignore-variable means nothing: 'ignored fault K'
   3  a label was found whose blocks are not atomic, in this run or in another, or a deadlock in another
   4  a limit was met: 'refused 17 at P', 'refused 18 at P'
   5  memory or a device failed: 'out of memory', 'read failed', 'write failed', 'cannot open'

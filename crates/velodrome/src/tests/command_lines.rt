@@ -286,6 +286,10 @@ const WORDS_APART: [(&[&str], &str); 27] = [
         "error: --format takes text, json, sarif or junit\n",
     ),
     (
+        &["velodrome", "predict", "a.log", "--format", "sarif"],
+        "error: --format takes text or json\n",
+    ),
+    (
         &["velodrome", "audit", "-", "--sites=-", "--format="],
         "error: --format takes text, json, sarif or junit\n",
     ),

@@ -34,6 +34,57 @@ in block 7 flush\n  \
 block 7 flush, from line 3: line 8 `1 acq 0` must come after its begin and before line 11\n\
 nothing else found in 50 tries\n";
 
+/// The same as one JSON object.
+const AS_JSON: &str = "\
+{\"schema\":1,\"log\":\"a\",\"found\":true,\"left_out\":{\"labels\":[],\"all_locks\":false,\
+\"locks\":[],\"variables\":[]},\"alarms\":[],\"predictions\":[{\"kind\":\"not atomic\",\
+\"events\":10,\"differing\":[{\"event\":{\"position\":7,\"line\":9,\"thread\":{\"number\":1,\
+\"name\":null},\"text\":\"1 rd 0 0\",\"name\":null,\"site\":null},\"recorded\":8}],\
+\"alarm\":{\"blocks\":[{\"label\":{\"number\":7,\"name\":\"flush\"},\"begin\":{\"position\":1,\
+\"line\":3,\"thread\":{\"number\":0,\"name\":null},\"text\":\"0 begin 7\",\"name\":\"flush\",\
+\"site\":null}}],\"to_blame\":true,\"closing\":{\"position\":9,\"line\":11,\
+\"thread\":{\"number\":0,\"name\":null},\"text\":\"0 acq 0\",\"name\":null,\"site\":null},\
+\"witness\":{\"transactions\":[{\"first\":{\"position\":1,\"line\":3,\"thread\":{\"number\":0,\
+\"name\":null},\"text\":\"0 begin 7\",\"name\":\"flush\",\"site\":null},\
+\"last\":{\"position\":9,\"line\":11,\"thread\":{\"number\":0,\"name\":null},\
+\"text\":\"0 acq 0\",\"name\":null,\"site\":null}},{\"first\":{\"position\":5,\"line\":7,\
+\"thread\":{\"number\":1,\"name\":null},\"text\":\"1 begin 7\",\"name\":\"flush\",\
+\"site\":null},\"last\":{\"position\":8,\"line\":10,\"thread\":{\"number\":1,\"name\":null},\
+\"text\":\"1 rel 0\",\"name\":null,\"site\":null}}],\
+\"edges\":[{\"from\":{\"event\":{\"position\":4,\"line\":6,\"thread\":{\"number\":0,\
+\"name\":null},\"text\":\"0 rel 0\",\"name\":null,\"site\":null},\
+\"inside\":[{\"label\":{\"number\":7,\"name\":\"flush\"},\"begin\":{\"position\":1,\"line\":3,\
+\"thread\":{\"number\":0,\"name\":null},\"text\":\"0 begin 7\",\"name\":\"flush\",\
+\"site\":null}}]},\"to\":{\"event\":{\"position\":6,\"line\":8,\"thread\":{\"number\":1,\
+\"name\":null},\"text\":\"1 acq 0\",\"name\":null,\"site\":null},\
+\"inside\":[{\"label\":{\"number\":7,\"name\":\"flush\"},\"begin\":{\"position\":5,\"line\":7,\
+\"thread\":{\"number\":1,\"name\":null},\"text\":\"1 begin 7\",\"name\":\"flush\",\
+\"site\":null}}]}},{\"from\":{\"event\":{\"position\":8,\"line\":10,\"thread\":{\"number\":1,\
+\"name\":null},\"text\":\"1 rel 0\",\"name\":null,\"site\":null},\
+\"inside\":[{\"label\":{\"number\":7,\"name\":\"flush\"},\"begin\":{\"position\":5,\"line\":7,\
+\"thread\":{\"number\":1,\"name\":null},\"text\":\"1 begin 7\",\"name\":\"flush\",\
+\"site\":null}}]},\"to\":{\"event\":{\"position\":9,\"line\":11,\"thread\":{\"number\":0,\
+\"name\":null},\"text\":\"0 acq 0\",\"name\":null,\"site\":null},\
+\"inside\":[{\"label\":{\"number\":7,\"name\":\"flush\"},\"begin\":{\"position\":1,\"line\":3,\
+\"thread\":{\"number\":0,\"name\":null},\"text\":\"0 begin 7\",\"name\":\"flush\",\
+\"site\":null}}]}}],\"reasons\":[{\"block\":{\"label\":{\"number\":7,\"name\":\"flush\"},\
+\"begin\":{\"position\":1,\"line\":3,\"thread\":{\"number\":0,\"name\":null},\
+\"text\":\"0 begin 7\",\"name\":\"flush\",\"site\":null}},\"event\":{\"position\":6,\"line\":8,\
+\"thread\":{\"number\":1,\"name\":null},\"text\":\"1 acq 0\",\"name\":null,\"site\":null}}]}}}],\
+\"tries\":50}\n";
+
+/// Two threads that take two locks in two orders, one thread after the other.
+const TWO_ORDERS: &str = "vlog 2 3 1 2\n0 fork 1\n0 fork 2\n\
+1 acq 0\n1 acq 1\n1 rel 1\n1 rel 0\n2 acq 1\n2 acq 0\n2 rel 0\n2 rel 1\n";
+
+/// Each of them waits for the other.
+const STUCK: &str = "\
+{\"schema\":1,\"log\":\"a\",\"found\":true,\"left_out\":{\"labels\":[],\"all_locks\":false,\
+\"locks\":[],\"variables\":[{\"number\":0,\"name\":null}]},\"alarms\":[],\
+\"predictions\":[{\"kind\":\"deadlock\",\"events\":4,\"differing\":[],\
+\"circle\":[{\"thread\":{\"number\":1,\"name\":null},\"text\":\"1 acq 1\",\"name\":null},\
+{\"thread\":{\"number\":2,\"name\":null},\"text\":\"2 acq 0\",\"name\":null}]}],\"tries\":1}\n";
+
 /// What the program prints of a log, and what the file takes.
 struct Told {
     words: &'static [&'static str],
@@ -44,12 +95,44 @@ struct Told {
     status: u8,
 }
 
-static TOLD: [Told; 4] = [
+static TOLD: [Told; 6] = [
     Told {
         words: &["velodrome", "predict", "a", "--log", "o", "--names", "n"],
         log: CLEAN,
         file: Some(WITNESS),
         out: FORETOLD,
+        err: "",
+        status: 3,
+    },
+    // for other programs
+    Told {
+        words: &[
+            "velodrome",
+            "predict",
+            "a",
+            "--names",
+            "n",
+            "--format",
+            "json",
+        ],
+        log: CLEAN,
+        file: None,
+        out: AS_JSON,
+        err: "",
+        status: 3,
+    },
+    Told {
+        words: &[
+            "velodrome",
+            "predict",
+            "a",
+            "--ignore-variable",
+            "0",
+            "--format=json",
+        ],
+        log: TWO_ORDERS,
+        file: None,
+        out: STUCK,
         err: "",
         status: 3,
     },

@@ -1,7 +1,7 @@
 use Rattle.std.proofs.Common.{codes}
 use Rattle.clap.specs.Words.{found_of, rows_of}
 use Rattle.velo_arguments.specs.Asked.{IsPredicting}
-use Rattle.velo_arguments.proofs.OnAsked.{flag_read, no_word, on_none, option_read, word_read}
+use Rattle.velo_arguments.proofs.OnAsked.{flag_read, no_word, on_none, option_read, predict_form_read, word_read}
 use Rattle.velo_arguments.proofs.requests.predict_options.Goals as goal
 
 pub returns-clause-some : goal.returns-clause-some
@@ -15,6 +15,7 @@ returns-clause-some c =
       c.in_ok-number_of.ensures.some.2,
       c.in_ok-seed_of.ensures.some,
       option_read f (codes "log") c.get_str-4.result c.get_str-4.ensures,
+      predict_form_read f (codes "format") c.get_str-5.result c.predict_form_of.result c.get_str-5.ensures c.predict_form_of.ensures,
       c.in_ok-limits_of.ensures.some,
     )
 
@@ -30,4 +31,4 @@ pub returns-in_err-seed_of-clause-none : goal.returns-in_err-seed_of-clause-none
 returns-in_err-seed_of-clause-none c = on_none _ (IsPredicting (rows_of (found_of c.args.found.now))) (λ options asks. c.in_err-seed_of.ensures.none options.seed asks.6)
 
 pub returns-in_err-limits_of-clause-none : goal.returns-in_err-limits_of-clause-none
-returns-in_err-limits_of-clause-none c = on_none _ (IsPredicting (rows_of (found_of c.args.found.now))) (λ options asks. c.in_err-limits_of.ensures.none options.limits asks.8)
+returns-in_err-limits_of-clause-none c = on_none _ (IsPredicting (rows_of (found_of c.args.found.now))) (λ options asks. c.in_err-limits_of.ensures.none options.limits asks.9)

@@ -8,15 +8,15 @@ use Rattle.velo_inputs.specs.Leaving.{left_at_first}
 use Rattle.velo_audit_commands.proofs.OnPredicting.{can_be_told, can_tell_deadlocks}
 use Rattle.velo_audit_commands.proofs.predicting.tell.Goals as goal
 
-pub predictions_text-made-requires-clause-founds : goal.predictions_text-made-requires-clause-founds
-predictions_text-made-requires-clause-founds g c =
+pub page_of_predictions-made-requires-clause-founds : goal.page_of_predictions-made-requires-clause-founds
+page_of_predictions-made-requires-clause-founds g c =
     let inquiry = c.args.inquiry.now in
     let log = c.args.log.now.events in
     subst (λ (fs : List PredictedCycle). All CanBeTold fs) (sym c.deref.ensures.value)
     (can_be_told inquiry.options.now.values c.args.bounds log (left_at_last log (left_at_first inquiry.asked.now) c.args.rounds.now) c.args.findings.now c.requires.found)
 
-pub predictions_text-made-requires-clause-deadlocks : goal.predictions_text-made-requires-clause-deadlocks
-predictions_text-made-requires-clause-deadlocks g c =
+pub page_of_predictions-made-requires-clause-deadlocks : goal.page_of_predictions-made-requires-clause-deadlocks
+page_of_predictions-made-requires-clause-deadlocks g c =
     let inquiry = c.args.inquiry.now in
     let log = c.args.log.now.events in
     subst (λ (ds : List Deadlock). All CanTellDeadlock ds) (sym c.deref-2.ensures.value)

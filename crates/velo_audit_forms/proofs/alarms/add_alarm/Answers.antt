@@ -1,6 +1,6 @@
 use Rattle.velo_json.proofs.OnChain.{then}
 use Rattle.velo_audit_forms.specs.Alarms.{alarm_json}
-use Rattle.velo_audit_forms.proofs.alarms.ToldElement.add.Goals as goal
+use Rattle.velo_audit_forms.proofs.alarms.add_alarm.Goals as goal
 
 pub returns : goal.returns
 unfolding alarm_json

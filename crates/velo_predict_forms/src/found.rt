@@ -1,0 +1,151 @@
+//! What was found of other runs.
+ghost use Rattle.std.specs.Prelude.{◌≡◌, ◌≤◌, ◌++◌, ◌∷◌, codes, length, All, IfOk};
+ghost use Rattle.std.specs.List.{flat_map};
+ghost use Rattle.json.specs.Token.{key};
+ghost use Rattle.json.specs.Tree.{json_tokens};
+ghost use Rattle.velo_json.specs.Tree.{array_of};
+ghost use Rattle.velo_events.specs.declared.limits.TheConstants.{MAX_EVENTS};
+ghost use Rattle.velo_audit_text.specs.Witness.{FewAreOpen};
+ghost use Rattle.velo_audit_forms.specs.Events.{known_of};
+ghost use Rattle.velo_predict_text.specs.Text.{CanBeTold, CanTellDeadlock};
+ghost use Rattle.velo_predict_forms.specs.Answer.{cycle_json, deadlock_json, found_json, predictions_of, stuck_json};
+
+use crate::parts::{add_circle, add_differences, add_kind, add_size};
+use std::alloc::Global;
+use velo_audit_forms::{Background, add_alarm};
+use velo_delays::{Deadlock, PredictedCycle};
+use velo_events::Memory;
+use velo_json::JsonWriter;
+use velo_names::Names;
+
+/// Adds labels that may not be atomic, by what describes their trace.
+#[tactic(auto, unfolding(crate::specs::Answer::cycle_json))]
+fn add_cycle(
+    json: JsonWriter,
+    trace: &Background,
+    found: &PredictedCycle,
+) -> Result<JsonWriter, Memory>
+    requires few { length trace.now.events.now ≤ MAX_EVENTS }
+    requires open { FewAreOpen trace.now.events.now }
+    ensures { IfOk result (λ written. written ≡ json ++ json_tokens
+        (cycle_json (known_of trace.now) found.now)) }
+{
+    let json = add_kind(json.begin_object()?, "not atomic")?;
+    let json = add_size(json, trace.events)?;
+    let json = add_differences(json, trace, &found.differing)?.key("alarm")?;
+    add_alarm(json, trace, &found.told)?.end_object()
+}
+
+/// Adds labels that may not be atomic.
+fn add_found(
+    json: JsonWriter,
+    alloc: Global,
+    names: &Names,
+    found: &PredictedCycle,
+) -> Result<JsonWriter, Memory>
+    requires { CanBeTold found.now }
+    ensures { IfOk result (λ written. written ≡ json ++ json_tokens
+        (found_json names.now found.now)) }
+{
+    let trace = Background {
+        alloc,
+        names,
+        sites: &None,
+        events: found.trace.as_slice(),
+    };
+    add_cycle(json, &trace, found)
+}
+
+/// Adds a deadlock, by what describes its trace.
+#[tactic(auto, unfolding(crate::specs::Answer::stuck_json))]
+fn add_stuck(
+    json: JsonWriter,
+    trace: &Background,
+    deadlock: &Deadlock,
+) -> Result<JsonWriter, Memory>
+    requires { length trace.now.events.now ≤ MAX_EVENTS }
+    ensures { IfOk result (λ written. written ≡ json ++ json_tokens
+        (stuck_json (known_of trace.now) deadlock.now)) }
+{
+    let json = add_kind(json.begin_object()?, "deadlock")?;
+    let json = add_size(json, trace.events)?;
+    let json = add_differences(json, trace, &deadlock.differing)?;
+    let json = add_circle(json, trace, &deadlock.waiting)?;
+    json.end_object()
+}
+
+/// Adds a deadlock.
+fn add_deadlock(
+    json: JsonWriter,
+    alloc: Global,
+    names: &Names,
+    deadlock: &Deadlock,
+) -> Result<JsonWriter, Memory>
+    requires { CanTellDeadlock deadlock.now }
+    ensures { IfOk result (λ written. written ≡ json ++ json_tokens
+        (deadlock_json names.now deadlock.now)) }
+{
+    let trace = Background {
+        alloc,
+        names,
+        sites: &None,
+        events: deadlock.trace.as_slice(),
+    };
+    add_stuck(json, &trace, deadlock)
+}
+
+/// Adds the labels that may not be atomic, one trace after another.
+fn add_each_found(
+    json: JsonWriter,
+    alloc: Global,
+    names: &Names,
+    founds: &[PredictedCycle],
+) -> Result<JsonWriter, Memory>
+    requires { All CanBeTold founds.now }
+    ensures { IfOk result (λ written. written ≡ json ++ flat_map (λ f. json_tokens
+        (found_json names.now f)) founds.now) }
+{
+    let mut written = json;
+    for found in founds {
+        written = add_found(written, alloc, names, found)?;
+    }
+    Ok(written)
+}
+
+/// Adds the deadlocks, one after another.
+fn add_each_deadlock(
+    json: JsonWriter,
+    alloc: Global,
+    names: &Names,
+    deadlocks: &[Deadlock],
+) -> Result<JsonWriter, Memory>
+    requires { All CanTellDeadlock deadlocks.now }
+    ensures { IfOk result (λ written. written ≡ json ++ flat_map (λ d. json_tokens
+        (deadlock_json names.now d)) deadlocks.now) }
+{
+    let mut written = json;
+    for deadlock in deadlocks {
+        written = add_deadlock(written, alloc, names, deadlock)?;
+    }
+    Ok(written)
+}
+
+/// Adds the member with all that was found of other runs.
+pub(crate) fn add_predictions(
+    json: JsonWriter,
+    alloc: Global,
+    names: &Names,
+    founds: &[PredictedCycle],
+    deadlocks: &[Deadlock],
+) -> Result<JsonWriter, Memory>
+    requires founds { All CanBeTold founds.now }
+    requires deadlocks { All CanTellDeadlock deadlocks.now }
+    ensures { IfOk result (λ written. written ≡ json
+        ++ key (codes "predictions") ∷ json_tokens
+        (array_of (λ json. json) (predictions_of names.now founds.now deadlocks.now))) }
+{
+    let begun = json.key("predictions")?.begin_array()?;
+    let labels = add_each_found(begun, alloc, names, founds)?;
+    let written = add_each_deadlock(labels, alloc, names, deadlocks)?.end_array()?;
+    Ok(written)
+}
