@@ -30,7 +30,7 @@ use Rattle.velo_request.specs.declared.request.ThinOptions.{ThinOptions}
 use Rattle.velo_request.specs.declared.request.VerifyOptions.{VerifyOptions}
 use Rattle.velo_request.specs.declared.request.Request.{Request}
 use Rattle.velo_request.specs.declared.request.Request.TheVariants.{Audit, Carry, Check, Explain, Explore, Predict, Replay, Run, Thin, Verify, Watch, WatchEndless}
-use Rattle.velo_arguments.specs.Asked.{AreLeftOut, AreLimits, AreRandomRuns, AreSeconds, AreTurns, AsksFor, AsksForNothing, IsAudit, IsCarrying, IsCheck, IsExplanation, IsExploring, IsFlag, IsPredicting, IsReplay, IsRun, IsSchedule, IsSeed, IsThinning, IsVerifying, WritesNumber, form_of, predict_form_of}
+use Rattle.velo_arguments.specs.Asked.{AreLeftOut, AreLimits, AreRandomRuns, AreSeconds, AreTurns, AsksFor, AsksForNothing, AsksAudit, AsksCarry, AsksCheck, AsksExplain, AsksExplore, IsFlag, AsksPredict, AsksReplay, AsksRun, IsSchedule, IsSeed, AsksThin, AsksVerify, WritesNumber, form_of, predict_form_of}
 use Rattle.velo_arguments.specs.CommandLine.{asked_by, audit, carry, check, command_line, explain, explore, faults_of, predict, replay, run, thin, verify, watch}
 use Rattle.velo_arguments.proofs.OnLimits.{HasLimit, HasWide, HasWord, MayHave}
 use Rattle.velo_arguments.proofs.OnWalk.{Each, found_has}
@@ -112,7 +112,7 @@ left_out rows = (
 
 -- ---- the request
 
-a_check : (rows : List Row) → HasWord (codes "LOG") rows → HasLimits rows → (options : CheckOptions) × IsCheck rows options
+a_check : (rows : List Row) → HasWord (codes "LOG") rows → HasLimits rows → (options : CheckOptions) × AsksCheck rows options
 unfolding a_path
 a_check rows word has =
     let limits = a_limits rows has in (
@@ -132,7 +132,7 @@ a_check rows word has =
       ),
     )
 
-a_run : (rows : List Row) → HasWord (codes "FILE") rows → HasLimits rows → (options : RunOptions) × IsRun rows options
+a_run : (rows : List Row) → HasWord (codes "FILE") rows → HasLimits rows → (options : RunOptions) × AsksRun rows options
 unfolding a_path
 a_run rows word has =
     let limits = a_limits rows has in (
@@ -168,14 +168,14 @@ unfolding a_path
 a_schedule (Some turns) text = some_turns turns
 a_schedule None text = (source.Text (a_path (unwrap_or text [])), refl)
 
-a_replay : (rows : List Row) → HasWord (codes "FILE") rows → HasLimits rows → (options : ReplayOptions) × IsReplay rows options
+a_replay : (rows : List Row) → HasWord (codes "FILE") rows → HasLimits rows → (options : ReplayOptions) × AsksReplay rows options
 unfolding a_path
 a_replay rows word has =
     let run = a_run rows word has in
     let schedule = a_schedule (first_of (codes "turns") rows) (first_of (codes "schedule") rows) in
     (record { schedule = schedule.0; run = run.0 }, (schedule.1, run.1))
 
-an_explanation : (rows : List Row) → HasWord (codes "LOG") rows → (options : ExplainOptions) × IsExplanation rows options
+an_explanation : (rows : List Row) → HasWord (codes "LOG") rows → (options : ExplainOptions) × AsksExplain rows options
 unfolding a_path
 an_explanation rows word =
     let left = left_out rows in (
@@ -197,7 +197,7 @@ an_explanation rows word =
       ),
     )
 
-a_carrying : (rows : List Row) → HasWord (codes "LOG") rows → HasWord (codes "log") rows → (options : CarryOptions) × IsCarrying rows options
+a_carrying : (rows : List Row) → HasWord (codes "LOG") rows → HasWord (codes "log") rows → (options : CarryOptions) × AsksCarry rows options
 unfolding a_path
 a_carrying rows word out =
     let why = one_of (codes "why") rows in
@@ -222,7 +222,7 @@ some_seconds rows (inr has) =
     let seconds = a_number (codes "seconds") 32 MAX_SECONDS rows refl has in
     (Some seconds.0, (seconds.1, seconds.2, seconds.3))
 
-an_exploring : (rows : List Row) → HasWord (codes "FILE") rows → HasSearch rows → (options : ExploreOptions) × IsExploring rows options
+an_exploring : (rows : List Row) → HasWord (codes "FILE") rows → HasSearch rows → (options : ExploreOptions) × AsksExplore rows options
 unfolding a_path
 an_exploring rows word has =
     let states = a_number (codes "states") 32 MAX_STATES rows refl has.0 in
@@ -280,7 +280,7 @@ asks_watch rows false endless word has =
       ),
     )
 
-an_audit : (rows : List Row) → HasWord (codes "LOG") rows → HasLimits rows → (options : AuditOptions) × IsAudit rows options
+an_audit : (rows : List Row) → HasWord (codes "LOG") rows → HasLimits rows → (options : AuditOptions) × AsksAudit rows options
 unfolding a_path
 an_audit rows word has =
     let left = left_out rows in
@@ -309,12 +309,12 @@ an_audit rows word has =
       ),
     )
 
-a_thinning : (rows : List Row) → HasWord (codes "LOG") rows → HasWord (codes "log") rows → (options : ThinOptions) × IsThinning rows options
+a_thinning : (rows : List Row) → HasWord (codes "LOG") rows → HasWord (codes "log") rows → (options : ThinOptions) × AsksThin rows options
 unfolding a_path
 a_thinning rows word out =
     (record { input = a_path word.0; target = a_path out.0; map = a_path_if (first_of (codes "map") rows) }, (word.1, out.1, path_of (first_of (codes "map") rows)))
 
-a_predicting : (rows : List Row) → HasWord (codes "LOG") rows → HasDelays rows → (options : PredictOptions) × IsPredicting rows options
+a_predicting : (rows : List Row) → HasWord (codes "LOG") rows → HasDelays rows → (options : PredictOptions) × AsksPredict rows options
 unfolding a_path
 a_predicting rows word has =
     let tries = a_number (codes "tries") 32 MAX_TRIES rows refl has.0 in
@@ -349,7 +349,7 @@ a_predicting rows word has =
       ),
     )
 
-a_verifying : (rows : List Row) → HasWord (codes "LOG") rows → HasWord (codes "REPORT") rows → (options : VerifyOptions) × IsVerifying rows options
+a_verifying : (rows : List Row) → HasWord (codes "LOG") rows → HasWord (codes "REPORT") rows → (options : VerifyOptions) × AsksVerify rows options
 unfolding a_path
 a_verifying rows log report = (record { input = a_path log.0; report = a_path report.0 }, (log.1, report.1))
 
@@ -379,22 +379,22 @@ asks s words request Is named right e =
     (request found.0, named found.0 found.1)
 
 check_asks : (words : List Text) → AsksBy check words
-check_asks words = asks check words Check IsCheck (λ o is. (refl, is)) (λ e. a_check (rows_of_leaf check words) (check_right words e).0 (check_right words e).1)
+check_asks words = asks check words Check AsksCheck (λ o is. (refl, is)) (λ e. a_check (rows_of_leaf check words) (check_right words e).0 (check_right words e).1)
 
 replay_asks : (words : List Text) → AsksBy replay words
-replay_asks words = asks replay words Replay IsReplay (λ o is. (refl, is)) (λ e. a_replay (rows_of_leaf replay words) (replay_right words e).0 (replay_right words e).1)
+replay_asks words = asks replay words Replay AsksReplay (λ o is. (refl, is)) (λ e. a_replay (rows_of_leaf replay words) (replay_right words e).0 (replay_right words e).1)
 
 run_asks : (words : List Text) → AsksBy run words
-run_asks words = asks run words Run IsRun (λ o is. (refl, is)) (λ e. a_run (rows_of_leaf run words) (run_right words e).0 (run_right words e).1)
+run_asks words = asks run words Run AsksRun (λ o is. (refl, is)) (λ e. a_run (rows_of_leaf run words) (run_right words e).0 (run_right words e).1)
 
 explain_asks : (words : List Text) → AsksBy explain words
-explain_asks words = asks explain words Explain IsExplanation (λ o is. (refl, is)) (λ e. an_explanation (rows_of_leaf explain words) (explain_right words e))
+explain_asks words = asks explain words Explain AsksExplain (λ o is. (refl, is)) (λ e. an_explanation (rows_of_leaf explain words) (explain_right words e))
 
 carry_asks : (words : List Text) → AsksBy carry words
-carry_asks words = asks carry words Carry IsCarrying (λ o is. (refl, is)) (λ e. a_carrying (rows_of_leaf carry words) (carry_right words e).0 (carry_right words e).1)
+carry_asks words = asks carry words Carry AsksCarry (λ o is. (refl, is)) (λ e. a_carrying (rows_of_leaf carry words) (carry_right words e).0 (carry_right words e).1)
 
 explore_asks : (words : List Text) → AsksBy explore words
-explore_asks words = asks explore words Explore IsExploring (λ o is. (refl, is)) (λ e. an_exploring (rows_of_leaf explore words) (explore_right words e).0 (explore_right words e).1)
+explore_asks words = asks explore words Explore AsksExplore (λ o is. (refl, is)) (λ e. an_exploring (rows_of_leaf explore words) (explore_right words e).0 (explore_right words e).1)
 
 watch_asks : (words : List Text) → AsksBy watch words
 watch_asks words e =
@@ -402,16 +402,16 @@ watch_asks words e =
     asks_watch (rows_of_leaf watch words) (is_true endless) (is_flag endless) (watch_right words e).0 (watch_right words e).1
 
 audit_asks : (words : List Text) → AsksBy audit words
-audit_asks words = asks audit words Audit IsAudit (λ o is. (refl, is)) (λ e. an_audit (rows_of_leaf audit words) (audit_right words e).0 (audit_right words e).1)
+audit_asks words = asks audit words Audit AsksAudit (λ o is. (refl, is)) (λ e. an_audit (rows_of_leaf audit words) (audit_right words e).0 (audit_right words e).1)
 
 thin_asks : (words : List Text) → AsksBy thin words
-thin_asks words = asks thin words Thin IsThinning (λ o is. (refl, is)) (λ e. a_thinning (rows_of_leaf thin words) (thin_right words e).0 (thin_right words e).1)
+thin_asks words = asks thin words Thin AsksThin (λ o is. (refl, is)) (λ e. a_thinning (rows_of_leaf thin words) (thin_right words e).0 (thin_right words e).1)
 
 predict_asks : (words : List Text) → AsksBy predict words
-predict_asks words = asks predict words Predict IsPredicting (λ o is. (refl, is)) (λ e. a_predicting (rows_of_leaf predict words) (predict_right words e).0 (predict_right words e).1)
+predict_asks words = asks predict words Predict AsksPredict (λ o is. (refl, is)) (λ e. a_predicting (rows_of_leaf predict words) (predict_right words e).0 (predict_right words e).1)
 
 verify_asks : (words : List Text) → AsksBy verify words
-verify_asks words = asks verify words Verify IsVerifying (λ o is. (refl, is)) (λ e. a_verifying (rows_of_leaf verify words) (verify_right words e).0 (verify_right words e).1)
+verify_asks words = asks verify words Verify AsksVerify (λ o is. (refl, is)) (λ e. a_verifying (rows_of_leaf verify words) (verify_right words e).0 (verify_right words e).1)
 
 each_asks : (name : Text) (words : List Text) → bytes_eq name (codes "help") ≡ false → Each (AsksAt name words) (built command_line).subs
 each_asks name words apart = (λ hit. check_asks words, (λ hit. replay_asks words, (λ hit. run_asks words, (λ hit. explain_asks words, (λ hit. carry_asks words, (λ hit. explore_asks words, (λ hit. watch_asks words, (λ hit. audit_asks words, (λ hit. thin_asks words, (λ hit. predict_asks words, (λ hit. verify_asks words, (λ hit e. absurd (not_help name apart hit), tt))))))))))))

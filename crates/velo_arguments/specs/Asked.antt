@@ -58,15 +58,15 @@ AreLimits rows limits =
     WritesNumber 32 (one_of (codes "events") rows) limits.events
     × WritesNumber 16 (one_of (codes "nodes") rows) limits.nodes
 
-abbrev pub IsCheck : List Row → CheckOptions → Type 0
-IsCheck rows options =
+abbrev pub AsksCheck : List Row → CheckOptions → Type 0
+AsksCheck rows options =
     (first_of (codes "LOG") rows ≡ Some options.input.now) × AreLimits rows options.limits
     × IsFlag (one_of (codes "certificate") rows) options.certificate
     × IsPath (codes "names") rows options.names
     × IsFlag (one_of (codes "why") rows) options.why
 
-abbrev pub IsRun : List Row → RunOptions → Type 0
-IsRun rows options =
+abbrev pub AsksRun : List Row → RunOptions → Type 0
+AsksRun rows options =
     (first_of (codes "FILE") rows ≡ Some options.input.now)
     × IsFlag (one_of (codes "stop") rows) options.stop
     × IsPath (codes "log") rows options.target
@@ -87,10 +87,10 @@ IsSchedule (Some turns) text source = AreTurns turns source
 IsSchedule None text (schedule.Text found) = unwrap_or text [] ≡ found.now
 IsSchedule None text source = ⊥
 
-abbrev pub IsReplay : List Row → ReplayOptions → Type 0
-IsReplay rows options =
+abbrev pub AsksReplay : List Row → ReplayOptions → Type 0
+AsksReplay rows options =
     IsSchedule (first_of (codes "turns") rows) (first_of (codes "schedule") rows) options.schedule
-    × IsRun rows options.run
+    × AsksRun rows options.run
 
 -- this is left out
 abbrev pub AreLeftOut : List Row → Ignored → Type 0
@@ -101,8 +101,8 @@ AreLeftOut rows ignored =
     × AreWords (codes "ignore-variable") rows ignored.variables.now
     × IsFlag (one_of (codes "ignore-locks") rows) ignored.all_locks
 
-abbrev pub IsExplanation : List Row → ExplainOptions → Type 0
-IsExplanation rows options =
+abbrev pub AsksExplain : List Row → ExplainOptions → Type 0
+AsksExplain rows options =
     (first_of (codes "LOG") rows ≡ Some options.input.now)
     × IsPath (codes "dot") rows options.target
     × IsPath (codes "svg") rows options.drawing
@@ -110,8 +110,8 @@ IsExplanation rows options =
     × IsPath (codes "sites") rows options.sites
     × AreLeftOut rows options.ignored
 
-abbrev pub IsCarrying : List Row → CarryOptions → Type 0
-IsCarrying rows options =
+abbrev pub AsksCarry : List Row → CarryOptions → Type 0
+AsksCarry rows options =
     (first_of (codes "LOG") rows ≡ Some options.input.now)
     × (first_of (codes "log") rows ≡ Some options.target.now)
     × IsFlag (one_of (codes "why") rows) options.why
@@ -135,8 +135,8 @@ AreSeconds rows (Some seconds) =
     (1 ≤ seconds) × (seconds ≤ MAX_SECONDS)
     × WritesNumber 32 (one_of (codes "seconds") rows) seconds
 
-abbrev pub IsExploring : List Row → ExploreOptions → Type 0
-IsExploring rows options =
+abbrev pub AsksExplore : List Row → ExploreOptions → Type 0
+AsksExplore rows options =
     (first_of (codes "FILE") rows ≡ Some options.input.now)
     × WritesNumber 32 (one_of (codes "states") rows) options.states
     × AreSeconds rows options.seconds
@@ -148,22 +148,22 @@ IsExploring rows options =
     × AreLimits rows options.limits × IsFlag (one_of (codes "certificate") rows) options.certificate
 
 -- what a watch of either kind is asked for
-abbrev pub IsWatchOf : List Row → Bor Text → Bool → Limits → Option (Bor Text) → Type 0
-IsWatchOf rows input stop limits names =
+abbrev pub AsksWatchOf : List Row → Bor Text → Bool → Limits → Option (Bor Text) → Type 0
+AsksWatchOf rows input stop limits names =
     (first_of (codes "LOG") rows ≡ Some input.now)
     × IsFlag (one_of (codes "stop") rows) stop
     × AreLimits rows limits × IsPath (codes "names") rows names
 
-abbrev pub IsWatch : List Row → WatchOptions → Type 0
-IsWatch rows options =
+abbrev pub AsksWatch : List Row → WatchOptions → Type 0
+AsksWatch rows options =
     IsFlag (one_of (codes "endless") rows) false
     × IsFlag (one_of (codes "certificate") rows) options.certificate
-    × IsWatchOf rows options.input options.stop options.limits options.names
+    × AsksWatchOf rows options.input options.stop options.limits options.names
 
-abbrev pub IsEndless : List Row → EndlessOptions → Type 0
-IsEndless rows options =
+abbrev pub AsksEndless : List Row → EndlessOptions → Type 0
+AsksEndless rows options =
     IsFlag (one_of (codes "endless") rows) true
-    × IsWatchOf rows options.input options.stop options.limits options.names
+    × AsksWatchOf rows options.input options.stop options.limits options.names
 
 -- the form of an answer that a word names, if it names one
 abbrev pub form_named : Text → Option OutputFormat
@@ -183,8 +183,8 @@ pub record IsListing (rows : List Row) (options : AuditOptions) : Type 0 where
   pub by_count : IsFlag (one_of (codes "by-count") rows) options.by_count
   pub innermost : IsFlag (one_of (codes "innermost") rows) options.innermost
 
-abbrev pub IsAudit : List Row → AuditOptions → Type 0
-IsAudit rows options =
+abbrev pub AsksAudit : List Row → AuditOptions → Type 0
+AsksAudit rows options =
     (first_of (codes "LOG") rows ≡ Some options.input.now)
     × IsPath (codes "names") rows options.names
     × IsPath (codes "sites") rows options.sites
@@ -194,8 +194,8 @@ IsAudit rows options =
     × (options.format ≡ form_of (first_of (codes "format") rows))
     × AreLimits rows options.limits
 
-abbrev pub IsThinning : List Row → ThinOptions → Type 0
-IsThinning rows options =
+abbrev pub AsksThin : List Row → ThinOptions → Type 0
+AsksThin rows options =
     (first_of (codes "LOG") rows ≡ Some options.input.now)
     × (first_of (codes "log") rows ≡ Some options.target.now)
     × IsPath (codes "map") rows options.map
@@ -210,8 +210,8 @@ predict_form_named word =
 abbrev pub predict_form_of : Option Text → PredictFormat
 predict_form_of word = unwrap_or (option_and_then predict_form_named word) predict_form.Text
 
-abbrev pub IsPredicting : List Row → PredictOptions → Type 0
-IsPredicting rows options =
+abbrev pub AsksPredict : List Row → PredictOptions → Type 0
+AsksPredict rows options =
     (first_of (codes "LOG") rows ≡ Some options.input.now)
     × IsPath (codes "names") rows options.names
     × IsPath (codes "sites") rows options.sites
@@ -223,31 +223,31 @@ IsPredicting rows options =
     × (options.format ≡ predict_form_of (first_of (codes "format") rows))
     × AreLimits rows options.limits
 
-abbrev pub IsVerifying : List Row → VerifyOptions → Type 0
-IsVerifying rows options =
+abbrev pub AsksVerify : List Row → VerifyOptions → Type 0
+AsksVerify rows options =
     (first_of (codes "LOG") rows ≡ Some options.input.now)
     × (first_of (codes "REPORT") rows ≡ Some options.report.now)
 
 -- a subcommand by its name, with the values of its arguments
-abbrev pub Asked : Type 0
-Asked = Option (Text × List Row)
+abbrev pub Matches : Type 0
+Matches = Option (Text × List Row)
 
 -- the subcommand of this name, with these values, asks for the request
-abbrev pub AsksFor : Asked → Request → Type 0
+abbrev pub AsksFor : Matches → Request → Type 0
 AsksFor None request = ⊥
-AsksFor (Some found) (Check options) = (found.0 ≡ codes "check") × IsCheck found.1 options
-AsksFor (Some found) (Replay options) = (found.0 ≡ codes "replay") × IsReplay found.1 options
-AsksFor (Some found) (Run options) = (found.0 ≡ codes "run") × IsRun found.1 options
-AsksFor (Some found) (Explain options) = (found.0 ≡ codes "explain") × IsExplanation found.1 options
-AsksFor (Some found) (Carry options) = (found.0 ≡ codes "carry") × IsCarrying found.1 options
-AsksFor (Some found) (Explore options) = (found.0 ≡ codes "explore") × IsExploring found.1 options
-AsksFor (Some found) (Watch options) = (found.0 ≡ codes "watch") × IsWatch found.1 options
-AsksFor (Some found) (WatchEndless options) = (found.0 ≡ codes "watch") × IsEndless found.1 options
-AsksFor (Some found) (Audit options) = (found.0 ≡ codes "audit") × IsAudit found.1 options
-AsksFor (Some found) (Thin options) = (found.0 ≡ codes "thin") × IsThinning found.1 options
-AsksFor (Some found) (Predict options) = (found.0 ≡ codes "predict") × IsPredicting found.1 options
-AsksFor (Some found) (Verify options) = (found.0 ≡ codes "verify") × IsVerifying found.1 options
+AsksFor (Some found) (Check options) = (found.0 ≡ codes "check") × AsksCheck found.1 options
+AsksFor (Some found) (Replay options) = (found.0 ≡ codes "replay") × AsksReplay found.1 options
+AsksFor (Some found) (Run options) = (found.0 ≡ codes "run") × AsksRun found.1 options
+AsksFor (Some found) (Explain options) = (found.0 ≡ codes "explain") × AsksExplain found.1 options
+AsksFor (Some found) (Carry options) = (found.0 ≡ codes "carry") × AsksCarry found.1 options
+AsksFor (Some found) (Explore options) = (found.0 ≡ codes "explore") × AsksExplore found.1 options
+AsksFor (Some found) (Watch options) = (found.0 ≡ codes "watch") × AsksWatch found.1 options
+AsksFor (Some found) (WatchEndless options) = (found.0 ≡ codes "watch") × AsksEndless found.1 options
+AsksFor (Some found) (Audit options) = (found.0 ≡ codes "audit") × AsksAudit found.1 options
+AsksFor (Some found) (Thin options) = (found.0 ≡ codes "thin") × AsksThin found.1 options
+AsksFor (Some found) (Predict options) = (found.0 ≡ codes "predict") × AsksPredict found.1 options
+AsksFor (Some found) (Verify options) = (found.0 ≡ codes "verify") × AsksVerify found.1 options
 
 -- no request is asked for
-abbrev pub AsksForNothing : Asked → Type 0
+abbrev pub AsksForNothing : Matches → Type 0
 AsksForNothing asked = (request : Request) → ¬ AsksFor asked request

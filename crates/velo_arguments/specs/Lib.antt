@@ -1,4 +1,4 @@
-pub mod Asked
+pub mod Matches
 pub mod CommandLine
 pub mod Options
 pub mod Together

@@ -15,7 +15,7 @@ use Rattle.velo_request.specs.declared.request.Request.{Request}
 use Rattle.velo_request.specs.declared.request.Request.TheVariants.{Audit, Carry, Check, Explain, Explore, Predict, Replay, Run, Thin, Verify, Watch, WatchEndless}
 use Rattle.velo_request.specs.declared.request.ScheduleSource.{ScheduleSource}
 use Rattle.velo_request.specs.declared.request.ScheduleSource.TheVariants as schedule
-use Rattle.velo_arguments.specs.Asked.{Asked, AsksFor, form_named, predict_form_named}
+use Rattle.velo_arguments.specs.Asked.{Matches, AsksFor, form_named, predict_form_named}
 use Rattle.velo_arguments.specs.declared.together.Clash.{Clash}
 use Rattle.velo_arguments.specs.declared.together.Clash.TheVariants.{DrawingIsPicture, EndlessCertificate, InputTwice, MapIsLog, NamesWithoutLog, NoSuchForm, NoSuchPredictForm, OnePath, SearchByChance, SeedAlone, TwoSchedules}
 use Rattle.velo_arguments.specs.declared.together.Given.{Given}
@@ -80,7 +80,7 @@ given_in rows = record {
   other_predict_form = is_other_predict_form (first_of (codes "format") rows);
 }
 
-abbrev pub given_by : Asked → Given
+abbrev pub given_by : Matches → Given
 given_by None = record {
   states = false;
   seed = false;
@@ -175,12 +175,12 @@ clash_of (Predict options) given = clash_of_predict options given.other_predict_
 clash_of (Verify options) given = clash_of_inputs (options.input.now ∷ options.report.now ∷ [])
 
 -- the request that is asked for, whose options go together
-pub record IsTogether (asked : Asked) (request : Request) : Type 0 where
+pub record IsTogether (asked : Matches) (request : Request) : Type 0 where
   pub asks : AsksFor asked request
   pub together : clash_of request (given_by asked) ≡ None
 
 -- a request is asked for whose options do not go together, for this reason
-pub record IsApart (asked : Asked) (clash : Clash) : Type 0 where
+pub record IsApart (asked : Matches) (clash : Clash) : Type 0 where
   pub request : Request
   pub asks : AsksFor asked request
   pub apart : clash_of request (given_by asked) ≡ Some clash

@@ -15,7 +15,7 @@ ghost use Rattle.velo_request.specs.declared.request.RunOptions.{RunOptions};
 ghost use Rattle.velo_request.specs.declared.request.ThinOptions.{ThinOptions};
 ghost use Rattle.velo_request.specs.declared.request.VerifyOptions.{VerifyOptions};
 ghost use Rattle.velo_request.specs.declared.request.WatchOptions.{WatchOptions};
-ghost use Rattle.velo_arguments.specs.Asked.{AreLeftOut, AreLimits, AreRandomRuns, AreSeconds, AreTurns, AsksFor, AsksForNothing, IsAudit, IsCarrying, IsCheck, IsEndless, IsExplanation, IsExploring, IsPredicting, IsReplay, IsRun, IsSchedule, IsSeed, IsThinning, IsVerifying, IsWatch, WritesNumber, form_named, form_of, predict_form_named, predict_form_of};
+ghost use Rattle.velo_arguments.specs.Asked.{AreLeftOut, AreLimits, AreRandomRuns, AreSeconds, AreTurns, AsksFor, AsksForNothing, AsksAudit, AsksCarry, AsksCheck, AsksEndless, AsksExplain, AsksExplore, AsksPredict, AsksReplay, AsksRun, IsSchedule, IsSeed, AsksThin, AsksVerify, AsksWatch, WritesNumber, form_named, form_of, predict_form_named, predict_form_of};
 
 use clap::ArgMatches;
 use velo_events::{MAX_EVENTS, MAX_NODES};
@@ -55,9 +55,9 @@ fn limits_of<'a>(found: &ArgMatches<'a>) -> Option<Limits>
 }
 
 fn check_options<'a>(found: &ArgMatches<'a>) -> Option<CheckOptions<'a>>
-    ensures some { IfSome result (IsCheck (rows_of (found_of found.now))) }
+    ensures some { IfSome result (AsksCheck (rows_of (found_of found.now))) }
     ensures none { IfNone result ((options : CheckOptions)
-        → ¬ IsCheck (rows_of (found_of found.now)) options) }
+        → ¬ AsksCheck (rows_of (found_of found.now)) options) }
 {
     Some(CheckOptions {
         input: found.get_str("LOG")?,
@@ -90,9 +90,9 @@ fn schedule_source<'a>(found: &ArgMatches<'a>) -> ScheduleSource<'a>
 }
 
 fn replay_options<'a>(found: &ArgMatches<'a>) -> Option<ReplayOptions<'a>>
-    ensures some { IfSome result (IsReplay (rows_of (found_of found.now))) }
+    ensures some { IfSome result (AsksReplay (rows_of (found_of found.now))) }
     ensures none { IfNone result ((options : ReplayOptions)
-        → ¬ IsReplay (rows_of (found_of found.now)) options) }
+        → ¬ AsksReplay (rows_of (found_of found.now)) options) }
 {
     Some(ReplayOptions {
         schedule: schedule_source(found),
@@ -101,9 +101,9 @@ fn replay_options<'a>(found: &ArgMatches<'a>) -> Option<ReplayOptions<'a>>
 }
 
 fn run_options<'a>(found: &ArgMatches<'a>) -> Option<RunOptions<'a>>
-    ensures some { IfSome result (IsRun (rows_of (found_of found.now))) }
+    ensures some { IfSome result (AsksRun (rows_of (found_of found.now))) }
     ensures none { IfNone result ((options : RunOptions)
-        → ¬ IsRun (rows_of (found_of found.now)) options) }
+        → ¬ AsksRun (rows_of (found_of found.now)) options) }
 {
     Some(RunOptions {
         input: found.get_str("FILE")?,
@@ -117,9 +117,9 @@ fn run_options<'a>(found: &ArgMatches<'a>) -> Option<RunOptions<'a>>
 }
 
 fn explain_options<'a>(found: &'a ArgMatches) -> Option<ExplainOptions<'a>>
-    ensures some { IfSome result (IsExplanation (rows_of (found_of found.now))) }
+    ensures some { IfSome result (AsksExplain (rows_of (found_of found.now))) }
     ensures none { IfNone result ((options : ExplainOptions)
-        → ¬ IsExplanation (rows_of (found_of found.now)) options) }
+        → ¬ AsksExplain (rows_of (found_of found.now)) options) }
 {
     Some(ExplainOptions {
         input: found.get_str("LOG")?,
@@ -132,9 +132,9 @@ fn explain_options<'a>(found: &'a ArgMatches) -> Option<ExplainOptions<'a>>
 }
 
 fn carry_options<'a>(found: &ArgMatches<'a>) -> Option<CarryOptions<'a>>
-    ensures some { IfSome result (IsCarrying (rows_of (found_of found.now))) }
+    ensures some { IfSome result (AsksCarry (rows_of (found_of found.now))) }
     ensures none { IfNone result ((options : CarryOptions)
-        → ¬ IsCarrying (rows_of (found_of found.now)) options) }
+        → ¬ AsksCarry (rows_of (found_of found.now)) options) }
 {
     Some(CarryOptions {
         input: found.get_str("LOG")?,
@@ -193,9 +193,9 @@ fn seconds_if(found: &ArgMatches) -> Option<Option<u32>>
 }
 
 fn explore_options<'a>(found: &ArgMatches<'a>) -> Option<ExploreOptions<'a>>
-    ensures some { IfSome result (IsExploring (rows_of (found_of found.now))) }
+    ensures some { IfSome result (AsksExplore (rows_of (found_of found.now))) }
     ensures none { IfNone result ((options : ExploreOptions)
-        → ¬ IsExploring (rows_of (found_of found.now)) options) }
+        → ¬ AsksExplore (rows_of (found_of found.now)) options) }
 {
     Some(ExploreOptions {
         input: found.get_str("FILE")?,
@@ -216,8 +216,8 @@ fn explore_options<'a>(found: &ArgMatches<'a>) -> Option<ExploreOptions<'a>>
 fn watch_request<'a>(found: &ArgMatches<'a>) -> Option<Request<'a>>
     ensures some { IfSome result (AsksFor (Some (codes "watch", rows_of (found_of found.now)))) }
     ensures none { IfNone result
-        (((options : WatchOptions) → ¬ IsWatch (rows_of (found_of found.now)) options)
-        × ((options : EndlessOptions) → ¬ IsEndless (rows_of (found_of found.now)) options)) }
+        (((options : WatchOptions) → ¬ AsksWatch (rows_of (found_of found.now)) options)
+        × ((options : EndlessOptions) → ¬ AsksEndless (rows_of (found_of found.now)) options)) }
 {
     let input = found.get_str("LOG")?;
     let limits = limits_of(found)?;
@@ -275,9 +275,9 @@ fn form_of(word: Option<&str>) -> OutputFormat
 }
 
 fn audit_options<'a>(found: &'a ArgMatches) -> Option<AuditOptions<'a>>
-    ensures some { IfSome result (IsAudit (rows_of (found_of found.now))) }
+    ensures some { IfSome result (AsksAudit (rows_of (found_of found.now))) }
     ensures none { IfNone result ((options : AuditOptions)
-        → ¬ IsAudit (rows_of (found_of found.now)) options) }
+        → ¬ AsksAudit (rows_of (found_of found.now)) options) }
 {
     Some(AuditOptions {
         input: found.get_str("LOG")?,
@@ -294,9 +294,9 @@ fn audit_options<'a>(found: &'a ArgMatches) -> Option<AuditOptions<'a>>
 }
 
 fn thin_options<'a>(found: &ArgMatches<'a>) -> Option<ThinOptions<'a>>
-    ensures some { IfSome result (IsThinning (rows_of (found_of found.now))) }
+    ensures some { IfSome result (AsksThin (rows_of (found_of found.now))) }
     ensures none { IfNone result ((options : ThinOptions)
-        → ¬ IsThinning (rows_of (found_of found.now)) options) }
+        → ¬ AsksThin (rows_of (found_of found.now)) options) }
 {
     let target = found.get_str("log")?;
     Some(ThinOptions {
@@ -307,9 +307,9 @@ fn thin_options<'a>(found: &ArgMatches<'a>) -> Option<ThinOptions<'a>>
 }
 
 fn verify_options<'a>(found: &ArgMatches<'a>) -> Option<VerifyOptions<'a>>
-    ensures some { IfSome result (IsVerifying (rows_of (found_of found.now))) }
+    ensures some { IfSome result (AsksVerify (rows_of (found_of found.now))) }
     ensures none { IfNone result ((options : VerifyOptions)
-        → ¬ IsVerifying (rows_of (found_of found.now)) options) }
+        → ¬ AsksVerify (rows_of (found_of found.now)) options) }
 {
     Some(VerifyOptions {
         input: found.get_str("LOG")?,
@@ -337,9 +337,9 @@ fn predict_form_of(word: Option<&str>) -> PredictFormat
 }
 
 fn predict_options<'a>(found: &'a ArgMatches) -> Option<PredictOptions<'a>>
-    ensures some { IfSome result (IsPredicting (rows_of (found_of found.now))) }
+    ensures some { IfSome result (AsksPredict (rows_of (found_of found.now))) }
     ensures none { IfNone result ((options : PredictOptions)
-        → ¬ IsPredicting (rows_of (found_of found.now)) options) }
+        → ¬ AsksPredict (rows_of (found_of found.now)) options) }
 {
     Some(PredictOptions {
         input: found.get_str("LOG")?,

@@ -19,9 +19,9 @@ use Rattle.velo_fate.specs.declared.fault.CheckFault.TheVariants as check_fault
 use Rattle.velo_fate.specs.declared.fate.Fate.{Fate}
 use Rattle.velo_fate.specs.declared.fate.Fate.TheVariants as fate
 use Rattle.velo_request.specs.declared.request.AuditOptions.{AuditOptions}
-use Rattle.velo_audit_commands.specs.Auditing.{AreRoundsOf, Audits, AuditsIfOf, AuditsSited, HasFullGraph, IsAuditAnswer, IsAuditPage, LacksRounds, PrintsRounds, atomic_of, is_found, left_at_last}
-use Rattle.velo_inputs.specs.Leaving.{left_at_first}
-use Rattle.velo_inputs.specs.Siting.{AreOfLog}
+use Rattle.velo_audit_commands.specs.Auditing.{AreRoundsOf, Audits, AuditsIfOf, AuditsSited, HasFullGraph, IsAuditAnswer, IsAuditPage, LacksRounds, PrintsRounds, atomic_of, is_found, left_out_at_last}
+use Rattle.velo_inputs.specs.Leaving.{left_out_at_first}
+use Rattle.velo_inputs.specs.Siting.{HaveLengthOf}
 use Rattle.velo_fate.specs.Delivery.{Answer, IsDelivered, IsPrinted, LacksMemory, printing, silent}
 use Rattle.velo_delivery.specs.Disk.{Store}
 use Rattle.velo_fate.specs.Failures.{failures_told}
@@ -31,7 +31,7 @@ use Rattle.velo_fate.proofs.OnDelivery.{put_of, same_fate}
 -- ---- the text
 
 pub told_put : (names : NameLists) (sites : Option Table) (log : List Event) (asked : Asked) (options : AuditOptions) (rounds : List Told) (left : Left) (words page : List ℕ) (atomic : ℕ) (alarm : Bool)
-    → words ≡ page → IsAuditPage names sites log asked options rounds atomic page → atomic ≡ atomic_labels left log → left ≡ left_at_last log (left_at_first asked) rounds → alarm ≡ is_found rounds
+    → words ≡ page → IsAuditPage names sites log asked options rounds atomic page → atomic ≡ atomic_labels left log → left ≡ left_out_at_last log (left_out_at_first asked) rounds → alarm ≡ is_found rounds
     → (stdout : Writing) (f : Fate) → IsPrinted stdout (printing words (fate.Finished Done alarm)) f → PrintsRounds names sites log asked options rounds stdout f
 told_put names sites log asked options rounds left words page atomic alarm same is count behind found stdout f told = inl (
   words,
@@ -62,18 +62,18 @@ are_rounds_of witness log first start behind rounds begins each only truly witne
           serializable = subst (λ (x : Left). IsSerializable (rest_of x log)) left serializable;
         }
 
-pub left_from : (log : List Event) (first start behind : Left) (rounds : List Told) → start ≡ first → behind ≡ with_labels start (labels_found log (map told_as rounds)) → behind ≡ left_at_last log first rounds
+pub left_from : (log : List Event) (first start behind : Left) (rounds : List Told) → start ≡ first → behind ≡ with_labels start (labels_found log (map told_as rounds)) → behind ≡ left_out_at_last log first rounds
 left_from log first start behind rounds begins left = left ∙ ap (λ (x : Left). with_labels x (labels_found log (map told_as rounds))) begins
 
 -- they are printed, or memory was wanting
 pub rounds_printed : (names : NameLists) (sites : Option Table) (asked : Asked) (options : AuditOptions) (bounds : Bounds) (log events : List Event) (rounds told : List Told) → events ≡ log → told ≡ rounds
-    → AreRoundsOf options.witness events (left_at_first asked) rounds → (stdout : Writing) (f : Fate) → PrintsRounds names sites events asked options told stdout f
+    → AreRoundsOf options.witness events (left_out_at_first asked) rounds → (stdout : Writing) (f : Fate) → PrintsRounds names sites events asked options told stdout f
     → Audits names sites asked options bounds log stdout f
 rounds_printed names sites asked options bounds log events rounds told same as_told are stdout f (inl (page, is_page, put)) = (
   printing page (fate.Finished Done (is_found told)),
   inl (inl (record {
     rounds = rounds;
-    are_rounds = subst (λ (l : List Event). AreRoundsOf options.witness l (left_at_first asked) rounds) same are;
+    are_rounds = subst (λ (l : List Event). AreRoundsOf options.witness l (left_out_at_first asked) rounds) same are;
     page = page;
     is_page = subst (λ (r : List Told). IsAuditPage names sites log asked options r (atomic_of log asked r) page) as_told
         (subst (λ (l : List Event). IsAuditPage names sites l asked options told (atomic_of l asked told) page) same is_page);
@@ -85,7 +85,7 @@ rounds_printed names sites asked options bounds log events rounds told same as_t
     (silent fate.Memory, inr (lacks.0, refl), subst (λ (g : Fate). IsPrinted stdout (silent fate.Memory) g) (sym lacks.1) (refl, lacks.2))
 
 -- the graph is full in a round
-pub full_said : (asked : Asked) (config : Config) (log : List Event) (start : Left) (position : ℕ) → start ≡ left_at_first asked → IsFullAfter config log start position
+pub full_said : (asked : Asked) (config : Config) (log : List Event) (start : Left) (position : ℕ) → start ≡ left_out_at_first asked → IsFullAfter config log start position
     → HasFullGraph asked config.nodes config.bounds log (silent (fate.Check (check_fault.Refused position GraphFull)))
 full_said asked config log start position begins full =
     record {
@@ -114,11 +114,11 @@ rounds_lacking names sites asked options bounds log stdout f nothing (inr lacks)
 
 module _ (names : NameLists) (sites : Option Table) (asked : Asked) (options : AuditOptions) (stdout : Writing) where
   -- the sites are of the log
-  pub audited_of : (bounds : Bounds) (log : List Event) (f : Fate) → AreOfLog sites log → Audits names sites asked options bounds log stdout f → AuditsIfOf names sites asked options bounds log stdout f
+  pub audited_of : (bounds : Bounds) (log : List Event) (f : Fate) → HaveLengthOf sites log → Audits names sites asked options bounds log stdout f → AuditsIfOf names sites asked options bounds log stdout f
   audited_of bounds log f of_log told = (told.0, ⊎_elim (λ said. inl (inl (of_log, said))) (λ lacks. inr lacks) told.1, told.2)
 
   -- and where they are not, nothing is printed
-  pub audited_other : (bounds : Bounds) (log : List Event) → ¬ AreOfLog sites log → WritesNothing stdout → AuditsIfOf names sites asked options bounds log stdout fate.OtherSites
+  pub audited_other : (bounds : Bounds) (log : List Event) → ¬ HaveLengthOf sites log → WritesNothing stdout → AuditsIfOf names sites asked options bounds log stdout fate.OtherSites
   audited_other bounds log other nothing = (silent fate.OtherSites, inl (inr (record { of_other = other; said = refl })), (refl, nothing))
 
   -- an audit has nothing to be saved

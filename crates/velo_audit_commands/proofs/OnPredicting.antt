@@ -23,11 +23,11 @@ use Rattle.velo_delivery.specs.Disk.{Store}
 use Rattle.velo_delivery.specs.Writing.{Writing, WritesNothing}
 use Rattle.velo_request.specs.declared.request.PredictOptions.{PredictOptions}
 use Rattle.velo_audit_commands.specs.declared.predicting.PredictedFindings.{PredictedFindings}
-use Rattle.velo_audit_commands.specs.Auditing.{AreRoundsOf, LacksRounds, left_at_last}
-use Rattle.velo_inputs.specs.Leaving.{left_at_first}
+use Rattle.velo_audit_commands.specs.Auditing.{AreRoundsOf, LacksRounds, left_out_at_last}
+use Rattle.velo_inputs.specs.Leaving.{left_out_at_first}
 use Rattle.velo_audit_commands.specs.Predicting.{ArePredictionsOf, IsSearched, Predicts, PredictsIfOf, PredictsSited, predicted}
 use Rattle.velo_inputs.specs.Sending.{DeliversOrLacks}
-use Rattle.velo_inputs.specs.Siting.{AreOfLog}
+use Rattle.velo_inputs.specs.Siting.{HaveLengthOf}
 
 -- what a search of this log answers
 pub foretold_of : {E : Type 0} (values : Bool) (bounds : Bounds) (log searched : List Event) (left : Left) (result : Result PredictedFindings E) → IsSearched values log searched
@@ -49,8 +49,8 @@ module _ (names : NameLists) (sites : Option Table) (asked : Asked) (options : P
   silent_delivered target f g is put = subst (λ (h : Fate). IsDelivered store target stdout (silent h) h) (sym (ap (λ (a : Answer). a.fate) is)) put
 
   -- what was found is told, or memory was wanting
-  pub told_so : (bounds : Bounds) (log : List Event) (rounds : List Told) (findings : PredictedFindings) (f : Fate) → AreRoundsOf true log (left_at_first asked) rounds
-      → ArePredictionsOf options.values bounds log (left_at_last log (left_at_first asked) rounds) findings → DeliversOrLacks (predicted names sites options bounds log asked rounds findings) store options.target stdout f
+  pub told_so : (bounds : Bounds) (log : List Event) (rounds : List Told) (findings : PredictedFindings) (f : Fate) → AreRoundsOf true log (left_out_at_first asked) rounds
+      → ArePredictionsOf options.values bounds log (left_out_at_last log (left_out_at_first asked) rounds) findings → DeliversOrLacks (predicted names sites options bounds log asked rounds findings) store options.target stdout f
       → Predicts names sites asked options bounds log store stdout f
   told_so bounds log rounds findings f are foretold (inl put) = (
     predicted names sites options bounds log asked rounds findings,
@@ -71,11 +71,11 @@ module _ (names : NameLists) (sites : Option Table) (asked : Asked) (options : P
       subst (λ (l : List Event). Predicts names sites asked options bounds l store stdout f) same (subst (λ (b : Bounds). Predicts names sites asked options b events store stdout f) its_bounds made)
 
   -- the sites are of the log
-  pub predicted_of : (bounds : Bounds) (log : List Event) (f : Fate) → AreOfLog sites log → Predicts names sites asked options bounds log store stdout f → PredictsIfOf names sites asked options bounds log store stdout f
+  pub predicted_of : (bounds : Bounds) (log : List Event) (f : Fate) → HaveLengthOf sites log → Predicts names sites asked options bounds log store stdout f → PredictsIfOf names sites asked options bounds log store stdout f
   predicted_of bounds log f of_log told = (told.0, ⊎_elim (λ said. inl (inl (of_log, said))) (λ lacks. inr lacks) told.1, told.2)
 
   -- and where they are not, nothing is written
-  pub predicted_other : (bounds : Bounds) (log : List Event) → ¬ AreOfLog sites log → store.is_kept → WritesNothing stdout → PredictsIfOf names sites asked options bounds log store stdout fate.OtherSites
+  pub predicted_other : (bounds : Bounds) (log : List Event) → ¬ HaveLengthOf sites log → store.is_kept → WritesNothing stdout → PredictsIfOf names sites asked options bounds log store stdout fate.OtherSites
   predicted_other bounds log other kept nothing = (silent fate.OtherSites, inl (inr (record { of_other = other; said = refl })), (refl, kept, nothing))
 
   -- no prediction is told as a failed read

@@ -28,8 +28,8 @@ use Rattle.velo_audit_forms.specs.Answer.{IsJsonText}
 use Rattle.velo_audit_findings.specs.Junit.{junit_text}
 use Rattle.velo_audit_findings.specs.Sarif.{sarif_text}
 use Rattle.velo_inputs.specs.Input.{ComesAbout, IsUnchecked}
-use Rattle.velo_inputs.specs.Leaving.{left_at_first}
-use Rattle.velo_inputs.specs.Siting.{AreOfLog}
+use Rattle.velo_inputs.specs.Leaving.{left_out_at_first}
+use Rattle.velo_inputs.specs.Siting.{HaveLengthOf}
 use Rattle.velo_fate.specs.Delivery.{Answer, IsPrinted, LacksMemory, printing, silent}
 use Rattle.velo_fate.specs.Failures.{FailuresAsTold}
 use Rattle.velo_delivery.specs.Reading.{Reading}
@@ -38,8 +38,8 @@ use Rattle.velo_delivery.specs.Writing.{Writing, WritesNothing}
 -- ---- what is left out
 
 -- after the rounds: the labels that they found, too
-abbrev pub left_at_last : List Event → Left → List Told → Left
-left_at_last log left rounds = with_labels left (labels_found log (map told_as rounds))
+abbrev pub left_out_at_last : List Event → Left → List Told → Left
+left_out_at_last log left rounds = with_labels left (labels_found log (map told_as rounds))
 
 -- ---- the rounds
 
@@ -54,9 +54,9 @@ pub record AreRoundsOf (witness : Bool) (log : List Event) (left : Left) (rounds
   pub truly : All (TellsTruly log) rounds
   pub witnessed : AreWitnessed witness log left rounds
   pub found : AreFound log left (labels_found log (map told_as rounds))
-  pub few : length rounds + atomic_labels (left_at_last log left rounds) log
+  pub few : length rounds + atomic_labels (left_out_at_last log left rounds) log
       ≤ atomic_labels left log
-  pub serializable : IsSerializable (rest_of (left_at_last log left rounds) log)
+  pub serializable : IsSerializable (rest_of (left_out_at_last log left rounds) log)
 
 -- ---- what is said of them
 
@@ -67,7 +67,7 @@ is_found (told ∷ rounds) = true
 
 -- the labels of the log that are neither found nor left out
 abbrev pub atomic_of : List Event → Asked → List Told → ℕ
-atomic_of log asked rounds = atomic_labels (left_at_last log (left_at_first asked) rounds) log
+atomic_of log asked rounds = atomic_labels (left_out_at_last log (left_out_at_first asked) rounds) log
 
 -- how the labels are to be listed, if this was asked for
 abbrev pub listing_if : AuditOptions → Bool → Option Listing
@@ -90,7 +90,7 @@ abbrev pub IsAuditText : NameLists → Option Table → List Event → Asked →
 IsAuditText names sites log asked None rounds atomic page =
     page ≡ audit_text names sites log asked rounds atomic
 IsAuditText names sites log asked (Some listing) rounds atomic page =
-    IsListingText names sites log asked listing (rest_of (left_at_first asked) log) rounds atomic page
+    IsListingText names sites log asked listing (rest_of (left_out_at_first asked) log) rounds atomic page
 
 -- The page in the form that was asked for: that text, or one JSON object; or the blocks that the
 -- rounds report as a SARIF log or a JUnit report. All but the text have the path of the log.
@@ -100,7 +100,7 @@ IsPageIn Text names sites log path asked listing rounds atomic page =
     IsAuditText names sites log asked listing rounds atomic page
 IsPageIn Json names sites log path asked listing rounds atomic page =
     IsJsonText (record { log = log; names = names; sites = sites }) path asked listing
-    (rest_of (left_at_first asked) log) rounds atomic page
+    (rest_of (left_out_at_first asked) log) rounds atomic page
 IsPageIn Sarif names sites log path asked listing rounds atomic page =
     page ≡ sarif_text names log path rounds
 IsPageIn Junit names sites log path asked listing rounds atomic page =
@@ -116,7 +116,7 @@ IsAuditPage names sites log asked options rounds atomic page =
 pub record TellsRounds (names : NameLists) (sites : Option Table) (asked : Asked)
     (options : AuditOptions) (log : List Event) (answer : Answer) : Type 0 where
   pub rounds : List Told
-  pub are_rounds : AreRoundsOf options.witness log (left_at_first asked) rounds
+  pub are_rounds : AreRoundsOf options.witness log (left_out_at_first asked) rounds
   pub page : List ℕ
   pub is_page : IsAuditPage names sites log asked options rounds (atomic_of log asked rounds) page
   pub said : answer ≡ printing page (Finished Done (is_found rounds))
@@ -129,7 +129,7 @@ pub record HasFullGraph (asked : Asked) (nodes : ℕ) (bounds : Bounds) (log : L
   pub its_bounds : config.bounds ≡ bounds
   pub its_nodes : config.nodes ≡ nodes
   pub position : ℕ
-  pub is_full : IsFullAfter config log (left_at_first asked) position
+  pub is_full : IsFullAfter config log (left_out_at_first asked) position
   pub said : answer ≡ silent (Check (Refused position GraphFull))
 
 abbrev pub AuditsEvents : NameLists → Option Table → Asked → AuditOptions → Bounds → List Event → Answer
@@ -139,16 +139,16 @@ AuditsEvents names sites asked options bounds log answer =
     ⊎ HasFullGraph asked options.limits.nodes bounds log answer
 
 -- nothing is said of the log: the sites are of another number of events
-pub record IsOfOther (sites : Option Table) (log : List Event) (answer : Answer) : Type 0 where
-  pub of_other : ¬ AreOfLog sites log
+pub record IsOfOtherLog (sites : Option Table) (log : List Event) (answer : Answer) : Type 0 where
+  pub of_other : ¬ HaveLengthOf sites log
   pub said : answer ≡ silent OtherSites
 
 -- with as many sites as events it is audited, and else nothing is said
 abbrev pub AuditsSited : NameLists → Option Table → Asked → AuditOptions → Bounds → List Event → Answer
     → Type 0
 AuditsSited names sites asked options bounds log answer =
-    (AreOfLog sites log × AuditsEvents names sites asked options bounds log answer)
-    ⊎ IsOfOther sites log answer
+    (HaveLengthOf sites log × AuditsEvents names sites asked options bounds log answer)
+    ⊎ IsOfOtherLog sites log answer
 
 -- ---- the answer
 

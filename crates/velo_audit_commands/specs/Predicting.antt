@@ -29,10 +29,10 @@ use Rattle.velo_request.specs.declared.request.PredictFormat.{PredictFormat}
 use Rattle.velo_request.specs.declared.request.PredictFormat.TheVariants.{Json, Text}
 use Rattle.velo_request.specs.declared.request.PredictOptions.{PredictOptions}
 use Rattle.velo_audit_commands.specs.declared.predicting.PredictedFindings.{PredictedFindings}
-use Rattle.velo_audit_commands.specs.Auditing.{AreRoundsOf, HasFullGraph, IsOfOther, left_at_last}
-use Rattle.velo_inputs.specs.Leaving.{left_at_first}
+use Rattle.velo_audit_commands.specs.Auditing.{AreRoundsOf, HasFullGraph, IsOfOtherLog, left_out_at_last}
+use Rattle.velo_inputs.specs.Leaving.{left_out_at_first}
 use Rattle.velo_inputs.specs.Input.{ComesAbout, IsUnchecked}
-use Rattle.velo_inputs.specs.Siting.{AreOfLog}
+use Rattle.velo_inputs.specs.Siting.{HaveLengthOf}
 
 -- ---- what is looked for
 
@@ -90,10 +90,10 @@ predicted names sites options bounds log asked rounds findings =
 pub record TellsPredictions (names : NameLists) (sites : Option Table) (asked : Asked)
     (options : PredictOptions) (bounds : Bounds) (log : List Event) (answer : Answer) : Type 0 where
   pub rounds : List Told
-  pub are_rounds : AreRoundsOf true log (left_at_first asked) rounds
+  pub are_rounds : AreRoundsOf true log (left_out_at_first asked) rounds
   pub findings : PredictedFindings
   pub are_predictions : ArePredictionsOf options.values bounds log
-      (left_at_last log (left_at_first asked) rounds) findings
+      (left_out_at_last log (left_out_at_first asked) rounds) findings
   pub said : answer ≡ predicted names sites options bounds log asked rounds findings
 
 abbrev pub PredictsEvents : NameLists → Option Table → Asked → PredictOptions → Bounds → List Event
@@ -106,8 +106,8 @@ PredictsEvents names sites asked options bounds log answer =
 abbrev pub PredictsSited : NameLists → Option Table → Asked → PredictOptions → Bounds → List Event
     → Answer → Type 0
 PredictsSited names sites asked options bounds log answer =
-    (AreOfLog sites log × PredictsEvents names sites asked options bounds log answer)
-    ⊎ IsOfOther sites log answer
+    (HaveLengthOf sites log × PredictsEvents names sites asked options bounds log answer)
+    ⊎ IsOfOtherLog sites log answer
 
 -- ---- the answer
 

@@ -5,8 +5,8 @@ ghost use Rattle.velo_events.specs.Graph.{HasCycle};
 ghost use Rattle.velo_events.specs.WellFormed.{IsWellFormed};
 ghost use Rattle.velo_filter.specs.Tables.{left_of};
 ghost use Rattle.velo_audit.specs.Audit.{TellsTruly};
-ghost use Rattle.velo_audit_commands.specs.Auditing.{AreRoundsOf, Audits, AuditsIfOf, AuditsInput, LacksRounds, PrintsRounds, is_found, left_at_last};
-ghost use Rattle.velo_inputs.specs.Leaving.{left_at_first};
+ghost use Rattle.velo_audit_commands.specs.Auditing.{AreRoundsOf, Audits, AuditsIfOf, AuditsInput, LacksRounds, PrintsRounds, is_found, left_out_at_last};
+ghost use Rattle.velo_inputs.specs.Leaving.{left_out_at_first};
 ghost use Rattle.velo_delivery.specs.Disk.{store};
 ghost use Rattle.velo_audit_commands.specs.Commands.{AuditsAsked, AuditsLog, AuditsNamed, DoesAudit};
 ghost use Rattle.velo_delivery.specs.Reading.{reading};
@@ -69,7 +69,7 @@ fn tell_rounds<O: Sink>(
     requires well_formed { IsWellFormed bounds log.now.events }
     requires truly { All (TellsTruly log.now.events) rounds.now }
     requires left { left_of left.now
-        ≡ left_at_last log.now.events (left_at_first asked.now) rounds.now }
+        ≡ left_out_at_last log.now.events (left_out_at_first asked.now) rounds.now }
     ensures { PrintsRounds names.now sites.now log.now.events asked.now options.now rounds.now
         (writing O.contents O.failures out.old out.new) result }
 {
@@ -102,11 +102,11 @@ pub fn rounds_of(
     requires short { length log.now.events ≤ config.now.events }
     requires well_formed { IsWellFormed config.now.bounds log.now.events }
     requires clean { IsTrue clean → ¬ HasCycle log.now.events }
-    requires left { left_of left.old ≡ left_at_first asked.now }
+    requires left { left_of left.old ≡ left_out_at_first asked.now }
     ensures rounds { IfOk result (λ rounds.
-        AreRoundsOf witness log.now.events (left_at_first asked.now) rounds.items) }
+        AreRoundsOf witness log.now.events (left_out_at_first asked.now) rounds.items) }
     ensures left { IfOk result (λ rounds. left_of left.new
-        ≡ left_at_last log.now.events (left_at_first asked.now) rounds.items) }
+        ≡ left_out_at_last log.now.events (left_out_at_first asked.now) rounds.items) }
     ensures fault { IfErr result (λ fate.
         LacksRounds asked.now config.now.nodes config.now.bounds log.now.events fate) }
 {
@@ -132,7 +132,7 @@ fn audit_rest<O: Sink>(
     out: &mut O,
 ) -> Fate
     requires short { length closed.now.log ≤ options.now.limits.events }
-    requires left { left_of left.old ≡ left_at_first asked.now }
+    requires left { left_of left.old ≡ left_out_at_first asked.now }
     ensures { Audits names.now sites.now asked.now options.now closed.now.config.bounds
         closed.now.log (writing O.contents O.failures out.old out.new) result }
 {

@@ -11,9 +11,8 @@ ghost use Rattle.velo_audit_forms.specs.Answer.{IsJsonText};
 ghost use Rattle.velo_predict_text.specs.Text.{CanBeTold, CanTellDeadlock};
 ghost use Rattle.velo_audit_commands.specs.Auditing.{IsAuditPage, IsAuditText, listing_of};
 ghost use Rattle.velo_audit_commands.specs.Predicting.{predictions_page};
-ghost use Rattle.velo_inputs.specs.Leaving.{left_at_first};
+ghost use Rattle.velo_inputs.specs.Leaving.{left_out_at_first};
 
-use crate::auditing::left_out;
 use std::alloc::Global;
 use velo_audit::Told;
 use velo_audit_findings::{audit_junit, audit_sarif};
@@ -23,6 +22,7 @@ use velo_delays::{Deadlock, PredictedCycle};
 use velo_events::{Bounds, Memory};
 use velo_explain::Page;
 use velo_filter::thin;
+use velo_inputs::left_out;
 use velo_names::Names;
 use velo_predict_forms::predictions_json;
 use velo_predict_text::predictions_text;
@@ -61,7 +61,7 @@ fn listed(
     requires well_formed { IsWellFormed bounds log.now.events }
     requires truly { All (TellsTruly log.now.events) rounds.now }
     ensures { IfOk result (λ page. IsListingText names.now sites.now log.now.events asked.now listing
-        (rest_of (left_at_first asked.now) log.now.events) rounds.now atomic page) }
+        (rest_of (left_out_at_first asked.now) log.now.events) rounds.now atomic page) }
 {
     let left = left_out(alloc, asked)?;
     let first = thin(alloc, log, &left)?;
@@ -117,7 +117,7 @@ fn listed_labels(
 ) -> Result<Listed, Memory>
     requires few { length log.now.events ≤ MAX_EVENTS }
     requires well_formed { IsWellFormed bounds log.now.events }
-    ensures { IfOk result (λ listed. IsListed (rest_of (left_at_first asked.now) log.now.events)
+    ensures { IfOk result (λ listed. IsListed (rest_of (left_out_at_first asked.now) log.now.events)
         listing rounds.now listed.entries.items listed.others) }
 {
     let left = left_out(alloc, asked)?;
@@ -143,7 +143,7 @@ fn json_of(
     requires well_formed { IsWellFormed bounds log.now.events }
     ensures { IfOk result (λ page. IsJsonText
         (record { log = log.now.events; names = names.now; sites = sites.now }) path.now asked.now
-        listing (rest_of (left_at_first asked.now) log.now.events) rounds.now atomic page) }
+        listing (rest_of (left_out_at_first asked.now) log.now.events) rounds.now atomic page) }
 {
     let Some(listing) = listing else {
         return audit_json(alloc, names, sites, log, path, asked, None, rounds, atomic);

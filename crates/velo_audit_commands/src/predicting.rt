@@ -12,8 +12,8 @@ ghost use Rattle.velo_delivery.specs.Disk.{store};
 ghost use Rattle.velo_delivery.specs.Reading.{reading};
 ghost use Rattle.velo_delivery.specs.Writing.{writing};
 ghost use Rattle.velo_fate.specs.declared.fate.Fate.TheVariants.{Finished};
-ghost use Rattle.velo_audit_commands.specs.Auditing.{AreRoundsOf, left_at_last};
-ghost use Rattle.velo_inputs.specs.Leaving.{left_at_first};
+ghost use Rattle.velo_audit_commands.specs.Auditing.{AreRoundsOf, left_out_at_last};
+ghost use Rattle.velo_inputs.specs.Leaving.{left_out_at_first};
 ghost use Rattle.velo_audit_commands.specs.Commands.{DoesPredict, PredictsAsked, PredictsLog, PredictsNamed};
 ghost use Rattle.velo_audit_commands.specs.Predicting.{ArePredictionsOf, Predicts, PredictsIfOf, PredictsInput, first_trace, predicted};
 ghost use Rattle.velo_inputs.specs.Sending.{DeliversOrLacks};
@@ -164,9 +164,9 @@ fn tell<F: Files, O: Sink>(
 ) -> Fate
     requires few { length log.now.events ≤ MAX_EVENTS }
     requires well_formed { IsWellFormed bounds log.now.events }
-    requires rounds { AreRoundsOf true log.now.events (left_at_first inquiry.now.asked.now) rounds.now }
+    requires rounds { AreRoundsOf true log.now.events (left_out_at_first inquiry.now.asked.now) rounds.now }
     requires found { ArePredictionsOf inquiry.now.options.now.values bounds log.now.events
-        (left_at_last log.now.events (left_at_first inquiry.now.asked.now) rounds.now)
+        (left_out_at_last log.now.events (left_out_at_first inquiry.now.asked.now) rounds.now)
         findings.now }
     ensures { DeliversOrLacks (predicted inquiry.now.names.now sites.now inquiry.now.options.now
         bounds log.now.events inquiry.now.asked.now rounds.now findings.now)
@@ -221,9 +221,9 @@ fn predict_after<F: Files, O: Sink>(
     requires goes_on { config.now.stop ≡ false }
     requires few { length log.now.events ≤ MAX_EVENTS }
     requires well_formed { IsWellFormed config.now.bounds log.now.events }
-    requires rounds { AreRoundsOf true log.now.events (left_at_first inquiry.now.asked.now) rounds.now }
+    requires rounds { AreRoundsOf true log.now.events (left_out_at_first inquiry.now.asked.now) rounds.now }
     requires left { left_of left.old
-        ≡ left_at_last log.now.events (left_at_first inquiry.now.asked.now) rounds.now }
+        ≡ left_out_at_last log.now.events (left_out_at_first inquiry.now.asked.now) rounds.now }
     ensures { Predicts inquiry.now.names.now sites.now inquiry.now.asked.now inquiry.now.options.now
         config.now.bounds log.now.events (store F.disk files.old files.new)
         (writing O.contents O.failures out.old out.new) result }
@@ -252,7 +252,7 @@ fn predict_rest<F: Files, O: Sink>(
     out: &mut O,
 ) -> Fate
     requires short { length closed.now.log ≤ inquiry.now.options.now.limits.events }
-    requires left { left_of left.old ≡ left_at_first inquiry.now.asked.now }
+    requires left { left_of left.old ≡ left_out_at_first inquiry.now.asked.now }
     ensures { Predicts inquiry.now.names.now sites.now inquiry.now.asked.now inquiry.now.options.now
         closed.now.config.bounds closed.now.log (store F.disk files.old files.new)
         (writing O.contents O.failures out.old out.new) result }

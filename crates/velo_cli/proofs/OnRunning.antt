@@ -5,7 +5,7 @@ use Rattle.clap.specs.declared.error.kind.ErrorKind.{ErrorKind}
 use Rattle.clap.specs.declared.error.kind.ErrorKind.TheVariants.{OutOfMemory}
 use Rattle.clap.specs.declared.parser.matches.ArgMatches.{ArgMatches}
 use Rattle.velo_delivery.specs.Disk.{Store}
-use Rattle.velo_arguments.specs.Asked.{Asked, AsksForNothing}
+use Rattle.velo_arguments.specs.Asked.{Matches, AsksForNothing}
 use Rattle.velo_arguments.specs.CommandLine.{asked_by, command_line, faults_of}
 use Rattle.velo_cli.specs.Running.{Answers, Runs}
 use Rattle.velo_cli.specs.Usage.{Console, Tells, TellsError}
@@ -33,7 +33,7 @@ runs_asked line words m store failed console is matches faultless does =
     (subst (λ (x : App). HasMatchesOf x words m) is matches line_is_simple).1 in
     inl (
       subst (λ (x : App). is_simple_and_free x ≡ true → fault_of x words ≡ []) is faultless line_is_simple_and_free,
-      subst (λ (asked : Asked). Answers asked store failed console) same does,
+      subst (λ (asked : Matches). Answers asked store failed console) same does,
     )
 
 -- the words were refused, and the reason was told

@@ -2,16 +2,16 @@
 use Rattle.std.specs.Prelude.{◌≡◌, ◌⊎◌, ℕ, List, []}
 use Rattle.clap.specs.Words.{IsAmong, Text}
 use Rattle.clap.specs.declared.error.kind.ErrorKind.{ErrorKind}
-use Rattle.velo_commands.specs.Causes.{AnswersWithCause}
+use Rattle.velo_commands.specs.Causes.{MemoryHasCause}
 use Rattle.velo_delivery.specs.Disk.{Store}
 use Rattle.velo_fate.specs.Fate.{Closes}
 use Rattle.velo_commands.specs.Program.{Does}
 use Rattle.velo_fate.specs.declared.fate.Fate.{Fate}
 use Rattle.velo_request.specs.declared.request.Request.{Request}
-use Rattle.velo_arguments.specs.Asked.{Asked}
+use Rattle.velo_arguments.specs.Asked.{Matches}
 use Rattle.velo_arguments.specs.CommandLine.{asked_by, faults_of}
 use Rattle.velo_arguments.specs.Together.{IsApart, IsTogether, line_of_clash}
-use Rattle.velo_cli.specs.Usage.{Console, LacksMemory, TellsError, bad_usage}
+use Rattle.velo_cli.specs.Usage.{Console, LacksMemoryOn, TellsError, bad_usage}
 use Rattle.velo_words.specs.declared.failing.SystemReason.{SystemReason}
 use Rattle.velo_words.specs.Saying.{EndsInWords}
 use Rattle.velo_arguments.specs.declared.together.Clash.{Clash}
@@ -20,25 +20,25 @@ use Rattle.velo_arguments.specs.declared.together.Clash.{Clash}
 -- Standard error may have words before the line: by an input that is read once more, as it was left,
 -- or by `failed path reason`, which says that the last call of the system for this path failed for
 -- this reason.
-pub record DoesRequest (asked : Asked) (store : Store) (failed : List ℕ → SystemReason → Type 0)
+pub record DoesRequest (asked : Matches) (store : Store) (failed : List ℕ → SystemReason → Type 0)
     (console : Console) : Type 0 where
   pub request : Request
   pub fate : Fate
   pub asked_for : IsTogether asked request
   pub done : Does store request console.stdout fate
-  pub cause : AnswersWithCause request fate
+  pub cause : MemoryHasCause request fate
   pub ended : EndsInWords (store.said store.left) failed request fate console.stderr console.status
 
 -- a request was asked for whose options do not go together, and this was reported: standard output
 -- is as it was, and the end is that of bad usage
-pub record TellsClash (asked : Asked) (console : Console) : Type 0 where
+pub record TellsClash (asked : Matches) (console : Console) : Type 0 where
   pub clash : Clash
   pub apart : IsApart asked clash
   pub kept : console.is_kept
   pub told : Closes bad_usage (line_of_clash clash) console.stderr console.status
 
 -- what was asked for was done; or its options do not go together, and the files are as they were
-abbrev pub Answers : Asked → Store → (List ℕ → SystemReason → Type 0) → Console → Type 0
+abbrev pub Answers : Matches → Store → (List ℕ → SystemReason → Type 0) → Console → Type 0
 Answers asked store failed console =
     DoesRequest asked store failed console ⊎ (store.is_kept × TellsClash asked console)
 
@@ -54,4 +54,4 @@ pub record TellsFault (words : List Text) (console : Console) : Type 0 where
 abbrev pub Runs : List Text → Store → (List ℕ → SystemReason → Type 0) → Console → Type 0
 Runs words store failed console =
     ((faults_of words ≡ []) × Answers (asked_by words) store failed console)
-    ⊎ (store.is_kept × (TellsFault words console ⊎ LacksMemory console))
+    ⊎ (store.is_kept × (TellsFault words console ⊎ LacksMemoryOn console))

@@ -44,11 +44,11 @@ TellsError OutOfMemory text console = ⊥
 TellsError kind text console = console.is_kept × Closes bad_usage text console.stderr console.status
 
 -- an allocation failed, standard output is as it was, and the end is that of `Memory`
-pub record LacksMemory (console : Console) : Type 0 where
+pub record LacksMemoryOn (console : Console) : Type 0 where
   pub refused : GrowthRefused
   pub kept : console.is_kept
   pub ended : Ends Memory console.stderr console.status
 
 -- an error of this kind was reported, by some text; or memory ran out before
 abbrev pub Tells : ErrorKind → Console → Type 0
-Tells kind console = ((text : List ℕ) × TellsError kind text console) ⊎ LacksMemory console
+Tells kind console = ((text : List ℕ) × TellsError kind text console) ⊎ LacksMemoryOn console

@@ -42,7 +42,7 @@ use Rattle.velo_worker.specs.declared.ending.Ending.TheVariants as ending
 use Rattle.velo_workload.specs.Program.{Program}
 use Rattle.velo_workload.specs.declared.fault.WorkFault.TheVariants as work_fault
 use Rattle.velo_world.specs.World.{WorldState}
-use Rattle.velo_commands.specs.Causes.{AnswersWithCause}
+use Rattle.velo_commands.specs.Causes.{MemoryHasCause}
 use Rattle.velo_fate.specs.Causes.{CheckByGrowth, ComesByRefusal, EndsByRefusal, Growths, GrowthsAndStarts, ListByGrowth, NamesByGrowth, Needs, ScheduleByGrowth, SitesByGrowth}
 use Rattle.velo_audit_commands.specs.Auditing.{IsAuditAnswer}
 use Rattle.velo_log_commands.specs.Carrying.{IsCarryAnswer, IsPut}
@@ -52,7 +52,7 @@ use Rattle.velo_fate.specs.Delivery.{Answer, DeliversBy, FailsSaving, IsDelivere
 use Rattle.velo_delivery.specs.Disk.{Disk, Store, behind}
 use Rattle.velo_fate.specs.declared.files.Beside.{Beside}
 use Rattle.velo_fate.specs.Barred.{IsBarred, IsBarredApart, IsBarredRun, names_beside}
-use Rattle.velo_log_commands.specs.Explaining.{IsExplanation}
+use Rattle.velo_log_commands.specs.Explaining.{IsExplainAnswer}
 use Rattle.velo_workload_commands.specs.Exploring.{IsExploreAnswer}
 use Rattle.velo_audit_commands.specs.Commands.{AuditsAsked, AuditsLog, PredictsAsked, PredictsLog}
 use Rattle.velo_inputs.specs.Before.{DoesAsked, DoesBySites}
@@ -101,7 +101,7 @@ module _ (needs : Needs) where
   of_check names limit nodes certificate read answer done (inl c) = said answer _ c.said done
   of_check names limit nodes certificate read answer done (inr f) = said answer (silent (fate.Check f.0)) f.2 (of_fault limit nodes read f.0 f.1)
 
-  of_explanation : (names : NameLists) (sites : Option Table) (asked : Asked) (read : Option (List ℕ)) (answer : Answer) (drawing : List ℕ) → EndsByRefusal needs ending.Done → IsExplanation names sites asked read answer drawing
+  of_explanation : (names : NameLists) (sites : Option Table) (asked : Asked) (read : Option (List ℕ)) (answer : Answer) (drawing : List ℕ) → EndsByRefusal needs ending.Done → IsExplainAnswer names sites asked read answer drawing
       → HasCause answer
   of_explanation names sites asked read answer drawing done (inl e) =
       ⊎_elim
@@ -374,7 +374,7 @@ module _ (terms : Terms) (so : RefusesByGrowth terms) where
   of_watch_by store stdout f (inr (names, read, (shown, are, inl h))) = unread Growths store.disk Log terms.input None f h.0
   of_watch_by store stdout f (inr (names, read, (shown, are, inr h))) = of_watch shown h.0.bytes stdout f h.3
 
-pub of_done : (store : Store) (asked : Request) (stdout : Writing) (f : Fate) → Does store asked stdout f → AnswersWithCause asked f
+pub of_done : (store : Store) (asked : Request) (stdout : Writing) (f : Fate) → Does store asked stdout f → MemoryHasCause asked f
 unfolding Does
 of_done store (request.Check options) stdout f (inl h) = unnamed Growths store.disk options.names f h.0
 of_done store (request.Check options) stdout f (inr (names, read, (shown, are, inl h))) = unread Growths store.disk Log options.input.now None f h.0

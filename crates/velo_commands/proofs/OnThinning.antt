@@ -15,11 +15,11 @@ use Rattle.velo_request.specs.declared.request.ThinOptions.{ThinOptions}
 use Rattle.velo_worker.specs.declared.ending.Ending.TheVariants.{Done}
 use Rattle.velo_fate.specs.declared.fate.Fate.{Fate}
 use Rattle.velo_fate.specs.Causes.{CheckByGrowth, ComesByRefusal, EndsByRefusal, Needs}
-use Rattle.velo_log_commands.specs.Thinning.{ThinsInput, check_fault_by, fate_of_delivery, targets_of}
+use Rattle.velo_log_commands.specs.Thinning.{ThinsInput, check_fault_of_thinning, fate_of_delivery, targets_of}
 use Rattle.velo_log_commands.proofs.OnThinning.{out_by}
 use Rattle.velo_commands.proofs.OnRefusals.{of_flaw, of_log}
 
-of_fault : (read : Option (List ℕ)) (fault : ThinFault) → IsFaultOf read fault → CheckByGrowth (check_fault_by fault)
+of_fault : (read : Option (List ℕ)) (fault : ThinFault) → IsFaultOf read fault → CheckByGrowth (check_fault_of_thinning fault)
 of_fault read (Log fault) is = of_log fault is.1
 of_fault read (Refused p refusal) is = of_flaw is.bounds (take p is.log) is.reason.event refusal is.reason.reason
 of_fault read (WrongValue p) is = tt

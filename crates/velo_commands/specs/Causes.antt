@@ -6,6 +6,6 @@ use Rattle.velo_fate.specs.Causes.{ComesByRefusal, Growths, GrowthsAndStarts}
 
 -- out of memory is reported only after an allocation failed; of a run, the one command that starts
 -- threads, also after a thread could not be started
-abbrev pub AnswersWithCause : Request → Fate → Type 0
-AnswersWithCause (request.Run options) f = ComesByRefusal GrowthsAndStarts f
-AnswersWithCause command f = ComesByRefusal Growths f
+abbrev pub MemoryHasCause : Request → Fate → Type 0
+MemoryHasCause (request.Run options) f = ComesByRefusal GrowthsAndStarts f
+MemoryHasCause command f = ComesByRefusal Growths f

@@ -1,5 +1,5 @@
 //! Each command is done, whatever the files and the output are.
-ghost use Rattle.velo_commands.specs.Causes.{AnswersWithCause};
+ghost use Rattle.velo_commands.specs.Causes.{MemoryHasCause};
 ghost use Rattle.velo_commands.specs.Program.{Does};
 ghost use Rattle.velo_delivery.specs.Disk.{store};
 ghost use Rattle.velo_delivery.specs.Writing.{writing};
@@ -31,7 +31,7 @@ pub fn do_request<R: Threads + Wait + Sync, F: Files, O: Sink, P: ExploreProgres
 ) -> Fate
     ensures done { Does (store F.disk files.old files.new) request.now
         (writing O.contents O.failures out.old out.new) result }
-    ensures memory { AnswersWithCause request.now result }
+    ensures memory { MemoryHasCause request.now result }
 {
     do_by(rt, alloc, request, files, out, progress)
 }

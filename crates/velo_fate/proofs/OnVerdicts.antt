@@ -11,7 +11,7 @@ use Rattle.velo_bytes.proofs.OnDevices.{appends_then, appends_nothing, beginning
 use Rattle.velo_bytes.specs.Device.{with_failure}
 use Rattle.velo_world.specs.World.{WorldState}
 use Rattle.velo_fate.specs.declared.verdict.Verdict.TheVariants as verdict
-use Rattle.velo_fate.specs.Verdict.{IsOrderOrCycle, IsOutput, IsVerdict, WritesOutput, HasAlarm}
+use Rattle.velo_fate.specs.Verdict.{IsOrderOrCycle, IsOutput, IsVerdict, WritesOutput, KnowsAlarm}
 use Rattle.velo_delivery.specs.Writing.{BreaksOff, Writes, Writing}
 use Rattle.velo_report.specs.declared.names.Names.{Names}
 use Rattle.velo_report.specs.Lines.{numbers_line}
@@ -68,7 +68,7 @@ output_of names threads log (Some list) certifies report is =
     (lines.0, record { report = report; is_report = is; lines = lines.0; certified = (list.now, certifies, lines.1); whole = refl })
 
 -- a log whose alarm is known has an output
-pub output_exists : (names : Names) (threads : ℕ) (log : List Event) (list : Option (Bor (List ℕ))) → MayCertify log list → HasAlarm log
+pub output_exists : (names : Names) (threads : ℕ) (log : List Event) (list : Option (Bor (List ℕ))) → MayCertify log list → KnowsAlarm log
     → (text : List ℕ) × IsOutput names (is_some list) threads log text
 output_exists names threads log list certifies alarm =
     let report = report_lines names threads log alarm.0 in

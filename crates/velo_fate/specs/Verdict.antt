@@ -72,5 +72,5 @@ is_alarm Alarm = true
 is_alarm Clean = false
 
 -- which alarm the log has is known: one, or none
-abbrev pub HasAlarm : List Event → Type 0
-HasAlarm log = (alarm : Option analysis.Alarm) × AlarmOf log alarm
+abbrev pub KnowsAlarm : List Event → Type 0
+KnowsAlarm log = (alarm : Option analysis.Alarm) × AlarmOf log alarm

@@ -3,7 +3,7 @@ ghost use Rattle.std.specs.Prelude.{◌≡◌, IfOk, IfSome, is_some};
 ghost use Rattle.velo_events.specs.Certificate.{IsSerialOrder};
 ghost use Rattle.velo_certify.specs.Shortest.{IsShortestCycleAt};
 ghost use Rattle.velo_events.specs.Graph.{HasCycle, IsClosing};
-ghost use Rattle.velo_fate.specs.Verdict.{IsOrderOrCycle, IsVerdict, WritesOutput, is_alarm, HasAlarm};
+ghost use Rattle.velo_fate.specs.Verdict.{IsOrderOrCycle, IsVerdict, WritesOutput, is_alarm, KnowsAlarm};
 ghost use Rattle.velo_delivery.specs.Writing.{writing};
 
 use std::alloc::Global;
@@ -33,7 +33,7 @@ pub fn is_alarm(verdict: Verdict) -> bool
 /// What the log of a closed world shows.
 pub fn verdict_of(closed: &Closed) -> Verdict
     ensures verdict { IsVerdict closed.now.log result }
-    ensures alarm { HasAlarm closed.now.log }
+    ensures alarm { KnowsAlarm closed.now.log }
 {
     match closed.alarm() {
         Some(_) => Verdict::Alarm,

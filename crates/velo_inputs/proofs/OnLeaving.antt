@@ -10,7 +10,7 @@ use Rattle.velo_events.specs.declared.limits.TheConstants.{MAX_LOCKS}
 use Rattle.velo_filter.specs.Left.{Left, is_listed, nothing, with_labels, with_lock, with_variable}
 use Rattle.velo_filter.proofs.OnTables.{is_listed-append, is_listed-nil, left_same}
 use Rattle.velo_audit_text.specs.declared.words.Asked.{Asked}
-use Rattle.velo_inputs.specs.Leaving.{left_at_first, with_locks, with_locks_below, with_variables}
+use Rattle.velo_inputs.specs.Leaving.{left_out_at_first, with_locks, with_locks_below, with_variables}
 
 is_listed-one : (x n : ℕ) → is_listed (x ∷ []) n ≡ (n == x)
 unfolding is_listed
@@ -83,7 +83,7 @@ with_variables-push left xs n = left_same (with_variable (with_variables left xs
 
 -- all that was asked for
 pub asked_left : (asked : Asked) (a b c d e : Left) → a ≡ nothing → b ≡ with_labels a (map (λ (l : Label). l.0) asked.labels.now) → c ≡ with_locks b (map (λ (m : LockId). m.0) asked.locks.now)
-    → d ≡ with_locks_below c asked.all_locks MAX_LOCKS → e ≡ with_variables d (map (λ (x : VarId). x.0) asked.variables.now) → e ≡ left_at_first asked
+    → d ≡ with_locks_below c asked.all_locks MAX_LOCKS → e ≡ with_variables d (map (λ (x : VarId). x.0) asked.variables.now) → e ≡ left_out_at_first asked
 asked_left asked a b c d e start labels locks all variables =
     variables
     ∙ ap (λ (x : Left). with_variables x (map (λ (x : VarId). x.0) asked.variables.now)) (all

@@ -9,8 +9,8 @@ use Rattle.velo_audit_text.specs.declared.words.Asked.{Asked}
 
 -- Left out are the labels, the locks and the variables that were asked for. If all locks were, so is
 -- each that a log can have: its number is below the most.
-abbrev pub left_at_first : Asked → Left
-left_at_first asked =
+abbrev pub left_out_at_first : Asked → Left
+left_out_at_first asked =
     record {
       labels = is_listed (map (λ (l : Label). l.0) asked.labels.now);
       locks = λ m. is_listed (map (λ (l : LockId). l.0) asked.locks.now) m

@@ -44,9 +44,9 @@ abbrev pub LacksSites : Disk → Option (Bor (List ℕ)) → Fate → Type 0
 LacksSites disk path f = LacksGiven sites_file disk path f
 
 -- they are those of a log with so many events, as far as this can be seen
-abbrev pub AreOfLog : Option Table → List Event → Type 0
-AreOfLog None log = ⊤
-AreOfLog (Some sites) log = length sites.events ≡ length log
+abbrev pub HaveLengthOf : Option Table → List Event → Type 0
+HaveLengthOf None log = ⊤
+HaveLengthOf (Some sites) log = length sites.events ≡ length log
 
 -- ---- on the way. Contracts within the crate cite these words
 

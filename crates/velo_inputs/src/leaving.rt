@@ -6,7 +6,7 @@ ghost use Rattle.velo_events.specs.declared.event.VarId.{VarId as VariableOf};
 ghost use Rattle.velo_events.specs.declared.limits.TheConstants.{MAX_LOCKS};
 ghost use Rattle.velo_filter.specs.Left.{with_labels};
 ghost use Rattle.velo_filter.specs.Tables.{left_of};
-ghost use Rattle.velo_inputs.specs.Leaving.{left_at_first, with_locks, with_locks_below, with_variables};
+ghost use Rattle.velo_inputs.specs.Leaving.{left_out_at_first, with_locks, with_locks_below, with_variables};
 
 use std::alloc::Global;
 use velo_audit_text::Asked;
@@ -73,7 +73,7 @@ fn leave_out_variables(left: &mut LeftOut, variables: &[VarId]) -> Result<(), Me
 /// # Errors
 /// `Memory` if an allocation failed.
 pub fn left_out(alloc: Global, asked: &Asked) -> Result<LeftOut, Memory>
-    ensures { IfOk result (λ left. left_of left ≡ left_at_first asked.now) }
+    ensures { IfOk result (λ left. left_of left ≡ left_out_at_first asked.now) }
 {
     let mut left = LeftOut::new(alloc);
     leave_out_labels(&mut left, asked.labels)?;

@@ -5,7 +5,7 @@ ghost use Rattle.velo_delivery.specs.Disk.{Store, store};
 ghost use Rattle.velo_delivery.specs.Writing.{Writing, writing};
 ghost use Rattle.velo_fate.specs.declared.fate.Fate.{Fate as FateOf};
 ghost use Rattle.velo_inputs.specs.Before.{DoesBySites};
-ghost use Rattle.velo_inputs.specs.Siting.{AreNoSitesIn, AreOfLog, AreSitesIn};
+ghost use Rattle.velo_inputs.specs.Siting.{AreNoSitesIn, HaveLengthOf, AreSitesIn};
 ghost use Rattle.velo_sites.specs.Sites.{Table};
 
 use crate::naming::read_given;
@@ -39,8 +39,8 @@ pub fn sites_in<'a>(
 
 /// Whether the sites, if there are some, are of as many events as the log has.
 pub fn are_of_log(sites: &Option<Sites>, log: &Trace) -> bool
-    ensures same { IsTrue result → AreOfLog sites.now log.now.events }
-    ensures other { result ≡ false → ¬ AreOfLog sites.now log.now.events }
+    ensures same { IsTrue result → HaveLengthOf sites.now log.now.events }
+    ensures other { result ≡ false → ¬ HaveLengthOf sites.now log.now.events }
 {
     match sites {
         Some(sites) => sites.count_events() == log.len(),

@@ -21,16 +21,16 @@ use Rattle.velo_request.specs.declared.request.ThinOptions.{ThinOptions}
 use Rattle.velo_fate.specs.declared.fate.Fate.{Fate}
 use Rattle.velo_fate.specs.declared.fate.Fate.TheVariants.{Check}
 use Rattle.velo_fate.specs.Failures.{failures_told}
-use Rattle.velo_log_commands.specs.Thinning.{ThinsLog, check_fault_by, fate_of_delivery, targets_of}
+use Rattle.velo_log_commands.specs.Thinning.{ThinsLog, check_fault_of_thinning, fate_of_delivery, targets_of}
 
 -- ---- how often the source has failed
 
-told_by_log : (fault : LogFault) (count : ℕ) → failures_by {X = ThinnedLog} (Err (Log fault)) count ≡ failures_told (Check (check_fault_by (Log fault))) count
+told_by_log : (fault : LogFault) (count : ℕ) → failures_by {X = ThinnedLog} (Err (Log fault)) count ≡ failures_told (Check (check_fault_of_thinning (Log fault))) count
 told_by_log Read count = refl
 told_by_log fault count = refl
 
 -- a fault is told as a failed read where it is one
-pub told_by_fault : (fault : ThinFault) (count : ℕ) → failures_by {X = ThinnedLog} (Err fault) count ≡ failures_told (Check (check_fault_by fault)) count
+pub told_by_fault : (fault : ThinFault) (count : ℕ) → failures_by {X = ThinnedLog} (Err fault) count ≡ failures_told (Check (check_fault_of_thinning fault)) count
 told_by_fault (Log fault) count = told_by_log fault count
 told_by_fault (Refused p refusal) count = refl
 told_by_fault (WrongValue p) count = refl

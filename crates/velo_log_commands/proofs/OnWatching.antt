@@ -36,7 +36,7 @@ use Rattle.velo_fate.specs.Verdict.{is_alarm}
 use Rattle.velo_fate.specs.Failures.{failures_told}
 use Rattle.velo_report.specs.declared.names.Names.{Names}
 use Rattle.velo_log_commands.specs.Steps.{ShowsLog}
-use Rattle.velo_log_commands.specs.Watching.{check_fault_by, EndsAfter, FailsAfter, Follows, GoesOn, HasCome, HasWatched, IsSoFar, KeepsTo, StepsOn, Terms, Watches, terms_of_watch}
+use Rattle.velo_log_commands.specs.Watching.{check_fault_of_watching, EndsAfter, FailsAfter, Follows, GoesOn, HasCome, HasWatched, IsSoFar, KeepsTo, StepsOn, Terms, Watches, terms_of_watch}
 use Rattle.velo_delivery.specs.Writing.{Writing, WritesNothing}
 
 -- ---- a log that is kept whole
@@ -140,7 +140,7 @@ module _ (terms : Terms) (read : Option (List ℕ)) (stdout : Writing) where
 
   -- why it went no further
   pub ended_early : (X : Type 0) (fault : WatchFault) (bounds : Bounds) (HasSeen : List Event → Type 0) → Follows terms read stdout.old stdout.new {X = X} (Err fault) bounds HasSeen
-      → stdout.failures_after ≡ write_failures {X = X} (Err fault) stdout.failures_before → (names : Names) → Watches names terms read stdout (fate_of (Err (check_fault_by fault)))
+      → stdout.failures_after ≡ write_failures {X = X} (Err fault) stdout.failures_before → (names : Names) → Watches names terms read stdout (fate_of (Err (check_fault_of_watching fault)))
   ended_early X (watch_fault.Log fault) bounds HasSeen (before, log, on, (come, ends)) kept names = cut_short before log come kept (Log fault) (inl (on, ends)) names
   ended_early X (watch_fault.Replay (replay.Refused p r)) bounds HasSeen (before, log, on, (come, ends)) kept names = cut_short before log come kept (Refused p r) (inl (on, ends)) names
   ended_early X (watch_fault.Replay (replay.WrongValue p)) bounds HasSeen (before, log, on, (come, ends)) kept names = cut_short before log come kept (WrongValue p) (inl (on, ends)) names
@@ -159,7 +159,7 @@ module _ (terms : Terms) (read : Option (List ℕ)) (stdout : Writing) where
   )
 
 -- there is no log at all
-pub unopened : (names : Names) (terms : Terms) (read : Option (List ℕ)) (stdout : Writing) (fault : WatchFault) → IsFaultOfOpening read fault → WritesNothing stdout → Watches names terms read stdout (fate_of (Err (check_fault_by fault)))
+pub unopened : (names : Names) (terms : Terms) (read : Option (List ℕ)) (stdout : Writing) (fault : WatchFault) → IsFaultOfOpening read fault → WritesNothing stdout → Watches names terms read stdout (fate_of (Err (check_fault_of_watching fault)))
 unopened names terms read stdout (watch_fault.Log fault) (met, reads) nothing =
     inl (silent (Check (Log fault)), inr (inr (Log fault, ((reads, λ is. subst IsMetInHeader is met), met), refl)), (refl, nothing))
 unopened names terms read stdout (watch_fault.Replay replay.Memory) growth nothing =
@@ -169,7 +169,7 @@ unopened names terms read stdout (watch_fault.Replay (replay.WrongValue p)) is n
 unopened names terms read stdout watch_fault.Write is nothing = absurd is
 
 -- the source's failures after a fault
-pub reads_told : (X : Type 0) (fault : WatchFault) (n : ℕ) → read_failures {X = X} (Err fault) n ≡ failures_told (fate_of (Err (check_fault_by fault))) n
+pub reads_told : (X : Type 0) (fault : WatchFault) (n : ℕ) → read_failures {X = X} (Err fault) n ≡ failures_told (fate_of (Err (check_fault_of_watching fault))) n
 reads_told X (watch_fault.Log log_fault.Read) n = refl
 reads_told X (watch_fault.Log log_fault.BadHeader) n = refl
 reads_told X (watch_fault.Log (log_fault.BadLine k)) n = refl

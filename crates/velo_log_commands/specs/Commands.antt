@@ -25,7 +25,7 @@ use Rattle.velo_fate.specs.Delivery.{Answer, IsDelivered, IsDeliveredInTurn}
 use Rattle.velo_fate.specs.Barred.{WritesNowhere, DoesNotRead, DoesNotReadApart}
 use Rattle.velo_delivery.specs.Disk.{IsWritten, Store}
 use Rattle.velo_log_commands.specs.Endless.{terms_of_endless}
-use Rattle.velo_log_commands.specs.Explaining.{IsExplanation}
+use Rattle.velo_log_commands.specs.Explaining.{IsExplainAnswer}
 use Rattle.velo_inputs.specs.Naming.{AreShown}
 use Rattle.velo_fate.specs.Failures.{FailuresAsTold}
 use Rattle.velo_delivery.specs.Reading.{Reading}
@@ -75,7 +75,7 @@ ExplainsLog names sites asked options store stdout f =
     DoesNotReadApart store Log options.input.now options.target (drawing_of options) stdout f
     ⊎ ((read : Reading) × (answer : Answer) × (drawing : List ℕ)
     × store.disk.gives options.input.now read × FailuresAsTold read f
-    × IsExplanation names sites asked read.bytes answer drawing
+    × IsExplainAnswer names sites asked read.bytes answer drawing
     × IsDeliveredInTurn store options.target options.drawing drawing stdout answer f)
 
 abbrev pub ExplainsAsked : NameLists → Asked → ExplainOptions → Store → Writing → Fate → Type 0

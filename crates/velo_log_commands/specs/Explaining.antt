@@ -22,8 +22,8 @@ use Rattle.velo_picture.specs.Drawing.{drawing_text}
 use Rattle.velo_worker.specs.declared.ending.Ending.TheVariants.{Done}
 use Rattle.velo_fate.specs.declared.fate.Fate.TheVariants.{Finished, OtherSites}
 use Rattle.velo_inputs.specs.Input.{ComesAbout, IsUnchecked}
-use Rattle.velo_inputs.specs.Leaving.{left_at_first}
-use Rattle.velo_inputs.specs.Siting.{AreOfLog}
+use Rattle.velo_inputs.specs.Leaving.{left_out_at_first}
+use Rattle.velo_inputs.specs.Siting.{HaveLengthOf}
 use Rattle.velo_fate.specs.Delivery.{Answer, LacksMemory, printing, silent}
 
 -- ---- what is explained
@@ -104,7 +104,7 @@ abbrev pub ExplainsVerdict : NameLists → Option Table → Asked → List Event
 ExplainsVerdict names sites asked log answer drawing =
     ((is_whole asked ≡ true) × ExplainsWhole names sites log answer drawing)
     ⊎ ((is_whole asked ≡ false)
-    × ExplainsRest (opening names asked) names sites (left_at_first asked) log answer drawing)
+    × ExplainsRest (opening names asked) names sites (left_out_at_first asked) log answer drawing)
 
 -- ---- the answer
 
@@ -115,7 +115,7 @@ pub record IsExplained (names : NameLists) (sites : Option Table) (asked : Asked
   pub bounds : Bounds
   pub log : List Event
   pub comes_about : ComesAbout MAX_EVENTS read bounds log
-  pub of_log : AreOfLog sites log
+  pub of_log : HaveLengthOf sites log
   pub verdict : ExplainsVerdict names sites asked log answer drawing
 
 -- nothing is said of the log of the input: the sites are of another number of events
@@ -124,13 +124,13 @@ pub record IsOfOtherLog (sites : Option Table) (read : Option (List ℕ)) (answe
   pub bounds : Bounds
   pub log : List Event
   pub comes_about : ComesAbout MAX_EVENTS read bounds log
-  pub of_other : ¬ AreOfLog sites log
+  pub of_other : ¬ HaveLengthOf sites log
   pub said : answer ≡ silent OtherSites
 
 -- What an explanation has to say: the verdict in words, the cycle of an alarm, and its drawing; or
 -- nothing, for a reason.
-abbrev pub IsExplanation : NameLists → Option Table → Asked → Option (List ℕ) → Answer → List ℕ → Type 0
-IsExplanation names sites asked read answer drawing =
+abbrev pub IsExplainAnswer : NameLists → Option Table → Asked → Option (List ℕ) → Answer → List ℕ → Type 0
+IsExplainAnswer names sites asked read answer drawing =
     IsExplained names sites asked read answer drawing
     ⊎ (IsOfOtherLog sites read answer
     ⊎ (IsUnchecked MAX_EVENTS MAX_NODES read answer ⊎ LacksMemory answer))

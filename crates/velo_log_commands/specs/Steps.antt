@@ -18,8 +18,8 @@ use Rattle.velo_fate.specs.Verdict.{IsOutput, IsVerdict}
 use Rattle.velo_fate.specs.Delivery.{Answer, IsDeliveredInTurn, LacksMemory}
 use Rattle.velo_request.specs.declared.request.ExplainOptions.{ExplainOptions}
 use Rattle.velo_delivery.specs.Disk.{IsWritten, Store}
-use Rattle.velo_log_commands.specs.Explaining.{ExplainsVerdict, IsExplanation}
-use Rattle.velo_inputs.specs.Siting.{AreOfLog}
+use Rattle.velo_log_commands.specs.Explaining.{ExplainsVerdict, IsExplainAnswer}
+use Rattle.velo_inputs.specs.Siting.{HaveLengthOf}
 use Rattle.velo_fate.specs.Failures.{FailuresAsTold}
 use Rattle.velo_delivery.specs.Reading.{Reading}
 use Rattle.velo_delivery.specs.Writing.{BreaksOff, Writes, WritesNothing, Writing}
@@ -63,8 +63,8 @@ Explains explains store options stdout f =
 abbrev pub ExplainsIfOf : NameLists → Option Table → Asked → List Event → Store → ExplainOptions
     → Writing → Fate → Type 0
 ExplainsIfOf names sites asked log store options stdout f =
-    (AreOfLog sites log × Explains (ExplainsVerdict names sites asked log) store options stdout f)
-    ⊎ ((¬ AreOfLog sites log) × (f ≡ OtherSites) × store.is_kept × WritesNothing stdout)
+    (HaveLengthOf sites log × Explains (ExplainsVerdict names sites asked log) store options stdout f)
+    ⊎ ((¬ HaveLengthOf sites log) × (f ≡ OtherSites) × store.is_kept × WritesNothing stdout)
 
 -- what was made of an input was delivered
 abbrev pub ExplainsInput : NameLists → Option Table → Asked → ExplainOptions → Store → Reading
@@ -72,7 +72,7 @@ abbrev pub ExplainsInput : NameLists → Option Table → Asked → ExplainOptio
 ExplainsInput names sites asked options store read stdout f =
     FailuresAsTold read f
     × ((answer : Answer) × (drawing : List ℕ)
-    × IsExplanation names sites asked read.bytes answer drawing
+    × IsExplainAnswer names sites asked read.bytes answer drawing
     × IsDeliveredInTurn store options.target options.drawing drawing stdout answer f)
 
 -- ---- carrying over

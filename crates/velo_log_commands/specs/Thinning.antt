@@ -33,11 +33,11 @@ map_of options = record { operand = Map; path = options.map }
 -- ---- what it comes to
 
 -- the same fault of a check
-abbrev pub check_fault_by : ThinFault → CheckFault
-check_fault_by (thin_fault.Log fault) = Log fault
-check_fault_by (thin_fault.Refused p refusal) = Refused p refusal
-check_fault_by (thin_fault.WrongValue p) = WrongValue p
-check_fault_by thin_fault.Memory = Memory
+abbrev pub check_fault_of_thinning : ThinFault → CheckFault
+check_fault_of_thinning (thin_fault.Log fault) = Log fault
+check_fault_of_thinning (thin_fault.Refused p refusal) = Refused p refusal
+check_fault_of_thinning (thin_fault.WrongValue p) = WrongValue p
+check_fault_of_thinning thin_fault.Memory = Memory
 
 -- it is done, whatever the verdict of the log is; or something failed on the way out
 abbrev pub fate_of_delivery : Result ⊤ Failure → Fate
@@ -65,7 +65,7 @@ pub record ThinsLog (options : ThinOptions) (read : Option (List ℕ)) (store : 
 -- nothing is written where the input has this fault
 abbrev pub IsUnthinned : Option (List ℕ) → Store → Writing → Fate → Type 0
 IsUnthinned read store stdout f =
-    (fault : ThinFault) × IsFaultOf read fault × (f ≡ Check (check_fault_by fault))
+    (fault : ThinFault) × IsFaultOf read fault × (f ≡ Check (check_fault_of_thinning fault))
     × WritesNowhere store stdout
 
 abbrev pub ThinsInput : ThinOptions → Option (List ℕ) → Store → Writing → Fate → Type 0

@@ -256,7 +256,7 @@ pub record HasWatched (terms : Terms) (read : Option (List ℕ)) (stdout : Writi
   pub seen : HasSeen log
 
 -- the fault of a check where a watch ends early
-abbrev pub check_fault_by : WatchFault → CheckFault
-check_fault_by (watch_fault.Log fault) = Log fault
-check_fault_by (watch_fault.Replay fault) = check_fault_of fault
-check_fault_by watch_fault.Write = Write
+abbrev pub check_fault_of_watching : WatchFault → CheckFault
+check_fault_of_watching (watch_fault.Log fault) = Log fault
+check_fault_of_watching (watch_fault.Replay fault) = check_fault_of fault
+check_fault_of_watching watch_fault.Write = Write

@@ -13,7 +13,7 @@ ghost use Rattle.velo_log_commands.specs.Explaining.{ExplainsRest, ExplainsVerdi
 ghost use Rattle.velo_log_commands.specs.Commands.{DoesExplain, ExplainsAsked, ExplainsLog, ExplainsNamed};
 ghost use Rattle.velo_picture.specs.Drawing.{drawing_text};
 ghost use Rattle.velo_fate.specs.Delivery.{IsDelivered, IsDeliveredInTurn};
-ghost use Rattle.velo_inputs.specs.Leaving.{left_at_first};
+ghost use Rattle.velo_inputs.specs.Leaving.{left_out_at_first};
 ghost use Rattle.velo_delivery.specs.Reading.{reading};
 ghost use Rattle.velo_delivery.specs.Disk.{store};
 ghost use Rattle.velo_delivery.specs.Writing.{writing};
@@ -379,7 +379,7 @@ fn explain_rest<F: Files, O: Sink>(
 ) -> Fate
     requires { length closed.now.log ≤ MAX_EVENTS }
     ensures { Explains (ExplainsRest (opening inquiry.now.names.now inquiry.now.asked.now)
-        inquiry.now.names.now sites.now (left_at_first inquiry.now.asked.now) closed.now.log)
+        inquiry.now.names.now sites.now (left_out_at_first inquiry.now.asked.now) closed.now.log)
         (store F.disk files.old files.new) inquiry.now.options.now
         (writing O.contents O.failures out.old out.new) result }
 {

@@ -4,7 +4,7 @@ ghost use Rattle.velo_delivery.specs.Disk.{store};
 ghost use Rattle.velo_delivery.specs.Writing.{writing};
 ghost use Rattle.velo_fate.specs.Failures.{failures_told};
 ghost use Rattle.velo_log_commands.specs.Commands.{DoesThin};
-ghost use Rattle.velo_log_commands.specs.Thinning.{GoesOutTo, ThinsInput, check_fault_by};
+ghost use Rattle.velo_log_commands.specs.Thinning.{GoesOutTo, ThinsInput, check_fault_of_thinning};
 
 use std::alloc::Global;
 use velo_bytes::{Sink, Source};
@@ -16,7 +16,7 @@ use velo_worker::Ending;
 
 /// The same fault of a check.
 fn fault_of(fault: ThinFault) -> CheckFault
-    ensures { result ≡ check_fault_by fault }
+    ensures { result ≡ check_fault_of_thinning fault }
 {
     match fault {
         ThinFault::Log(fault) => CheckFault::Log(fault),

@@ -9,7 +9,7 @@ ghost use Rattle.velo_fate.specs.Failures.{failures_told};
 ghost use Rattle.velo_log_commands.specs.Check.{fate_of};
 ghost use Rattle.velo_log_commands.specs.Commands.{DoesWatch, WatchesBy, WatchesLog};
 ghost use Rattle.velo_log_commands.specs.Steps.{ShowsLog};
-ghost use Rattle.velo_log_commands.specs.Watching.{check_fault_by, CanWatch, Follows, HasWatched, StepsOn, Terms, Watches, terms_of_watch};
+ghost use Rattle.velo_log_commands.specs.Watching.{check_fault_of_watching, CanWatch, Follows, HasWatched, StepsOn, Terms, Watches, terms_of_watch};
 ghost use Rattle.velo_report.specs.declared.names.Names.{Names as Shown};
 ghost use Rattle.velo_watch.specs.UnderWay.{IsFaultOfOpening, IsUnderWay, read_failures, write_failures};
 
@@ -112,7 +112,7 @@ pub trait AskedWatch {
 
 /// The same fault of a check.
 fn fault_of_watch(fault: WatchFault) -> CheckFault
-    ensures { result ≡ check_fault_by fault }
+    ensures { result ≡ check_fault_of_watching fault }
 {
     match fault {
         WatchFault::Log(fault) => CheckFault::Log(fault),

@@ -42,7 +42,7 @@ use Rattle.velo_workload_commands.specs.declared.told.Told.{Told}
 use Rattle.velo_workload_commands.specs.ByChance.{IsBlameOf}
 use Rattle.velo_workload_commands.specs.Exploring.{IsExplored, IsSaidOf, IsToldBy, IsToldOf, fate_of_goal, fate_of_rest, fate_of_told, run_of, told_text, waits_after}
 use Rattle.velo_workload_commands.specs.Playing.{IsConfigOf, IsReported}
-use Rattle.velo_workload_commands.specs.Reporting.{IsPlain}
+use Rattle.velo_workload_commands.specs.Reporting.{IsNoFileFailure}
 use Rattle.velo_workload_commands.specs.Steps.{IsReportable}
 use Rattle.velo_fate.proofs.OnDelivery.{in_turn_reads}
 use Rattle.velo_fate.proofs.OnDelivery.{printed_put, same_fate}
@@ -151,10 +151,10 @@ caused options program answer e =
 
 -- it is no failure of a file, and no failed read
 record IsQuiet (f : Fate) : Type 0 where
-  pub plain : IsPlain f
+  pub plain : IsNoFileFailure f
   pub read : (n : ℕ) → failures_told f n ≡ n
 
-pub plain_finished : (ended : Ending) (alarm : Bool) → IsPlain (fate.Finished ended alarm)
+pub plain_finished : (ended : Ending) (alarm : Bool) → IsNoFileFailure (fate.Finished ended alarm)
 plain_finished ended alarm = record { opened = λ h. cc; written = λ h. cc }
 
 quiet_finished : (ended : Ending) (alarm : Bool) → IsQuiet (fate.Finished ended alarm)
@@ -176,7 +176,7 @@ quiet_first found (Some w) = quiet_goal w.goal
 quiet_told : (told : Told) → IsQuiet (fate_of_told told)
 quiet_told told = quiet_first told.shrunk.findings (first_of told.shrunk.findings)
 
-pub plain_told : (told : Told) → IsPlain (fate_of_told told)
+pub plain_told : (told : Told) → IsNoFileFailure (fate_of_told told)
 plain_told told = (quiet_told told).plain
 
 -- no exploration is told as a failed read
@@ -189,12 +189,12 @@ explores_reads store names stdout options program answer n is f h = in_turn_read
         ap (λ (f : Fate). failures_told f n) (said_fate program options.certificate e.told e.told.shrunk.first answer e.says) ∙ (quiet_told e.told).read n
     by_fate (inr lacks) = same_fate answer _ n lacks.1 refl
 
-pub printed_plain : (stdout : Writing) (text : List ℕ) (end : Fate) → IsPlain end → Writes stdout text → IsPrinted stdout (printing text end) end
+pub printed_plain : (stdout : Writing) (text : List ℕ) (end : Fate) → IsNoFileFailure end → Writes stdout text → IsPrinted stdout (printing text end) end
 printed_plain stdout text fate.WriteFailed plain went = absurd (plain.written refl)
 printed_plain stdout text f plain went = (refl, went)
 
 -- what is printed alone
-pub printed_alone : (store : Store) (target path : Option (Bor (List ℕ))) (names : List ℕ) (stdout : Writing) (text : List ℕ) (end f : Fate) → IsPlain end → store.is_kept
+pub printed_alone : (store : Store) (target path : Option (Bor (List ℕ))) (names : List ℕ) (stdout : Writing) (text : List ℕ) (end f : Fate) → IsNoFileFailure end → store.is_kept
     → IsPrinted stdout (printing text end) f → IsDeliveredInTurn store target path names stdout (printing text end) f
 printed_alone store target path names stdout text end f plain kept printed = printed_put store target stdout None None (Some text) end kept plain.opened f printed
 

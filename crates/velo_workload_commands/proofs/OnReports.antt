@@ -17,12 +17,12 @@ use Rattle.velo_fate.specs.declared.saved.Saved.{Saved}
 use Rattle.velo_fate.specs.Delivery.{Answer, IsDeliveredInTurn, IsTaken, LacksMemory}
 use Rattle.velo_fate.specs.Fate.{fate_of_failure}
 use Rattle.velo_fate.specs.Saving.{is_text_saved, text_of_log}
-use Rattle.velo_fate.specs.Verdict.{HasAlarm, IsOrderOrCycle, IsOutputOf}
+use Rattle.velo_fate.specs.Verdict.{KnowsAlarm, IsOrderOrCycle, IsOutputOf}
 use Rattle.velo_fate.proofs.OnVerdicts.{output_exists}
 use Rattle.velo_workload.specs.Program.{Program}
 use Rattle.velo_workload_commands.specs.declared.page.Page.{Page}
-use Rattle.velo_workload_commands.specs.Playing.{AreNamesOf, IsReported, text_of_names}
-use Rattle.velo_workload_commands.specs.Reporting.{AreNamesFor, IsListFor, IsPlain, is_page}
+use Rattle.velo_workload_commands.specs.Playing.{AreNamesOfProgram, IsReported, text_of_names}
+use Rattle.velo_workload_commands.specs.Reporting.{AreNamesFor, IsListFor, IsNoFileFailure, is_page}
 use Rattle.velo_workload_commands.proofs.OnSaving.{both, run_saved, run_unsaved}
 use Rattle.velo_workload_commands.proofs.OnTurns.{in_turn_named, saved_in_turn, unsaved_in_turn}
 
@@ -50,7 +50,7 @@ module _ {S : Type 0} (contents : S → Option (List ℕ)) (failures : S → ℕ
 -- ---- a page
 
 -- it has a text
-pub page-exists : (page : Page) → IfSome page.list (λ list. IsOrderOrCycle page.closed.now.log list.now) → HasAlarm page.closed.now.log → (text : List ℕ) × is_page page text
+pub page-exists : (page : Page) → IfSome page.list (λ list. IsOrderOrCycle page.closed.now.log list.now) → KnowsAlarm page.closed.now.log → (text : List ℕ) × is_page page text
 page-exists page certifies judged =
     let w = page.closed.now in
     let output = output_exists page.names w.config.bounds.threads w.log page.list certifies judged in
@@ -74,8 +74,8 @@ is-certified false log list (Some l) is h = absurd (subst (IsListFor false log) 
 -- ---- a report
 
 module _ {F : Type 0} (disk : F → Disk) (first left : F) (names : Bor (List ℕ)) (named at : Operand) (target path : Option (Bor (List ℕ)))
-    (page : Page) (end : Fate) (plain : IsPlain end) (stdout : Writing)
-    (program : Program) (certificate : Bool) (are : AreNamesOf program page.names) (is : is_some page.list ≡ certificate) (for : AreNamesFor path program names.now) where
+    (page : Page) (end : Fate) (plain : IsNoFileFailure end) (stdout : Writing)
+    (program : Program) (certificate : Bool) (are : AreNamesOfProgram program page.names) (is : is_some page.list ≡ certificate) (for : AreNamesFor path program names.now) where
   abbrev log : List ℕ
   log = text_of_log page.closed.now
 
@@ -105,7 +105,7 @@ module _ {F : Type 0} (disk : F → Disk) (first left : F) (names : Bor (List �
     in_turn_named (store disk first left) target names.now stdout (said text) f path program for out,
   )
 
-  pub unsaved-report : IfSome page.list (λ list. IsOrderOrCycle page.closed.now.log list.now) → HasAlarm page.closed.now.log → (f : Failure)
+  pub unsaved-report : IfSome page.list (λ list. IsOrderOrCycle page.closed.now.log list.now) → KnowsAlarm page.closed.now.log → (f : Failure)
       → IsOneUnsaved is_text_saved (store disk first left) saves f → WritesNothing stdout → Reported (fate_of_failure f)
   unsaved-report certifies judged f unsaved nothing =
       let any = page-exists page certifies judged in

@@ -114,10 +114,10 @@ is_unreported (ending.Refused t refusal.RuntimeMemory) = true
 is_unreported _ = false
 
 -- the names of threads and labels are the program's
-abbrev pub AreNamesOf : Program → Names → Type 0
-AreNamesOf program Numbers = ⊥
-AreNamesOf program (Listed _) = ⊥
-AreNamesOf program (Words threads labels) =
+abbrev pub AreNamesOfProgram : Program → Names → Type 0
+AreNamesOfProgram program Numbers = ⊥
+AreNamesOfProgram program (Listed _) = ⊥
+AreNamesOfProgram program (Words threads labels) =
     (map string_bytes threads.now ≡ program.thread_names)
     × (map string_bytes labels.now ≡ program.label_names)
 
@@ -146,7 +146,7 @@ pub record FitsNames (program : Program) : Type 0 where
 pub record IsReported (program : Program) (certificate : Bool) (before : List ℕ) (w : WorldState)
     (after : List ℕ) (end : Fate) (answer : Answer) : Type 0 where
   pub names : Names
-  pub are_names : AreNamesOf program names
+  pub are_names : AreNamesOfProgram program names
   pub report : List ℕ
   pub is_report : IsOutputOf names certificate w report
   pub said : answer ≡ record {

@@ -35,7 +35,7 @@ IsListFor false log None = ⊤
 IsListFor certificate log list = ⊥
 
 -- it comes on no way out: it is no failure of a file
-pub record IsPlain (f : Fate) : Type 0 where
+pub record IsNoFileFailure (f : Fate) : Type 0 where
   pub opened : f ≢ CannotOpen
   pub written : f ≢ WriteFailed
 

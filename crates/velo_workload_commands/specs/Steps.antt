@@ -11,7 +11,7 @@ use Rattle.velo_request.specs.declared.request.RunOptions.{RunOptions}
 use Rattle.velo_shrink.specs.declared.findings.Replay.{Replay}
 use Rattle.velo_workload_commands.specs.declared.told.Told.{Told}
 use Rattle.velo_workload_commands.specs.Exploring.{IsExplored, IsSaidOf}
-use Rattle.velo_fate.specs.Verdict.{HasAlarm}
+use Rattle.velo_fate.specs.Verdict.{KnowsAlarm}
 use Rattle.velo_fate.specs.Delivery.{Answer, IsDeliveredInTurn, IsPrinted, LacksMemory, Saves, printing}
 use Rattle.velo_delivery.specs.Disk.{Disk, Store, behind, up_to}
 use Rattle.velo_fate.specs.Barred.{IsBarredRun}
@@ -61,7 +61,7 @@ OpensNoProgram disk options f =
 -- the replay is of the program, and its alarm is known
 pub record IsReportable (program : Program) (replay : Replay) : Type 0 where
   pub bounds : replay.closed.config.bounds ≡ program.bounds
-  pub alarm : HasAlarm replay.closed.log
+  pub alarm : KnowsAlarm replay.closed.log
 
 -- what printing a text alone came to
 abbrev pub PrintsAlone : List ℕ → Fate → Writing → Fate → Type 0

@@ -4,7 +4,7 @@ ghost use Rattle.velo_delivery.specs.Disk.{store};
 ghost use Rattle.velo_delivery.specs.Writing.{writing};
 ghost use Rattle.velo_workload_commands.specs.Commands.{DoesExplore};
 ghost use Rattle.velo_workload_commands.specs.Exploring.{fate_of_findings, fate_of_goal, fate_of_rest, is_never, run_of, told_text, waits_after};
-ghost use Rattle.velo_workload_commands.specs.Reporting.{IsPlain};
+ghost use Rattle.velo_workload_commands.specs.Reporting.{IsNoFileFailure};
 ghost use Rattle.velo_workload_commands.specs.Steps.{Explores, IsReportable, PrintsAlone, SaysTold};
 
 use crate::exploration_text::text_of_told;
@@ -107,7 +107,7 @@ fn waits_after(alloc: Global, workload: &Workload, replay: &Replay) -> Result<Ve
 
 /// Prints a text alone.
 fn print_alone<O: Sink>(text: &[u8], end: Fate, out: &mut O) -> Fate
-    requires { IsPlain end }
+    requires { IsNoFileFailure end }
     ensures { PrintsAlone text.now end (writing O.contents O.failures out.old out.new) result }
 {
     match write_all(out, text) {

@@ -3,9 +3,9 @@
 ghost use Rattle.std.specs.Prelude.{◌≡◌, IfOk, IfSome, option_map};
 ghost use Rattle.velo_delivery.specs.Disk.{store};
 ghost use Rattle.velo_delivery.specs.Writing.{writing};
-ghost use Rattle.velo_fate.specs.Verdict.{HasAlarm};
+ghost use Rattle.velo_fate.specs.Verdict.{KnowsAlarm};
 ghost use Rattle.velo_workload_commands.specs.Playing.{text_of_names};
-ghost use Rattle.velo_workload_commands.specs.Reporting.{AreNamesFor, IsListFor, IsPlain, Reports};
+ghost use Rattle.velo_workload_commands.specs.Reporting.{AreNamesFor, IsListFor, IsNoFileFailure, Reports};
 
 use crate::page::{Page, print_page};
 use std::alloc::Global;
@@ -115,8 +115,8 @@ fn put_report<F: Files, O: Sink>(
     requires names { AreNamesFor options.now.names_target workload.now made.now.names.items }
     requires list { IsListFor options.now.certificate report.now.closed.now.log
         (option_map (λ list. list.items) made.now.list) }
-    requires judged { HasAlarm report.now.closed.now.log }
-    requires plain { IsPlain report.now.end }
+    requires judged { KnowsAlarm report.now.closed.now.log }
+    requires plain { IsNoFileFailure report.now.end }
     ensures { Reports workload.now options.now report.now (store F.disk files.old files.new)
         (writing O.contents O.failures out.old out.new) result }
 {
@@ -163,8 +163,8 @@ pub fn report_run<F: Files, O: Sink>(
     files: &mut F,
     out: &mut O,
 ) -> Fate
-    requires judged { HasAlarm report.now.closed.now.log }
-    requires plain { IsPlain report.now.end }
+    requires judged { KnowsAlarm report.now.closed.now.log }
+    requires plain { IsNoFileFailure report.now.end }
     ensures { Reports workload.now options.now report.now (store F.disk files.old files.new)
         (writing O.contents O.failures out.old out.new) result }
 {

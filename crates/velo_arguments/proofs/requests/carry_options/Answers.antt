@@ -1,6 +1,6 @@
 use Rattle.std.proofs.Common.{codes}
 use Rattle.clap.specs.Words.{found_of, rows_of}
-use Rattle.velo_arguments.specs.Asked.{IsCarrying}
+use Rattle.velo_arguments.specs.Asked.{AsksCarry}
 use Rattle.velo_arguments.proofs.OnAsked.{flag_read, no_word, on_none, word_read}
 use Rattle.velo_arguments.proofs.requests.carry_options.Goals as goal
 
@@ -13,9 +13,9 @@ returns-clause-some c =
     )
 
 pub returns-in_err-get_str-clause-none : goal.returns-in_err-get_str-clause-none
-returns-in_err-get_str-clause-none c = on_none _ (IsCarrying (rows_of (found_of c.args.found.now))) (λ options asks.
+returns-in_err-get_str-clause-none c = on_none _ (AsksCarry (rows_of (found_of c.args.found.now))) (λ options asks.
     no_word (found_of c.args.found.now) (codes "LOG") c.get_str.result options.input.now c.get_str.ensures c.in_err-get_str.was asks.0)
 
 pub returns-in_err-get_str-2-clause-none : goal.returns-in_err-get_str-2-clause-none
-returns-in_err-get_str-2-clause-none c = on_none _ (IsCarrying (rows_of (found_of c.args.found.now))) (λ options asks.
+returns-in_err-get_str-2-clause-none c = on_none _ (AsksCarry (rows_of (found_of c.args.found.now))) (λ options asks.
     no_word (found_of c.args.found.now) (codes "log") c.get_str-2.result options.target.now c.get_str-2.ensures c.in_err-get_str-2.was asks.1)

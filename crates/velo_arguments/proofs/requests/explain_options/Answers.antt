@@ -1,6 +1,6 @@
 use Rattle.std.proofs.Common.{codes}
 use Rattle.clap.specs.Words.{found_of, rows_of}
-use Rattle.velo_arguments.specs.Asked.{IsExplanation}
+use Rattle.velo_arguments.specs.Asked.{AsksExplain}
 use Rattle.velo_arguments.proofs.OnAsked.{no_word, on_none, option_read, word_read}
 use Rattle.velo_arguments.proofs.requests.explain_options.Goals as goal
 
@@ -16,5 +16,5 @@ returns-clause-some c =
     )
 
 pub returns-in_err-get_str-clause-none : goal.returns-in_err-get_str-clause-none
-returns-in_err-get_str-clause-none c = on_none _ (IsExplanation (rows_of (found_of c.args.found.now))) (λ options asks.
+returns-in_err-get_str-clause-none c = on_none _ (AsksExplain (rows_of (found_of c.args.found.now))) (λ options asks.
     no_word (found_of c.args.found.now) (codes "LOG") c.get_str.result options.input.now c.get_str.ensures c.in_err-get_str.was asks.0)

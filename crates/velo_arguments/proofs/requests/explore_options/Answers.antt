@@ -1,6 +1,6 @@
 use Rattle.std.proofs.Common.{codes}
 use Rattle.clap.specs.Words.{found_of, rows_of}
-use Rattle.velo_arguments.specs.Asked.{IsExploring}
+use Rattle.velo_arguments.specs.Asked.{AsksExplore}
 use Rattle.velo_arguments.proofs.OnAsked.{flag_read, no_word, on_none, option_read, word_read}
 use Rattle.velo_arguments.proofs.requests.explore_options.Goals as goal
 
@@ -20,18 +20,18 @@ returns-clause-some c =
     )
 
 pub returns-in_err-get_str-clause-none : goal.returns-in_err-get_str-clause-none
-returns-in_err-get_str-clause-none c = on_none _ (IsExploring (rows_of (found_of c.args.found.now))) (λ options asks.
+returns-in_err-get_str-clause-none c = on_none _ (AsksExplore (rows_of (found_of c.args.found.now))) (λ options asks.
     no_word (found_of c.args.found.now) (codes "FILE") c.get_str.result options.input.now c.get_str.ensures c.in_err-get_str.was asks.0)
 
 pub returns-in_err-number_of-clause-none : goal.returns-in_err-number_of-clause-none
-returns-in_err-number_of-clause-none c = on_none _ (IsExploring (rows_of (found_of c.args.found.now))) (λ options asks.
+returns-in_err-number_of-clause-none c = on_none _ (AsksExplore (rows_of (found_of c.args.found.now))) (λ options asks.
     c.in_err-number_of.ensures.none options.states options.some_state options.few_states asks.1)
 
 pub returns-in_err-limits_of-clause-none : goal.returns-in_err-limits_of-clause-none
-returns-in_err-limits_of-clause-none c = on_none _ (IsExploring (rows_of (found_of c.args.found.now))) (λ options asks. c.in_err-limits_of.ensures.none options.limits asks.8)
+returns-in_err-limits_of-clause-none c = on_none _ (AsksExplore (rows_of (found_of c.args.found.now))) (λ options asks. c.in_err-limits_of.ensures.none options.limits asks.8)
 
 pub returns-in_err-random_if-clause-none : goal.returns-in_err-random_if-clause-none
-returns-in_err-random_if-clause-none c = on_none _ (IsExploring (rows_of (found_of c.args.found.now))) (λ options asks. c.in_err-random_if.ensures.none options.random asks.5)
+returns-in_err-random_if-clause-none c = on_none _ (AsksExplore (rows_of (found_of c.args.found.now))) (λ options asks. c.in_err-random_if.ensures.none options.random asks.5)
 
 pub returns-in_err-seconds_if-clause-none : goal.returns-in_err-seconds_if-clause-none
-returns-in_err-seconds_if-clause-none c = on_none _ (IsExploring (rows_of (found_of c.args.found.now))) (λ options asks. c.in_err-seconds_if.ensures.none options.seconds asks.2)
+returns-in_err-seconds_if-clause-none c = on_none _ (AsksExplore (rows_of (found_of c.args.found.now))) (λ options asks. c.in_err-seconds_if.ensures.none options.seconds asks.2)

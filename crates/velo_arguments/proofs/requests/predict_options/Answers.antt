@@ -1,6 +1,6 @@
 use Rattle.std.proofs.Common.{codes}
 use Rattle.clap.specs.Words.{found_of, rows_of}
-use Rattle.velo_arguments.specs.Asked.{IsPredicting}
+use Rattle.velo_arguments.specs.Asked.{AsksPredict}
 use Rattle.velo_arguments.proofs.OnAsked.{flag_read, no_word, on_none, option_read, predict_form_read, word_read}
 use Rattle.velo_arguments.proofs.requests.predict_options.Goals as goal
 
@@ -20,15 +20,15 @@ returns-clause-some c =
     )
 
 pub returns-in_err-get_str-clause-none : goal.returns-in_err-get_str-clause-none
-returns-in_err-get_str-clause-none c = on_none _ (IsPredicting (rows_of (found_of c.args.found.now))) (λ options asks.
+returns-in_err-get_str-clause-none c = on_none _ (AsksPredict (rows_of (found_of c.args.found.now))) (λ options asks.
     no_word (found_of c.args.found.now) (codes "LOG") c.get_str.result options.input.now c.get_str.ensures c.in_err-get_str.was asks.0)
 
 pub returns-in_err-number_of-clause-none : goal.returns-in_err-number_of-clause-none
-returns-in_err-number_of-clause-none c = on_none _ (IsPredicting (rows_of (found_of c.args.found.now))) (λ options asks.
+returns-in_err-number_of-clause-none c = on_none _ (AsksPredict (rows_of (found_of c.args.found.now))) (λ options asks.
     c.in_err-number_of.ensures.none options.tries options.some_try options.few_tries asks.5)
 
 pub returns-in_err-seed_of-clause-none : goal.returns-in_err-seed_of-clause-none
-returns-in_err-seed_of-clause-none c = on_none _ (IsPredicting (rows_of (found_of c.args.found.now))) (λ options asks. c.in_err-seed_of.ensures.none options.seed asks.6)
+returns-in_err-seed_of-clause-none c = on_none _ (AsksPredict (rows_of (found_of c.args.found.now))) (λ options asks. c.in_err-seed_of.ensures.none options.seed asks.6)
 
 pub returns-in_err-limits_of-clause-none : goal.returns-in_err-limits_of-clause-none
-returns-in_err-limits_of-clause-none c = on_none _ (IsPredicting (rows_of (found_of c.args.found.now))) (λ options asks. c.in_err-limits_of.ensures.none options.limits asks.9)
+returns-in_err-limits_of-clause-none c = on_none _ (AsksPredict (rows_of (found_of c.args.found.now))) (λ options asks. c.in_err-limits_of.ensures.none options.limits asks.9)

@@ -1,6 +1,6 @@
 use Rattle.std.proofs.Common.{codes}
 use Rattle.clap.specs.Words.{found_of, rows_of}
-use Rattle.velo_arguments.specs.Asked.{IsRun}
+use Rattle.velo_arguments.specs.Asked.{AsksRun}
 use Rattle.velo_arguments.proofs.OnAsked.{flag_read, no_word, on_none, option_read, word_read}
 use Rattle.velo_arguments.proofs.requests.run_options.Goals as goal
 
@@ -17,8 +17,8 @@ returns-clause-some c =
     )
 
 pub returns-in_err-get_str-clause-none : goal.returns-in_err-get_str-clause-none
-returns-in_err-get_str-clause-none c = on_none _ (IsRun (rows_of (found_of c.args.found.now))) (λ options asks.
+returns-in_err-get_str-clause-none c = on_none _ (AsksRun (rows_of (found_of c.args.found.now))) (λ options asks.
     no_word (found_of c.args.found.now) (codes "FILE") c.get_str.result options.input.now c.get_str.ensures c.in_err-get_str.was asks.0)
 
 pub returns-in_err-limits_of-clause-none : goal.returns-in_err-limits_of-clause-none
-returns-in_err-limits_of-clause-none c = on_none _ (IsRun (rows_of (found_of c.args.found.now))) (λ options asks. c.in_err-limits_of.ensures.none options.limits asks.4)
+returns-in_err-limits_of-clause-none c = on_none _ (AsksRun (rows_of (found_of c.args.found.now))) (λ options asks. c.in_err-limits_of.ensures.none options.limits asks.4)

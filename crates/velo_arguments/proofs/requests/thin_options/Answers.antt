@@ -1,6 +1,6 @@
 use Rattle.std.proofs.Common.{codes}
 use Rattle.clap.specs.Words.{found_of, rows_of}
-use Rattle.velo_arguments.specs.Asked.{IsThinning}
+use Rattle.velo_arguments.specs.Asked.{AsksThin}
 use Rattle.velo_arguments.proofs.OnAsked.{no_word, on_none, option_read, word_read}
 use Rattle.velo_arguments.proofs.requests.thin_options.Goals as goal
 
@@ -13,9 +13,9 @@ returns-clause-some c =
     )
 
 pub returns-in_err-target-clause-none : goal.returns-in_err-target-clause-none
-returns-in_err-target-clause-none c = on_none _ (IsThinning (rows_of (found_of c.args.found.now))) (λ options asks.
+returns-in_err-target-clause-none c = on_none _ (AsksThin (rows_of (found_of c.args.found.now))) (λ options asks.
     no_word (found_of c.args.found.now) (codes "log") c.get_str.result options.target.now c.get_str.ensures c.in_err-target.was asks.1)
 
 pub returns-in_err-get_str-clause-none : goal.returns-in_err-get_str-clause-none
-returns-in_err-get_str-clause-none c = on_none _ (IsThinning (rows_of (found_of c.args.found.now))) (λ options asks.
+returns-in_err-get_str-clause-none c = on_none _ (AsksThin (rows_of (found_of c.args.found.now))) (λ options asks.
     no_word (found_of c.args.found.now) (codes "LOG") c.get_str-2.result options.input.now c.get_str-2.ensures c.in_err-get_str.was asks.0)

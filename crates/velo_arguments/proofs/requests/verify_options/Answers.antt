@@ -1,6 +1,6 @@
 use Rattle.std.proofs.Common.{codes}
 use Rattle.clap.specs.Words.{found_of, rows_of}
-use Rattle.velo_arguments.specs.Asked.{IsVerifying}
+use Rattle.velo_arguments.specs.Asked.{AsksVerify}
 use Rattle.velo_arguments.proofs.OnAsked.{no_word, on_none, word_read}
 use Rattle.velo_arguments.proofs.requests.verify_options.Goals as goal
 
@@ -12,9 +12,9 @@ returns-clause-some c =
     )
 
 pub returns-in_err-get_str-clause-none : goal.returns-in_err-get_str-clause-none
-returns-in_err-get_str-clause-none c = on_none _ (IsVerifying (rows_of (found_of c.args.found.now))) (λ options asks.
+returns-in_err-get_str-clause-none c = on_none _ (AsksVerify (rows_of (found_of c.args.found.now))) (λ options asks.
     no_word (found_of c.args.found.now) (codes "LOG") c.get_str.result options.input.now c.get_str.ensures c.in_err-get_str.was asks.0)
 
 pub returns-in_err-get_str-2-clause-none : goal.returns-in_err-get_str-2-clause-none
-returns-in_err-get_str-2-clause-none c = on_none _ (IsVerifying (rows_of (found_of c.args.found.now))) (λ options asks.
+returns-in_err-get_str-2-clause-none c = on_none _ (AsksVerify (rows_of (found_of c.args.found.now))) (λ options asks.
     no_word (found_of c.args.found.now) (codes "REPORT") c.get_str-2.result options.report.now c.get_str-2.ensures c.in_err-get_str-2.was asks.1)

@@ -1,20 +1,20 @@
 use Rattle.std.proofs.Common.{codes, refl, subst}
 use Rattle.clap.specs.Words.{found_of, one_of, rows_of}
-use Rattle.velo_arguments.specs.Asked.{IsEndless, IsFlag, IsWatch}
+use Rattle.velo_arguments.specs.Asked.{AsksEndless, IsFlag, AsksWatch}
 use Rattle.velo_arguments.proofs.OnAsked.{flag_read, no_word, on_none_of_two, option_read, word_read}
 use Rattle.velo_arguments.proofs.requests.watch_request.Goals as goal
 
 pub returns-in_err-input-clause-none : goal.returns-in_err-input-clause-none
 returns-in_err-input-clause-none c =
     let f = found_of c.args.found.now in
-    on_none_of_two _ (IsWatch (rows_of f)) (IsEndless (rows_of f))
+    on_none_of_two _ (AsksWatch (rows_of f)) (AsksEndless (rows_of f))
     (λ options asks. no_word f (codes "LOG") c.get_str.result options.input.now c.get_str.ensures c.in_err-input.was asks.2.0)
     (λ options asks. no_word f (codes "LOG") c.get_str.result options.input.now c.get_str.ensures c.in_err-input.was asks.1.0)
 
 pub returns-in_err-limits-clause-none : goal.returns-in_err-limits-clause-none
 returns-in_err-limits-clause-none c =
     let f = found_of c.args.found.now in
-    on_none_of_two _ (IsWatch (rows_of f)) (IsEndless (rows_of f))
+    on_none_of_two _ (AsksWatch (rows_of f)) (AsksEndless (rows_of f))
     (λ options asks. c.in_err-limits.ensures.none options.limits asks.2.2) (λ options asks. c.in_err-limits.ensures.none options.limits asks.1.2)
 
 pub returns-then-get_flag-clause-some : goal.returns-then-get_flag-clause-some

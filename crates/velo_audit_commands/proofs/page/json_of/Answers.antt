@@ -3,7 +3,7 @@ use Rattle.std.specs.Prelude.{Option, Some}
 use Rattle.velo_filter.specs.Left.{rest_of}
 use Rattle.velo_audit_text.specs.declared.entries.Listing.{Listing}
 use Rattle.velo_audit_forms.specs.Answer.{IsJsonText}
-use Rattle.velo_inputs.specs.Leaving.{left_at_first}
+use Rattle.velo_inputs.specs.Leaving.{left_out_at_first}
 use Rattle.velo_audit_commands.proofs.page.json_of.Goals as goal
 
 pub audit_json-requires-clause-can_come_about : goal.audit_json-requires-clause-can_come_about
@@ -14,7 +14,7 @@ audit_json-requires-2-clause-can_come_about c = record { bounds = c.args.bounds;
 
 pub returns : goal.returns
 returns c =
-    let log = c.args.log.now.events in let rest = rest_of (left_at_first c.args.asked.now) log in
+    let log = c.args.log.now.events in let rest = rest_of (left_out_at_first c.args.asked.now) log in
     let lists : IsJsonText (record { log = log; names = c.args.names.now; sites = c.args.sites.now }) c.args.path.now c.args.asked.now (Some c.in-Some.listing) rest c.args.rounds.now c.args.atomic c.in_ok-page.page
     = record { listed = c.in_ok-listed.listed; is_listed = c.in_ok-listed.ensures; text = c.in_ok-page.ensures } in
     subst (λ (l : Option Listing). IsJsonText (record { log = log; names = c.args.names.now; sites = c.args.sites.now }) c.args.path.now c.args.asked.now l rest c.args.rounds.now c.args.atomic c.in_ok-page.page) (sym c.in-Some.is) lists

@@ -2,7 +2,7 @@ use Rattle.std.proofs.Common.{◌≡◌, ◌∙◌, ℕ, Err, refl, sym, subst, 
 use Rattle.velo_fate.specs.declared.fault.CheckFault.{CheckFault}
 use Rattle.velo_log_commands.specs.Check.{fate_of}
 use Rattle.velo_fate.specs.Failures.{failures_told}
-use Rattle.velo_log_commands.specs.Watching.{check_fault_by, Watches}
+use Rattle.velo_log_commands.specs.Watching.{check_fault_of_watching, Watches}
 use Rattle.velo_delivery.specs.Writing.{writing}
 use Rattle.velo_log_commands.proofs.OnWatching.{ended_early, reads_told, unopened, watched}
 use Rattle.velo_log_commands.proofs.watching.watch_input.Goals as goal
@@ -41,4 +41,4 @@ returns-in-Err-follow-clause-err g c names =
 pub returns-in-Err-follow-clause-failure : goal.returns-in-Err-follow-clause-failure
 returns-in-Err-follow-clause-failure g c =
     subst (λ (f : CheckFault). g.I.Source.failures c.follow.new.log ≡ failures_told (fate_of (Err f)) (g.I.Source.failures c.args.log.now)) (sym c.fault_of_watch-in-Err-follow.ensures)
-    (c.in-Err-follow.ensures.reads ∙ (reads_told ℕ c.in-Err-follow.fault _ ∙ ap (λ (n : ℕ). failures_told (fate_of (Err (check_fault_by c.in-Err-follow.fault))) n) c.in-Ok.ensures.reads))
+    (c.in-Err-follow.ensures.reads ∙ (reads_told ℕ c.in-Err-follow.fault _ ∙ ap (λ (n : ℕ). failures_told (fate_of (Err (check_fault_of_watching c.in-Err-follow.fault))) n) c.in-Ok.ensures.reads))

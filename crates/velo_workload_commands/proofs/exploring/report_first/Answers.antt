@@ -6,12 +6,12 @@ use Rattle.velo_delivery.specs.Disk.{store}
 use Rattle.velo_delivery.specs.Writing.{writing}
 use Rattle.velo_workload_commands.specs.Exploring.{fate_of_told, told_text}
 use Rattle.velo_workload_commands.specs.Playing.{text_of_names}
-use Rattle.velo_workload_commands.specs.Reporting.{IsPlain}
+use Rattle.velo_workload_commands.specs.Reporting.{IsNoFileFailure}
 use Rattle.velo_workload_commands.proofs.OnFindings.{plain_told, printed_alone, said_reported}
 use Rattle.velo_workload_commands.proofs.exploring.report_first.Goals as goal
 
 pub print_alone-requires : goal.print_alone-requires
-print_alone-requires g c = subst IsPlain (sym c.fate_of-end.ensures) (plain_told c.args.told.now)
+print_alone-requires g c = subst IsNoFileFailure (sym c.fate_of-end.ensures) (plain_told c.args.told.now)
 
 pub returns-in_default : goal.returns-in_default
 returns-in_default g c =
@@ -35,7 +35,7 @@ pub report_run-requires-clause-judged : goal.report_run-requires-clause-judged
 report_run-requires-clause-judged g c = let from = rw c.in-Some.is at c.requires.first in from.alarm
 
 pub report_run-requires-clause-plain : goal.report_run-requires-clause-plain
-report_run-requires-clause-plain g c = subst IsPlain (sym c.fate_of-end.ensures) (plain_told c.args.told.now)
+report_run-requires-clause-plain g c = subst IsNoFileFailure (sym c.fate_of-end.ensures) (plain_told c.args.told.now)
 
 pub returns-in-Ok : goal.returns-in-Ok
 returns-in-Ok g c =
