@@ -10,7 +10,6 @@ ghost use Rattle.velo_audit_forms.specs.Answer.{IsJsonText};
 ghost use Rattle.velo_audit_commands.specs.Auditing.{IsAuditPage, IsAuditText, listing_of};
 ghost use Rattle.velo_inputs.specs.Leaving.{left_at_first};
 
-use crate::auditing::left_out;
 use std::alloc::Global;
 use velo_audit::Told;
 use velo_audit_findings::{audit_junit, audit_sarif};
@@ -19,6 +18,7 @@ use velo_audit_text::{Asked, Listed, Listing, audit_text, listed_of, listing_tex
 use velo_events::{Bounds, Memory};
 use velo_explain::Page;
 use velo_filter::thin;
+use velo_inputs::left_out;
 use velo_names::Names;
 use velo_request::{AuditOptions, OutputFormat};
 use velo_sites::Sites;
