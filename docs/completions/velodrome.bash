@@ -16,7 +16,7 @@ _velodrome() {
         watch) words="--names --stop --endless --events --nodes --certificate --help" ;;
         audit) words="--no-witness --counts --by-count --innermost --format --names --sites --not-atomic --ignore-label --ignore-lock --ignore-locks --ignore-variable --events --nodes --help" ;;
         thin) words="--log --map --help" ;;
-        predict) words="--log --values --tries --seed --names --sites --not-atomic --ignore-label --ignore-lock --ignore-locks --ignore-variable --events --nodes --help" ;;
+        predict) words="--log --values --tries --seed --format --names --sites --not-atomic --ignore-label --ignore-lock --ignore-locks --ignore-variable --events --nodes --help" ;;
         verify) words="--help" ;;
     esac
     case $word in

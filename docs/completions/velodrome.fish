@@ -88,6 +88,7 @@ complete -c velodrome -n '__fish_seen_subcommand_from predict' -l log -r -d 'Wri
 complete -c velodrome -n '__fish_seen_subcommand_from predict' -l values -d 'The values in the log are those of the program'
 complete -c velodrome -n '__fish_seen_subcommand_from predict' -l tries -x -d 'How many delays are tried for each label in a round, 1 to 1000000 [default: 200]'
 complete -c velodrome -n '__fish_seen_subcommand_from predict' -l seed -x -d 'The seed of the delays that are tried, 0 to 18446744073709551615 [default: 1]'
+complete -c velodrome -n '__fish_seen_subcommand_from predict' -l format -x -d 'Print the answer as text or json [default: text]'
 complete -c velodrome -n '__fish_seen_subcommand_from predict' -l names -r -d 'Read the names of threads, variables, locks and labels; - is standard input'
 complete -c velodrome -n '__fish_seen_subcommand_from predict' -l sites -r -d 'Read where in the source each event happened; - is standard input'
 complete -c velodrome -n '__fish_seen_subcommand_from predict' -l not-atomic -r -d 'Read known labels, and leave out their begins and ends; - is standard input'
