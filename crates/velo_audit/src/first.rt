@@ -46,7 +46,9 @@ pub fn first_alarm(
         return Ok(None);
     };
     let Told {
-        closing, witness, ..
+        closing,
+        witness,
+        ..
     } = told;
     match witness {
         Some(evidence) => Ok(Some(FirstAlarm {

@@ -334,7 +334,8 @@ static ALL_LOCKS: [Listed; 4] = [
     },
 ];
 
-const LOCKED_UPDATE: &str = "vlog 2 2 1 1\n0 fork 1\n0 begin 7\n0 acq 0\n0 rd 0 0\n0 rel 0\n1 acq 0\n1 wr 0 5\n1 rel 0\n0 acq 0\n0 wr 0 1\n0 rel 0\n0 end\n";
+const LOCKED_UPDATE: &str =
+    "vlog 2 2 1 1\n0 fork 1\n0 begin 7\n0 acq 0\n0 rd 0 0\n0 rel 0\n1 acq 0\n1 wr 0 5\n1 rel 0\n0 acq 0\n0 wr 0 1\n0 rel 0\n0 end\n";
 
 static EXPLAINED: [Listed; 5] = [
     // the lines are those of the whole log; the events on the lock have no rows
