@@ -1,4 +1,4 @@
-pub mod Matches
+pub mod Asked
 pub mod CommandLine
 pub mod Options
 pub mod Together
