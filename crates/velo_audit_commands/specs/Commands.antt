@@ -20,7 +20,8 @@ use Rattle.velo_audit_commands.specs.Predicting.{IsPredictAnswer}
 use Rattle.velo_fate.specs.Failures.{FailuresAsTold}
 use Rattle.velo_delivery.specs.Reading.{Reading}
 use Rattle.velo_delivery.specs.Writing.{Writing}
-use Rattle.velo_inputs.specs.Before.{DoesAsked, DoesByNames, DoesBySites}
+use Rattle.velo_inputs.specs.Context.{IsContext, KnowsNoContext}
+use Rattle.velo_inputs.specs.declared.context.ContextOptions.{ContextOptions}
 
 -- ---- velodrome audit LOG [--names FILE] [--sites FILE] [--not-atomic FILE] [--ignore-label WORD]..
 -- ---- [--ignore-lock WORD].. [--ignore-locks] [--ignore-variable WORD].. [--format FORM] [--no-witness]
@@ -37,17 +38,17 @@ AuditsLog names sites asked options store stdout f =
     × IsAuditAnswer names sites asked options read.bytes answer
     × IsDelivered store None stdout answer f)
 
-abbrev pub AuditsAsked : NameLists → Asked → AuditOptions → Store → Writing → Fate → Type 0
-AuditsAsked names asked options store stdout f =
-    DoesBySites (λ sites. AuditsLog names sites asked options) options.sites store stdout f
-
-abbrev pub AuditsNamed : NameLists → AuditOptions → Store → Writing → Fate → Type 0
-AuditsNamed names options store stdout f =
-    DoesAsked (λ asked. AuditsAsked names asked options) names options.ignored store stdout f
+-- what it knows before is in `Context` of `velo_inputs`
+abbrev pub context_of_audit : AuditOptions → ContextOptions
+context_of_audit options =
+    record { names = options.names; ignored = options.ignored; sites = options.sites }
 
 abbrev pub DoesAudit : AuditOptions → Store → Writing → Fate → Type 0
 DoesAudit options store stdout f =
-    DoesByNames (λ names. AuditsNamed names options) options.names store stdout f
+    KnowsNoContext store (context_of_audit options) stdout f
+    ⊎ ((names : NameLists) × (asked : Asked) × (sites : Option Table)
+    × IsContext store.disk (context_of_audit options) names asked sites
+    × AuditsLog names sites asked options store stdout f)
 
 -- ---- velodrome predict LOG [--names FILE] [--sites FILE] [--not-atomic FILE] [--ignore-label WORD]..
 -- ---- [--ignore-lock WORD].. [--ignore-locks] [--ignore-variable WORD].. [--values] [--tries N] [--seed S]
@@ -65,14 +66,14 @@ PredictsLog names sites asked options store stdout f =
     × IsPredictAnswer names sites asked options read.bytes answer
     × IsDelivered store options.target stdout answer f)
 
-abbrev pub PredictsAsked : NameLists → Asked → PredictOptions → Store → Writing → Fate → Type 0
-PredictsAsked names asked options store stdout f =
-    DoesBySites (λ sites. PredictsLog names sites asked options) options.sites store stdout f
-
-abbrev pub PredictsNamed : NameLists → PredictOptions → Store → Writing → Fate → Type 0
-PredictsNamed names options store stdout f =
-    DoesAsked (λ asked. PredictsAsked names asked options) names options.ignored store stdout f
+-- what it knows before is in `Context` of `velo_inputs`
+abbrev pub context_of_predict : PredictOptions → ContextOptions
+context_of_predict options =
+    record { names = options.names; ignored = options.ignored; sites = options.sites }
 
 abbrev pub DoesPredict : PredictOptions → Store → Writing → Fate → Type 0
 DoesPredict options store stdout f =
-    DoesByNames (λ names. PredictsNamed names options) options.names store stdout f
+    KnowsNoContext store (context_of_predict options) stdout f
+    ⊎ ((names : NameLists) × (asked : Asked) × (sites : Option Table)
+    × IsContext store.disk (context_of_predict options) names asked sites
+    × PredictsLog names sites asked options store stdout f)

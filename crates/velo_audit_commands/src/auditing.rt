@@ -8,11 +8,11 @@ ghost use Rattle.velo_audit.specs.Audit.{TellsTruly};
 ghost use Rattle.velo_audit_commands.specs.Auditing.{AreRoundsOf, Audits, AuditsIfOf, AuditsInput, LacksRounds, PrintsRounds, is_found, left_out_at_last};
 ghost use Rattle.velo_inputs.specs.Leaving.{left_out_at_first};
 ghost use Rattle.velo_delivery.specs.Disk.{store};
-ghost use Rattle.velo_audit_commands.specs.Commands.{AuditsAsked, AuditsLog, AuditsNamed, DoesAudit};
+ghost use Rattle.velo_audit_commands.specs.Commands.{AuditsLog, DoesAudit};
 ghost use Rattle.velo_delivery.specs.Reading.{reading};
 ghost use Rattle.velo_delivery.specs.Writing.{writing};
 
-use crate::command::{Command, Inquiry};
+use crate::command::Command;
 use crate::page::page_of;
 use std::alloc::Global;
 use velo_audit::{AuditFault, Told, audit_checked, count_atomic};
@@ -23,8 +23,8 @@ use velo_events::{Bounds, Config, Memory, Refusal};
 use velo_fate::{CheckFault, Fate, open_input};
 use velo_filter::LeftOut;
 use velo_inputs::{
-    ByAsked, ByNames, BySites, are_of_log, config_of_rounds, do_by_asked, do_by_names, do_by_sites,
-    do_input, left_out, print,
+    ContextOptions, InContext, are_of_log, config_of_rounds, do_in_context, do_input, left_out,
+    print,
 };
 use velo_names::Names;
 use velo_request::AuditOptions;
@@ -246,59 +246,19 @@ fn audit_input<F: Files, O: Sink>(
     }
 }
 
-impl BySites for Inquiry<'_, '_, '_, AuditOptions<'_>> {
-    ghost does = { λ inquiry sites. AuditsLog inquiry.names.now sites inquiry.asked.now inquiry.options.now };
+impl InContext for Command<'_, AuditOptions<'_>> {
+    ghost does = { λ command names asked sites. AuditsLog names sites asked command.options.now };
 
-    fn do_by_sites<F: Files, O: Sink>(
-        &self,
-        alloc: Global,
-        sites: &Option<Sites>,
-        files: &mut F,
-        out: &mut O,
-    ) -> Fate {
-        audit_input(
-            alloc,
-            self.options,
-            self.names,
-            sites,
-            self.asked,
-            files,
-            out,
-        )
-    }
-}
-
-impl ByAsked for Command<'_, AuditOptions<'_>> {
-    ghost does = { λ command names asked. AuditsAsked names asked command.options.now };
-
-    fn do_asked<F: Files, O: Sink>(
+    fn do_in<F: Files, O: Sink>(
         &self,
         alloc: Global,
         names: &Names,
         asked: &Asked,
+        sites: &Option<Sites>,
         files: &mut F,
         out: &mut O,
     ) -> Fate {
-        let inquiry = Inquiry {
-            names,
-            asked,
-            options: self.options,
-        };
-        do_by_sites(alloc, &inquiry, self.options.sites, files, out)
-    }
-}
-
-impl ByNames for Command<'_, AuditOptions<'_>> {
-    ghost does = { λ command names. AuditsNamed names command.options.now };
-
-    fn do_by<F: Files, O: Sink>(
-        &self,
-        alloc: Global,
-        names: &Names,
-        files: &mut F,
-        out: &mut O,
-    ) -> Fate {
-        do_by_asked(alloc, self, names, &self.options.ignored, files, out)
+        audit_input(alloc, self.options, names, sites, asked, files, out)
     }
 }
 
@@ -312,5 +272,10 @@ pub fn audit_file<F: Files, O: Sink>(
     ensures { DoesAudit options.now (store F.disk files.old files.new)
         (writing O.contents O.failures out.old out.new) result }
 {
-    do_by_names(alloc, &Command { options }, options.names, files, out)
+    let context = ContextOptions {
+        names: options.names,
+        ignored: options.ignored,
+        sites: options.sites,
+    };
+    do_in_context(alloc, &Command { options }, &context, files, out)
 }

@@ -14,12 +14,12 @@ ghost use Rattle.velo_delivery.specs.Writing.{writing};
 ghost use Rattle.velo_fate.specs.declared.fate.Fate.TheVariants.{Finished};
 ghost use Rattle.velo_audit_commands.specs.Auditing.{AreRoundsOf, left_out_at_last};
 ghost use Rattle.velo_inputs.specs.Leaving.{left_out_at_first};
-ghost use Rattle.velo_audit_commands.specs.Commands.{DoesPredict, PredictsAsked, PredictsLog, PredictsNamed};
+ghost use Rattle.velo_audit_commands.specs.Commands.{DoesPredict, PredictsLog};
 ghost use Rattle.velo_audit_commands.specs.Predicting.{ArePredictionsOf, Predicts, PredictsIfOf, PredictsInput, first_trace, predicted};
 ghost use Rattle.velo_inputs.specs.Sending.{DeliversOrLacks};
 
 use crate::auditing::{is_clean, rounds_of};
-use crate::command::{Command, Inquiry};
+use crate::command::Command;
 use crate::page::page_of_predictions;
 use std::alloc::Global;
 use velo_audit::Told;
@@ -31,8 +31,8 @@ use velo_events::{Bounds, Config, Event, Memory};
 use velo_fate::{Fate, open_input};
 use velo_filter::LeftOut;
 use velo_inputs::{
-    ByAsked, ByNames, BySites, are_of_log, config_of_rounds, do_by_asked, do_by_names, do_by_sites,
-    do_input, left_out, print, save_text,
+    ContextOptions, InContext, are_of_log, config_of_rounds, do_in_context, do_input, left_out,
+    print, save_text,
 };
 use velo_names::Names;
 use velo_predict_text::{is_something_told, trace_text};
@@ -40,6 +40,17 @@ use velo_request::PredictOptions;
 use velo_sites::Sites;
 use velo_traces::Trace;
 use velo_world::Closed;
+
+/// What predict was asked for, by which names, and without what.
+#[derive(Clone, Copy)]
+struct Inquiry<'i, 'n, 'a, 'o> {
+    /// The names.
+    names: &'i Names<'n>,
+    /// What is left out.
+    asked: &'i Asked<'a>,
+    /// What it was asked for.
+    options: &'i PredictOptions<'o>,
+}
 
 /// What the search found.
 #[derive(Drop)]
@@ -155,7 +166,7 @@ fn tell<F: Files, O: Sink>(
     alloc: Global,
     bounds: Bounds,
     log: &Trace,
-    inquiry: &Inquiry<PredictOptions>,
+    inquiry: &Inquiry,
     sites: &Option<Sites>,
     rounds: &[Told],
     findings: &PredictedFindings,
@@ -211,7 +222,7 @@ fn predict_after<F: Files, O: Sink>(
     alloc: Global,
     config: &Config,
     log: &Trace,
-    inquiry: &Inquiry<PredictOptions>,
+    inquiry: &Inquiry,
     sites: &Option<Sites>,
     rounds: &[Told],
     left: &mut LeftOut,
@@ -245,7 +256,7 @@ fn predict_after<F: Files, O: Sink>(
 fn predict_rest<F: Files, O: Sink>(
     alloc: Global,
     closed: &Closed,
-    inquiry: &Inquiry<PredictOptions>,
+    inquiry: &Inquiry,
     sites: &Option<Sites>,
     left: &mut LeftOut,
     files: &mut F,
@@ -283,7 +294,7 @@ fn predict_rest<F: Files, O: Sink>(
 fn predict_closed<F: Files, O: Sink>(
     alloc: Global,
     closed: &Closed,
-    inquiry: &Inquiry<PredictOptions>,
+    inquiry: &Inquiry,
     sites: &Option<Sites>,
     files: &mut F,
     out: &mut O,
@@ -307,7 +318,7 @@ fn predict_closed<F: Files, O: Sink>(
 fn predict_if_of<F: Files, O: Sink>(
     alloc: Global,
     closed: &Closed,
-    inquiry: &Inquiry<PredictOptions>,
+    inquiry: &Inquiry,
     sites: &Option<Sites>,
     files: &mut F,
     out: &mut O,
@@ -326,7 +337,7 @@ fn predict_if_of<F: Files, O: Sink>(
 /// Reads a whole log, does its events, and predicts by it.
 fn predict_log<I: Source, F: Files, O: Sink>(
     alloc: Global,
-    inquiry: &Inquiry<PredictOptions>,
+    inquiry: &Inquiry,
     sites: &Option<Sites>,
     source: &mut I,
     files: &mut F,
@@ -351,7 +362,7 @@ fn predict_log<I: Source, F: Files, O: Sink>(
 /// Predicts by the log that was asked for.
 fn predict_input<F: Files, O: Sink>(
     alloc: Global,
-    inquiry: &Inquiry<PredictOptions>,
+    inquiry: &Inquiry,
     sites: &Option<Sites>,
     files: &mut F,
     out: &mut O,
@@ -366,28 +377,15 @@ fn predict_input<F: Files, O: Sink>(
     }
 }
 
-impl BySites for Inquiry<'_, '_, '_, PredictOptions<'_>> {
-    ghost does = { λ inquiry sites. PredictsLog inquiry.names.now sites inquiry.asked.now inquiry.options.now };
+impl InContext for Command<'_, PredictOptions<'_>> {
+    ghost does = { λ command names asked sites. PredictsLog names sites asked command.options.now };
 
-    fn do_by_sites<F: Files, O: Sink>(
-        &self,
-        alloc: Global,
-        sites: &Option<Sites>,
-        files: &mut F,
-        out: &mut O,
-    ) -> Fate {
-        predict_input(alloc, self, sites, files, out)
-    }
-}
-
-impl ByAsked for Command<'_, PredictOptions<'_>> {
-    ghost does = { λ command names asked. PredictsAsked names asked command.options.now };
-
-    fn do_asked<F: Files, O: Sink>(
+    fn do_in<F: Files, O: Sink>(
         &self,
         alloc: Global,
         names: &Names,
         asked: &Asked,
+        sites: &Option<Sites>,
         files: &mut F,
         out: &mut O,
     ) -> Fate {
@@ -396,21 +394,7 @@ impl ByAsked for Command<'_, PredictOptions<'_>> {
             asked,
             options: self.options,
         };
-        do_by_sites(alloc, &inquiry, self.options.sites, files, out)
-    }
-}
-
-impl ByNames for Command<'_, PredictOptions<'_>> {
-    ghost does = { λ command names. PredictsNamed names command.options.now };
-
-    fn do_by<F: Files, O: Sink>(
-        &self,
-        alloc: Global,
-        names: &Names,
-        files: &mut F,
-        out: &mut O,
-    ) -> Fate {
-        do_by_asked(alloc, self, names, &self.options.ignored, files, out)
+        predict_input(alloc, &inquiry, sites, files, out)
     }
 }
 
@@ -425,5 +409,10 @@ pub fn predict_file<F: Files, O: Sink>(
     ensures { DoesPredict options.now (store F.disk files.old files.new)
         (writing O.contents O.failures out.old out.new) result }
 {
-    do_by_names(alloc, &Command { options }, options.names, files, out)
+    let context = ContextOptions {
+        names: options.names,
+        ignored: options.ignored,
+        sites: options.sites,
+    };
+    do_in_context(alloc, &Command { options }, &context, files, out)
 }

@@ -54,8 +54,9 @@ use Rattle.velo_fate.specs.declared.files.Beside.{Beside}
 use Rattle.velo_fate.specs.Barred.{IsBarred, IsBarredApart, IsBarredRun, names_beside}
 use Rattle.velo_log_commands.specs.Explaining.{IsExplainAnswer}
 use Rattle.velo_workload_commands.specs.Exploring.{IsExploreAnswer}
-use Rattle.velo_audit_commands.specs.Commands.{AuditsAsked, AuditsLog, PredictsAsked, PredictsLog}
-use Rattle.velo_inputs.specs.Before.{DoesAsked, DoesBySites}
+use Rattle.velo_audit_commands.specs.Commands.{AuditsLog, PredictsLog, context_of_audit, context_of_predict}
+use Rattle.velo_inputs.specs.Context.{LacksContext}
+use Rattle.velo_inputs.specs.declared.context.ContextOptions.{ContextOptions}
 use Rattle.velo_inputs.specs.Ignoring.{AsksInVain, MeanNothing}
 use Rattle.velo_fate.specs.Format.{SaysNone}
 use Rattle.velo_inputs.specs.Listing.{HaveFaultOfList, LacksLabels, list_file}
@@ -69,7 +70,7 @@ use Rattle.velo_schedule_text.specs.Schedule.{IsFaultOfSchedule, IsFaultOfTurns}
 use Rattle.velo_workload_commands.specs.Scheduling.{HaveFaultOfSchedule, LacksSchedule, turns_file}
 use Rattle.velo_log_commands.specs.Watching.{EndsAfter, IsFaultOfHeader, IsFaultWithin, IsWatchAnswer, Terms, Watches, terms_of_watch}
 use Rattle.velo_log_commands.specs.Endless.{IsFaultOfWhole, terms_of_endless}
-use Rattle.velo_log_commands.specs.Commands.{DoesWatchBy, ExplainsAsked, ExplainsLog, drawing_of}
+use Rattle.velo_log_commands.specs.Commands.{DoesWatchBy, ExplainsLog, context_of_explain, drawing_of}
 use Rattle.velo_world.specs.declared.log_replay.LogReplayFault.TheVariants as replay
 use Rattle.velo_delivery.specs.Writing.{Writing}
 use Rattle.velo_log_commands.specs.Thinning.{map_of}
@@ -291,18 +292,12 @@ unmeant needs names ignored f (inl labels) = of_words needs names Label ignored.
 unmeant needs names ignored f (inr (labels, inl locks)) = of_words needs names Lock ignored.locks.now f locks
 unmeant needs names ignored f (inr (labels, inr variables)) = of_words needs names Variable ignored.variables.now f variables.1
 
--- of a log of which something was left out
-of_asked : (does : Asked → Store → Writing → Fate → Type 0) (names : NameLists) (ignored : Ignored) (store : Store) (stdout : Writing) (f : Fate) → ((asked : Asked) → does asked store stdout f → ComesByRefusal Growths f)
-    → DoesAsked does names ignored store stdout f → ComesByRefusal Growths f
-of_asked does names ignored store stdout f so (inl h) = unlisted names Growths store.disk ignored.known f h.0
-of_asked does names ignored store stdout f so (inr (known, list, inl h)) = unmeant Growths names ignored f h.0
-of_asked does names ignored store stdout f so (inr (known, list, inr (asked, asks, h))) = so asked h
-
--- and whose sites were read
-of_sited : (does : Option Table → Store → Writing → Fate → Type 0) (path : Option (Bor (List ℕ))) (store : Store) (stdout : Writing) (f : Fate) → ((sites : Option Table) → does sites store stdout f → ComesByRefusal Growths f)
-    → DoesBySites does path store stdout f → ComesByRefusal Growths f
-of_sited does path store stdout f so (inl h) = unsited Growths store.disk path f h.0
-of_sited does path store stdout f so (inr (sites, read, h)) = so sites h
+-- nor a context
+of_no_context : (needs : Needs) (disk : Disk) (options : ContextOptions) (f : Fate) → LacksContext disk options f → ComesByRefusal needs f
+of_no_context needs disk options f (inl lacks) = unnamed needs disk options.names f lacks
+of_no_context needs disk options f (inr (names, are, inl lacks)) = unlisted names needs disk options.ignored.known f lacks
+of_no_context needs disk options f (inr (names, are, inr (known, list, inl vain))) = unmeant needs names options.ignored f vain
+of_no_context needs disk options f (inr (names, are, inr (known, list, inr (asked, is, lacks)))) = unsited needs disk options.sites f lacks
 
 of_audited : (names : NameLists) (asked : Asked) (options : AuditOptions) (store : Store) (stdout : Writing) (f : Fate) (sites : Option Table) → AuditsLog names sites asked options store stdout f → ComesByRefusal Growths f
 of_audited names asked options store stdout f sites (inl h) = unread Growths store.disk Log options.input.now None f h.0
@@ -379,9 +374,8 @@ unfolding Does
 of_done store (request.Check options) stdout f (inl h) = unnamed Growths store.disk options.names f h.0
 of_done store (request.Check options) stdout f (inr (names, read, (shown, are, inl h))) = unread Growths store.disk Log options.input.now None f h.0
 of_done store (request.Check options) stdout f (inr (names, read, (shown, are, inr h))) = of_delivered Growths store None stdout h.1 f (of_check Growths shown _ _ _ h.0.bytes h.1 tt h.4) h.5
-of_done store (request.Explain options) stdout f (inl h) = unnamed Growths store.disk options.names f h.0
-of_done store (request.Explain options) stdout f (inr (names, read, h)) = of_asked (λ asked. ExplainsAsked names asked options) names options.ignored store stdout f
-    (λ asked. of_sited (λ sites. ExplainsLog names sites asked options) options.sites store stdout f (of_explained names asked options store stdout f)) h
+of_done store (request.Explain options) stdout f (inl h) = of_no_context Growths store.disk (context_of_explain options) f h.0
+of_done store (request.Explain options) stdout f (inr (names, asked, sites, are, h)) = of_explained names asked options store stdout f sites h
 of_done store (request.Carry options) stdout f (inl h) = unread Growths store.disk Log options.input.now (Some options.target) f h.0
 of_done store (request.Carry options) stdout f (inr (inl h)) = subst (ComesByRefusal Growths) (sym h.0) tt
 of_done store (request.Carry options) stdout f (inr (inr h)) = of_put Growths h.2 h.1 f (of_carry Growths h.0.bytes h.1 tt h.5) h.7
@@ -399,9 +393,7 @@ of_done store (request.Explore options) stdout f (inr h) =
     of_in_turn Growths store options.target options.names_target h.2 stdout h.1 f (of_exploration options h.0.bytes h.1 h.2 h.5) h.6
 of_done store (request.Watch options) stdout f h = of_watch_by (terms_of_watch options) (of_fault_within options.limits) store stdout f h
 of_done store (request.WatchEndless options) stdout f h = of_watch_by (terms_of_endless options) (of_fault_of_whole options.limits) store stdout f h
-of_done store (request.Audit options) stdout f (inl h) = unnamed Growths store.disk options.names f h.0
-of_done store (request.Audit options) stdout f (inr (names, read, h)) = of_asked (λ asked. AuditsAsked names asked options) names options.ignored store stdout f
-    (λ asked. of_sited (λ sites. AuditsLog names sites asked options) options.sites store stdout f (of_audited names asked options store stdout f)) h
-of_done store (request.Predict options) stdout f (inl h) = unnamed Growths store.disk options.names f h.0
-of_done store (request.Predict options) stdout f (inr (names, read, h)) = of_asked (λ asked. PredictsAsked names asked options) names options.ignored store stdout f
-    (λ asked. of_sited (λ sites. PredictsLog names sites asked options) options.sites store stdout f (of_predicted names asked options store stdout f)) h
+of_done store (request.Audit options) stdout f (inl h) = of_no_context Growths store.disk (context_of_audit options) f h.0
+of_done store (request.Audit options) stdout f (inr (names, asked, sites, are, h)) = of_audited names asked options store stdout f sites h
+of_done store (request.Predict options) stdout f (inl h) = of_no_context Growths store.disk (context_of_predict options) f h.0
+of_done store (request.Predict options) stdout f (inr (names, asked, sites, are, h)) = of_predicted names asked options store stdout f sites h

@@ -1,3 +1,4 @@
+mod OnContext
 mod OnIgnoring
 pub mod OnInputs
 mod OnLeaving

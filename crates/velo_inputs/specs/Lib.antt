@@ -1,4 +1,4 @@
-pub mod Before
+pub mod Context
 pub mod Faults
 pub mod Ignoring
 pub mod Input

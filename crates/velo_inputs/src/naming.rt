@@ -1,12 +1,12 @@
 //! Files of names.
-ghost use Rattle.std.specs.Prelude.{IfErr, IfOk};
+ghost use Rattle.std.specs.Prelude.{◌⊎◌, IfErr, IfOk};
 ghost use Rattle.velo_delivery.specs.Disk.{Store, store};
 ghost use Rattle.velo_delivery.specs.Writing.{Writing, writing};
 ghost use Rattle.velo_fate.specs.declared.fate.Fate.{Fate as FateOf};
 ghost use Rattle.velo_names.specs.Names.{NameLists};
-ghost use Rattle.velo_inputs.specs.Before.{DoesByNames};
+ghost use Rattle.velo_inputs.specs.Context.{DoesNotName};
 ghost use Rattle.velo_fate.specs.Format.{LacksGiven, bytes_up_to};
-ghost use Rattle.velo_inputs.specs.Naming.{AreBytesOf, AreNamesIn, AreNoNamesIn, AreShown};
+ghost use Rattle.velo_inputs.specs.Naming.{AreBytesOf, AreNamesIn, AreNamesOf, AreNoNamesIn, AreShown};
 
 use std::alloc::Global;
 use velo_bytes::Sink;
@@ -38,7 +38,7 @@ pub fn read_given<F: Files>(
 ///
 /// # Errors
 /// `Names` with the fault by which they say none.
-fn names_in<'a>(alloc: Global, path: Option<&str>, bytes: &'a [u8]) -> Result<Names<'a>, Fate>
+pub fn names_in<'a>(alloc: Global, path: Option<&str>, bytes: &'a [u8]) -> Result<Names<'a>, Fate>
     ensures names { IfOk result (AreNamesIn path.entry bytes.now) }
     ensures fault { IfErr result (AreNoNamesIn path.entry bytes.now) }
 {
@@ -86,8 +86,11 @@ pub fn do_by_names<C: ByNames, F: Files, O: Sink>(
     files: &mut F,
     out: &mut O,
 ) -> Fate
-    ensures { DoesByNames (C.does command.now) path.entry (store F.disk files.old files.new)
-        (writing O.contents O.failures out.old out.new) result }
+    ensures { DoesNotName (store F.disk files.old files.new) path.entry
+        (writing O.contents O.failures out.old out.new) result
+        ⊎ ((names : NameLists) × AreNamesOf (F.disk files.old) path.entry names
+        × C.does command.now names (store F.disk files.old files.new)
+        (writing O.contents O.failures out.old out.new) result) }
 {
     let bytes = match read_given(alloc, path, MAX_NAMES_BYTES, files) {
         Ok(bytes) => bytes,

@@ -26,13 +26,14 @@ use Rattle.velo_fate.specs.Barred.{WritesNowhere, DoesNotRead, DoesNotReadApart}
 use Rattle.velo_delivery.specs.Disk.{IsWritten, Store}
 use Rattle.velo_log_commands.specs.Endless.{terms_of_endless}
 use Rattle.velo_log_commands.specs.Explaining.{IsExplainAnswer}
-use Rattle.velo_inputs.specs.Naming.{AreShown}
+use Rattle.velo_inputs.specs.Naming.{AreNamesOf, AreShown}
 use Rattle.velo_fate.specs.Failures.{FailuresAsTold}
 use Rattle.velo_delivery.specs.Reading.{Reading}
 use Rattle.velo_log_commands.specs.Thinning.{ThinsInput, map_of}
 use Rattle.velo_log_commands.specs.Watching.{Terms, Watches, terms_of_watch}
 use Rattle.velo_delivery.specs.Writing.{Writing, WritesNothing}
-use Rattle.velo_inputs.specs.Before.{DoesAsked, DoesByNames, DoesBySites}
+use Rattle.velo_inputs.specs.Context.{DoesNotName, IsContext, KnowsNoContext}
+use Rattle.velo_inputs.specs.declared.context.ContextOptions.{ContextOptions}
 
 -- ---- velodrome check LOG [--names FILE] [--events N] [--nodes N] [--certificate] [--why]
 
@@ -56,7 +57,9 @@ ChecksBy names options store stdout f =
 
 abbrev pub DoesCheck : CheckOptions → Store → Writing → Fate → Type 0
 DoesCheck options store stdout f =
-    DoesByNames (λ names. ChecksBy names options) options.names store stdout f
+    DoesNotName store options.names stdout f
+    ⊎ ((names : NameLists) × AreNamesOf store.disk options.names names
+    × ChecksBy names options store stdout f)
 
 -- ---- velodrome explain LOG [--names FILE] [--sites FILE] [--not-atomic FILE]
 -- ---- [--ignore-label WORD].. [--ignore-lock WORD].. [--ignore-locks] [--ignore-variable WORD]..
@@ -78,17 +81,17 @@ ExplainsLog names sites asked options store stdout f =
     × IsExplainAnswer names sites asked read.bytes answer drawing
     × IsDeliveredInTurn store options.target options.drawing drawing stdout answer f)
 
-abbrev pub ExplainsAsked : NameLists → Asked → ExplainOptions → Store → Writing → Fate → Type 0
-ExplainsAsked names asked options store stdout f =
-    DoesBySites (λ sites. ExplainsLog names sites asked options) options.sites store stdout f
-
-abbrev pub ExplainsNamed : NameLists → ExplainOptions → Store → Writing → Fate → Type 0
-ExplainsNamed names options store stdout f =
-    DoesAsked (λ asked. ExplainsAsked names asked options) names options.ignored store stdout f
+-- what it knows before is in `Context` of `velo_inputs`
+abbrev pub context_of_explain : ExplainOptions → ContextOptions
+context_of_explain options =
+    record { names = options.names; ignored = options.ignored; sites = options.sites }
 
 abbrev pub DoesExplain : ExplainOptions → Store → Writing → Fate → Type 0
 DoesExplain options store stdout f =
-    DoesByNames (λ names. ExplainsNamed names options) options.names store stdout f
+    KnowsNoContext store (context_of_explain options) stdout f
+    ⊎ ((names : NameLists) × (asked : Asked) × (sites : Option Table)
+    × IsContext store.disk (context_of_explain options) names asked sites
+    × ExplainsLog names sites asked options store stdout f)
 
 -- ---- velodrome carry LOG --log OUT [--why]
 
@@ -138,7 +141,9 @@ WatchesBy names terms store stdout f =
 
 abbrev pub DoesWatchBy : Terms → Store → Writing → Fate → Type 0
 DoesWatchBy terms store stdout f =
-    DoesByNames (λ names. WatchesBy names terms) terms.names store stdout f
+    DoesNotName store terms.names stdout f
+    ⊎ ((names : NameLists) × AreNamesOf store.disk terms.names names
+    × WatchesBy names terms store stdout f)
 
 abbrev pub DoesWatch : WatchOptions → Store → Writing → Fate → Type 0
 DoesWatch options store stdout f = DoesWatchBy (terms_of_watch options) store stdout f

@@ -10,7 +10,7 @@ ghost use Rattle.velo_explain.specs.Text.{clean_text};
 ghost use Rattle.velo_filter.specs.Left.{rest_of};
 ghost use Rattle.velo_filter.specs.Tables.{left_of};
 ghost use Rattle.velo_log_commands.specs.Explaining.{ExplainsRest, ExplainsVerdict, ExplainsWhole, counted, explained, is_whole, opening, saying, words_of};
-ghost use Rattle.velo_log_commands.specs.Commands.{DoesExplain, ExplainsAsked, ExplainsLog, ExplainsNamed};
+ghost use Rattle.velo_log_commands.specs.Commands.{DoesExplain, ExplainsLog};
 ghost use Rattle.velo_picture.specs.Drawing.{drawing_text};
 ghost use Rattle.velo_fate.specs.Delivery.{IsDelivered, IsDeliveredInTurn};
 ghost use Rattle.velo_inputs.specs.Leaving.{left_out_at_first};
@@ -34,8 +34,8 @@ use velo_explain::{
 use velo_fate::{Beside, Fate, open_apart};
 use velo_filter::{LeftOut, thin};
 use velo_inputs::{
-    ByAsked, ByNames, BySites, are_of_log, config_of_rounds, do_by_asked, do_by_names, do_by_sites,
-    do_input, left_out, print, save_text,
+    ContextOptions, InContext, are_of_log, config_of_rounds, do_in_context, do_input, left_out,
+    print, save_text,
 };
 use velo_names::Names;
 use velo_picture::drawing;
@@ -495,28 +495,15 @@ fn explain_input<F: Files, O: Sink>(
     }
 }
 
-impl BySites for Inquiry<'_, '_, '_, '_> {
-    ghost does = { λ inquiry sites. ExplainsLog inquiry.names.now sites inquiry.asked.now inquiry.options.now };
+impl InContext for Command<'_, ExplainOptions<'_>> {
+    ghost does = { λ command names asked sites. ExplainsLog names sites asked command.options.now };
 
-    fn do_by_sites<F: Files, O: Sink>(
-        &self,
-        alloc: Global,
-        sites: &Option<Sites>,
-        files: &mut F,
-        out: &mut O,
-    ) -> Fate {
-        explain_input(alloc, self, sites, files, out)
-    }
-}
-
-impl ByAsked for Command<'_, ExplainOptions<'_>> {
-    ghost does = { λ command names asked. ExplainsAsked names asked command.options.now };
-
-    fn do_asked<F: Files, O: Sink>(
+    fn do_in<F: Files, O: Sink>(
         &self,
         alloc: Global,
         names: &Names,
         asked: &Asked,
+        sites: &Option<Sites>,
         files: &mut F,
         out: &mut O,
     ) -> Fate {
@@ -525,21 +512,7 @@ impl ByAsked for Command<'_, ExplainOptions<'_>> {
             asked,
             options: self.options,
         };
-        do_by_sites(alloc, &inquiry, self.options.sites, files, out)
-    }
-}
-
-impl ByNames for Command<'_, ExplainOptions<'_>> {
-    ghost does = { λ command names. ExplainsNamed names command.options.now };
-
-    fn do_by<F: Files, O: Sink>(
-        &self,
-        alloc: Global,
-        names: &Names,
-        files: &mut F,
-        out: &mut O,
-    ) -> Fate {
-        do_by_asked(alloc, self, names, &self.options.ignored, files, out)
+        explain_input(alloc, &inquiry, sites, files, out)
     }
 }
 
@@ -554,5 +527,10 @@ pub fn explain_file<F: Files, O: Sink>(
     ensures { DoesExplain options.now (store F.disk files.old files.new)
         (writing O.contents O.failures out.old out.new) result }
 {
-    do_by_names(alloc, &Command { options }, options.names, files, out)
+    let context = ContextOptions {
+        names: options.names,
+        ignored: options.ignored,
+        sites: options.sites,
+    };
+    do_in_context(alloc, &Command { options }, &context, files, out)
 }

@@ -1,0 +1,175 @@
+//! What a command knows before it opens its log: names, what is left out of the log, and sites.
+ghost use Rattle.std.specs.Prelude.{◌⊎◌, Option as OptionOf};
+ghost use Rattle.velo_audit_text.specs.declared.words.Asked.{Asked as AskedOf};
+ghost use Rattle.velo_delivery.specs.Disk.{Store, store};
+ghost use Rattle.velo_delivery.specs.Writing.{Writing, writing};
+ghost use Rattle.velo_fate.specs.declared.fate.Fate.{Fate as FateOf};
+ghost use Rattle.velo_inputs.specs.Context.{DoesAsked, DoesBySites, DoesKnown, IsContext, KnowsNoContext};
+ghost use Rattle.velo_names.specs.Names.{NameLists};
+ghost use Rattle.velo_sites.specs.Sites.{Table};
+ghost use Rattle.velo_suppressions.specs.Answers.{numbers};
+
+use crate::ignoring::{add_ignored_labels, ignored_locks, ignored_variables};
+use crate::listing::labels_of;
+use crate::naming::{names_in, read_given};
+use crate::siting::sites_in;
+use std::alloc::Global;
+use velo_audit_text::Asked;
+use velo_bytes::Sink;
+use velo_delivery::Files;
+use velo_events::Label;
+use velo_fate::Fate;
+use velo_names::{MAX_NAMES_BYTES, Names};
+use velo_request::Ignored;
+use velo_sites::{MAX_SITES_BYTES, Sites};
+
+/// What was asked for of all that a command knows before it opens its log.
+#[derive(Clone, Copy)]
+pub struct ContextOptions<'a> {
+    /// The path of the names, or `-`.
+    pub names: Option<&'a str>,
+    /// What is left out of the log.
+    pub ignored: Ignored<'a>,
+    /// The path of the sites, or `-`.
+    pub sites: Option<&'a str>,
+}
+
+/// What is done by names, without what is left out of the log, and with sites.
+pub trait InContext {
+    /// The fate.
+    ghost does: { Self → NameLists → AskedOf → OptionOf Table → Store → Writing → FateOf → Type 0 };
+
+    /// Does it by these names, without what was asked for, and with these sites.
+    fn do_in<F: Files, O: Sink>(
+        &self,
+        alloc: Global,
+        names: &Names,
+        asked: &Asked,
+        sites: &Option<Sites>,
+        files: &mut F,
+        out: &mut O,
+    ) -> Fate
+        ensures { does self.now names.now asked.now sites.now (store F.disk files.old files.new)
+            (writing O.contents O.failures out.old out.new) result };
+}
+
+/// Does a command with the sites of the file at a path, if one is given. The sites are read first.
+fn do_by_sites<C: InContext, F: Files, O: Sink>(
+    alloc: Global,
+    command: &C,
+    names: &Names,
+    asked: &Asked,
+    path: Option<&str>,
+    files: &mut F,
+    out: &mut O,
+) -> Fate
+    ensures { DoesBySites (C.does command.now names.now asked.now) path.entry
+        (store F.disk files.old files.new) (writing O.contents O.failures out.old out.new) result }
+{
+    let bytes = match read_given(alloc, path, MAX_SITES_BYTES, files) {
+        Ok(bytes) => bytes,
+        Err(fate) => return fate,
+    };
+    let fate = match sites_in(alloc, path, &bytes) {
+        Ok(sites) => {
+            let fate = command.do_in(alloc, names, asked, &sites, files, out);
+            drop(sites);
+            fate
+        }
+        Err(fate) => fate,
+    };
+    drop(bytes);
+    fate
+}
+
+/// Does a command without the labels that are known, and without what is to be ignored by the names.
+fn do_known<C: InContext, F: Files, O: Sink>(
+    alloc: Global,
+    command: &C,
+    names: &Names,
+    options: &ContextOptions,
+    labels: &mut Vec<Label>,
+    files: &mut F,
+    out: &mut O,
+) -> Fate
+    ensures { DoesKnown (λ asked. DoesBySites (C.does command.now names.now asked) options.now.sites)
+        names.now options.now.ignored (numbers labels.old.items)
+        (store F.disk files.old files.new) (writing O.contents O.failures out.old out.new) result }
+{
+    let ignored = &options.ignored;
+    match add_ignored_labels(alloc, names, labels, ignored.labels) {
+        Ok(()) => (),
+        Err(fate) => return fate,
+    }
+    let locks = match ignored_locks(alloc, names, ignored.locks) {
+        Ok(locks) => locks,
+        Err(fate) => return fate,
+    };
+    let variables = match ignored_variables(alloc, names, ignored.variables) {
+        Ok(variables) => variables,
+        Err(fate) => return fate,
+    };
+    let asked = Asked {
+        labels: labels.as_slice(),
+        locks: &locks,
+        variables: &variables,
+        all_locks: ignored.all_locks,
+    };
+    do_by_sites(alloc, command, names, &asked, options.sites, files, out)
+}
+
+/// Does a command without what is to be ignored by the names. The list of the labels that are known
+/// is read first.
+fn do_by_asked<C: InContext, F: Files, O: Sink>(
+    alloc: Global,
+    command: &C,
+    names: &Names,
+    options: &ContextOptions,
+    files: &mut F,
+    out: &mut O,
+) -> Fate
+    ensures { DoesAsked (λ asked. DoesBySites (C.does command.now names.now asked) options.now.sites)
+        names.now options.now.ignored (store F.disk files.old files.new)
+        (writing O.contents O.failures out.old out.new) result }
+{
+    match labels_of(alloc, names, options.ignored.known, files) {
+        Ok(mut labels) => {
+            let fate = do_known(alloc, command, names, options, &mut labels, files, out);
+            drop(labels);
+            fate
+        }
+        Err(fate) => fate,
+    }
+}
+
+/// Does a command in its context. The names are read first, then what is left out is judged by them,
+/// and then the sites are read.
+pub fn do_in_context<C: InContext, F: Files, O: Sink>(
+    alloc: Global,
+    command: &C,
+    options: &ContextOptions,
+    files: &mut F,
+    out: &mut O,
+) -> Fate
+    ensures { KnowsNoContext (store F.disk files.old files.new) options.now
+        (writing O.contents O.failures out.old out.new) result
+        ⊎ ((names : NameLists) × (asked : AskedOf) × (sites : OptionOf Table)
+        × IsContext (F.disk files.old) options.now names asked sites
+        × C.does command.now names asked sites (store F.disk files.old files.new)
+        (writing O.contents O.failures out.old out.new) result) }
+{
+    let bytes = match read_given(alloc, options.names, MAX_NAMES_BYTES, files) {
+        Ok(bytes) => bytes,
+        Err(fate) => return fate,
+    };
+    let fate = match names_in(alloc, options.names, &bytes) {
+        Ok(names) => {
+            let fate = do_by_asked(alloc, command, &names, options, files, out);
+            drop(names);
+            fate
+        }
+        Err(fate) => fate,
+    };
+    drop(bytes);
+    fate
+}
