@@ -135,7 +135,8 @@ listed program =
 abbrev pub text_of_names : Program → List ℕ
 text_of_names program = names_text (listed program)
 
--- it is no longer than a file of names may be
+-- The program's names fit into one file of names: it has no more lines, and no more bytes, than such
+-- a file may have.
 pub record FitsNames (program : Program) : Type 0 where
   pub few_lines : length program.thread_names + (length program.variable_names
       + (length program.lock_names + length program.label_names)) ≤ MAX_NAME_LINES
