@@ -14,7 +14,7 @@ use Rattle.velo_world.specs.Faults.{IsRefusedAt, IsWrongValueAt}
 use Rattle.velo_fate.specs.declared.fault.CheckFault.{CheckFault}
 use Rattle.velo_fate.specs.declared.fault.CheckFault.TheVariants.{Log, Refused, WrongValue, Write, Memory}
 use Rattle.velo_fate.specs.declared.fate.Fate.TheVariants.{Check}
-use Rattle.velo_fate.specs.Delivery.{Answer, silent}
+use Rattle.velo_fate.specs.Delivery.{CommandAnswer, silent}
 
 -- ---- the log of an input
 
@@ -65,6 +65,6 @@ IsFaultOfInput limit nodes read Memory = GrowthRefused
 IsFaultOfInput limit nodes read Write = ⊥
 
 -- nothing is printed of an input that has this fault
-abbrev pub IsUnchecked : ℕ → ℕ → Option (List ℕ) → Answer → Type 0
+abbrev pub IsUnchecked : ℕ → ℕ → Option (List ℕ) → CommandAnswer → Type 0
 IsUnchecked limit nodes read answer =
     (fault : CheckFault) × IsFaultOfInput limit nodes read fault × (answer ≡ silent (Check fault))

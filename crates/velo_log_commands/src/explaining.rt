@@ -83,7 +83,7 @@ fn explain_log<I: Source, F: Files, O: Sink>(
     out: &mut O,
 ) -> Fate
     ensures { ExplainsInput inquiry.now.names.now sites.now inquiry.now.asked.now
-        inquiry.now.options.now (store F.disk files.old files.new)
+        (store F.disk files.old files.new) inquiry.now.options.now
         (reading I.remaining I.failures source.old source.new)
         (writing O.contents O.failures out.old out.new) result }
 {

@@ -30,7 +30,7 @@ use Rattle.velo_workload.specs.Program.{Program}
 use Rattle.velo_fate.specs.declared.fate.Fate.{Fate}
 use Rattle.velo_fate.specs.declared.fate.Fate.TheVariants as fate
 use Rattle.velo_fate.specs.Causes.{ComesByRefusal, Growths}
-use Rattle.velo_fate.specs.Delivery.{Answer, IsDelivered, IsDeliveredInTurn, IsPrinted, LacksMemory, printing, silent}
+use Rattle.velo_fate.specs.Delivery.{CommandAnswer, IsDelivered, IsDeliveredInTurn, IsPrinted, LacksMemory, printing, silent}
 use Rattle.velo_fate.specs.Failures.{failures_told}
 use Rattle.velo_delivery.specs.Disk.{Store}
 use Rattle.velo_delivery.specs.Writing.{Writes, Writing}
@@ -143,7 +143,7 @@ said_fate program certificate told None answer says = ap (λ (a : Answer). a.fat
 said_fate program certificate told (Some replay) answer says = ap (λ (a : Answer). a.fate) says.said
 
 -- of what is said of an exploration
-pub caused : (options : ExploreOptions) (program : Program) (answer : Answer) → IsExplored options program answer → ComesByRefusal Growths answer.fate
+pub caused : (options : ExploreOptions) (program : Program) (answer : CommandAnswer) → IsExplored options program answer → ComesByRefusal Growths answer.fate
 caused options program answer e =
     subst (ComesByRefusal Growths) (sym (said_fate program options.certificate e.told e.told.shrunk.first answer e.says)) (caused_told program e.config options e.over e.told e.is_so)
 
@@ -180,7 +180,7 @@ pub plain_told : (told : Told) → IsNoFileFailure (fate_of_told told)
 plain_told told = (quiet_told told).plain
 
 -- no exploration is told as a failed read
-pub explores_reads : (store : Store) (names : List ℕ) (stdout : Writing) (options : ExploreOptions) (program : Program) (answer : Answer) (n : ℕ) → IsExplored options program answer ⊎ LacksMemory answer
+pub explores_reads : (store : Store) (names : List ℕ) (stdout : Writing) (options : ExploreOptions) (program : Program) (answer : CommandAnswer) (n : ℕ) → IsExplored options program answer ⊎ LacksMemory answer
     → (f : Fate) → IsDeliveredInTurn store options.target options.names_target names stdout answer f → failures_told f n ≡ n
 explores_reads store names stdout options program answer n is f h = in_turn_reads store options.target names stdout answer f options.names_target n (by_fate is) h
   where

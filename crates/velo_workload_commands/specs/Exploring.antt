@@ -34,7 +34,7 @@ use Rattle.velo_workload_commands.specs.declared.told.Told.{Told}
 use Rattle.velo_workload_commands.specs.declared.told.Tried.{Tried}
 use Rattle.velo_workload_commands.specs.declared.told.Tried.TheVariants as how
 use Rattle.velo_workload_commands.specs.ByChance.{IsBlameOf, IsByChance}
-use Rattle.velo_fate.specs.Delivery.{Answer, LacksMemory, printing, silent}
+use Rattle.velo_fate.specs.Delivery.{CommandAnswer, LacksMemory, printing, silent}
 use Rattle.velo_fate.specs.Fate.{number_of}
 use Rattle.velo_workload_commands.specs.Playing.{IsConfigOf, IsReported, IsTextOf, IsUnread, text_of_names}
 use Rattle.velo_schedule_text.specs.Schedule.{spaced}
@@ -193,7 +193,7 @@ IsSaidOf program certificate told None answer = answer ≡ printing (told_text p
 
 -- The schedules of the program are tried within the limits that were asked for, and this is said.
 -- Only where it may take so many seconds and no more, the search may have been told that it is over.
-pub record IsExplored (options : ExploreOptions) (program : Program) (answer : Answer)
+pub record IsExplored (options : ExploreOptions) (program : Program) (answer : CommandAnswer)
     : Type 0 where
   pub config : Config
   pub configured : IsConfigOf program (run_of options) config
@@ -205,7 +205,7 @@ pub record IsExplored (options : ExploreOptions) (program : Program) (answer : A
 
 -- What an exploration of the workload that was read has to say, and the text of its names; or
 -- nothing, for a reason.
-abbrev pub IsExploreAnswer : ExploreOptions → Option (List ℕ) → Answer → List ℕ → Type 0
+abbrev pub IsExploreAnswer : ExploreOptions → Option (List ℕ) → CommandAnswer → List ℕ → Type 0
 IsExploreAnswer options read answer names =
     ((program : Program) × IsTextOf read program × (names ≡ text_of_names program)
     × (IsExplored options program answer ⊎ LacksMemory answer))
