@@ -9,7 +9,7 @@ use Rattle.velo_fate.specs.declared.fate.Fate.{Fate}
 use Rattle.velo_request.specs.declared.request.ExploreOptions.{ExploreOptions}
 use Rattle.velo_request.specs.declared.request.RunOptions.{RunOptions}
 use Rattle.velo_shrink.specs.declared.findings.Replay.{Replay}
-use Rattle.velo_workload_commands.specs.declared.told.Told.{Told}
+use Rattle.velo_workload_commands.specs.declared.survey.Survey.{Survey}
 use Rattle.velo_workload_commands.specs.Exploring.{IsExplored, IsSaidOf}
 use Rattle.velo_fate.specs.Verdict.{KnowsAlarm}
 use Rattle.velo_fate.specs.Delivery.{CommandAnswer, IsDeliveredInTurn, IsPrinted, LacksMemory, Saves, printing}
@@ -67,11 +67,11 @@ pub record IsReportable (program : Program) (replay : Replay) : Type 0 where
 abbrev pub PrintsAlone : List ℕ → Fate → Writing → Fate → Type 0
 PrintsAlone text end stdout f = IsPrinted stdout (printing text end) f
 
--- what saying what is told of the schedules came to
-abbrev pub SaysTold : Program → Told → RunOptions → Store → Writing → Fate → Type 0
-SaysTold program told options store stdout f =
-    (answer : Answer)
-    × (IsSaidOf program options.certificate told told.shrunk.first answer ⊎ LacksMemory answer)
+-- what saying a survey of the schedules came to
+abbrev pub SaysSurvey : Program → Survey → RunOptions → Store → Writing → Fate → Type 0
+SaysSurvey program survey options store stdout f =
+    (answer : CommandAnswer)
+    × (IsSaidOf program options.certificate survey survey.shrunk.first answer ⊎ LacksMemory answer)
     × IsDeliveredInTurn store options.target options.names_target (text_of_names program) stdout answer f
 
 -- what exploring a workload came to
