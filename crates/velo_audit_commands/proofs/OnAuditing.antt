@@ -22,7 +22,7 @@ use Rattle.velo_request.specs.declared.request.AuditOptions.{AuditOptions}
 use Rattle.velo_audit_commands.specs.Auditing.{AreRoundsOf, Audits, AuditsIfOf, AuditsSited, HasFullGraph, IsAuditAnswer, IsAuditPage, LacksRounds, PrintsRounds, atomic_of, is_found, left_out_at_last}
 use Rattle.velo_inputs.specs.Leaving.{left_out_at_first}
 use Rattle.velo_inputs.specs.Siting.{HaveLengthOf}
-use Rattle.velo_fate.specs.Delivery.{Answer, IsDelivered, IsPrinted, LacksMemory, printing, silent}
+use Rattle.velo_fate.specs.Delivery.{CommandAnswer, IsDelivered, IsPrinted, LacksMemory, printing, silent}
 use Rattle.velo_delivery.specs.Disk.{Store}
 use Rattle.velo_fate.specs.Failures.{failures_told}
 use Rattle.velo_delivery.specs.Writing.{Writing, WritesNothing}
@@ -107,8 +107,8 @@ lacks_same asked nodes limit bounds own log events f same its_bounds its_nodes l
 -- and then nothing is printed
 pub rounds_lacking : (names : NameLists) (sites : Option Table) (asked : Asked) (options : AuditOptions) (bounds : Bounds) (log : List Event) (stdout : Writing) (f : Fate) → WritesNothing stdout
     → LacksRounds asked options.limits.nodes bounds log f → Audits names sites asked options bounds log stdout f
-rounds_lacking names sites asked options bounds log stdout f nothing (inl full) = (silent f, inl (inr full), subst (λ (g : Fate). IsPrinted stdout (silent g) g) (sym (ap (λ (a : Answer). a.fate) full.said)) (refl, nothing))
-rounds_lacking names sites asked options bounds log stdout f nothing (inr lacks) = (silent f, inr lacks, subst (λ (g : Fate). IsPrinted stdout (silent g) g) (sym (ap (λ (a : Answer). a.fate) lacks.1)) (refl, nothing))
+rounds_lacking names sites asked options bounds log stdout f nothing (inl full) = (silent f, inl (inr full), subst (λ (g : Fate). IsPrinted stdout (silent g) g) (sym (ap (λ (a : CommandAnswer). a.fate) full.said)) (refl, nothing))
+rounds_lacking names sites asked options bounds log stdout f nothing (inr lacks) = (silent f, inr lacks, subst (λ (g : Fate). IsPrinted stdout (silent g) g) (sym (ap (λ (a : CommandAnswer). a.fate) lacks.1)) (refl, nothing))
 
 -- ---- the answer
 
@@ -122,7 +122,7 @@ module _ (names : NameLists) (sites : Option Table) (asked : Asked) (options : A
   audited_other bounds log other nothing = (silent fate.OtherSites, inl (inr (record { of_other = other; said = refl })), (refl, nothing))
 
   -- an audit has nothing to be saved
-  pub audit_put : (store : Store) (read : Option (List ℕ)) (answer : Answer) → IsAuditAnswer names sites asked options read answer → store.is_kept → (f : Fate) → IsPrinted stdout answer f
+  pub audit_put : (store : Store) (read : Option (List ℕ)) (answer : CommandAnswer) → IsAuditAnswer names sites asked options read answer → store.is_kept → (f : Fate) → IsPrinted stdout answer f
       → IsDelivered store None stdout answer f
   audit_put store read answer (inl is) kept f told = by_verdict is.verdict
     where
@@ -133,12 +133,12 @@ module _ (names : NameLists) (sites : Option Table) (asked : Asked) (options : A
   audit_put store read answer (inr (inl is)) kept f told = put_of store None stdout answer _ _ kept is.2 (λ e. cc) f told
   audit_put store read answer (inr (inr lacks)) kept f told = put_of store None stdout answer _ _ kept lacks.1 (λ e. cc) f told
 
-  printed_reads : (answer : Answer) (n : ℕ) → failures_told answer.fate n ≡ n → (f : Fate) → IsPrinted stdout answer f → failures_told f n ≡ n
+  printed_reads : (answer : CommandAnswer) (n : ℕ) → failures_told answer.fate n ≡ n → (f : Fate) → IsPrinted stdout answer f → failures_told f n ≡ n
   printed_reads answer n none fate.WriteFailed put = refl
   printed_reads answer n none f put = ap (λ (f : Fate). failures_told f n) put.0 ∙ none
 
   -- no audit is told as a failed read
-  pub audits_reads : (bounds : Bounds) (log : List Event) (answer : Answer) (n : ℕ) → AuditsSited names sites asked options bounds log answer ⊎ LacksMemory answer → (f : Fate) → IsPrinted stdout answer f
+  pub audits_reads : (bounds : Bounds) (log : List Event) (answer : CommandAnswer) (n : ℕ) → AuditsSited names sites asked options bounds log answer ⊎ LacksMemory answer → (f : Fate) → IsPrinted stdout answer f
       → failures_told f n ≡ n
   audits_reads bounds log answer n is f told = printed_reads answer n (by_fate is) f told
     where

@@ -16,7 +16,7 @@ use Rattle.velo_predict_text.specs.Text.{CanBeTold, CanTellDeadlock}
 use Rattle.velo_predict_text.proofs.OnFound.{CanBeTold-from, CanTellDeadlock-from}
 use Rattle.velo_fate.specs.declared.fate.Fate.{Fate}
 use Rattle.velo_fate.specs.declared.fate.Fate.TheVariants as fate
-use Rattle.velo_fate.specs.Delivery.{Answer, IsDelivered, IsPrinted, LacksMemory, Saves, printing, silent}
+use Rattle.velo_fate.specs.Delivery.{CommandAnswer, IsDelivered, IsPrinted, LacksMemory, Saves, printing, silent}
 use Rattle.velo_fate.specs.Failures.{failures_told}
 use Rattle.velo_fate.proofs.OnDelivery.{delivered_reads, printed_put, same_fate}
 use Rattle.velo_delivery.specs.Disk.{Store}
@@ -46,7 +46,7 @@ module _ (values : Bool) (bounds : Bounds) (log : List Event) (left : Left) (fin
 module _ (names : NameLists) (sites : Option Table) (asked : Asked) (options : PredictOptions) (store : Store) (stdout : Writing) where
   -- an answer without a word
   silent_delivered : (target : Option (Bor (List ℕ))) (f g : Fate) → silent f ≡ silent g → IsDelivered store target stdout (silent g) g → IsDelivered store target stdout (silent f) f
-  silent_delivered target f g is put = subst (λ (h : Fate). IsDelivered store target stdout (silent h) h) (sym (ap (λ (a : Answer). a.fate) is)) put
+  silent_delivered target f g is put = subst (λ (h : Fate). IsDelivered store target stdout (silent h) h) (sym (ap (λ (a : CommandAnswer). a.fate) is)) put
 
   -- what was found is told, or memory was wanting
   pub told_so : (bounds : Bounds) (log : List Event) (rounds : List Told) (findings : PredictedFindings) (f : Fate) → AreRoundsOf true log (left_out_at_first asked) rounds
@@ -79,7 +79,7 @@ module _ (names : NameLists) (sites : Option Table) (asked : Asked) (options : P
   predicted_other bounds log other kept nothing = (silent fate.OtherSites, inl (inr (record { of_other = other; said = refl })), (refl, kept, nothing))
 
   -- no prediction is told as a failed read
-  pub predicts_reads : (bounds : Bounds) (log : List Event) (answer : Answer) (n : ℕ) → PredictsSited names sites asked options bounds log answer ⊎ LacksMemory answer → (f : Fate)
+  pub predicts_reads : (bounds : Bounds) (log : List Event) (answer : CommandAnswer) (n : ℕ) → PredictsSited names sites asked options bounds log answer ⊎ LacksMemory answer → (f : Fate)
       → IsDelivered store options.target stdout answer f → failures_told f n ≡ n
   predicts_reads bounds log answer n is f put = delivered_reads store options.target stdout answer n (by_fate is) f put
     where

@@ -30,7 +30,7 @@ use Rattle.velo_audit_findings.specs.Sarif.{sarif_text}
 use Rattle.velo_inputs.specs.Input.{ComesAbout, IsUnchecked}
 use Rattle.velo_inputs.specs.Leaving.{left_out_at_first}
 use Rattle.velo_inputs.specs.Siting.{HaveLengthOf}
-use Rattle.velo_fate.specs.Delivery.{Answer, IsPrinted, LacksMemory, printing, silent}
+use Rattle.velo_fate.specs.Delivery.{CommandAnswer, IsPrinted, LacksMemory, printing, silent}
 use Rattle.velo_fate.specs.Failures.{FailuresAsTold}
 use Rattle.velo_delivery.specs.Reading.{Reading}
 use Rattle.velo_delivery.specs.Writing.{Writing, WritesNothing}
@@ -114,7 +114,7 @@ IsAuditPage names sites log asked options rounds atomic page =
 
 -- its rounds are printed
 pub record TellsRounds (names : NameLists) (sites : Option Table) (asked : Asked)
-    (options : AuditOptions) (log : List Event) (answer : Answer) : Type 0 where
+    (options : AuditOptions) (log : List Event) (answer : CommandAnswer) : Type 0 where
   pub rounds : List Told
   pub are_rounds : AreRoundsOf options.witness log (left_out_at_first asked) rounds
   pub page : List ℕ
@@ -124,7 +124,7 @@ pub record TellsRounds (names : NameLists) (sites : Option Table) (asked : Asked
 -- A round needs more nodes than there may be: the event at this position of the log as read finds
 -- none. Nothing is printed, not even of the rounds before it.
 pub record HasFullGraph (asked : Asked) (nodes : ℕ) (bounds : Bounds) (log : List Event)
-    (answer : Answer) : Type 0 where
+    (answer : CommandAnswer) : Type 0 where
   pub config : Config
   pub its_bounds : config.bounds ≡ bounds
   pub its_nodes : config.nodes ≡ nodes
@@ -132,19 +132,19 @@ pub record HasFullGraph (asked : Asked) (nodes : ℕ) (bounds : Bounds) (log : L
   pub is_full : IsFullAfter config log (left_out_at_first asked) position
   pub said : answer ≡ silent (Check (Refused position GraphFull))
 
-abbrev pub AuditsEvents : NameLists → Option Table → Asked → AuditOptions → Bounds → List Event → Answer
+abbrev pub AuditsEvents : NameLists → Option Table → Asked → AuditOptions → Bounds → List Event → CommandAnswer
     → Type 0
 AuditsEvents names sites asked options bounds log answer =
     TellsRounds names sites asked options log answer
     ⊎ HasFullGraph asked options.limits.nodes bounds log answer
 
 -- nothing is said of the log: the sites are of another number of events
-pub record IsOfOtherLog (sites : Option Table) (log : List Event) (answer : Answer) : Type 0 where
+pub record IsOfOtherLog (sites : Option Table) (log : List Event) (answer : CommandAnswer) : Type 0 where
   pub of_other : ¬ HaveLengthOf sites log
   pub said : answer ≡ silent OtherSites
 
 -- with as many sites as events it is audited, and else nothing is said
-abbrev pub AuditsSited : NameLists → Option Table → Asked → AuditOptions → Bounds → List Event → Answer
+abbrev pub AuditsSited : NameLists → Option Table → Asked → AuditOptions → Bounds → List Event → CommandAnswer
     → Type 0
 AuditsSited names sites asked options bounds log answer =
     (HaveLengthOf sites log × AuditsEvents names sites asked options bounds log answer)
@@ -154,14 +154,14 @@ AuditsSited names sites asked options bounds log answer =
 
 -- what is said of the log of the input
 pub record IsAudited (names : NameLists) (sites : Option Table) (asked : Asked)
-    (options : AuditOptions) (read : Option (List ℕ)) (answer : Answer) : Type 0 where
+    (options : AuditOptions) (read : Option (List ℕ)) (answer : CommandAnswer) : Type 0 where
   pub bounds : Bounds
   pub log : List Event
   pub comes_about : ComesAbout options.limits.events read bounds log
   pub verdict : AuditsSited names sites asked options bounds log answer
 
 -- What an audit has to say: the rounds, in the form that was asked for; or nothing, for a reason.
-abbrev pub IsAuditAnswer : NameLists → Option Table → Asked → AuditOptions → Option (List ℕ) → Answer
+abbrev pub IsAuditAnswer : NameLists → Option Table → Asked → AuditOptions → Option (List ℕ) → CommandAnswer
     → Type 0
 IsAuditAnswer names sites asked options read answer =
     IsAudited names sites asked options read answer
@@ -187,7 +187,7 @@ PrintsRounds names sites log asked options rounds stdout f =
 abbrev pub Audits : NameLists → Option Table → Asked → AuditOptions → Bounds → List Event → Writing → Fate
     → Type 0
 Audits names sites asked options bounds log stdout f =
-    (answer : Answer)
+    (answer : CommandAnswer)
     × (AuditsEvents names sites asked options bounds log answer ⊎ LacksMemory answer)
     × IsPrinted stdout answer f
 
@@ -195,7 +195,7 @@ Audits names sites asked options bounds log stdout f =
 abbrev pub AuditsIfOf : NameLists → Option Table → Asked → AuditOptions → Bounds → List Event → Writing
     → Fate → Type 0
 AuditsIfOf names sites asked options bounds log stdout f =
-    (answer : Answer)
+    (answer : CommandAnswer)
     × (AuditsSited names sites asked options bounds log answer ⊎ LacksMemory answer)
     × IsPrinted stdout answer f
 
@@ -204,5 +204,5 @@ abbrev pub AuditsInput : NameLists → Option Table → Asked → AuditOptions �
     → Type 0
 AuditsInput names sites asked options read stdout f =
     FailuresAsTold read f
-    × ((answer : Answer) × IsAuditAnswer names sites asked options read.bytes answer
+    × ((answer : CommandAnswer) × IsAuditAnswer names sites asked options read.bytes answer
     × IsPrinted stdout answer f)

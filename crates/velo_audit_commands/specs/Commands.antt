@@ -13,7 +13,7 @@ use Rattle.velo_request.specs.declared.request.AuditOptions.{AuditOptions}
 use Rattle.velo_request.specs.declared.request.PredictOptions.{PredictOptions}
 use Rattle.velo_delivery.specs.declared.failure.Operand.TheVariants.{Log}
 use Rattle.velo_audit_commands.specs.Auditing.{IsAuditAnswer}
-use Rattle.velo_fate.specs.Delivery.{Answer, IsDelivered}
+use Rattle.velo_fate.specs.Delivery.{CommandAnswer, IsDelivered}
 use Rattle.velo_fate.specs.Barred.{DoesNotRead}
 use Rattle.velo_delivery.specs.Disk.{Store}
 use Rattle.velo_audit_commands.specs.Predicting.{IsPredictAnswer}
@@ -33,7 +33,7 @@ use Rattle.velo_inputs.specs.declared.context.ContextOptions.{ContextOptions}
 abbrev pub AuditsLog : NameLists → Option Table → Asked → AuditOptions → Store → Writing → Fate → Type 0
 AuditsLog names sites asked options store stdout f =
     DoesNotRead store Log options.input.now None stdout f
-    ⊎ ((read : Reading) × (answer : Answer)
+    ⊎ ((read : Reading) × (answer : CommandAnswer)
     × store.disk.gives options.input.now read × FailuresAsTold read f
     × IsAuditAnswer names sites asked options read.bytes answer
     × IsDelivered store None stdout answer f)
@@ -61,7 +61,7 @@ DoesAudit options store stdout f =
 abbrev pub PredictsLog : NameLists → Option Table → Asked → PredictOptions → Store → Writing → Fate → Type 0
 PredictsLog names sites asked options store stdout f =
     DoesNotRead store Log options.input.now options.target stdout f
-    ⊎ ((read : Reading) × (answer : Answer)
+    ⊎ ((read : Reading) × (answer : CommandAnswer)
     × store.disk.gives options.input.now read × FailuresAsTold read f
     × IsPredictAnswer names sites asked options read.bytes answer
     × IsDelivered store options.target stdout answer f)

@@ -20,7 +20,7 @@ use Rattle.velo_predict_forms.specs.Answer.{predictions_json}
 use Rattle.velo_worker.specs.declared.ending.Ending.TheVariants.{Done}
 use Rattle.velo_fate.specs.declared.fate.Fate.{Fate}
 use Rattle.velo_fate.specs.declared.fate.Fate.TheVariants.{Finished}
-use Rattle.velo_fate.specs.Delivery.{Answer, IsDelivered, LacksMemory}
+use Rattle.velo_fate.specs.Delivery.{CommandAnswer, IsDelivered, LacksMemory}
 use Rattle.velo_fate.specs.Failures.{FailuresAsTold}
 use Rattle.velo_delivery.specs.Disk.{Store}
 use Rattle.velo_delivery.specs.Reading.{Reading}
@@ -76,7 +76,7 @@ predictions_page Json names sites log path asked rounds founds deadlocks tries =
 -- this trace is to be saved as a log, and the rounds of the log itself and the predictions are to be
 -- printed; it is an alarm where something is told
 abbrev pub predicted : NameLists → Option Table → PredictOptions → Bounds → List Event → Asked
-    → List Told → PredictedFindings → Answer
+    → List Told → PredictedFindings → CommandAnswer
 predicted names sites options bounds log asked rounds findings =
     record {
       saved = option_map (log_text bounds) (first_trace findings.labels.items findings.deadlocks.items);
@@ -88,7 +88,7 @@ predicted names sites options bounds log asked rounds findings =
 -- The rounds of the log are told, as by an audit with witnesses. Their labels are left out, and then
 -- predictions are told. Of the number of tries nothing is claimed.
 pub record TellsPredictions (names : NameLists) (sites : Option Table) (asked : Asked)
-    (options : PredictOptions) (bounds : Bounds) (log : List Event) (answer : Answer) : Type 0 where
+    (options : PredictOptions) (bounds : Bounds) (log : List Event) (answer : CommandAnswer) : Type 0 where
   pub rounds : List Told
   pub are_rounds : AreRoundsOf true log (left_out_at_first asked) rounds
   pub findings : PredictedFindings
@@ -97,14 +97,14 @@ pub record TellsPredictions (names : NameLists) (sites : Option Table) (asked : 
   pub said : answer ≡ predicted names sites options bounds log asked rounds findings
 
 abbrev pub PredictsEvents : NameLists → Option Table → Asked → PredictOptions → Bounds → List Event
-    → Answer → Type 0
+    → CommandAnswer → Type 0
 PredictsEvents names sites asked options bounds log answer =
     TellsPredictions names sites asked options bounds log answer
     ⊎ HasFullGraph asked options.limits.nodes bounds log answer
 
 -- that much is said where the sites are of the log
 abbrev pub PredictsSited : NameLists → Option Table → Asked → PredictOptions → Bounds → List Event
-    → Answer → Type 0
+    → CommandAnswer → Type 0
 PredictsSited names sites asked options bounds log answer =
     (HaveLengthOf sites log × PredictsEvents names sites asked options bounds log answer)
     ⊎ IsOfOtherLog sites log answer
@@ -113,7 +113,7 @@ PredictsSited names sites asked options bounds log answer =
 
 -- what is said of the log of the input
 pub record IsPredicted (names : NameLists) (sites : Option Table) (asked : Asked)
-    (options : PredictOptions) (read : Option (List ℕ)) (answer : Answer) : Type 0 where
+    (options : PredictOptions) (read : Option (List ℕ)) (answer : CommandAnswer) : Type 0 where
   pub bounds : Bounds
   pub log : List Event
   pub comes_about : ComesAbout options.limits.events read bounds log
@@ -122,7 +122,7 @@ pub record IsPredicted (names : NameLists) (sites : Option Table) (asked : Asked
 -- What a search for predictions has to say: what the log shows and foretells, in the form that was
 -- asked for; or nothing, for a reason.
 abbrev pub IsPredictAnswer : NameLists → Option Table → Asked → PredictOptions → Option (List ℕ)
-    → Answer → Type 0
+    → CommandAnswer → Type 0
 IsPredictAnswer names sites asked options read answer =
     IsPredicted names sites asked options read answer
     ⊎ (IsUnchecked options.limits.events options.limits.nodes read answer ⊎ LacksMemory answer)
@@ -133,7 +133,7 @@ IsPredictAnswer names sites asked options read answer =
 abbrev pub Predicts : NameLists → Option Table → Asked → PredictOptions → Bounds → List Event → Store
     → Writing → Fate → Type 0
 Predicts names sites asked options bounds log store stdout f =
-    (answer : Answer)
+    (answer : CommandAnswer)
     × (PredictsEvents names sites asked options bounds log answer ⊎ LacksMemory answer)
     × IsDelivered store options.target stdout answer f
 
@@ -141,7 +141,7 @@ Predicts names sites asked options bounds log store stdout f =
 abbrev pub PredictsIfOf : NameLists → Option Table → Asked → PredictOptions → Bounds → List Event → Store
     → Writing → Fate → Type 0
 PredictsIfOf names sites asked options bounds log store stdout f =
-    (answer : Answer)
+    (answer : CommandAnswer)
     × (PredictsSited names sites asked options bounds log answer ⊎ LacksMemory answer)
     × IsDelivered store options.target stdout answer f
 
@@ -150,5 +150,5 @@ abbrev pub PredictsInput : NameLists → Option Table → Asked → PredictOptio
     → Fate → Type 0
 PredictsInput names sites asked options store read stdout f =
     FailuresAsTold read f
-    × ((answer : Answer) × IsPredictAnswer names sites asked options read.bytes answer
+    × ((answer : CommandAnswer) × IsPredictAnswer names sites asked options read.bytes answer
     × IsDelivered store options.target stdout answer f)

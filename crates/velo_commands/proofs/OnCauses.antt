@@ -48,7 +48,7 @@ use Rattle.velo_audit_commands.specs.Auditing.{IsAuditAnswer}
 use Rattle.velo_log_commands.specs.Carrying.{IsCarryAnswer, IsPut}
 use Rattle.velo_log_commands.specs.Check.{IsCheckAnswer}
 use Rattle.velo_inputs.specs.Input.{IsFaultOfInput}
-use Rattle.velo_fate.specs.Delivery.{Answer, DeliversBy, FailsSaving, IsDelivered, IsDeliveredInTurn, IsPrinted, LacksMemory, silent}
+use Rattle.velo_fate.specs.Delivery.{CommandAnswer, DeliversBy, FailsSaving, IsDelivered, IsDeliveredInTurn, IsPrinted, LacksMemory, silent}
 use Rattle.velo_delivery.specs.Disk.{Disk, Store, behind}
 use Rattle.velo_fate.specs.declared.files.Beside.{Beside}
 use Rattle.velo_fate.specs.Barred.{IsBarred, IsBarredApart, IsBarredRun, names_beside}
@@ -88,21 +88,21 @@ of_fault limit nodes read check_fault.Memory fault = fault
 of_fault limit nodes read _ fault = tt
 
 module _ (needs : Needs) where
-  abbrev HasCause : Answer → Type 0
+  abbrev HasCause : CommandAnswer → Type 0
   HasCause answer = ComesByRefusal needs answer.fate
 
   -- an end that is said so has its cause
-  said : (answer there : Answer) → answer ≡ there → HasCause there → HasCause answer
+  said : (answer there : CommandAnswer) → answer ≡ there → HasCause there → HasCause answer
   said answer there is cause = subst HasCause (sym is) cause
 
-  of_lack : (answer : Answer) → LacksMemory answer → HasCause answer
+  of_lack : (answer : CommandAnswer) → LacksMemory answer → HasCause answer
   of_lack answer lacks = said answer (silent fate.Memory) lacks.1 lacks.0
 
-  of_check : (names : Names) (limit nodes : ℕ) (certificate : Bool) (read : Option (List ℕ)) (answer : Answer) → EndsByRefusal needs ending.Done → IsCheckAnswer names limit nodes certificate read answer → HasCause answer
+  of_check : (names : Names) (limit nodes : ℕ) (certificate : Bool) (read : Option (List ℕ)) (answer : CommandAnswer) → EndsByRefusal needs ending.Done → IsCheckAnswer names limit nodes certificate read answer → HasCause answer
   of_check names limit nodes certificate read answer done (inl c) = said answer _ c.said done
   of_check names limit nodes certificate read answer done (inr f) = said answer (silent (fate.Check f.0)) f.2 (of_fault limit nodes read f.0 f.1)
 
-  of_explanation : (names : NameLists) (sites : Option Table) (asked : Asked) (read : Option (List ℕ)) (answer : Answer) (drawing : List ℕ) → EndsByRefusal needs ending.Done → IsExplainAnswer names sites asked read answer drawing
+  of_explanation : (names : NameLists) (sites : Option Table) (asked : Asked) (read : Option (List ℕ)) (answer : CommandAnswer) (drawing : List ℕ) → EndsByRefusal needs ending.Done → IsExplainAnswer names sites asked read answer drawing
       → HasCause answer
   of_explanation names sites asked read answer drawing done (inl e) =
       ⊎_elim
@@ -113,21 +113,21 @@ module _ (needs : Needs) where
   of_explanation names sites asked read answer drawing done (inr (inr (inl f))) = said answer (silent (fate.Check f.0)) f.2 (of_fault _ _ read f.0 f.1)
   of_explanation names sites asked read answer drawing done (inr (inr (inr lacks))) = of_lack answer lacks
 
-  of_audit : (names : NameLists) (sites : Option Table) (asked : Asked) (options : AuditOptions) (read : Option (List ℕ)) (answer : Answer) → EndsByRefusal needs ending.Done → IsAuditAnswer names sites asked options read answer
+  of_audit : (names : NameLists) (sites : Option Table) (asked : Asked) (options : AuditOptions) (read : Option (List ℕ)) (answer : CommandAnswer) → EndsByRefusal needs ending.Done → IsAuditAnswer names sites asked options read answer
       → HasCause answer
   of_audit names sites asked options read answer done (inl is) =
       ⊎_elim (λ of_log. ⊎_elim (λ tells. said answer _ tells.said done) (λ full. said answer _ full.said tt) of_log.1) (λ other. said answer (silent fate.OtherSites) other.said tt) is.verdict
   of_audit names sites asked options read answer done (inr (inl f)) = said answer (silent (fate.Check f.0)) f.2 (of_fault _ _ read f.0 f.1)
   of_audit names sites asked options read answer done (inr (inr lacks)) = of_lack answer lacks
 
-  of_prediction : (names : NameLists) (sites : Option Table) (asked : Asked) (options : PredictOptions) (read : Option (List ℕ)) (answer : Answer) → EndsByRefusal needs ending.Done → IsPredictAnswer names sites asked options read answer
+  of_prediction : (names : NameLists) (sites : Option Table) (asked : Asked) (options : PredictOptions) (read : Option (List ℕ)) (answer : CommandAnswer) → EndsByRefusal needs ending.Done → IsPredictAnswer names sites asked options read answer
       → HasCause answer
   of_prediction names sites asked options read answer done (inl is) =
       ⊎_elim (λ of_log. ⊎_elim (λ tells. said answer _ tells.said done) (λ full. said answer _ full.said tt) of_log.1) (λ other. said answer (silent fate.OtherSites) other.said tt) is.verdict
   of_prediction names sites asked options read answer done (inr (inl f)) = said answer (silent (fate.Check f.0)) f.2 (of_fault _ _ read f.0 f.1)
   of_prediction names sites asked options read answer done (inr (inr lacks)) = of_lack answer lacks
 
-  of_carry : (read : Option (List ℕ)) (answer : Answer) → EndsByRefusal needs ending.Done → IsCarryAnswer read answer → HasCause answer
+  of_carry : (read : Option (List ℕ)) (answer : CommandAnswer) → EndsByRefusal needs ending.Done → IsCarryAnswer read answer → HasCause answer
   of_carry read answer done (inl c) = said answer _ c.3 done
   of_carry read answer done (inr f) = said answer (silent (fate.Check (check_fault.Log f.0))) f.2 (of_log f.0 f.1.1)
 
@@ -142,11 +142,11 @@ module _ (needs : Needs) where
   of_unread read fate.Memory h = h
   of_unread read _ h = absurd h
 
-  of_end : (program : Program) (certificate : Bool) (ended : Ending) (w : WorldState) (answer : Answer) → IsSaidOfRun program certificate ended w answer → EndsByRefusal needs ended → HasCause answer
+  of_end : (program : Program) (certificate : Bool) (ended : Ending) (w : WorldState) (answer : CommandAnswer) → IsSaidOfRun program certificate ended w answer → EndsByRefusal needs ended → HasCause answer
   of_end program certificate ended w answer (inl is) cause = said answer _ is.1 cause
   of_end program certificate ended w answer (inr is) cause = said answer _ is.1.2.said cause
 
-  of_play : (play : Play) (options : RunOptions) (read : Option (List ℕ)) (answer : Answer) (names : List ℕ) → ((program : Program) (ended : Ending) (w : WorldState) → IsRunOf play options program ended w → EndsByRefusal needs ended)
+  of_play : (play : Play) (options : RunOptions) (read : Option (List ℕ)) (answer : CommandAnswer) (names : List ℕ) → ((program : Program) (ended : Ending) (w : WorldState) → IsRunOf play options program ended w → EndsByRefusal needs ended)
       → IsPlayAnswer play options read answer names → HasCause answer
   of_play play options read answer names so (inl (program, text, are, inl played)) =
       of_end program options.certificate played.ended played.world answer played.says (so program played.ended played.world played.is_run)
@@ -156,12 +156,12 @@ module _ (needs : Needs) where
   of_play play options read answer names so (inr (f, unread, is)) = said answer (silent f) is (of_unread read f unread)
 
   -- what became of the answer has its cause
-  of_delivered : (store : Store) (path : Option (Bor (List ℕ))) (out : Writing) (answer : Answer) (f : Fate) → HasCause answer → IsDelivered store path out answer f → ComesByRefusal needs f
+  of_delivered : (store : Store) (path : Option (Bor (List ℕ))) (out : Writing) (answer : CommandAnswer) (f : Fate) → HasCause answer → IsDelivered store path out answer f → ComesByRefusal needs f
   of_delivered store path out answer fate.CannotOpen cause put = tt
   of_delivered store path out answer fate.WriteFailed cause put = tt
   of_delivered store path out answer f cause put = subst (ComesByRefusal needs) (sym put.0) cause
 
-  of_in_turn : (store : Store) (target path : Option (Bor (List ℕ))) (names : List ℕ) (out : Writing) (answer : Answer) (f : Fate) → HasCause answer → IsDeliveredInTurn store target path names out answer f → ComesByRefusal needs f
+  of_in_turn : (store : Store) (target path : Option (Bor (List ℕ))) (names : List ℕ) (out : Writing) (answer : CommandAnswer) (f : Fate) → HasCause answer → IsDeliveredInTurn store target path names out answer f → ComesByRefusal needs f
   of_in_turn store target path names out answer f cause put = by answer.saved path put
     where
       failed : (log : List ℕ) (f : Fate) → FailsSaving store target (Some log) f → ComesByRefusal needs f
@@ -169,17 +169,17 @@ module _ (needs : Needs) where
       failed log fate.WriteFailed h = tt
       failed log f h = absurd h
 
-      by : (saved : Option (List ℕ)) (path : Option (Bor (List ℕ))) → DeliversBy saved path store target names out answer f → ComesByRefusal needs f
+      by : (saved : Option (List ℕ)) (path : Option (Bor (List ℕ))) → DeliversBy saved store target path names out answer f → ComesByRefusal needs f
       by (Some log) (Some path) (inl h) = failed log f h.0
       by (Some log) (Some path) (inr h) = of_delivered (behind store h.0) (Some path) out (record answer { saved = Some names }) f cause h.2
       by (Some log) None h = of_delivered store target out answer f cause h
       by None path h = of_delivered store target out answer f cause h
 
-  of_put : (sink : Writing) (answer : Answer) (f : Fate) → HasCause answer → IsPut sink answer f → ComesByRefusal needs f
+  of_put : (sink : Writing) (answer : CommandAnswer) (f : Fate) → HasCause answer → IsPut sink answer f → ComesByRefusal needs f
   of_put sink answer fate.WriteFailed cause put = tt
   of_put sink answer f cause put = subst (ComesByRefusal needs) (sym put.0) cause
 
-  of_printed : (sink : Writing) (answer : Answer) (f : Fate) → HasCause answer → IsPrinted sink answer f → ComesByRefusal needs f
+  of_printed : (sink : Writing) (answer : CommandAnswer) (f : Fate) → HasCause answer → IsPrinted sink answer f → ComesByRefusal needs f
   of_printed sink answer fate.WriteFailed cause put = tt
   of_printed sink answer f cause put = subst (ComesByRefusal needs) (sym put.0) cause
 
@@ -313,7 +313,7 @@ of_predicted names asked options store stdout f sites (inl h) = unread Growths s
 of_predicted names asked options store stdout f sites (inr h) = of_delivered Growths store options.target stdout h.1 f (of_prediction Growths names sites asked options h.0.bytes h.1 tt h.4) h.5
 
 -- of a workload whose schedules were tried
-of_exploration : (options : ExploreOptions) (read : Option (List ℕ)) (answer : Answer) (names : List ℕ) → IsExploreAnswer options read answer names → HasCause Growths answer
+of_exploration : (options : ExploreOptions) (read : Option (List ℕ)) (answer : CommandAnswer) (names : List ℕ) → IsExploreAnswer options read answer names → HasCause Growths answer
 of_exploration options read answer names (inl (program, text, are, inl explored)) = caused options program answer explored
 of_exploration options read answer names (inl (program, text, are, inr lacks)) = of_lack Growths answer lacks
 of_exploration options read answer names (inr (f, unread, is)) = said Growths answer (silent f) is (of_unread Growths read f unread)
@@ -354,7 +354,7 @@ module _ (terms : Terms) (so : RefusesByGrowth terms) where
   of_end_after read bounds log check_fault.Write is = absurd is
   of_end_after read bounds log check_fault.Memory is = absurd is
 
-  of_watch_answer : (names : Names) (read : Option (List ℕ)) (answer : Answer) → IsWatchAnswer names terms read answer → ComesByRefusal Growths answer.fate
+  of_watch_answer : (names : Names) (read : Option (List ℕ)) (answer : CommandAnswer) → IsWatchAnswer names terms read answer → ComesByRefusal Growths answer.fate
   of_watch_answer names read answer (inl w) = said Growths answer _ w.said tt
   of_watch_answer names read answer (inr (inl c)) =
       said Growths answer _ c.said (⊎_elim (λ h. of_end_after read c.bounds c.log c.fault h.1) (λ h. subst CheckByGrowth (sym h.0) h.1) c.reason)

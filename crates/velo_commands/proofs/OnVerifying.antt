@@ -11,7 +11,7 @@ use Rattle.velo_worker.specs.declared.ending.Ending.TheVariants.{Done}
 use Rattle.velo_fate.specs.declared.fate.Fate.{Fate}
 use Rattle.velo_fate.specs.declared.fate.Fate.TheVariants as fate
 use Rattle.velo_fate.specs.Causes.{ComesByRefusal, EndsByRefusal, LogByGrowth, Needs, ReportByGrowth}
-use Rattle.velo_fate.specs.Delivery.{Answer}
+use Rattle.velo_fate.specs.Delivery.{CommandAnswer}
 use Rattle.velo_fate.specs.Format.{LacksAt, SaysNone}
 use Rattle.velo_verify.specs.Verifying.{HaveFault, IsVerifyAnswer, report_file}
 use Rattle.velo_events.specs.Refusals.{GrowthRefused}
@@ -40,7 +40,7 @@ of_log : (f : LogFault) → (f ≡ log_fault.Memory → GrowthRefused) → LogBy
 of_log log_fault.Memory is = is refl
 of_log _ is = tt
 
-pub of_verify_answer : (needs : Needs) (claim : Claimed) (read : Option (List ℕ)) (answer : Answer) → EndsByRefusal needs Done → IsVerifyAnswer claim read answer → ComesByRefusal needs answer.fate
-of_verify_answer needs claim read answer done (inl judged) = subst (λ (a : Answer). ComesByRefusal needs a.fate) (sym judged.said) done
-of_verify_answer needs claim read answer done (inr (inl (fault, found, cause, said))) = subst (λ (a : Answer). ComesByRefusal needs a.fate) (sym said) (of_log fault cause)
-of_verify_answer needs claim read answer done (inr (inr lacks)) = subst (λ (a : Answer). ComesByRefusal needs a.fate) (sym lacks.1) lacks.0
+pub of_verify_answer : (needs : Needs) (claim : Claimed) (read : Option (List ℕ)) (answer : CommandAnswer) → EndsByRefusal needs Done → IsVerifyAnswer claim read answer → ComesByRefusal needs answer.fate
+of_verify_answer needs claim read answer done (inl judged) = subst (λ (a : CommandAnswer). ComesByRefusal needs a.fate) (sym judged.said) done
+of_verify_answer needs claim read answer done (inr (inl (fault, found, cause, said))) = subst (λ (a : CommandAnswer). ComesByRefusal needs a.fate) (sym said) (of_log fault cause)
+of_verify_answer needs claim read answer done (inr (inr lacks)) = subst (λ (a : CommandAnswer). ComesByRefusal needs a.fate) (sym lacks.1) lacks.0

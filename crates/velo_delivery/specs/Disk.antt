@@ -5,8 +5,9 @@ use Rattle.velo_delivery.specs.Reading.{Reading, reading}
 use Rattle.velo_delivery.specs.Writing.{Writing}
 
 -- What an implementation of `Files` promises of each path at one time: a field holds of what may
--- happen there, and of everything where nothing is promised (`untold`). The path `-` is that of
--- standard input.
+-- happen there, and of everything where nothing is promised. The path `-` is that of standard input.
+-- Of the system's own files nothing is promised (`untold`). So the bytes that a definition says a
+-- file gives are those that the program was given: that they stand on the disk is not said.
 pub record Disk : Type 1 where
   -- a source that opens there may be read in this way
   pub gives : List ℕ → Reading → Type 0
@@ -22,7 +23,7 @@ pub record Disk : Type 1 where
   -- one file stands at both paths
   pub one : List ℕ → List ℕ → Type 0
 
--- nothing is said
+-- nothing is promised
 abbrev pub untold : Disk
 untold = record {
   gives = λ path read. ⊤;
@@ -91,7 +92,8 @@ AreOneTarget disk (Some target) (Some names) = disk.one target.now names.now
 -- ---- a file that is written
 
 -- A file was opened at the path to be written, written so, and closed; and nothing was done to the
--- files after this. What it has when it opens, if this is known, the disk says (`empties`).
+-- files after this. What it has when it opens, if this is known, the disk says (`empties`). Of what
+-- stands at other paths this says nothing.
 abbrev pub IsWritten : Store → List ℕ → Writing → Type 0
 IsWritten store path file =
     store.disk.empties path file.old file.failures_before × store.closed path file.new file.failures_after

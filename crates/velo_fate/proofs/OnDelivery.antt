@@ -4,7 +4,7 @@ use Rattle.std.specs.Prelude.{ℕ, List, Option, Some, None, Result, Ok, Err, On
 use Rattle.std.specs.Borrow.{Bor}
 use Rattle.velo_fate.specs.declared.fate.Fate.{Fate}
 use Rattle.velo_fate.specs.declared.fate.Fate.TheVariants as fate
-use Rattle.velo_fate.specs.Delivery.{Answer, DeliversBy, FailsSaving, IsDelivered, IsDeliveredInTurn, IsPrinted, Saves}
+use Rattle.velo_fate.specs.Delivery.{CommandAnswer, DeliversBy, FailsSaving, IsDelivered, IsDeliveredInTurn, IsPrinted, Saves}
 use Rattle.velo_delivery.specs.Disk.{Store, behind}
 use Rattle.velo_fate.specs.Failures.{failures_told}
 use Rattle.velo_delivery.specs.Writing.{Writing, Delivers}
@@ -19,19 +19,19 @@ module _ (store : Store) (target : Option (Bor (List ℕ))) (stdout : Writing) w
   printed_put saved other printed end kept opened fate.WriteFailed told = inr (kept, told)
   printed_put saved other printed end kept opened f told = (told.0, kept, told.1)
 
-  pub put_of : (answer : Answer) (printed : Option (List ℕ)) (end : Fate) → store.is_kept → answer ≡ record { saved = None; printed = printed; fate = end } → (end ≡ fate.CannotOpen → ⊥)
+  pub put_of : (answer : CommandAnswer) (printed : Option (List ℕ)) (end : Fate) → store.is_kept → answer ≡ record { saved = None; printed = printed; fate = end } → (end ≡ fate.CannotOpen → ⊥)
       → (f : Fate) → IsPrinted stdout answer f → IsDelivered store target stdout answer f
   put_of answer printed end kept is opened f told =
-      subst (λ (a : Answer). IsDelivered store target stdout a f) (sym is) (printed_put None None printed end kept opened f (subst (λ (a : Answer). IsPrinted stdout a f) is told))
+      subst (λ (a : CommandAnswer). IsDelivered store target stdout a f) (sym is) (printed_put None None printed end kept opened f (subst (λ (a : CommandAnswer). IsPrinted stdout a f) is told))
 
   -- an answer whose fate is no failed read is delivered with none
-  pub delivered_reads : (answer : Answer) (n : ℕ) → failures_told answer.fate n ≡ n → (f : Fate) → IsDelivered store target stdout answer f → failures_told f n ≡ n
+  pub delivered_reads : (answer : CommandAnswer) (n : ℕ) → failures_told answer.fate n ≡ n → (f : Fate) → IsDelivered store target stdout answer f → failures_told f n ≡ n
   delivered_reads answer n none fate.CannotOpen put = refl
   delivered_reads answer n none fate.WriteFailed put = refl
   delivered_reads answer n none f put = ap (λ (f : Fate). failures_told f n) put.0 ∙ none
 
 -- nor with what is saved behind it
-pub in_turn_reads : (store : Store) (target : Option (Bor (List ℕ))) (names : List ℕ) (out : Writing) (answer : Answer) (f : Fate) (path : Option (Bor (List ℕ))) (n : ℕ)
+pub in_turn_reads : (store : Store) (target : Option (Bor (List ℕ))) (names : List ℕ) (out : Writing) (answer : CommandAnswer) (f : Fate) (path : Option (Bor (List ℕ))) (n : ℕ)
     → failures_told answer.fate n ≡ n → IsDeliveredInTurn store target path names out answer f → failures_told f n ≡ n
 in_turn_reads store target names out answer f path n none h = by answer.saved path h
   where
@@ -40,15 +40,15 @@ in_turn_reads store target names out answer f path n none h = by answer.saved pa
     failed log fate.WriteFailed h = refl
     failed log f h = absurd h
 
-    by : (saved : Option (List ℕ)) (path : Option (Bor (List ℕ))) → DeliversBy saved path store target names out answer f → failures_told f n ≡ n
+    by : (saved : Option (List ℕ)) (path : Option (Bor (List ℕ))) → DeliversBy saved store target path names out answer f → failures_told f n ≡ n
     by (Some log) (Some path) (inl h) = failed log f h.0
     by (Some log) (Some path) (inr h) = delivered_reads (behind store h.0) (Some path) out (record answer { saved = Some names }) n none f h.2
     by (Some log) None h = delivered_reads store target out answer n none f h
     by None path h = delivered_reads store target out answer n none f h
 
 -- an answer comes to what it is
-pub same_fate : (answer there : Answer) (n : ℕ) → answer ≡ there → failures_told there.fate n ≡ n → failures_told answer.fate n ≡ n
-same_fate answer there n is none = subst (λ (a : Answer). failures_told a.fate n ≡ n) (sym is) none
+pub same_fate : (answer there : CommandAnswer) (n : ℕ) → answer ≡ there → failures_told there.fate n ≡ n → failures_told answer.fate n ≡ n
+same_fate answer there n is none = subst (λ (a : CommandAnswer). failures_told a.fate n ≡ n) (sym is) none
 
 -- ---- what goes out
 

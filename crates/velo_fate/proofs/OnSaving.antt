@@ -13,7 +13,7 @@ use Rattle.velo_fate.specs.declared.saved.Saved.{Saved}
 use Rattle.velo_fate.specs.declared.saved.Saved.TheVariants as saved
 use Rattle.velo_fate.specs.Delivery.{FailsSaving, FailsToSave, Saves, SavesPart}
 use Rattle.velo_fate.specs.Fate.{fate_of_failure}
-use Rattle.velo_fate.specs.Saving.{text_of_log, IsSaved, is_text_saved}
+use Rattle.velo_fate.specs.Saving.{text_of_log, IsSavedAt, is_text_saved}
 
 -- ---- what was saved one after another
 
@@ -49,10 +49,10 @@ module _ {F : Type 0} (disk : F → Disk) (first left : F) (bytes : Bor (List �
   bytes_at path = record { operand = named; path = path; text = saved.Bytes bytes }
 
   -- a text alone
-  pub text_saved : (X : Type 0) (x : X) (path : Option (Bor (List ℕ))) → AreAllSaved is_text_saved (store disk first left) (bytes_at path ∷ []) → IsSaved (store disk first left) path bytes.now (Ok x)
+  pub text_saved : (X : Type 0) (x : X) (path : Option (Bor (List ℕ))) → AreAllSaved is_text_saved (store disk first left) (bytes_at path ∷ []) → IsSavedAt (store disk first left) path bytes.now (Ok x)
   text_saved X x path (between, one, end) =
       subst (λ (s : F). Saves (store disk first s) path (Some bytes.now)) (sym end) (whole_saved (store disk first between) path bytes.now one)
 
-  pub text_unsaved : (X : Type 0) (path : Option (Bor (List ℕ))) (f : Failure) → IsOneUnsaved is_text_saved (store disk first left) (bytes_at path ∷ []) f → IsSaved {X = X} (store disk first left) path bytes.now (Err (fate_of_failure f))
+  pub text_unsaved : (X : Type 0) (path : Option (Bor (List ℕ))) (f : Failure) → IsOneUnsaved is_text_saved (store disk first left) (bytes_at path ∷ []) f → IsSavedAt {X = X} (store disk first left) path bytes.now (Err (fate_of_failure f))
   text_unsaved X path f (inl h) = bytes_unsaved (store disk first left) named path bytes f h
   text_unsaved X path f (inr h) = absurd h.2

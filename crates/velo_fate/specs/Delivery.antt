@@ -10,21 +10,21 @@ use Rattle.velo_fate.specs.declared.fate.Fate.TheVariants.{CannotOpen, Memory, W
 -- What a command has to say: a text to be saved at its target, if it has one; a text to be printed
 -- on standard output, if it has one; and its fate. `CannotOpen` and `WriteFailed` come on the way out:
 -- no definition of an answer (`IsCheckAnswer` and so on) has them.
-pub record Answer : Type 0 where
+pub record CommandAnswer : Type 0 where
   pub saved : Option (List ℕ)
   pub printed : Option (List ℕ)
   pub fate : Fate
 
 -- its fate is this, and it says nothing
-abbrev pub silent : Fate → Answer
+abbrev pub silent : Fate → CommandAnswer
 silent fate = record { saved = None; printed = None; fate = fate }
 
 -- it prints this, has nothing to be saved, and its fate is this
-abbrev pub printing : List ℕ → Fate → Answer
+abbrev pub printing : List ℕ → Fate → CommandAnswer
 printing text fate = record { saved = None; printed = Some text; fate = fate }
 
 -- an allocation failed, and nothing is saved or printed
-abbrev pub LacksMemory : Answer → Type 0
+abbrev pub LacksMemory : CommandAnswer → Type 0
 LacksMemory answer = GrowthRefused × (answer ≡ silent Memory)
 
 -- ---- on one sink
@@ -46,7 +46,7 @@ IsTaken sink text said WriteFailed = TakesPart sink text
 IsTaken sink text said f = (f ≡ said) × Takes sink text
 
 -- what became of an answer that has nothing to be saved
-abbrev pub IsPrinted : Writing → Answer → Fate → Type 0
+abbrev pub IsPrinted : Writing → CommandAnswer → Fate → Type 0
 IsPrinted stdout answer f = IsTaken stdout answer.printed answer.fate f
 
 -- ---- at the target, if there is one
@@ -73,7 +73,7 @@ FailsToSave store target text = ⊥
 -- ---- at both
 
 -- What became of an answer. It is saved first: where this fails, nothing is printed.
-abbrev pub IsDelivered : Store → Option (Bor (List ℕ)) → Writing → Answer → Fate → Type 0
+abbrev pub IsDelivered : Store → Option (Bor (List ℕ)) → Writing → CommandAnswer → Fate → Type 0
 IsDelivered store target stdout answer CannotOpen =
     FailsToSave store target answer.saved × WritesNothing stdout
 IsDelivered store target stdout answer WriteFailed =
@@ -94,15 +94,15 @@ FailsSaving store target saved f = ⊥
 -- path, if there is one: names after a log, a drawing after a picture. If the first is not saved,
 -- nothing else is done. Then it is as if the second were what is to be saved. Without the first, or a
 -- path for the second, the second is not saved.
-abbrev pub DeliversBy : Option (List ℕ) → Option (Bor (List ℕ)) → Store → Option (Bor (List ℕ))
-    → List ℕ → Writing → Answer → Fate → Type 0
-DeliversBy (Some log) (Some path) store target names stdout answer f =
+abbrev pub DeliversBy : Option (List ℕ) → Store → Option (Bor (List ℕ)) → Option (Bor (List ℕ))
+    → List ℕ → Writing → CommandAnswer → Fate → Type 0
+DeliversBy (Some log) store target (Some path) names stdout answer f =
     (FailsSaving store target (Some log) f × WritesNothing stdout)
     ⊎ ((between : store.State) × Saves (up_to store between) target (Some log)
     × IsDelivered (behind store between) (Some path) stdout (record answer { saved = Some names }) f)
-DeliversBy log path store target names stdout answer f = IsDelivered store target stdout answer f
+DeliversBy log store target path names stdout answer f = IsDelivered store target stdout answer f
 
 abbrev pub IsDeliveredInTurn : Store → Option (Bor (List ℕ)) → Option (Bor (List ℕ)) → List ℕ
-    → Writing → Answer → Fate → Type 0
+    → Writing → CommandAnswer → Fate → Type 0
 IsDeliveredInTurn store target path names stdout answer f =
-    DeliversBy answer.saved path store target names stdout answer f
+    DeliversBy answer.saved store target path names stdout answer f

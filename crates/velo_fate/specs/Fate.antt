@@ -184,29 +184,11 @@ line_of_work (Some (number, n)) =
     codes "workload fault " ++ decimal number ++ codes " line " ++ decimal n ++ codes "\n"
 line_of_work None = codes "out of memory\n"
 
--- by the number of the fault, if it is one of the file, and its line
-abbrev pub line_of_names : Option ℕ → ℕ → List ℕ
-line_of_names (Some number) n =
-    codes "names fault " ++ decimal number ++ codes " line " ++ decimal n ++ codes "\n"
-line_of_names None n = codes "out of memory\n"
-
--- the same of a list
-abbrev pub line_of_list : Option ℕ → ℕ → List ℕ
-line_of_list (Some number) n =
-    codes "list fault " ++ decimal number ++ codes " line " ++ decimal n ++ codes "\n"
-line_of_list None n = codes "out of memory\n"
-
--- the same of sites
-abbrev pub line_of_sites : Option ℕ → ℕ → List ℕ
-line_of_sites (Some number) n =
-    codes "sites fault " ++ decimal number ++ codes " line " ++ decimal n ++ codes "\n"
-line_of_sites None n = codes "out of memory\n"
-
--- the same of a report
-abbrev pub line_of_report : Option ℕ → ℕ → List ℕ
-line_of_report (Some number) n =
-    codes "report fault " ++ decimal number ++ codes " line " ++ decimal n ++ codes "\n"
-line_of_report None n = codes "out of memory\n"
+-- by the word for such a file, the number of the fault, if it is one of the file, and its line
+abbrev pub line_of_file_fault : List ℕ → Option ℕ → ℕ → List ℕ
+line_of_file_fault word (Some number) n =
+    word ++ codes " fault " ++ decimal number ++ codes " line " ++ decimal n ++ codes "\n"
+line_of_file_fault word None n = codes "out of memory\n"
 
 -- by what was to be ignored and means nothing
 abbrev pub line_of_ignored : Ignorable → List ℕ
@@ -234,11 +216,14 @@ abbrev pub line_of : Fate → List ℕ
 line_of (Finished how alarm) = line_of_ending how
 line_of (Schedule fault) = line_of_schedule fault
 line_of (Work fault) = line_of_work (place_of_work fault)
-line_of (Names fault) = line_of_names (fault_number fault) (fault_line fault)
-line_of (fate.List fault) = line_of_list (number_of_list_fault fault) (line_of_list_fault fault)
-line_of (Sites fault) = line_of_sites (number_of_sites_fault fault) (line_of_sites_fault fault)
+line_of (Names fault) = line_of_file_fault (codes "names") (fault_number fault) (fault_line fault)
+line_of (fate.List fault) =
+    line_of_file_fault (codes "list") (number_of_list_fault fault) (line_of_list_fault fault)
+line_of (Sites fault) =
+    line_of_file_fault (codes "sites") (number_of_sites_fault fault) (line_of_sites_fault fault)
 line_of OtherSites = codes "sites fault 5 line 0\n"
-line_of (fate.Report fault) = line_of_report (number_of_report_fault fault) (line_of_report_fault fault)
+line_of (fate.Report fault) =
+    line_of_file_fault (codes "report") (number_of_report_fault fault) (line_of_report_fault fault)
 line_of (fate.Ignored what) = line_of_ignored what
 line_of (Check fault) = line_of_check fault
 line_of CannotOpen = codes "cannot open\n"

@@ -9,8 +9,9 @@ use Rattle.velo_fate.specs.declared.fate.Fate.{Fate}
 use Rattle.velo_fate.specs.declared.fate.Fate.TheVariants.{CannotOpen, Memory, ReadFailed}
 use Rattle.velo_fate.specs.Failures.{FailuresAsTold}
 
--- Which value the bytes of a file mean, and the fate if they mean none; if the bytes are not known,
--- what holds all the same.
+-- A format is a kind of file, that of names, say: `says` is which value the bytes of such a file mean,
+-- and `lacks` how the command ends where they mean none. Bytes that are not known may mean any value,
+-- and may have any fault that such a file can have: so both hold of them, and nothing is claimed.
 pub record Format (X : Type 0) : Type 1 where
   pub says : Option (List ℕ) → X → Type 0
   pub lacks : Option (List ℕ) → Fate → Type 0

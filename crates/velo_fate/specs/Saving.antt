@@ -19,13 +19,13 @@ is_text_saved (saved.Log closed) text = text ≡ text_of_log closed.now
 is_text_saved (saved.Bytes bytes) text = text ≡ bytes.now
 
 -- the result of writing the file
-abbrev pub IsSaved : {X : Type 0} → Store → Option (Bor (List ℕ)) → List ℕ → Result X Fate
+abbrev pub IsSavedAt : {X : Type 0} → Store → Option (Bor (List ℕ)) → List ℕ → Result X Fate
     → Type 0
-IsSaved store target text (Ok x) = Saves store target (Some text)
-IsSaved store target text (Err f) = FailsSaving store target (Some text) f
+IsSavedAt store target text (Ok x) = Saves store target (Some text)
+IsSavedAt store target text (Err f) = FailsSaving store target (Some text) f
 
 -- writing the file failed
-abbrev pub IsUnsaved : {X : Type 0} → Store → Option (Bor (List ℕ)) → List ℕ → Result X Fate
+abbrev pub IsUnsavedAt : {X : Type 0} → Store → Option (Bor (List ℕ)) → List ℕ → Result X Fate
     → Type 0
-IsUnsaved store target text (Ok x) = ⊥
-IsUnsaved store target text (Err f) = FailsSaving store target (Some text) f
+IsUnsavedAt store target text (Ok x) = ⊥
+IsUnsavedAt store target text (Err f) = FailsSaving store target (Some text) f

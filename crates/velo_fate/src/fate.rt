@@ -1,11 +1,7 @@
 //! How the program ends: its status, and the line on standard error.
 ghost use Rattle.std.specs.Prelude.{◌≡◌, ◌≢◌, ◌≤◌, ◌+◌, ◌++◌, [], length, take, IfOk, OnOk, OnErr};
-ghost use Rattle.velo_suppressions.specs.Fault.{fault_line as line_of_list_fault, fault_number as number_of_list_fault};
-ghost use Rattle.velo_names.specs.Fault.{fault_line, fault_number};
-ghost use Rattle.velo_sites.specs.Fault.{fault_line as line_of_sites_fault, fault_number as number_of_sites_fault};
-ghost use Rattle.velo_claims.specs.Fault.{fault_line as line_of_report_fault, fault_number as number_of_report_fault};
 ghost use Rattle.velo_delivery.specs.Writing.{BreaksOff, Writes, writing};
-ghost use Rattle.velo_fate.specs.Fate.{Ends, fate_of_failure, number_of, status_of, status_of_check, status_of_list, status_of_log, status_of_refused, status_of_ending, status_of_names, status_of_report, status_of_schedule, status_of_sites, status_of_work, place_of_work, line_of, line_of_check, line_of_log, line_of_ending, line_of_ignored, line_of_list, line_of_names, line_of_one_file, line_of_refused, line_of_report, line_of_schedule, line_of_sites, line_of_work, word_of};
+ghost use Rattle.velo_fate.specs.Fate.{Ends, fate_of_failure, number_of, status_of, status_of_check, status_of_list, status_of_log, status_of_refused, status_of_ending, status_of_names, status_of_report, status_of_schedule, status_of_sites, status_of_work, place_of_work, line_of, line_of_check, line_of_log, line_of_ending, line_of_file_fault, line_of_ignored, line_of_one_file, line_of_refused, line_of_schedule, line_of_work, word_of};
 
 use crate::fault::CheckFault;
 use velo_bytes::{Sink, WriteFault, put_bytes, put_number, write_all};
@@ -320,75 +316,21 @@ fn put_work_fault(buffer: &mut [u8], fault: WorkFault) -> usize
     }
 }
 
-/// Puts the line of a fault of names at the front of a buffer, and returns where it ends.
-fn put_names_fault(buffer: &mut [u8], fault: NamesFault) -> usize
-    requires { 64 ≤ length buffer.old }
-    ensures text { take result buffer.new ≡ line_of_names (fault_number fault) (fault_line fault) }
+/// Puts the line of a fault of a file at the front of a buffer, by the word for such a file, and
+/// returns where it ends.
+fn put_file_fault(buffer: &mut [u8], word: &[u8], number: Option<u8>, line: usize) -> usize
+    requires room { 64 ≤ length buffer.old }
+    requires short { length word.now ≤ 8 }
+    ensures text { take result buffer.new ≡ line_of_file_fault word.now number line }
     ensures end { result ≤ length buffer.new }
 {
-    match fault.number() {
+    match number {
         Some(number) => {
-            let at = put_bytes(buffer, 0, b"names fault ");
+            let at = put_bytes(buffer, 0, word);
+            let at = put_bytes(buffer, at, b" fault ");
             let at = put_number(buffer, at, u64::from(number));
             let at = put_bytes(buffer, at, b" line ");
-            let at = put_number(buffer, at, fault.line() as u64);
-            put_bytes(buffer, at, b"\n")
-        }
-        None => put_bytes(buffer, 0, b"out of memory\n"),
-    }
-}
-
-/// Puts the line of a fault of a list at the front of a buffer, and returns where it ends.
-fn put_list_fault(buffer: &mut [u8], fault: ListFault) -> usize
-    requires { 64 ≤ length buffer.old }
-    ensures text { take result buffer.new
-        ≡ line_of_list (number_of_list_fault fault) (line_of_list_fault fault) }
-    ensures end { result ≤ length buffer.new }
-{
-    match fault.number() {
-        Some(number) => {
-            let at = put_bytes(buffer, 0, b"list fault ");
-            let at = put_number(buffer, at, u64::from(number));
-            let at = put_bytes(buffer, at, b" line ");
-            let at = put_number(buffer, at, fault.line() as u64);
-            put_bytes(buffer, at, b"\n")
-        }
-        None => put_bytes(buffer, 0, b"out of memory\n"),
-    }
-}
-
-/// Puts the line of a fault of sites at the front of a buffer, and returns where it ends.
-fn put_sites_fault(buffer: &mut [u8], fault: SitesFault) -> usize
-    requires { 64 ≤ length buffer.old }
-    ensures text { take result buffer.new
-        ≡ line_of_sites (number_of_sites_fault fault) (line_of_sites_fault fault) }
-    ensures end { result ≤ length buffer.new }
-{
-    match fault.number() {
-        Some(number) => {
-            let at = put_bytes(buffer, 0, b"sites fault ");
-            let at = put_number(buffer, at, u64::from(number));
-            let at = put_bytes(buffer, at, b" line ");
-            let at = put_number(buffer, at, fault.line() as u64);
-            put_bytes(buffer, at, b"\n")
-        }
-        None => put_bytes(buffer, 0, b"out of memory\n"),
-    }
-}
-
-/// Puts the line of a fault of a report at the front of a buffer, and returns where it ends.
-fn put_report_fault(buffer: &mut [u8], fault: ReportFault) -> usize
-    requires { 64 ≤ length buffer.old }
-    ensures text { take result buffer.new
-        ≡ line_of_report (number_of_report_fault fault) (line_of_report_fault fault) }
-    ensures end { result ≤ length buffer.new }
-{
-    match fault.number() {
-        Some(number) => {
-            let at = put_bytes(buffer, 0, b"report fault ");
-            let at = put_number(buffer, at, u64::from(number));
-            let at = put_bytes(buffer, at, b" line ");
-            let at = put_number(buffer, at, fault.line() as u64);
+            let at = put_number(buffer, at, line as u64);
             put_bytes(buffer, at, b"\n")
         }
         None => put_bytes(buffer, 0, b"out of memory\n"),
@@ -450,11 +392,11 @@ fn put_line(buffer: &mut [u8], fate: Fate) -> usize
         Fate::Finished { ending, .. } => put_ending(buffer, ending),
         Fate::Schedule(fault) => put_schedule_fault(buffer, fault),
         Fate::Work(fault) => put_work_fault(buffer, fault),
-        Fate::Names(fault) => put_names_fault(buffer, fault),
-        Fate::List(fault) => put_list_fault(buffer, fault),
-        Fate::Sites(fault) => put_sites_fault(buffer, fault),
+        Fate::Names(fault) => put_file_fault(buffer, b"names", fault.number(), fault.line()),
+        Fate::List(fault) => put_file_fault(buffer, b"list", fault.number(), fault.line()),
+        Fate::Sites(fault) => put_file_fault(buffer, b"sites", fault.number(), fault.line()),
         Fate::OtherSites => put_bytes(buffer, 0, b"sites fault 5 line 0\n"),
-        Fate::Report(fault) => put_report_fault(buffer, fault),
+        Fate::Report(fault) => put_file_fault(buffer, b"report", fault.number(), fault.line()),
         Fate::Ignored(what) => put_ignored(buffer, what),
         Fate::Check(fault) => put_check_fault(buffer, fault),
         Fate::CannotOpen => put_bytes(buffer, 0, b"cannot open\n"),

@@ -14,7 +14,7 @@ use Rattle.velo_world.specs.Faults.{IsRefusedAt, IsWrongValueAt}
 use Rattle.velo_fate.specs.declared.fault.CheckFault.{CheckFault}
 use Rattle.velo_fate.specs.declared.fault.CheckFault.TheVariants.{Log, Refused, WrongValue, Write, Memory}
 use Rattle.velo_fate.specs.declared.fate.Fate.TheVariants.{Check}
-use Rattle.velo_fate.specs.Delivery.{Answer, silent}
+use Rattle.velo_fate.specs.Delivery.{CommandAnswer, silent}
 
 -- ---- the log of an input
 
@@ -45,14 +45,15 @@ pub record IsWrongValue (limit : ℕ) (read : Option (List ℕ)) (p : ℕ) : Typ
   pub input : IsInput read bounds trace
   pub reason : IsWrongValueAt limit bounds trace p
 
--- Why there is no log of so many events at most: by its first wrong line, or because the source failed
--- (both in `ReadsAs`; that it failed is in `FailuresAsTold`), or because an allocation failed. If the
--- bytes are not known, only the last is claimed.
+-- Why a text gives no log, where so many events are the most that it may have: its first wrong line,
+-- or an event too many, or the source failed (all in `ReadsAs`; that it did fail is in
+-- `FailuresAsTold`); or an allocation failed. If the bytes are not known, only the last is claimed.
 abbrev pub IsFaultOfTextUpTo : ℕ → Option (List ℕ) → LogFault → Type 0
 IsFaultOfTextUpTo longest read fault =
     IfSome read (λ bytes. ReadsAs longest bytes (Err fault))
     × (fault ≡ log_fault.Memory → GrowthRefused)
 
+-- the same where it may have as many events as a log ever may
 abbrev pub IsFaultOfLogText : Option (List ℕ) → LogFault → Type 0
 IsFaultOfLogText read fault = IsFaultOfTextUpTo MAX_EVENTS read fault
 
@@ -64,6 +65,6 @@ IsFaultOfInput limit nodes read Memory = GrowthRefused
 IsFaultOfInput limit nodes read Write = ⊥
 
 -- nothing is printed of an input that has this fault
-abbrev pub IsUnchecked : ℕ → ℕ → Option (List ℕ) → Answer → Type 0
+abbrev pub IsUnchecked : ℕ → ℕ → Option (List ℕ) → CommandAnswer → Type 0
 IsUnchecked limit nodes read answer =
     (fault : CheckFault) × IsFaultOfInput limit nodes read fault × (answer ≡ silent (Check fault))

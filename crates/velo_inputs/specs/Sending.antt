@@ -4,16 +4,16 @@ use Rattle.std.specs.Prelude.{◌≡◌, ◌⊎◌, ℕ, List, Option}
 use Rattle.velo_events.specs.Refusals.{GrowthRefused}
 use Rattle.velo_fate.specs.declared.fate.Fate.{Fate}
 use Rattle.velo_fate.specs.declared.fate.Fate.TheVariants.{Memory}
-use Rattle.velo_fate.specs.Delivery.{Answer, IsDelivered, IsPrinted}
+use Rattle.velo_fate.specs.Delivery.{CommandAnswer, IsDelivered, IsPrinted}
 use Rattle.velo_delivery.specs.Disk.{Store}
 use Rattle.velo_delivery.specs.Writing.{WritesNothing, Writing}
 
 -- this answer was delivered, or printed; or an allocation failed, and nothing was written
-abbrev pub DeliversOrLacks : Answer → Store → Option (Bor (List ℕ)) → Writing → Fate → Type 0
+abbrev pub DeliversOrLacks : CommandAnswer → Store → Option (Bor (List ℕ)) → Writing → Fate → Type 0
 DeliversOrLacks answer store target stdout f =
     IsDelivered store target stdout answer f
     ⊎ (GrowthRefused × (f ≡ Memory) × store.is_kept × WritesNothing stdout)
 
-abbrev pub PrintsOrLacks : Answer → Writing → Fate → Type 0
+abbrev pub PrintsOrLacks : CommandAnswer → Writing → Fate → Type 0
 PrintsOrLacks answer stdout f =
     IsPrinted stdout answer f ⊎ (GrowthRefused × (f ≡ Memory) × WritesNothing stdout)

@@ -5,7 +5,7 @@ ghost use Rattle.velo_fate.specs.Delivery.{IsPrinted, printing};
 ghost use Rattle.velo_delivery.specs.Disk.{store};
 ghost use Rattle.velo_delivery.specs.Writing.{writing};
 ghost use Rattle.velo_fate.specs.declared.fate.Fate.TheVariants.{Finished};
-ghost use Rattle.velo_fate.specs.Saving.{IsSaved};
+ghost use Rattle.velo_fate.specs.Saving.{IsSavedAt};
 
 use velo_bytes::{Sink, WriteFault, write_all};
 use velo_delivery::{Files, Operand, Save, save_all};
@@ -17,7 +17,7 @@ use velo_worker::Ending;
 /// # Errors
 /// `CannotOpen` where no file opens there; `WriteFailed` where it failed, after a beginning.
 pub fn save_text<F: Files>(text: &[u8], path: &str, files: &mut F) -> Result<(), Fate>
-    ensures { IsSaved (store F.disk files.old files.new) (Some path.entry) text.now result }
+    ensures { IsSavedAt (store F.disk files.old files.new) (Some path.entry) text.now result }
 {
     let saves = [Save {
         operand: Operand::Out,

@@ -9,7 +9,7 @@ use Rattle.velo_fate.specs.declared.fate.Fate.TheVariants.{Check, Finished}
 use Rattle.velo_log_commands.specs.Check.{Checks, fate_of, IsCheckAnswer}
 use Rattle.velo_inputs.specs.Input.{ComesAbout, IsFaultOfInput}
 use Rattle.velo_fate.specs.Verdict.{is_alarm}
-use Rattle.velo_fate.specs.Delivery.{printing, silent, Answer, IsDelivered, IsPrinted}
+use Rattle.velo_fate.specs.Delivery.{printing, silent, CommandAnswer, IsDelivered, IsPrinted}
 use Rattle.velo_fate.specs.Failures.{failures_told}
 use Rattle.velo_delivery.specs.Writing.{Writing, WritesNothing}
 use Rattle.velo_log_commands.specs.Steps.{Shows}
@@ -57,7 +57,7 @@ failures_so limit nodes read fault after before is h = h
 
 module _ (store : Store) (target : Option (Bor (List ℕ))) (stdout : Writing) where
   -- a check has nothing to be saved
-  pub check_put : (names : Names) (limit nodes : ℕ) (certificate : Bool) (read : Option (List ℕ)) (answer : Answer) → IsCheckAnswer names limit nodes certificate read answer
+  pub check_put : (names : Names) (limit nodes : ℕ) (certificate : Bool) (read : Option (List ℕ)) (answer : CommandAnswer) → IsCheckAnswer names limit nodes certificate read answer
       → store.is_kept → (f : Fate) → IsPrinted stdout answer f → IsDelivered store target stdout answer f
   check_put names limit nodes certificate read answer (inl c) kept f told = put_of store target stdout answer _ _ kept c.said (λ e. cc) f told
   check_put names limit nodes certificate read answer (inr c) kept f told = put_of store target stdout answer _ _ kept c.2 (λ e. cc) f told

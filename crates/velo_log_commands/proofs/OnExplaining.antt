@@ -24,7 +24,7 @@ use Rattle.velo_request.specs.declared.request.ExplainOptions.{ExplainOptions}
 use Rattle.velo_worker.specs.declared.ending.Ending.TheVariants as ending
 use Rattle.velo_fate.specs.declared.fate.Fate.{Fate}
 use Rattle.velo_fate.specs.declared.fate.Fate.TheVariants as fate
-use Rattle.velo_fate.specs.Delivery.{Answer, IsDelivered, IsDeliveredInTurn, IsPrinted, LacksMemory, Saves, printing, silent}
+use Rattle.velo_fate.specs.Delivery.{CommandAnswer, IsDelivered, IsDeliveredInTurn, IsPrinted, LacksMemory, Saves, printing, silent}
 use Rattle.velo_delivery.specs.Disk.{Disk, Store, store}
 use Rattle.velo_delivery.specs.Reading.{Reading}
 use Rattle.velo_inputs.specs.Input.{ComesAbout}
@@ -33,21 +33,21 @@ use Rattle.velo_fate.specs.Failures.{failures_told}
 use Rattle.velo_delivery.specs.Writing.{Writing, WritesNothing}
 use Rattle.velo_inputs.specs.Sending.{PrintsOrLacks}
 use Rattle.velo_log_commands.specs.Steps.{DrawsOrLacks, Explains, ExplainsIfOf, ExplainsInput}
-use Rattle.velo_fate.specs.Saving.{IsSaved}
+use Rattle.velo_fate.specs.Saving.{IsSavedAt}
 use Rattle.velo_fate.proofs.OnDelivery.{in_turn_reads, printed_put, same_fate}
 use Rattle.velo_certify.proofs.OnClosing.{no_cycle_before}
 
 module _ (store : Store) (target : Option (Bor (List ℕ))) (stdout : Writing) where
   -- where the picture is not saved nothing goes out
-  undrawn_so : (drawing words : List ℕ) (end f : Fate) → IsSaved {X = ℕ} store target drawing (Err f) → WritesNothing stdout
+  undrawn_so : (drawing words : List ℕ) (end f : Fate) → IsSavedAt {X = ℕ} store target drawing (Err f) → WritesNothing stdout
       → IsDelivered store target stdout (record { saved = Some drawing; printed = Some words; fate = end }) f
   undrawn_so drawing words end fate.CannotOpen h nothing = (h, nothing)
   undrawn_so drawing words end fate.WriteFailed h nothing = inl (h, nothing)
   undrawn_so drawing words end f h nothing = absurd h
 
-  pub undrawn : (drawn drawing words : List ℕ) (end f : Fate) → drawn ≡ drawing → IsSaved {X = ℕ} store target drawn (Err f) → WritesNothing stdout
+  pub undrawn : (drawn drawing words : List ℕ) (end f : Fate) → drawn ≡ drawing → IsSavedAt {X = ℕ} store target drawn (Err f) → WritesNothing stdout
       → IsDelivered store target stdout (record { saved = Some drawing; printed = Some words; fate = end }) f
-  undrawn drawn drawing words end f is h nothing = undrawn_so drawing words end f (subst (λ (t : List ℕ). IsSaved {X = ℕ} store target t (Err f)) is h) nothing
+  undrawn drawn drawing words end f is h nothing = undrawn_so drawing words end f (subst (λ (t : List ℕ). IsSavedAt {X = ℕ} store target t (Err f)) is h) nothing
 
   -- what was made is the text that was to be saved
   pub saved_text : (drawn drawing : List ℕ) → drawn ≡ drawing → Saves store target (Some drawn) → Saves store target (Some drawing)
@@ -61,7 +61,7 @@ module _ (store : Store) (target : Option (Bor (List ℕ))) (stdout : Writing) w
 
 module _ (store : Store) (options : ExplainOptions) (stdout : Writing) where
   -- no explanation is told as a failed read
-  pub explains_reads : (names : NameLists) (sites : Option Table) (asked : Asked) (log : List Event) (answer : Answer) (drawing : List ℕ) (n : ℕ) → ExplainsVerdict names sites asked log answer drawing ⊎ LacksMemory answer
+  pub explains_reads : (names : NameLists) (sites : Option Table) (asked : Asked) (log : List Event) (answer : CommandAnswer) (drawing : List ℕ) (n : ℕ) → ExplainsVerdict names sites asked log answer drawing ⊎ LacksMemory answer
       → (f : Fate) → IsDeliveredInTurn store options.target options.drawing drawing stdout answer f → failures_told f n ≡ n
   explains_reads names sites asked log answer drawing n is f h = in_turn_reads store options.target drawing stdout answer f options.drawing n (by_fate is) h
     where
@@ -73,14 +73,14 @@ module _ (store : Store) (options : ExplainOptions) (stdout : Writing) where
       by_fate (inr lacks) = same_fate answer _ n lacks.1 refl
 
   -- this answer explains it; or memory was wanting, and nothing is said
-  pub explains_by : (explains : Answer → List ℕ → Type 0) (answer : Answer) (drawing : List ℕ) (f : Fate) → explains answer drawing
+  pub explains_by : (explains : CommandAnswer → List ℕ → Type 0) (answer : CommandAnswer) (drawing : List ℕ) (f : Fate) → explains answer drawing
       → DrawsOrLacks answer drawing store options stdout f → Explains explains store options stdout f
   explains_by explains answer drawing f is (inl put) = (answer, drawing, inl is, put)
   explains_by explains answer drawing f is (inr lacks) =
       (silent fate.Memory, [], inr (lacks.0, refl), subst (λ (f : Fate). IsDelivered store options.target stdout (silent fate.Memory) f) (sym lacks.1) (refl, lacks.2, lacks.3))
 
   -- words alone leave the files as they were
-  pub explains_clean : (explains : Answer → List ℕ → Type 0) (before : List ℕ) (log : List Event) (f : Fate) → explains (counted before log) [] → store.is_kept → PrintsOrLacks (counted before log) stdout f
+  pub explains_clean : (explains : CommandAnswer → List ℕ → Type 0) (before : List ℕ) (log : List Event) (f : Fate) → explains (counted before log) [] → store.is_kept → PrintsOrLacks (counted before log) stdout f
       → Explains explains store options stdout f
   explains_clean explains before log f is kept (inl told) =
       (counted before log, [], inl is, printed_put store options.target stdout None None (counted before log).printed (fate.Finished ending.Done false) kept (λ e. cc) f told)
@@ -88,13 +88,13 @@ module _ (store : Store) (options : ExplainOptions) (stdout : Writing) where
       (silent fate.Memory, [], inr (lacks.0, refl), subst (λ (f : Fate). IsDelivered store options.target stdout (silent fate.Memory) f) (sym lacks.1) (refl, kept, lacks.2))
 
   -- what explains one thing explains another
-  pub explains_as : (explains others : Answer → List ℕ → Type 0) (f : Fate) → ((answer : Answer) (drawing : List ℕ) → explains answer drawing → others answer drawing)
+  pub explains_as : (explains others : CommandAnswer → List ℕ → Type 0) (f : Fate) → ((answer : CommandAnswer) (drawing : List ℕ) → explains answer drawing → others answer drawing)
       → Explains explains store options stdout f → Explains others store options stdout f
   explains_as explains others f so told = (told.0, told.1, ⊎_elim (λ is. inl (so told.0 told.1 is)) (λ lacks. inr lacks) told.2, told.3)
 
   -- what was made of a log, if the sites are of it, was made of the input
   pub of_input : (names : NameLists) (sites : Option Table) (asked : Asked) (bounds : Bounds) (log : List Event) (read : Reading) (f : Fate)
-      → ComesAbout MAX_EVENTS read.bytes bounds log → read.failures_after ≡ read.failures_before → ExplainsIfOf names sites asked log store options stdout f → ExplainsInput names sites asked options store read stdout f
+      → ComesAbout MAX_EVENTS read.bytes bounds log → read.failures_after ≡ read.failures_before → ExplainsIfOf names sites asked log store options stdout f → ExplainsInput names sites asked store options read stdout f
   of_input names sites asked bounds log read f came no_failure (inl so) =
       let told = so.1 in (
         no_failure ∙ sym (explains_reads names sites asked log told.0 told.1 _ told.2 f told.3),

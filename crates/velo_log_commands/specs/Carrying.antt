@@ -11,16 +11,16 @@ use Rattle.velo_fate.specs.declared.fault.CheckFault.TheVariants as check_fault
 use Rattle.velo_fate.specs.declared.fate.Fate.{Fate}
 use Rattle.velo_fate.specs.declared.fate.Fate.TheVariants.{Check, Finished, WriteFailed}
 use Rattle.velo_inputs.specs.Input.{IsFaultOfLogText, IsInput}
-use Rattle.velo_fate.specs.Delivery.{Answer, IsTaken, silent}
+use Rattle.velo_fate.specs.Delivery.{CommandAnswer, IsTaken, silent}
 use Rattle.velo_delivery.specs.Writing.{Writing}
 
 -- the text of version 2 is to be saved, and nothing is printed
-abbrev pub carried : Bounds → List Event → Answer
+abbrev pub carried : Bounds → List Event → CommandAnswer
 carried bounds log =
     record { saved = Some (log_text bounds log); printed = None; fate = Finished Done false }
 
 -- What is said of a log: its text of version 2; or nothing, because it could not be read.
-abbrev pub IsCarryAnswer : Option (List ℕ) → Answer → Type 0
+abbrev pub IsCarryAnswer : Option (List ℕ) → CommandAnswer → Type 0
 IsCarryAnswer read answer =
     ((bounds : Bounds) × (log : List Event) × IsInput read bounds log
     × (answer ≡ carried bounds log))
@@ -29,12 +29,12 @@ IsCarryAnswer read answer =
 
 -- the sink took what is to be saved, or a beginning of it; where there is nothing, nothing was
 -- written
-abbrev pub IsPut : Writing → Answer → Fate → Type 0
+abbrev pub IsPut : Writing → CommandAnswer → Fate → Type 0
 IsPut sink answer f = IsTaken sink answer.saved answer.fate f
 
 -- one source was carried over into one sink (`carry_run`): an answer to what was read was put there
 abbrev pub Carries : Option (List ℕ) → Writing → Fate → Type 0
-Carries read sink f = (answer : Answer) × IsCarryAnswer read answer × IsPut sink answer f
+Carries read sink f = (answer : CommandAnswer) × IsCarryAnswer read answer × IsPut sink answer f
 
 -- the fate of carrying over
 abbrev pub fate_of_carrying : {X : Type 0} → Result X CarryFault → Fate

@@ -9,7 +9,7 @@ use Rattle.velo_fate.specs.declared.fault.CheckFault.{CheckFault}
 use Rattle.velo_fate.specs.declared.fault.CheckFault.TheVariants.{Write}
 use Rattle.velo_fate.specs.declared.fate.Fate.{Fate}
 use Rattle.velo_fate.specs.declared.fate.Fate.TheVariants.{Check, Finished, WriteFailed}
-use Rattle.velo_fate.specs.Delivery.{Answer, IsPrinted, printing}
+use Rattle.velo_fate.specs.Delivery.{CommandAnswer, IsPrinted, printing}
 use Rattle.velo_fate.specs.Verdict.{is_alarm, IsOutput, IsVerdict}
 use Rattle.velo_delivery.specs.Writing.{Writing}
 use Rattle.velo_worker.specs.declared.ending.Ending.TheVariants as ending
@@ -18,7 +18,7 @@ use Rattle.velo_inputs.specs.Input.{ComesAbout, IsUnchecked}
 -- the report of the log of the input by these names is printed, with its certificate if that is
 -- asked for; the fate has the verdict
 pub record IsChecked (names : Names) (limit : ℕ) (certificate : Bool) (read : Option (List ℕ))
-    (answer : Answer) : Type 0 where
+    (answer : CommandAnswer) : Type 0 where
   pub bounds : Bounds
   pub log : List Event
   pub comes_about : ComesAbout limit read bounds log
@@ -29,7 +29,7 @@ pub record IsChecked (names : Names) (limit : ℕ) (certificate : Bool) (read : 
   pub said : answer ≡ printing text (Finished Done (is_alarm verdict))
 
 -- What a check has to say: the report and the verdict; or nothing, for a reason.
-abbrev pub IsCheckAnswer : Names → ℕ → ℕ → Bool → Option (List ℕ) → Answer → Type 0
+abbrev pub IsCheckAnswer : Names → ℕ → ℕ → Bool → Option (List ℕ) → CommandAnswer → Type 0
 IsCheckAnswer names limit nodes certificate read answer =
     IsChecked names limit certificate read answer ⊎ IsUnchecked limit nodes read answer
 
@@ -37,7 +37,7 @@ IsCheckAnswer names limit nodes certificate read answer =
 -- printed.
 abbrev pub Checks : Names → ℕ → ℕ → Bool → Option (List ℕ) → Writing → Fate → Type 0
 Checks names limit nodes certificate read sink f =
-    (answer : Answer) × IsCheckAnswer names limit nodes certificate read answer
+    (answer : CommandAnswer) × IsCheckAnswer names limit nodes certificate read answer
     × IsPrinted sink answer f
 
 -- ---- how they are used

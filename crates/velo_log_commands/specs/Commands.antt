@@ -21,7 +21,7 @@ use Rattle.velo_request.specs.declared.request.WatchOptions.{WatchOptions}
 use Rattle.velo_log_commands.specs.Carrying.{IsCarryAnswer, IsPut}
 use Rattle.velo_log_commands.specs.Check.{IsCheckAnswer}
 use Rattle.velo_fate.specs.declared.files.Beside.{Beside}
-use Rattle.velo_fate.specs.Delivery.{Answer, IsDelivered, IsDeliveredInTurn}
+use Rattle.velo_fate.specs.Delivery.{CommandAnswer, IsDelivered, IsDeliveredInTurn}
 use Rattle.velo_fate.specs.Barred.{WritesNowhere, DoesNotRead, DoesNotReadApart}
 use Rattle.velo_delivery.specs.Disk.{IsWritten, Store}
 use Rattle.velo_log_commands.specs.Endless.{terms_of_endless}
@@ -44,7 +44,7 @@ use Rattle.velo_inputs.specs.declared.context.ContextOptions.{ContextOptions}
 abbrev pub ChecksLog : Names → CheckOptions → Store → Writing → Fate → Type 0
 ChecksLog shown options store stdout f =
     DoesNotRead store Log options.input.now None stdout f
-    ⊎ ((read : Reading) × (answer : Answer)
+    ⊎ ((read : Reading) × (answer : CommandAnswer)
     × store.disk.gives options.input.now read × FailuresAsTold read f
     × IsCheckAnswer shown options.limits.events options.limits.nodes options.certificate
     read.bytes answer
@@ -76,7 +76,7 @@ drawing_of options = record { operand = Svg; path = options.drawing }
 abbrev pub ExplainsLog : NameLists → Option Table → Asked → ExplainOptions → Store → Writing → Fate → Type 0
 ExplainsLog names sites asked options store stdout f =
     DoesNotReadApart store Log options.input.now options.target (drawing_of options) stdout f
-    ⊎ ((read : Reading) × (answer : Answer) × (drawing : List ℕ)
+    ⊎ ((read : Reading) × (answer : CommandAnswer) × (drawing : List ℕ)
     × store.disk.gives options.input.now read × FailuresAsTold read f
     × IsExplainAnswer names sites asked read.bytes answer drawing
     × IsDeliveredInTurn store options.target options.drawing drawing stdout answer f)
@@ -102,7 +102,7 @@ abbrev pub DoesCarry : CarryOptions → Store → Writing → Fate → Type 0
 DoesCarry options store stdout f =
     DoesNotRead store Log options.input.now (Some options.target) stdout f
     ⊎ ((f ≡ CannotOpen) × store.disk.fails_to_write options.target.now × WritesNowhere store stdout)
-    ⊎ ((read : Reading) × (answer : Answer) × (file : Writing)
+    ⊎ ((read : Reading) × (answer : CommandAnswer) × (file : Writing)
     × store.disk.gives options.input.now read × FailuresAsTold read f
     × IsCarryAnswer read.bytes answer
     × IsWritten store options.target.now file × IsPut file answer f × WritesNothing stdout)

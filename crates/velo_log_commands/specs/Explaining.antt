@@ -24,7 +24,7 @@ use Rattle.velo_fate.specs.declared.fate.Fate.TheVariants.{Finished, OtherSites}
 use Rattle.velo_inputs.specs.Input.{ComesAbout, IsUnchecked}
 use Rattle.velo_inputs.specs.Leaving.{left_out_at_first}
 use Rattle.velo_inputs.specs.Siting.{HaveLengthOf}
-use Rattle.velo_fate.specs.Delivery.{Answer, LacksMemory, printing, silent}
+use Rattle.velo_fate.specs.Delivery.{CommandAnswer, LacksMemory, printing, silent}
 
 -- ---- what is explained
 
@@ -46,18 +46,18 @@ words_of names None log p evidence = named_explanation_text names log p evidence
 words_of names (Some sites) log p evidence = sited_explanation_text names sites log p evidence
 
 -- a text to be saved, and words of an alarm to be printed
-abbrev pub saying : List ℕ → List ℕ → Answer
+abbrev pub saying : List ℕ → List ℕ → CommandAnswer
 saying text words = record { saved = Some text; printed = Some words; fate = Finished Done true }
 
 -- what is said of an alarm at position p by its evidence, behind some text: the picture of its cycle
 -- is to be saved, and its words printed, both by these names
-abbrev pub explained : List ℕ → NameLists → Option Table → List Event → ℕ → Evidence → Answer
+abbrev pub explained : List ℕ → NameLists → Option Table → List Event → ℕ → Evidence → CommandAnswer
 explained before names sites log p evidence =
     saying (named_picture_text names log evidence) (before ++ words_of names sites log p evidence)
 
 -- what is said of events without a cycle: how many there are, and how many transactions; there is
 -- nothing to be saved
-abbrev pub counted : List ℕ → List Event → Answer
+abbrev pub counted : List ℕ → List Event → CommandAnswer
 counted before log =
     printing (before ++ clean_text (length log) (transactions_of log)) (Finished Done false)
 
@@ -67,7 +67,7 @@ counted before log =
 -- that closes a cycle and blames exactly the blocks to blame: by a shortest cycle there, and by a
 -- reason for each of these blocks.
 pub record ExplainsAlarm (names : NameLists) (sites : Option Table) (log : List Event)
-    (answer : Answer) (drawing : List ℕ) : Type 0 where
+    (answer : CommandAnswer) (drawing : List ℕ) : Type 0 where
   pub alarm : Alarm
   pub is_alarm : IsAlarm log alarm
   pub evidence : Evidence
@@ -77,7 +77,7 @@ pub record ExplainsAlarm (names : NameLists) (sites : Option Table) (log : List 
   pub drawn : drawing ≡ drawing_text names sites log alarm.position evidence
 
 -- a log without a cycle has no drawing
-abbrev pub ExplainsWhole : NameLists → Option Table → List Event → Answer → List ℕ → Type 0
+abbrev pub ExplainsWhole : NameLists → Option Table → List Event → CommandAnswer → List ℕ → Type 0
 ExplainsWhole names sites log answer drawing =
     ExplainsAlarm names sites log answer drawing ⊎ ((¬ HasCycle log) × (answer ≡ counted [] log))
 
@@ -85,7 +85,7 @@ ExplainsWhole names sites log answer drawing =
 
 -- The same of the first alarm of what is left. Each position is that of its event in the whole log.
 pub record ExplainsFirst (before : List ℕ) (names : NameLists) (sites : Option Table) (left : Left)
-    (log : List Event) (answer : Answer) (drawing : List ℕ) : Type 0 where
+    (log : List Event) (answer : CommandAnswer) (drawing : List ℕ) : Type 0 where
   pub position : ℕ
   pub evidence : Evidence
   pub is_witness : IsWitness log left position evidence
@@ -93,14 +93,14 @@ pub record ExplainsFirst (before : List ℕ) (names : NameLists) (sites : Option
   pub drawn : drawing ≡ drawing_text names sites log position evidence
 
 -- where what is left has no cycle, its events and its transactions are counted
-abbrev pub ExplainsRest : List ℕ → NameLists → Option Table → Left → List Event → Answer → List ℕ → Type 0
+abbrev pub ExplainsRest : List ℕ → NameLists → Option Table → Left → List Event → CommandAnswer → List ℕ → Type 0
 ExplainsRest before names sites left log answer drawing =
     ExplainsFirst before names sites left log answer drawing
     ⊎ ((¬ HasCycle (rest_of left log)) × (answer ≡ counted before (rest_of left log)))
 
 -- ---- either, by what was asked for
 
-abbrev pub ExplainsVerdict : NameLists → Option Table → Asked → List Event → Answer → List ℕ → Type 0
+abbrev pub ExplainsVerdict : NameLists → Option Table → Asked → List Event → CommandAnswer → List ℕ → Type 0
 ExplainsVerdict names sites asked log answer drawing =
     ((is_whole asked ≡ true) × ExplainsWhole names sites log answer drawing)
     ⊎ ((is_whole asked ≡ false)
@@ -111,7 +111,7 @@ ExplainsVerdict names sites asked log answer drawing =
 -- the verdict of the log of the input, which the sites are of; the limits are the greatest that a
 -- check can have
 pub record IsExplained (names : NameLists) (sites : Option Table) (asked : Asked)
-    (read : Option (List ℕ)) (answer : Answer) (drawing : List ℕ) : Type 0 where
+    (read : Option (List ℕ)) (answer : CommandAnswer) (drawing : List ℕ) : Type 0 where
   pub bounds : Bounds
   pub log : List Event
   pub comes_about : ComesAbout MAX_EVENTS read bounds log
@@ -119,7 +119,7 @@ pub record IsExplained (names : NameLists) (sites : Option Table) (asked : Asked
   pub verdict : ExplainsVerdict names sites asked log answer drawing
 
 -- nothing is said of the log of the input: the sites are of another number of events
-pub record IsOfOtherLog (sites : Option Table) (read : Option (List ℕ)) (answer : Answer)
+pub record IsOfOtherLog (sites : Option Table) (read : Option (List ℕ)) (answer : CommandAnswer)
     : Type 0 where
   pub bounds : Bounds
   pub log : List Event
@@ -129,7 +129,7 @@ pub record IsOfOtherLog (sites : Option Table) (read : Option (List ℕ)) (answe
 
 -- What an explanation has to say: the verdict in words, the cycle of an alarm, and its drawing; or
 -- nothing, for a reason.
-abbrev pub IsExplainAnswer : NameLists → Option Table → Asked → Option (List ℕ) → Answer → List ℕ → Type 0
+abbrev pub IsExplainAnswer : NameLists → Option Table → Asked → Option (List ℕ) → CommandAnswer → List ℕ → Type 0
 IsExplainAnswer names sites asked read answer drawing =
     IsExplained names sites asked read answer drawing
     ⊎ (IsOfOtherLog sites read answer

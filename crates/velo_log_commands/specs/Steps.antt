@@ -15,7 +15,7 @@ use Rattle.velo_fate.specs.declared.fate.Fate.{Fate}
 use Rattle.velo_fate.specs.declared.fate.Fate.TheVariants.{CannotOpen, Memory, OtherSites}
 use Rattle.velo_log_commands.specs.Carrying.{Carries}
 use Rattle.velo_fate.specs.Verdict.{IsOutput, IsVerdict}
-use Rattle.velo_fate.specs.Delivery.{Answer, IsDeliveredInTurn, LacksMemory}
+use Rattle.velo_fate.specs.Delivery.{CommandAnswer, IsDeliveredInTurn, LacksMemory}
 use Rattle.velo_request.specs.declared.request.ExplainOptions.{ExplainOptions}
 use Rattle.velo_delivery.specs.Disk.{IsWritten, Store}
 use Rattle.velo_log_commands.specs.Explaining.{ExplainsVerdict, IsExplainAnswer}
@@ -47,15 +47,15 @@ Shows names certificate w stdout result =
 
 -- this answer was delivered, and this drawing behind what it saves; or an allocation failed, and
 -- nothing was written
-abbrev pub DrawsOrLacks : Answer → List ℕ → Store → ExplainOptions → Writing → Fate → Type 0
+abbrev pub DrawsOrLacks : CommandAnswer → List ℕ → Store → ExplainOptions → Writing → Fate → Type 0
 DrawsOrLacks answer drawing store options stdout f =
     IsDeliveredInTurn store options.target options.drawing drawing stdout answer f
     ⊎ (GrowthRefused × (f ≡ Memory) × store.is_kept × WritesNothing stdout)
 
 -- an answer that explains so was delivered, or that memory was wanting
-abbrev pub Explains : (Answer → List ℕ → Type 0) → Store → ExplainOptions → Writing → Fate → Type 0
+abbrev pub Explains : (CommandAnswer → List ℕ → Type 0) → Store → ExplainOptions → Writing → Fate → Type 0
 Explains explains store options stdout f =
-    (answer : Answer) × (drawing : List ℕ)
+    (answer : CommandAnswer) × (drawing : List ℕ)
     × (explains answer drawing ⊎ LacksMemory answer)
     × IsDeliveredInTurn store options.target options.drawing drawing stdout answer f
 
@@ -67,11 +67,11 @@ ExplainsIfOf names sites asked log store options stdout f =
     ⊎ ((¬ HaveLengthOf sites log) × (f ≡ OtherSites) × store.is_kept × WritesNothing stdout)
 
 -- what was made of an input was delivered
-abbrev pub ExplainsInput : NameLists → Option Table → Asked → ExplainOptions → Store → Reading
+abbrev pub ExplainsInput : NameLists → Option Table → Asked → Store → ExplainOptions → Reading
     → Writing → Fate → Type 0
-ExplainsInput names sites asked options store read stdout f =
+ExplainsInput names sites asked store options read stdout f =
     FailuresAsTold read f
-    × ((answer : Answer) × (drawing : List ℕ)
+    × ((answer : CommandAnswer) × (drawing : List ℕ)
     × IsExplainAnswer names sites asked read.bytes answer drawing
     × IsDeliveredInTurn store options.target options.drawing drawing stdout answer f)
 

@@ -32,7 +32,7 @@ use Rattle.velo_request.specs.declared.request.Limits.{Limits}
 use Rattle.velo_request.specs.declared.request.WatchOptions.{WatchOptions}
 use Rattle.velo_inputs.specs.Input.{IsFaultOfLogText, IsFaultOfTextUpTo, IsInput}
 use Rattle.velo_fate.specs.Verdict.{IsOutput, IsVerdict, is_alarm}
-use Rattle.velo_fate.specs.Delivery.{Answer, IsPrinted, printing, silent}
+use Rattle.velo_fate.specs.Delivery.{CommandAnswer, IsPrinted, printing, silent}
 use Rattle.velo_inputs.specs.Faults.{check_fault_of}
 use Rattle.velo_delivery.specs.Writing.{BreaksOff, Writes, Writing}
 
@@ -108,7 +108,7 @@ IsFaultOfHeader read _ = ⊥
 
 -- the line of the alarm, if there is one, by numbers; then the report by these names of the events
 -- that were read, with its certificate if that is asked for; the fate has the verdict
-pub record IsWatched (names : Names) (terms : Terms) (read : Option (List ℕ)) (answer : Answer)
+pub record IsWatched (names : Names) (terms : Terms) (read : Option (List ℕ)) (answer : CommandAnswer)
     : Type 0 where
   pub bounds : Bounds
   pub log : List Event
@@ -124,7 +124,7 @@ pub record IsWatched (names : Names) (terms : Terms) (read : Option (List ℕ)) 
 
 -- the line of the alarm of the events so far, if they have one, and no report: the input goes no
 -- further, for a reason, or a growth was refused
-pub record IsCutShort (terms : Terms) (read : Option (List ℕ)) (answer : Answer) : Type 0 where
+pub record IsCutShort (terms : Terms) (read : Option (List ℕ)) (answer : CommandAnswer) : Type 0 where
   pub bounds : Bounds
   pub log : List Event
   pub so_far : IsSoFar terms.most read bounds log
@@ -136,12 +136,12 @@ pub record IsCutShort (terms : Terms) (read : Option (List ℕ)) (answer : Answe
   pub said : answer ≡ printing (told_text alarm) (Check fault)
 
 -- nothing is printed of an input without a header
-abbrev pub IsUnopened : Option (List ℕ) → Answer → Type 0
+abbrev pub IsUnopened : Option (List ℕ) → CommandAnswer → Type 0
 IsUnopened read answer =
     (fault : CheckFault) × IsFaultOfHeader read fault × (answer ≡ silent (Check fault))
 
 -- What a watch has to say.
-abbrev pub IsWatchAnswer : Names → Terms → Option (List ℕ) → Answer → Type 0
+abbrev pub IsWatchAnswer : Names → Terms → Option (List ℕ) → CommandAnswer → Type 0
 IsWatchAnswer names terms read answer =
     IsWatched names terms read answer ⊎ IsCutShort terms read answer ⊎ IsUnopened read answer
 
@@ -158,7 +158,7 @@ pub record FailsAtAlarm (terms : Terms) (read : Option (List ℕ)) (stdout : Wri
 -- The fate of a watch: an answer to what was read was printed; or not even its first line was.
 abbrev pub Watches : Names → Terms → Option (List ℕ) → Writing → Fate → Type 0
 Watches names terms read stdout f =
-    ((answer : Answer) × IsWatchAnswer names terms read answer × IsPrinted stdout answer f)
+    ((answer : CommandAnswer) × IsWatchAnswer names terms read answer × IsPrinted stdout answer f)
     ⊎ ((f ≡ WriteFailed) × FailsAtAlarm terms read stdout)
 
 -- ---- a log that is kept whole

@@ -6,6 +6,10 @@ mod check;
 mod command;
 mod endless;
 mod explaining;
+mod explaining_alarm;
+mod explaining_rest;
+mod explaining_whole;
+mod explaining_words;
 mod thinning;
 mod watching;
 

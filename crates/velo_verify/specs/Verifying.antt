@@ -17,7 +17,7 @@ use Rattle.velo_events.specs.Refusals.{GrowthRefused}
 use Rattle.velo_fate.specs.declared.fate.Fate.{Fate}
 use Rattle.velo_fate.specs.declared.fate.Fate.TheVariants.{Check, Finished, Report}
 use Rattle.velo_fate.specs.declared.fault.CheckFault.TheVariants.{Log}
-use Rattle.velo_fate.specs.Delivery.{Answer, IsPrinted, LacksMemory, printing, silent}
+use Rattle.velo_fate.specs.Delivery.{CommandAnswer, IsPrinted, LacksMemory, printing, silent}
 use Rattle.velo_fate.specs.Failures.{FailuresAsTold}
 use Rattle.velo_fate.specs.Format.{Format}
 use Rattle.velo_logtext.specs.declared.fault.LogFault.{LogFault}
@@ -60,14 +60,14 @@ outcome_line (Alarm p) = codes "verified alarm " ++ decimal p ++ codes "\n"
 outcome_line (Refuted reason) = codes "not verified: " ++ words_of_reason reason ++ codes "\n"
 
 -- the line is printed; a claim that is not borne out ends as an alarm does
-abbrev pub told : Outcome → Answer
+abbrev pub told : Outcome → CommandAnswer
 told outcome = printing (outcome_line outcome) (Finished Done (not (is_verified outcome)))
 
 -- ---- the answer
 
 -- What became of the claim by the log of the input (`Judging` of `velo_claims`): it is borne out
 -- exactly where its certificate certifies it, and what this means for the log is said there
-pub record IsJudged (claim : Claimed) (read : Option (List ℕ)) (answer : Answer) : Type 0 where
+pub record IsJudged (claim : Claimed) (read : Option (List ℕ)) (answer : CommandAnswer) : Type 0 where
   pub bounds : Bounds
   pub log : List Event
   pub input : IfSome read (λ bytes. IsLogText bytes bounds log)
@@ -75,28 +75,32 @@ pub record IsJudged (claim : Claimed) (read : Option (List ℕ)) (answer : Answe
   pub judged : IsOutcome log claim outcome
   pub said : answer ≡ told outcome
 
--- there is no log: by its first wrong line, or because the source failed
-abbrev pub HasNoLog : Option (List ℕ) → Answer → Type 0
+-- Nothing is said, because the bytes are the text of no log, and the fate tells why: a first wrong
+-- line, or the source failed, or an allocation failed. If the bytes are not known, only the last is
+-- claimed.
+abbrev pub HasNoLog : Option (List ℕ) → CommandAnswer → Type 0
 HasNoLog read answer =
     (fault : LogFault) × IfSome read (λ bytes. ReadsAs MAX_EVENTS bytes (Err fault))
     × (fault ≡ log_fault.Memory → GrowthRefused) × (answer ≡ silent (Check (Log fault)))
 
 -- What is said of a claim: what became of it; or nothing, for a reason.
-abbrev pub IsVerifyAnswer : Claimed → Option (List ℕ) → Answer → Type 0
+abbrev pub IsVerifyAnswer : Claimed → Option (List ℕ) → CommandAnswer → Type 0
 IsVerifyAnswer claim read answer =
     IsJudged claim read answer ⊎ (HasNoLog read answer ⊎ LacksMemory answer)
 
--- ---- on the way. Contracts within the crate cite these words
-
-abbrev pub ClaimIn : List ℕ → Claimed → Type 0
-ClaimIn bytes claim = Claims bytes (Ok claim)
-
-abbrev pub NoClaimIn : List ℕ → Fate → Type 0
-NoClaimIn bytes (Report fault) = ReadsReport bytes (Err fault)
-NoClaimIn bytes f = ⊥
-
--- what was made of an input was printed
+-- what is said of a claim by this input was printed; that the source failed is in `FailuresAsTold`
 abbrev pub VerifiesInput : Claimed → Reading → Writing → Fate → Type 0
 VerifiesInput claim read stdout f =
     FailuresAsTold read f
-    × ((answer : Answer) × IsVerifyAnswer claim read.bytes answer × IsPrinted stdout answer f)
+    × ((answer : CommandAnswer) × IsVerifyAnswer claim read.bytes answer × IsPrinted stdout answer f)
+
+-- ---- on the way. Contracts within the crate cite these words
+
+-- the report in the bytes claims this
+abbrev pub ClaimIn : List ℕ → Claimed → Type 0
+ClaimIn bytes claim = Claims bytes (Ok claim)
+
+-- it claims nothing, for this fault
+abbrev pub NoClaimIn : List ℕ → Fate → Type 0
+NoClaimIn bytes (Report fault) = ReadsReport bytes (Err fault)
+NoClaimIn bytes f = ⊥

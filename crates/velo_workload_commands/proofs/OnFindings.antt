@@ -30,7 +30,7 @@ use Rattle.velo_workload.specs.Program.{Program}
 use Rattle.velo_fate.specs.declared.fate.Fate.{Fate}
 use Rattle.velo_fate.specs.declared.fate.Fate.TheVariants as fate
 use Rattle.velo_fate.specs.Causes.{ComesByRefusal, Growths}
-use Rattle.velo_fate.specs.Delivery.{Answer, IsDelivered, IsDeliveredInTurn, IsPrinted, LacksMemory, printing, silent}
+use Rattle.velo_fate.specs.Delivery.{CommandAnswer, IsDelivered, IsDeliveredInTurn, IsPrinted, LacksMemory, printing, silent}
 use Rattle.velo_fate.specs.Failures.{failures_told}
 use Rattle.velo_delivery.specs.Disk.{Store}
 use Rattle.velo_delivery.specs.Writing.{Writes, Writing}
@@ -38,9 +38,9 @@ use Rattle.velo_request.specs.declared.request.ExploreOptions.{ExploreOptions}
 use Rattle.velo_request.specs.declared.request.RandomRuns.{RandomRuns}
 use Rattle.velo_random.specs.declared.tally.RunTally.{RunTally}
 use Rattle.velo_random.specs.Tallies.{IsTriedBy, rank}
-use Rattle.velo_workload_commands.specs.declared.told.Told.{Told}
+use Rattle.velo_workload_commands.specs.declared.survey.Survey.{Survey}
 use Rattle.velo_workload_commands.specs.ByChance.{IsBlameOf}
-use Rattle.velo_workload_commands.specs.Exploring.{IsExplored, IsSaidOf, IsToldBy, IsToldOf, fate_of_goal, fate_of_rest, fate_of_told, run_of, told_text, waits_after}
+use Rattle.velo_workload_commands.specs.Exploring.{IsExplored, IsSaidOf, IsSurveyBy, IsSurveyOf, fate_of_goal, fate_of_rest, fate_of_survey, run_of, survey_text, waits_after}
 use Rattle.velo_workload_commands.specs.Playing.{IsConfigOf, IsReported}
 use Rattle.velo_workload_commands.specs.Reporting.{IsNoFileFailure}
 use Rattle.velo_workload_commands.specs.Steps.{IsReportable}
@@ -103,12 +103,12 @@ module _ (program : Program) (config : Config) where
       record { bounds = ap (λ (c : Config). c.bounds) (Replays-config program w.schedule.items config is.1.ending replay.closed is.1.replays) ∙ same; alarm = is.1.alarm }
   reportable None (Some replay) same is = absurd is
 
-  first_by : (options : ExploreOptions) (over : Bool) (random : Option RandomRuns) (told : Told) → IsToldBy program config options over random told → IsReplayFor program config (first_of told.shrunk.findings) told.shrunk.first
-  first_by options over None told so = so.findings.first
-  first_by options over (Some random) told so = so.findings.first
+  first_by : (options : ExploreOptions) (over : Bool) (random : Option RandomRuns) (survey : Survey) → IsSurveyBy program config options over random survey → IsReplayFor program config (first_of survey.shrunk.findings) survey.shrunk.first
+  first_by options over None survey so = so.findings.first
+  first_by options over (Some random) survey so = so.findings.first
 
-  pub first_told : (options : ExploreOptions) (over : Bool) (told : Told) → config.bounds ≡ program.bounds → IsToldOf program config options over told → IfSome told.shrunk.first (IsReportable program)
-  first_told options over told same so = reportable (first_of told.shrunk.findings) told.shrunk.first same (first_by options over options.random told so)
+  pub first_survey : (options : ExploreOptions) (over : Bool) (survey : Survey) → config.bounds ≡ program.bounds → IsSurveyOf program config options over survey → IfSome survey.shrunk.first (IsReportable program)
+  first_survey options over survey same so = reportable (first_of survey.shrunk.findings) survey.shrunk.first same (first_by options over options.random survey so)
 
   -- ---- out of memory
 
@@ -135,17 +135,17 @@ module _ (program : Program) (config : Config) where
           subst (λ (g : Goal). ComesByRefusal Growths (fate_of_goal g)) (sym same)
           (let reached = subst (λ (g : Goal). Reaches g is.1.ending replay.closed) same is.1.reaches in subst EndsByGrowth reached.0 (has_memory is.1.ending is.1.memory))
 
-  caused_told : (options : ExploreOptions) (over : Bool) (told : Told) → IsToldOf program config options over told → ComesByRefusal Growths (fate_of_told told)
-  caused_told options over told so = caused_first told.shrunk.findings (first_of told.shrunk.findings) told.shrunk.first (first_by options over options.random told so)
+  caused_survey : (options : ExploreOptions) (over : Bool) (survey : Survey) → IsSurveyOf program config options over survey → ComesByRefusal Growths (fate_of_survey survey)
+  caused_survey options over survey so = caused_first survey.shrunk.findings (first_of survey.shrunk.findings) survey.shrunk.first (first_by options over options.random survey so)
 
-said_fate : (program : Program) (certificate : Bool) (told : Told) (first : Option Replay) (answer : Answer) → IsSaidOf program certificate told first answer → answer.fate ≡ fate_of_told told
-said_fate program certificate told None answer says = ap (λ (a : Answer). a.fate) says
-said_fate program certificate told (Some replay) answer says = ap (λ (a : Answer). a.fate) says.said
+said_fate : (program : Program) (certificate : Bool) (survey : Survey) (first : Option Replay) (answer : CommandAnswer) → IsSaidOf program certificate survey first answer → answer.fate ≡ fate_of_survey survey
+said_fate program certificate survey None answer says = ap (λ (a : CommandAnswer). a.fate) says
+said_fate program certificate survey (Some replay) answer says = ap (λ (a : CommandAnswer). a.fate) says.said
 
 -- of what is said of an exploration
-pub caused : (options : ExploreOptions) (program : Program) (answer : Answer) → IsExplored options program answer → ComesByRefusal Growths answer.fate
+pub caused : (options : ExploreOptions) (program : Program) (answer : CommandAnswer) → IsExplored options program answer → ComesByRefusal Growths answer.fate
 caused options program answer e =
-    subst (ComesByRefusal Growths) (sym (said_fate program options.certificate e.told e.told.shrunk.first answer e.says)) (caused_told program e.config options e.over e.told e.is_so)
+    subst (ComesByRefusal Growths) (sym (said_fate program options.certificate e.survey e.survey.shrunk.first answer e.says)) (caused_survey program e.config options e.over e.survey e.is_so)
 
 -- ---- what it comes to
 
@@ -173,20 +173,20 @@ quiet_first : (found : Findings) (first : Option Witness) → IsQuiet (option_ma
 quiet_first found None = quiet_rest _
 quiet_first found (Some w) = quiet_goal w.goal
 
-quiet_told : (told : Told) → IsQuiet (fate_of_told told)
-quiet_told told = quiet_first told.shrunk.findings (first_of told.shrunk.findings)
+quiet_survey : (survey : Survey) → IsQuiet (fate_of_survey survey)
+quiet_survey survey = quiet_first survey.shrunk.findings (first_of survey.shrunk.findings)
 
-pub plain_told : (told : Told) → IsNoFileFailure (fate_of_told told)
-plain_told told = (quiet_told told).plain
+pub plain_survey : (survey : Survey) → IsNoFileFailure (fate_of_survey survey)
+plain_survey survey = (quiet_survey survey).plain
 
 -- no exploration is told as a failed read
-pub explores_reads : (store : Store) (names : List ℕ) (stdout : Writing) (options : ExploreOptions) (program : Program) (answer : Answer) (n : ℕ) → IsExplored options program answer ⊎ LacksMemory answer
+pub explores_reads : (store : Store) (names : List ℕ) (stdout : Writing) (options : ExploreOptions) (program : Program) (answer : CommandAnswer) (n : ℕ) → IsExplored options program answer ⊎ LacksMemory answer
     → (f : Fate) → IsDeliveredInTurn store options.target options.names_target names stdout answer f → failures_told f n ≡ n
 explores_reads store names stdout options program answer n is f h = in_turn_reads store options.target names stdout answer f options.names_target n (by_fate is) h
   where
     by_fate : IsExplored options program answer ⊎ LacksMemory answer → failures_told answer.fate n ≡ n
     by_fate (inl e) =
-        ap (λ (f : Fate). failures_told f n) (said_fate program options.certificate e.told e.told.shrunk.first answer e.says) ∙ (quiet_told e.told).read n
+        ap (λ (f : Fate). failures_told f n) (said_fate program options.certificate e.survey e.survey.shrunk.first answer e.says) ∙ (quiet_survey e.survey).read n
     by_fate (inr lacks) = same_fate answer _ n lacks.1 refl
 
 pub printed_plain : (stdout : Writing) (text : List ℕ) (end : Fate) → IsNoFileFailure end → Writes stdout text → IsPrinted stdout (printing text end) end
@@ -201,20 +201,20 @@ printed_alone store target path names stdout text end f plain kept printed = pri
 -- ---- what is said
 
 -- the replay is reported behind what is told
-pub said_reported : (program : Program) (certificate : Bool) (told : Told) (replay : Replay) (answer : Answer) (text waits : List ℕ) (end : Fate) → told.shrunk.first ≡ Some replay → text ≡ told_text program told
-    → waits ≡ waits_after program replay → end ≡ fate_of_told told → IsReported program certificate text replay.closed waits end answer ⊎ LacksMemory answer
-    → IsSaidOf program certificate told told.shrunk.first answer ⊎ LacksMemory answer
-said_reported program certificate told replay answer text waits end is text_is waits_is end_is (inl r) =
-    inl (subst (λ (o : Option Replay). IsSaidOf program certificate told o answer) (sym is)
-    (subst (λ (e : Fate). IsReported program certificate (told_text program told) replay.closed (waits_after program replay) e answer) end_is
-    (subst (λ (w : List ℕ). IsReported program certificate (told_text program told) replay.closed w end answer) waits_is
+pub said_reported : (program : Program) (certificate : Bool) (survey : Survey) (replay : Replay) (answer : CommandAnswer) (text waits : List ℕ) (end : Fate) → survey.shrunk.first ≡ Some replay → text ≡ survey_text program survey
+    → waits ≡ waits_after program replay → end ≡ fate_of_survey survey → IsReported program certificate text replay.closed waits end answer ⊎ LacksMemory answer
+    → IsSaidOf program certificate survey survey.shrunk.first answer ⊎ LacksMemory answer
+said_reported program certificate survey replay answer text waits end is text_is waits_is end_is (inl r) =
+    inl (subst (λ (o : Option Replay). IsSaidOf program certificate survey o answer) (sym is)
+    (subst (λ (e : Fate). IsReported program certificate (survey_text program survey) replay.closed (waits_after program replay) e answer) end_is
+    (subst (λ (w : List ℕ). IsReported program certificate (survey_text program survey) replay.closed w end answer) waits_is
     (subst (λ (t : List ℕ). IsReported program certificate t replay.closed waits end answer) text_is r))))
-said_reported program certificate told replay answer text waits end is text_is waits_is end_is (inr lacks) = inr lacks
+said_reported program certificate survey replay answer text waits end is text_is waits_is end_is (inr lacks) = inr lacks
 
 -- the exploration is what is said
-pub explored : (program : Program) (config : Config) (options : ExploreOptions) (over : Bool) (told : Told) (answer : Answer) → IsConfigOf program (run_of options) config
-    → (over ≡ true → is_some options.seconds ≡ true) → IsToldOf program config options over told
-    → IsSaidOf program options.certificate told told.shrunk.first answer ⊎ LacksMemory answer → IsExplored options program answer ⊎ LacksMemory answer
-explored program config options over told answer configured limited so (inl says) =
-    inl (record { config = config; configured = configured; over = over; limited = limited; told = told; is_so = so; says = says })
-explored program config options over told answer configured limited so (inr lacks) = inr lacks
+pub explored : (program : Program) (config : Config) (options : ExploreOptions) (over : Bool) (survey : Survey) (answer : CommandAnswer) → IsConfigOf program (run_of options) config
+    → (over ≡ true → is_some options.seconds ≡ true) → IsSurveyOf program config options over survey
+    → IsSaidOf program options.certificate survey survey.shrunk.first answer ⊎ LacksMemory answer → IsExplored options program answer ⊎ LacksMemory answer
+explored program config options over survey answer configured limited so (inl says) =
+    inl (record { config = config; configured = configured; over = over; limited = limited; survey = survey; is_so = so; says = says })
+explored program config options over survey answer configured limited so (inr lacks) = inr lacks

@@ -11,7 +11,7 @@ use Rattle.velo_world.specs.World.{WorldState}
 use Rattle.velo_fate.specs.declared.fate.Fate.{Fate}
 use Rattle.velo_fate.specs.declared.fate.Fate.TheVariants as fate
 use Rattle.velo_request.specs.declared.request.RunOptions.{RunOptions}
-use Rattle.velo_fate.specs.Delivery.{Answer, IsDelivered, IsDeliveredInTurn, silent}
+use Rattle.velo_fate.specs.Delivery.{CommandAnswer, IsDelivered, IsDeliveredInTurn, silent}
 use Rattle.velo_delivery.specs.Disk.{Disk, Store}
 use Rattle.velo_workload_commands.specs.Playing.{ByThreads, ByTurns, IsFaultOfText, IsFaultOfWork, IsRunAnswer, IsSaidOfRun, IsTextOf, IsUnread, Play, workload_file}
 use Rattle.velo_fate.specs.Failures.{FailuresAsTold, failures_told}
@@ -50,7 +50,7 @@ fault_read (Some all) bytes (work_fault.TooMany n) is h = fault_of_text all byte
 -- ---- what a run has to say
 
 -- no run is told as a failed read
-pub plays_reads : (play : Play) (options : RunOptions) (program : Program) (answer : Answer) (n : ℕ) → IsRunAnswer play options program answer
+pub plays_reads : (play : Play) (options : RunOptions) (program : Program) (answer : CommandAnswer) (n : ℕ) → IsRunAnswer play options program answer
     → (store : Store) (names : List ℕ) (out : Writing) (f : Fate) → IsDeliveredInTurn store options.target options.names_target names out answer f → failures_told f n ≡ n
 plays_reads play options program answer n is store names out f put = in_turn_reads store options.target names out answer f options.names_target n (by_end play is) put
   where

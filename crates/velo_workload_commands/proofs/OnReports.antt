@@ -14,7 +14,7 @@ use Rattle.velo_events.specs.declared.event.Event.{Event}
 use Rattle.velo_fate.specs.declared.fate.Fate.{Fate}
 use Rattle.velo_fate.specs.declared.fate.Fate.TheVariants as fate
 use Rattle.velo_fate.specs.declared.saved.Saved.{Saved}
-use Rattle.velo_fate.specs.Delivery.{Answer, IsDeliveredInTurn, IsTaken, LacksMemory}
+use Rattle.velo_fate.specs.Delivery.{CommandAnswer, IsDeliveredInTurn, IsTaken, LacksMemory}
 use Rattle.velo_fate.specs.Fate.{fate_of_failure}
 use Rattle.velo_fate.specs.Saving.{is_text_saved, text_of_log}
 use Rattle.velo_fate.specs.Verdict.{KnowsAlarm, IsOrderOrCycle, IsOutputOf}
@@ -83,13 +83,13 @@ module _ {F : Type 0} (disk : F → Disk) (first left : F) (names : Bor (List �
   saves = both disk first left names named page.closed at target path
 
   -- what is said with this text
-  abbrev said : List ℕ → Answer
+  abbrev said : List ℕ → CommandAnswer
   said text = record { saved = Some log; printed = Some text; fate = end }
 
   -- the run is reported
   abbrev pub Reported : Fate → Type 0
   Reported f =
-      (answer : Answer) × (IsReported program certificate page.before.now page.closed.now page.after.now end answer ⊎ LacksMemory answer)
+      (answer : CommandAnswer) × (IsReported program certificate page.before.now page.closed.now page.after.now end answer ⊎ LacksMemory answer)
       × IsDeliveredInTurn (store disk first left) target path (text_of_names program) stdout answer f
 
   by_text : (text : List ℕ) (f : Fate) → is_page page text → IsDeliveredInTurn (store disk first left) target path names.now stdout (said text) f → Reported f

@@ -4,7 +4,7 @@ use Rattle.std.specs.Prelude.{ℕ, List, Option, Some, None, Err, Ok}
 use Rattle.std.specs.Borrow.{Bor}
 use Rattle.velo_fate.specs.declared.fate.Fate.{Fate}
 use Rattle.velo_fate.specs.declared.fate.Fate.TheVariants as fate
-use Rattle.velo_fate.specs.Delivery.{Answer, DeliversBy, FailsSaving, IsDelivered, IsDeliveredInTurn, IsTaken}
+use Rattle.velo_fate.specs.Delivery.{CommandAnswer, DeliversBy, FailsSaving, IsDelivered, IsDeliveredInTurn, IsTaken}
 use Rattle.velo_delivery.specs.Disk.{Store, behind}
 use Rattle.velo_workload_commands.specs.Playing.{text_of_names}
 use Rattle.velo_workload_commands.specs.Reporting.{AreNamesFor}
@@ -23,7 +23,7 @@ unsaved store path out log text end fate.WriteFailed h nothing = inl (h, nothing
 unsaved store path out log text end f h nothing = absurd h
 
 module _ (store : Store) (target : Option (Bor (List ℕ))) (names log : List ℕ) (out : Writing) (text : Option (List ℕ)) (end f : Fate) where
-  abbrev said : Answer
+  abbrev said : CommandAnswer
   said = record { saved = Some log; printed = text; fate = end }
 
   -- nor where the names are not
@@ -39,14 +39,14 @@ module _ (store : Store) (target : Option (Bor (List ℕ))) (names log : List �
   saved_in_turn x (Some path) (inl h) opened taken = absurd h
   saved_in_turn x (Some path) (inr h) opened taken = inr (h.0, h.1, printed_put (behind store h.0) (Some path) out (Some names) None text end h.2 opened f taken)
 
-module _ (store : Store) (target : Option (Bor (List ℕ))) (names : List ℕ) (out : Writing) (answer : Answer) (f : Fate) where
+module _ (store : Store) (target : Option (Bor (List ℕ))) (names : List ℕ) (out : Writing) (answer : CommandAnswer) (f : Fate) where
   -- the names are the program's
   pub in_turn_named : (path : Option (Bor (List ℕ))) (program : Program) → AreNamesFor path program names → IsDeliveredInTurn store target path names out answer f
       → IsDeliveredInTurn store target path (text_of_names program) out answer f
   in_turn_named path program are h = by answer.saved path are h
     where
-      by : (saved : Option (List ℕ)) (path : Option (Bor (List ℕ))) → AreNamesFor path program names → DeliversBy saved path store target names out answer f
-          → DeliversBy saved path store target (text_of_names program) out answer f
-      by (Some log) (Some path) are h = subst (λ (n : List ℕ). DeliversBy (Some log) (Some path) store target n out answer f) are h
+      by : (saved : Option (List ℕ)) (path : Option (Bor (List ℕ))) → AreNamesFor path program names → DeliversBy saved store target path names out answer f
+          → DeliversBy saved store target path (text_of_names program) out answer f
+      by (Some log) (Some path) are h = subst (λ (n : List ℕ). DeliversBy (Some log) store target (Some path) n out answer f) are h
       by (Some log) None are h = h
       by None path are h = h

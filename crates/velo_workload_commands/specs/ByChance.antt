@@ -9,9 +9,9 @@ use Rattle.velo_events.specs.declared.event.ThreadId.{ThreadId}
 use Rattle.velo_request.specs.declared.request.RandomRuns.{RandomRuns}
 use Rattle.velo_shrink.specs.Simple.{IsShrunkFrom}
 use Rattle.velo_workload.specs.Program.{Program}
-use Rattle.velo_workload_commands.specs.declared.told.Told.{Told}
-use Rattle.velo_workload_commands.specs.declared.told.ToBlame.{ToBlame}
-use Rattle.velo_workload_commands.specs.declared.told.Tried.TheVariants.{ByChance}
+use Rattle.velo_workload_commands.specs.declared.survey.Survey.{Survey}
+use Rattle.velo_workload_commands.specs.declared.survey.ToBlame.{ToBlame}
+use Rattle.velo_workload_commands.specs.declared.survey.Tried.TheVariants.{ByChance}
 
 -- ---- who is to blame
 
@@ -35,10 +35,10 @@ pub record IsBlameOf (program : Program) (config : Config) (schedules : List (Li
 -- The program was replayed so often as was asked for, by the schedules that the seed draws. What
 -- these runs show is told by simple schedules, and whom their alarms blame. Of other schedules
 -- nothing is said.
-pub record IsByChance (program : Program) (config : Config) (random : RandomRuns) (told : Told) : Type 0 where
+pub record IsByChance (program : Program) (config : Config) (random : RandomRuns) (survey : Survey) : Type 0 where
   pub tally : RunTally
   pub is_tried : IsTried program config random.seed random.runs tally
-  pub tried : told.tried ≡ ByChance random.seed random.runs
-  pub findings : IsShrunkFrom program config tally.findings told.shrunk
-  pub blame : told.blame ≡ record { alarms = tally.alarms; labels = tally.blamed }
+  pub tried : survey.tried ≡ ByChance random.seed random.runs
+  pub findings : IsShrunkFrom program config tally.findings survey.shrunk
+  pub blame : survey.blame ≡ record { alarms = tally.alarms; labels = tally.blamed }
   pub order : IsNonDecreasingBy rank tally.blamed.items

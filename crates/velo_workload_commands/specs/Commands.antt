@@ -12,7 +12,7 @@ use Rattle.velo_fate.specs.declared.fate.Fate.{Fate}
 use Rattle.velo_request.specs.declared.request.ExploreOptions.{ExploreOptions}
 use Rattle.velo_request.specs.declared.request.ReplayOptions.{ReplayOptions}
 use Rattle.velo_request.specs.declared.request.RunOptions.{RunOptions}
-use Rattle.velo_fate.specs.Delivery.{Answer, IsDeliveredInTurn}
+use Rattle.velo_fate.specs.Delivery.{CommandAnswer, IsDeliveredInTurn}
 use Rattle.velo_fate.specs.Barred.{IsBarredRun, WritesNowhere}
 use Rattle.velo_delivery.specs.Disk.{Store}
 use Rattle.velo_workload_commands.specs.Exploring.{IsExploreAnswer}
@@ -40,7 +40,7 @@ DoesNotPlay store input target names stdout f =
 abbrev pub DoesPlay : Play → RunOptions → Store → Writing → Fate → Type 0
 DoesPlay play options store stdout f =
     DoesNotPlay store options.input.now options.target options.names_target stdout f
-    ⊎ ((read : Reading) × (answer : Answer) × (names : List ℕ)
+    ⊎ ((read : Reading) × (answer : CommandAnswer) × (names : List ℕ)
     × store.disk.gives options.input.now read × FailuresAsTold read f
     × IsPlayAnswer play options read.bytes answer names
     × IsDeliveredInTurn store options.target options.names_target names stdout answer f)
@@ -69,7 +69,7 @@ DoesReplay options store stdout f =
 abbrev pub DoesExplore : ExploreOptions → Store → Writing → Fate → Type 0
 DoesExplore options store stdout f =
     DoesNotPlay store options.input.now options.target options.names_target stdout f
-    ⊎ ((read : Reading) × (answer : Answer) × (names : List ℕ)
+    ⊎ ((read : Reading) × (answer : CommandAnswer) × (names : List ℕ)
     × store.disk.gives options.input.now read × FailuresAsTold read f
     × IsExploreAnswer options read.bytes answer names
     × IsDeliveredInTurn store options.target options.names_target names stdout answer f)

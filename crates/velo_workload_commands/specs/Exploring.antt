@@ -29,18 +29,18 @@ use Rattle.velo_request.specs.declared.request.ExploreOptions.{ExploreOptions}
 use Rattle.velo_request.specs.declared.request.RandomRuns.{RandomRuns}
 use Rattle.velo_request.specs.declared.request.RunOptions.{RunOptions}
 use Rattle.velo_workload_commands.specs.declared.blaming.TheConstants.{MAX_BLAMING}
-use Rattle.velo_workload_commands.specs.declared.told.ToBlame.{ToBlame}
-use Rattle.velo_workload_commands.specs.declared.told.Told.{Told}
-use Rattle.velo_workload_commands.specs.declared.told.Tried.{Tried}
-use Rattle.velo_workload_commands.specs.declared.told.Tried.TheVariants as how
+use Rattle.velo_workload_commands.specs.declared.survey.ToBlame.{ToBlame}
+use Rattle.velo_workload_commands.specs.declared.survey.Survey.{Survey}
+use Rattle.velo_workload_commands.specs.declared.survey.Tried.{Tried}
+use Rattle.velo_workload_commands.specs.declared.survey.Tried.TheVariants as how
 use Rattle.velo_workload_commands.specs.ByChance.{IsBlameOf, IsByChance}
-use Rattle.velo_fate.specs.Delivery.{Answer, LacksMemory, printing, silent}
+use Rattle.velo_fate.specs.Delivery.{CommandAnswer, LacksMemory, printing, silent}
 use Rattle.velo_fate.specs.Fate.{number_of}
 use Rattle.velo_workload_commands.specs.Playing.{IsConfigOf, IsReported, IsTextOf, IsUnread, text_of_names}
 use Rattle.velo_schedule_text.specs.Schedule.{spaced}
 use Rattle.velo_schedule_text.specs.Short.{longest}
 
--- ---- what is told of all schedules
+-- ---- the survey of the schedules
 
 -- the most replays that are asked whom they blame; none where the first finding ends the search
 abbrev pub most_to_blame : Bool → ℕ
@@ -62,22 +62,23 @@ pub record IsSearchOf (program : Program) (config : Config) (options : ExploreOp
 -- All schedules of the program are tried, and what was found is told by simple schedules. Whom the
 -- alarms blame is told of the replays by the first of the schedules that the search hands out.
 pub record IsExplorationOf (program : Program) (config : Config) (options : ExploreOptions) (over : Bool)
-    (told : Told) : Type 0 where
+    (survey : Survey) : Type 0 where
   pub search : Exploration
   pub is_search : IsSearchOf program config options over search
-  pub tried : told.tried ≡ how.All search.events search.states
-  pub findings : IsShrunkFrom program config search.findings told.shrunk
-  pub is_so : (fault : Fault) → IsTold program config fault (finding_of told.shrunk.findings fault)
+  pub tried : survey.tried ≡ how.All search.events search.states
+  pub findings : IsShrunkFrom program config search.findings survey.shrunk
+  pub is_so : (fault : Fault) → IsTold program config fault (finding_of survey.shrunk.findings fault)
   pub blame : IsBlameOf program config
-      (map (λ schedule. schedule.items) (take (most_to_blame options.first) search.alarms.items)) told.blame
+      (map (λ schedule. schedule.items) (take (most_to_blame options.first) search.alarms.items)) survey.blame
 
--- all of them are tried; or where runs by chance are asked for, so many (`ByChance`)
-abbrev pub IsToldBy : Program → Config → ExploreOptions → Bool → Option RandomRuns → Told → Type 0
-IsToldBy program config options over None told = IsExplorationOf program config options over told
-IsToldBy program config options over (Some random) told = IsByChance program config random told
+-- the survey of the program's schedules: all of them are tried; or where runs by chance are asked
+-- for, so many (`ByChance`)
+abbrev pub IsSurveyBy : Program → Config → ExploreOptions → Bool → Option RandomRuns → Survey → Type 0
+IsSurveyBy program config options over None survey = IsExplorationOf program config options over survey
+IsSurveyBy program config options over (Some random) survey = IsByChance program config random survey
 
-abbrev pub IsToldOf : Program → Config → ExploreOptions → Bool → Told → Type 0
-IsToldOf program config options over told = IsToldBy program config options over options.random told
+abbrev pub IsSurveyOf : Program → Config → ExploreOptions → Bool → Survey → Type 0
+IsSurveyOf program config options over survey = IsSurveyBy program config options over options.random survey
 
 -- ---- its text
 
@@ -129,9 +130,9 @@ blamed_text program alarms blamed =
 abbrev pub blame_text : Program → ToBlame → List ℕ
 blame_text program blame = flat_map (blamed_text program blame.alarms) blame.labels.items
 
-abbrev pub told_text : Program → Told → List ℕ
-told_text program told =
-    tried_text told.tried ++ found_text program told.shrunk.findings ++ blame_text program told.blame
+abbrev pub survey_text : Program → Survey → List ℕ
+survey_text program survey =
+    tried_text survey.tried ++ found_text program survey.shrunk.findings ++ blame_text program survey.blame
 
 -- ---- what it comes to
 
@@ -157,8 +158,8 @@ abbrev pub fate_of_findings : Findings → Fate
 fate_of_findings found =
     option_map_or (λ witness. fate_of_goal witness.goal) (first_of found) (fate_of_rest found)
 
-abbrev pub fate_of_told : Told → Fate
-fate_of_told told = fate_of_findings told.shrunk.findings
+abbrev pub fate_of_survey : Survey → Fate
+fate_of_survey survey = fate_of_findings survey.shrunk.findings
 
 -- ---- the answer
 
@@ -183,29 +184,29 @@ waits_of goal program log = []
 abbrev pub waits_after : Program → Replay → List ℕ
 waits_after program replay = waits_of replay.goal program replay.closed.log
 
--- What is told is printed, then the report of the replay of the first finding, and after that of a
+-- The survey is printed, then the report of the replay of the first finding, and after that of a
 -- deadlock who waits for what. If none is shown the text is printed alone, and nothing is saved.
-abbrev pub IsSaidOf : Program → Bool → Told → Option Replay → Answer → Type 0
-IsSaidOf program certificate told (Some replay) answer =
-    IsReported program certificate (told_text program told) replay.closed (waits_after program replay)
-    (fate_of_told told) answer
-IsSaidOf program certificate told None answer = answer ≡ printing (told_text program told) (fate_of_told told)
+abbrev pub IsSaidOf : Program → Bool → Survey → Option Replay → CommandAnswer → Type 0
+IsSaidOf program certificate survey (Some replay) answer =
+    IsReported program certificate (survey_text program survey) replay.closed (waits_after program replay)
+    (fate_of_survey survey) answer
+IsSaidOf program certificate survey None answer = answer ≡ printing (survey_text program survey) (fate_of_survey survey)
 
 -- The schedules of the program are tried within the limits that were asked for, and this is said.
 -- Only where it may take so many seconds and no more, the search may have been told that it is over.
-pub record IsExplored (options : ExploreOptions) (program : Program) (answer : Answer)
+pub record IsExplored (options : ExploreOptions) (program : Program) (answer : CommandAnswer)
     : Type 0 where
   pub config : Config
   pub configured : IsConfigOf program (run_of options) config
   pub over : Bool
   pub limited : over ≡ true → is_some options.seconds ≡ true
-  pub told : Told
-  pub is_so : IsToldOf program config options over told
-  pub says : IsSaidOf program options.certificate told told.shrunk.first answer
+  pub survey : Survey
+  pub is_so : IsSurveyOf program config options over survey
+  pub says : IsSaidOf program options.certificate survey survey.shrunk.first answer
 
 -- What an exploration of the workload that was read has to say, and the text of its names; or
 -- nothing, for a reason.
-abbrev pub IsExploreAnswer : ExploreOptions → Option (List ℕ) → Answer → List ℕ → Type 0
+abbrev pub IsExploreAnswer : ExploreOptions → Option (List ℕ) → CommandAnswer → List ℕ → Type 0
 IsExploreAnswer options read answer names =
     ((program : Program) × IsTextOf read program × (names ≡ text_of_names program)
     × (IsExplored options program answer ⊎ LacksMemory answer))

@@ -25,7 +25,7 @@ use Rattle.velo_fate.specs.declared.fate.Fate.{Fate}
 use Rattle.velo_fate.specs.declared.fate.Fate.TheVariants.{Finished, Lost, Work}
 use Rattle.velo_request.specs.declared.request.RunOptions.{RunOptions}
 use Rattle.velo_fate.specs.Verdict.{IsOutputOf, IsVerdict, is_alarm}
-use Rattle.velo_fate.specs.Delivery.{Answer, LacksMemory, silent}
+use Rattle.velo_fate.specs.Delivery.{CommandAnswer, LacksMemory, silent}
 use Rattle.velo_fate.specs.Format.{Format, SaysNone}
 use Rattle.velo_fate.specs.Saving.{text_of_log}
 
@@ -135,7 +135,8 @@ listed program =
 abbrev pub text_of_names : Program → List ℕ
 text_of_names program = names_text (listed program)
 
--- it is no longer than a file of names may be
+-- The program's names fit into one file of names: it has no more lines, and no more bytes, than such
+-- a file may have.
 pub record FitsNames (program : Program) : Type 0 where
   pub few_lines : length program.thread_names + (length program.variable_names
       + (length program.lock_names + length program.label_names)) ≤ MAX_NAME_LINES
@@ -144,7 +145,7 @@ pub record FitsNames (program : Program) : Type 0 where
 -- The text of the log is to be saved. The report of the log by the program's names, with its
 -- certificate if that is asked for, is printed between these texts; and it comes to this end.
 pub record IsReported (program : Program) (certificate : Bool) (before : List ℕ) (w : WorldState)
-    (after : List ℕ) (end : Fate) (answer : Answer) : Type 0 where
+    (after : List ℕ) (end : Fate) (answer : CommandAnswer) : Type 0 where
   pub names : Names
   pub are_names : AreNamesOfProgram program names
   pub report : List ℕ
@@ -156,23 +157,23 @@ pub record IsReported (program : Program) (certificate : Bool) (before : List �
   }
 
 -- only the ending is said
-abbrev pub IsSilentEnding : Ending → Answer → Type 0
+abbrev pub IsSilentEnding : Ending → CommandAnswer → Type 0
 IsSilentEnding ended answer = answer ≡ silent (Finished ended false)
 
 -- the log is reported, and it comes to its verdict
-abbrev pub IsRunReport : Program → Bool → Ending → WorldState → Answer → Type 0
+abbrev pub IsRunReport : Program → Bool → Ending → WorldState → CommandAnswer → Type 0
 IsRunReport program certificate ended w answer =
     (verdict : Verdict) × IsVerdict w.log verdict
     × IsReported program certificate [] w [] (Finished ended (is_alarm verdict)) answer
 
 -- what is said of a run, by whether its ending has a report
-abbrev pub IsSaidOfRun : Program → Bool → Ending → WorldState → Answer → Type 0
+abbrev pub IsSaidOfRun : Program → Bool → Ending → WorldState → CommandAnswer → Type 0
 IsSaidOfRun program certificate ended w answer =
     ((is_unreported ended ≡ true) × IsSilentEnding ended answer)
     ⊎ ((is_unreported ended ≡ false) × IsRunReport program certificate ended w answer)
 
 -- a run that came to an end, and what is said of it
-pub record IsPlayed (play : Play) (options : RunOptions) (program : Program) (answer : Answer)
+pub record IsPlayed (play : Play) (options : RunOptions) (program : Program) (answer : CommandAnswer)
     : Type 0 where
   pub ended : Ending
   pub world : WorldState
@@ -180,17 +181,17 @@ pub record IsPlayed (play : Play) (options : RunOptions) (program : Program) (an
   pub says : IsSaidOfRun program options.certificate ended world answer
 
 -- a run by threads may lose a seat; nothing is said of why
-abbrev pub LosesSeat : Play → Answer → Type 0
+abbrev pub LosesSeat : Play → CommandAnswer → Type 0
 LosesSeat (ByTurns schedule) answer = ⊥
 LosesSeat ByThreads answer = answer ≡ silent Lost
 
-abbrev pub IsRunAnswer : Play → RunOptions → Program → Answer → Type 0
+abbrev pub IsRunAnswer : Play → RunOptions → Program → CommandAnswer → Type 0
 IsRunAnswer play options program answer =
     IsPlayed play options program answer ⊎ (LosesSeat play answer ⊎ LacksMemory answer)
 
 -- What a run of the workload that was read has to say, and the text of its names; or nothing, for
 -- the reason that there is none.
-abbrev pub IsPlayAnswer : Play → RunOptions → Option (List ℕ) → Answer → List ℕ → Type 0
+abbrev pub IsPlayAnswer : Play → RunOptions → Option (List ℕ) → CommandAnswer → List ℕ → Type 0
 IsPlayAnswer play options read answer names =
     ((program : Program) × IsTextOf read program × (names ≡ text_of_names program)
     × IsRunAnswer play options program answer)

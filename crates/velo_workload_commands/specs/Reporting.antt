@@ -9,7 +9,7 @@ use Rattle.velo_delivery.specs.Disk.{Store}
 use Rattle.velo_delivery.specs.Writing.{Writing}
 use Rattle.velo_fate.specs.declared.fate.Fate.{Fate}
 use Rattle.velo_fate.specs.declared.fate.Fate.TheVariants.{CannotOpen, WriteFailed}
-use Rattle.velo_fate.specs.Delivery.{Answer, IsDeliveredInTurn, LacksMemory}
+use Rattle.velo_fate.specs.Delivery.{CommandAnswer, IsDeliveredInTurn, LacksMemory}
 use Rattle.velo_fate.specs.Saving.{text_of_log}
 use Rattle.velo_fate.specs.Verdict.{IsOrderOrCycle, IsOutputOf}
 use Rattle.velo_request.specs.declared.request.RunOptions.{RunOptions}
@@ -42,7 +42,7 @@ pub record IsNoFileFailure (f : Fate) : Type 0 where
 -- what reporting a run came to
 abbrev pub Reports : Program → RunOptions → RunReport → Store → Writing → Fate → Type 0
 Reports program options report store stdout f =
-    (answer : Answer)
+    (answer : CommandAnswer)
     × (IsReported program options.certificate report.before.now report.closed.now report.after.now report.end answer
     ⊎ LacksMemory answer)
     × IsDeliveredInTurn store options.target options.names_target (text_of_names program) stdout answer f

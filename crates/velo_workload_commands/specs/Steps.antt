@@ -9,14 +9,14 @@ use Rattle.velo_fate.specs.declared.fate.Fate.{Fate}
 use Rattle.velo_request.specs.declared.request.ExploreOptions.{ExploreOptions}
 use Rattle.velo_request.specs.declared.request.RunOptions.{RunOptions}
 use Rattle.velo_shrink.specs.declared.findings.Replay.{Replay}
-use Rattle.velo_workload_commands.specs.declared.told.Told.{Told}
+use Rattle.velo_workload_commands.specs.declared.survey.Survey.{Survey}
 use Rattle.velo_workload_commands.specs.Exploring.{IsExplored, IsSaidOf}
 use Rattle.velo_fate.specs.Verdict.{KnowsAlarm}
-use Rattle.velo_fate.specs.Delivery.{Answer, IsDeliveredInTurn, IsPrinted, LacksMemory, Saves, printing}
+use Rattle.velo_fate.specs.Delivery.{CommandAnswer, IsDeliveredInTurn, IsPrinted, LacksMemory, Saves, printing}
 use Rattle.velo_delivery.specs.Disk.{Disk, Store, behind, up_to}
 use Rattle.velo_fate.specs.Barred.{IsBarredRun}
 use Rattle.velo_workload_commands.specs.Playing.{IsRunAnswer, IsSaidOfRun, Play, text_of_names, workload_file}
-use Rattle.velo_fate.specs.Saving.{IsSaved, IsUnsaved}
+use Rattle.velo_fate.specs.Saving.{IsSavedAt, IsUnsavedAt}
 use Rattle.velo_fate.specs.Format.{ReadsNone}
 use Rattle.velo_delivery.specs.Writing.{Writing}
 
@@ -25,18 +25,18 @@ use Rattle.velo_delivery.specs.Writing.{Writing}
 -- what writing a log came to, and then names at their path, if there is one
 abbrev pub IsSavedInTurn : {X : Type 0} → Store → Option (Bor (List ℕ)) → Option (Bor (List ℕ))
     → List ℕ → List ℕ → Result X Fate → Type 0
-IsSavedInTurn store target None names log result = IsSaved store target log result
+IsSavedInTurn store target None names log result = IsSavedAt store target log result
 IsSavedInTurn store target (Some path) names log result =
-    IsUnsaved store target log result
+    IsUnsavedAt store target log result
     ⊎ ((between : store.State) × Saves (up_to store between) target (Some log)
-    × IsSaved (behind store between) (Some path) names result)
+    × IsSavedAt (behind store between) (Some path) names result)
 
 -- ---- a run
 
 -- what telling how a run ended came to
 abbrev pub TellsEnd : Program → RunOptions → Ending → WorldState → Store → Writing → Fate → Type 0
 TellsEnd program options ended w store stdout f =
-    (answer : Answer)
+    (answer : CommandAnswer)
     × (IsSaidOfRun program options.certificate ended w answer ⊎ LacksMemory answer)
     × IsDeliveredInTurn store options.target options.names_target (text_of_names program) stdout
     answer f
@@ -44,7 +44,7 @@ TellsEnd program options ended w store stdout f =
 -- what playing a workload came to
 abbrev pub Plays : Play → RunOptions → Program → Store → Writing → Fate → Type 0
 Plays play options program store stdout f =
-    (answer : Answer) × IsRunAnswer play options program answer
+    (answer : CommandAnswer) × IsRunAnswer play options program answer
     × IsDeliveredInTurn store options.target options.names_target (text_of_names program) stdout
     answer f
 
@@ -67,15 +67,15 @@ pub record IsReportable (program : Program) (replay : Replay) : Type 0 where
 abbrev pub PrintsAlone : List ℕ → Fate → Writing → Fate → Type 0
 PrintsAlone text end stdout f = IsPrinted stdout (printing text end) f
 
--- what saying what is told of the schedules came to
-abbrev pub SaysTold : Program → Told → RunOptions → Store → Writing → Fate → Type 0
-SaysTold program told options store stdout f =
-    (answer : Answer)
-    × (IsSaidOf program options.certificate told told.shrunk.first answer ⊎ LacksMemory answer)
+-- what saying a survey of the schedules came to
+abbrev pub SaysSurvey : Program → Survey → RunOptions → Store → Writing → Fate → Type 0
+SaysSurvey program survey options store stdout f =
+    (answer : CommandAnswer)
+    × (IsSaidOf program options.certificate survey survey.shrunk.first answer ⊎ LacksMemory answer)
     × IsDeliveredInTurn store options.target options.names_target (text_of_names program) stdout answer f
 
 -- what exploring a workload came to
 abbrev pub Explores : ExploreOptions → Program → Store → Writing → Fate → Type 0
 Explores options program store stdout f =
-    (answer : Answer) × (IsExplored options program answer ⊎ LacksMemory answer)
+    (answer : CommandAnswer) × (IsExplored options program answer ⊎ LacksMemory answer)
     × IsDeliveredInTurn store options.target options.names_target (text_of_names program) stdout answer f

@@ -1,8 +1,8 @@
 //! The text of what is reported of the schedules of a workload.
 ghost use Rattle.std.specs.Prelude.{◌≡◌, ◌++◌, slice_get, IfOk, OnOk};
-ghost use Rattle.velo_workload_commands.specs.Exploring.{blame_text, blamed_text, finding_text, found_text, goal_text, label_text, name_text, told_text, tried_text};
+ghost use Rattle.velo_workload_commands.specs.Exploring.{blame_text, blamed_text, finding_text, found_text, goal_text, label_text, name_text, survey_text, tried_text};
 
-use crate::told::{ToBlame, Told, Tried};
+use crate::survey::{Survey, ToBlame, Tried};
 use std::alloc::Global;
 use velo_bytes::{append, append_number};
 use velo_events::{Label, Memory, ThreadId};
@@ -138,12 +138,16 @@ fn add_blame(text: &mut Vec<u8>, workload: &Workload, blame: &ToBlame) -> Result
 ///
 /// # Errors
 /// `Memory` where a growth was refused.
-pub fn text_of_told(alloc: Global, workload: &Workload, told: &Told) -> Result<Vec<u8>, Memory>
-    ensures { IfOk result (λ text. text.items ≡ told_text workload.now told.now) }
+pub fn text_of_survey(
+    alloc: Global,
+    workload: &Workload,
+    survey: &Survey,
+) -> Result<Vec<u8>, Memory>
+    ensures { IfOk result (λ text. text.items ≡ survey_text workload.now survey.now) }
 {
     let mut text = Vec::new(alloc);
-    add_tried(&mut text, told.tried)?;
-    add_found(&mut text, workload, &told.shrunk.findings)?;
-    add_blame(&mut text, workload, &told.blame)?;
+    add_tried(&mut text, survey.tried)?;
+    add_found(&mut text, workload, &survey.shrunk.findings)?;
+    add_blame(&mut text, workload, &survey.blame)?;
     Ok(text)
 }

@@ -3,15 +3,15 @@ ghost use Rattle.std.specs.Prelude.{◌≡◌, IfOk, IfSome};
 ghost use Rattle.velo_delivery.specs.Disk.{store};
 ghost use Rattle.velo_delivery.specs.Writing.{writing};
 ghost use Rattle.velo_workload_commands.specs.Commands.{DoesExplore};
-ghost use Rattle.velo_workload_commands.specs.Exploring.{fate_of_findings, fate_of_goal, fate_of_rest, is_never, run_of, told_text, waits_after};
+ghost use Rattle.velo_workload_commands.specs.Exploring.{fate_of_findings, fate_of_goal, fate_of_rest, is_never, run_of, survey_text, waits_after};
 ghost use Rattle.velo_workload_commands.specs.Reporting.{IsNoFileFailure};
-ghost use Rattle.velo_workload_commands.specs.Steps.{Explores, IsReportable, PrintsAlone, SaysTold};
+ghost use Rattle.velo_workload_commands.specs.Steps.{Explores, IsReportable, PrintsAlone, SaysSurvey};
 
-use crate::exploration_text::text_of_told;
-use crate::findings::told_of;
+use crate::exploration_text::text_of_survey;
+use crate::findings::survey_of;
 use crate::progress::ExploreProgress;
 use crate::reporting::{RunReport, report_run};
-use crate::told::Told;
+use crate::survey::Survey;
 use crate::work::{config_of_run, open_workload};
 use std::alloc::Global;
 use velo_bytes::{Sink, WriteFault, write_all};
@@ -121,19 +121,19 @@ fn print_alone<O: Sink>(text: &[u8], end: Fate, out: &mut O) -> Fate
 fn report_first<F: Files, O: Sink>(
     alloc: Global,
     workload: &Workload,
-    told: &Told,
+    survey: &Survey,
     text: &[u8],
     options: &RunOptions,
     files: &mut F,
     out: &mut O,
 ) -> Fate
-    requires first { IfSome told.now.shrunk.first (IsReportable workload.now) }
-    requires text { text.now ≡ told_text workload.now told.now }
-    ensures { SaysTold workload.now told.now options.now (store F.disk files.old files.new)
+    requires first { IfSome survey.now.shrunk.first (IsReportable workload.now) }
+    requires text { text.now ≡ survey_text workload.now survey.now }
+    ensures { SaysSurvey workload.now survey.now options.now (store F.disk files.old files.new)
         (writing O.contents O.failures out.old out.new) result }
 {
-    let end = fate_of(&told.shrunk.findings);
-    let Some(replay) = &told.shrunk.first else {
+    let end = fate_of(&survey.shrunk.findings);
+    let Some(replay) = &survey.shrunk.first else {
         return print_alone(text, end, out);
     };
     match waits_after(alloc, workload, replay) {
@@ -152,21 +152,21 @@ fn report_first<F: Files, O: Sink>(
 
 /// Prints what is reported of the schedules of a workload, and reports the replay of the first finding,
 /// if there is one.
-fn report_told<F: Files, O: Sink>(
+fn report_survey<F: Files, O: Sink>(
     alloc: Global,
     workload: &Workload,
-    told: &Told,
+    survey: &Survey,
     options: &RunOptions,
     files: &mut F,
     out: &mut O,
 ) -> Fate
-    requires { IfSome told.now.shrunk.first (IsReportable workload.now) }
-    ensures { SaysTold workload.now told.now options.now (store F.disk files.old files.new)
+    requires { IfSome survey.now.shrunk.first (IsReportable workload.now) }
+    ensures { SaysSurvey workload.now survey.now options.now (store F.disk files.old files.new)
         (writing O.contents O.failures out.old out.new) result }
 {
-    match text_of_told(alloc, workload, told) {
+    match text_of_survey(alloc, workload, survey) {
         Ok(text) => {
-            let fate = report_first(alloc, workload, told, &text, options, files, out);
+            let fate = report_first(alloc, workload, survey, &text, options, files, out);
             drop(text);
             fate
         }
@@ -189,12 +189,12 @@ fn explore_workload<F: Files, O: Sink, P: ExploreProgress>(
     let run = run_of(options);
     let config = config_of_run(workload, &run);
     progress.begin(options.progress, options.seconds);
-    let told = told_of(alloc, workload, options, config, progress);
+    let survey = survey_of(alloc, workload, options, config, progress);
     progress.end();
-    match told {
-        Ok(told) => {
-            let fate = report_told(alloc, workload, &told, &run, files, out);
-            drop(told);
+    match survey {
+        Ok(survey) => {
+            let fate = report_survey(alloc, workload, &survey, &run, files, out);
+            drop(survey);
             fate
         }
         Err(Memory) => Fate::Memory,

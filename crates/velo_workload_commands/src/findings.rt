@@ -1,10 +1,10 @@
 //! What the schedules of a workload come to.
 ghost use Rattle.std.specs.Prelude.{◌≡◌, ◌&&◌, IfOk};
 ghost use Rattle.velo_workload_commands.specs.ByChance.{IsByChance};
-ghost use Rattle.velo_workload_commands.specs.Exploring.{IsExplorationOf, IsToldOf};
+ghost use Rattle.velo_workload_commands.specs.Exploring.{IsExplorationOf, IsSurveyOf};
 
 use crate::blaming::blame_of;
-use crate::told::{ToBlame, Told, Tried};
+use crate::survey::{Survey, ToBlame, Tried};
 use std::alloc::Global;
 use velo_events::{Config, Memory};
 use velo_explore::{Exploration, Progress, explore};
@@ -20,7 +20,7 @@ fn explore_all<P: Progress>(
     options: &ExploreOptions,
     config: Config,
     progress: &mut P,
-) -> Result<Told, Memory>
+) -> Result<Survey, Memory>
     requires { config.bounds ≡ workload.now.bounds }
     ensures { IfOk result (IsExplorationOf workload.now config options.now
         (P.may_end progress.old && P.says_over progress.new)) }
@@ -41,7 +41,7 @@ fn explore_all<P: Progress>(
     )?;
     let blame = blame_of(alloc, workload, &alarms, options.first, config)?;
     let shrunk = shrink_findings(alloc, workload, findings, config)?;
-    Ok(Told {
+    Ok(Survey {
         tried: Tried::All { events, states },
         shrunk,
         blame,
@@ -54,7 +54,7 @@ fn try_some(
     workload: &Workload,
     random: RandomRuns,
     config: Config,
-) -> Result<Told, Memory>
+) -> Result<Survey, Memory>
     requires { config.bounds ≡ workload.now.bounds }
     ensures { IfOk result (IsByChance workload.now config random) }
 {
@@ -66,7 +66,7 @@ fn try_some(
         blamed,
     } = try_by_chance(alloc, workload, u64::from(runs), seed, config)?;
     let shrunk = shrink_findings(alloc, workload, findings, config)?;
-    Ok(Told {
+    Ok(Survey {
         tried: Tried::ByChance { seed, runs },
         shrunk,
         blame: ToBlame {
@@ -82,15 +82,15 @@ fn try_some(
 ///
 /// # Errors
 /// `Memory` where a growth was refused.
-pub fn told_of<P: Progress>(
+pub fn survey_of<P: Progress>(
     alloc: Global,
     workload: &Workload,
     options: &ExploreOptions,
     config: Config,
     progress: &mut P,
-) -> Result<Told, Memory>
+) -> Result<Survey, Memory>
     requires { config.bounds ≡ workload.now.bounds }
-    ensures { IfOk result (IsToldOf workload.now config options.now
+    ensures { IfOk result (IsSurveyOf workload.now config options.now
         (P.may_end progress.old && P.says_over progress.new)) }
 {
     match options.random {

@@ -12,7 +12,7 @@ mod replaying;
 mod reporting;
 mod running;
 mod scheduling;
-mod told;
+mod survey;
 mod work;
 
 pub use blaming::MAX_BLAMING;

@@ -6,23 +6,23 @@ use Rattle.velo_delivery.specs.Disk.{store}
 use Rattle.velo_delivery.specs.Writing.{writing}
 use Rattle.velo_request.specs.declared.request.RunOptions.{RunOptions}
 use Rattle.velo_workload_commands.specs.Playing.{IsConfigOf}
-use Rattle.velo_workload_commands.specs.Steps.{SaysTold}
-use Rattle.velo_workload_commands.proofs.OnFindings.{explored, first_told}
+use Rattle.velo_workload_commands.specs.Steps.{SaysSurvey}
+use Rattle.velo_workload_commands.proofs.OnFindings.{explored, first_survey}
 use Rattle.velo_workload_commands.proofs.exploring.explore_workload.Goals as goal
 
-pub report_told-fate-requires : goal.report_told-fate-requires
-report_told-fate-requires g c =
-    first_told c.args.workload.now c.config_of_run-config.result c.args.options.now _ c.in-Ok.told c.config_of_run-config.ensures.bounds c.in-Ok.ensures
+pub report_survey-fate-requires : goal.report_survey-fate-requires
+report_survey-fate-requires g c =
+    first_survey c.args.workload.now c.config_of_run-config.result c.args.options.now _ c.in-Ok.survey c.config_of_run-config.ensures.bounds c.in-Ok.ensures
 
 pub returns-in-Ok : goal.returns-in-Ok
 returns-in-Ok g c =
     let said =
     subst
-    (λ (o : RunOptions). SaysTold c.args.workload.now c.in-Ok.told o (store g.F.Files.disk c.args.files.now c.report_told-fate.new.files)
-    (writing g.O.Sink.contents g.O.Sink.failures c.args.out.now c.report_told-fate.new.out) c.report_told-fate.result)
-    c.run_of-run.ensures c.report_told-fate.ensures in (
+    (λ (o : RunOptions). SaysSurvey c.args.workload.now c.in-Ok.survey o (store g.F.Files.disk c.args.files.now c.report_survey-fate.new.files)
+    (writing g.O.Sink.contents g.O.Sink.failures c.args.out.now c.report_survey-fate.new.out) c.report_survey-fate.result)
+    c.run_of-run.ensures c.report_survey-fate.ensures in (
       said.0,
-      explored c.args.workload.now c.config_of_run-config.result c.args.options.now _ c.in-Ok.told said.0
+      explored c.args.workload.now c.config_of_run-config.result c.args.options.now _ c.in-Ok.survey said.0
           (subst (λ (o : RunOptions). IsConfigOf c.args.workload.now o c.config_of_run-config.result) c.run_of-run.ensures c.config_of_run-config.ensures)
           (λ over. c.begin.ensures (and_parts _ _ over).0) c.in-Ok.ensures said.1,
       said.2,

@@ -1,5 +1,5 @@
 use Rattle.std.proofs.Common.{Some, inl, inr, refl}
-use Rattle.velo_log_commands.proofs.explaining.put_both.Goals as goal
+use Rattle.velo_log_commands.proofs.explaining_alarm.put_both.Goals as goal
 
 pub returns-in-Ok : goal.returns-in-Ok
 returns-in-Ok g c = inr (c.save_text.new.files, c.in-Ok.ensures, c.put.ensures)

@@ -4,7 +4,7 @@ use Rattle.velo_events.specs.Graph.{HasCycle}
 use Rattle.velo_delivery.specs.Writing.{writing}
 use Rattle.velo_inputs.specs.Sending.{PrintsOrLacks}
 use Rattle.velo_log_commands.specs.Explaining.{counted}
-use Rattle.velo_log_commands.proofs.explaining.explain_clean_rest.Goals as goal
+use Rattle.velo_log_commands.proofs.explaining_rest.explain_clean_rest.Goals as goal
 
 pub thin-requires-clause-can_come_about : goal.thin-requires-clause-can_come_about
 thin-requires-clause-can_come_about g c = record { bounds = c.args.bounds; well_formed = c.requires.well_formed }

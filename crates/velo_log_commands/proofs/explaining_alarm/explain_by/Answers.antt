@@ -9,7 +9,7 @@ use Rattle.velo_inputs.specs.Sending.{DeliversOrLacks}
 use Rattle.velo_picture.specs.Drawing.{drawing_text}
 use Rattle.velo_log_commands.specs.Explaining.{saying, words_of}
 use Rattle.velo_log_commands.proofs.OnExplaining.{drawn_alone, drawn_both}
-use Rattle.velo_log_commands.proofs.explaining.explain_by.Goals as goal
+use Rattle.velo_log_commands.proofs.explaining_alarm.explain_by.Goals as goal
 
 pub returns-in-Err : goal.returns-in-Err
 returns-in-Err g c = inr (search rules, refl, refl, (refl, refl))

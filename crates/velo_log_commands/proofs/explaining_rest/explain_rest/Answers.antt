@@ -8,7 +8,7 @@ use Rattle.velo_delivery.specs.Writing.{writing}
 use Rattle.velo_inputs.specs.Leaving.{left_out_at_first}
 use Rattle.velo_log_commands.specs.Explaining.{ExplainsRest}
 use Rattle.velo_log_commands.specs.Steps.{Explains}
-use Rattle.velo_log_commands.proofs.explaining.explain_rest.Goals as goal
+use Rattle.velo_log_commands.proofs.explaining_rest.explain_rest.Goals as goal
 
 pub returns-in-Err : goal.returns-in-Err
 returns-in-Err g c = (silent Memory, [], inr (search rules, refl), (refl, refl, (refl, refl)))

@@ -6,7 +6,7 @@ use Rattle.velo_explain.specs.Picture.{named_picture_text}
 use Rattle.velo_fate.specs.Delivery.{IsDelivered}
 use Rattle.velo_log_commands.specs.Explaining.{saying}
 use Rattle.velo_log_commands.proofs.OnExplaining.{words_put}
-use Rattle.velo_log_commands.proofs.explaining.put_picture.Goals as goal
+use Rattle.velo_log_commands.proofs.explaining_alarm.put_picture.Goals as goal
 
 pub returns-in_default : goal.returns-in_default
 returns-in_default g c =

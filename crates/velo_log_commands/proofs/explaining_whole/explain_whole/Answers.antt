@@ -10,7 +10,7 @@ use Rattle.velo_picture.specs.Drawing.{drawing_text}
 use Rattle.velo_inputs.specs.Sending.{PrintsOrLacks}
 use Rattle.velo_log_commands.proofs.OnExplaining.{explains_by, explains_clean, of_evidence}
 use Rattle.velo_certify.proofs.OnClosing.{closing_cycle}
-use Rattle.velo_log_commands.proofs.explaining.explain_whole.Goals as goal
+use Rattle.velo_log_commands.proofs.explaining_whole.explain_whole.Goals as goal
 
 pub returns-in_default : goal.returns-in_default
 returns-in_default g c =

@@ -4,7 +4,7 @@ use Rattle.velo_worker.specs.declared.ending.Ending.TheVariants.{Done}
 use Rattle.velo_fate.specs.declared.fate.Fate.TheVariants.{Finished}
 use Rattle.velo_fate.specs.Delivery.{IsPrinted, printing}
 use Rattle.velo_delivery.specs.Writing.{writing}
-use Rattle.velo_log_commands.proofs.explaining.explain_without.Goals as goal
+use Rattle.velo_log_commands.proofs.explaining_whole.explain_without.Goals as goal
 
 pub returns-in-Ok : goal.returns-in-Ok
 returns-in-Ok g c =

@@ -12,7 +12,7 @@ use Rattle.velo_inputs.specs.Sending.{PrintsOrLacks}
 use Rattle.velo_picture.specs.Drawing.{drawing_text}
 use Rattle.velo_log_commands.specs.Explaining.{ExplainsRest, counted, explained}
 use Rattle.velo_log_commands.proofs.OnExplaining.{explains_by, explains_clean, never_full, of_first}
-use Rattle.velo_log_commands.proofs.explaining.explain_left.Goals as goal
+use Rattle.velo_log_commands.proofs.explaining_rest.explain_left.Goals as goal
 
 pub explain_clean_rest-requires-clause-clean : goal.explain_clean_rest-requires-clause-clean
 explain_clean_rest-requires-clause-clean g c =

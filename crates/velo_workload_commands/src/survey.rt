@@ -30,9 +30,9 @@ pub struct ToBlame {
     pub labels: Vec<BlamedLabel>,
 }
 
-/// What is reported of the schedules of a workload.
+/// A survey: what is reported of the schedules of a workload.
 #[derive(Debug, Drop)]
-pub struct Told {
+pub struct Survey {
     /// How they were tried.
     pub tried: Tried,
     /// What they show, by simple schedules, and the replay of the first finding.

@@ -1,0 +1,134 @@
+//! The explanation of an alarm: its picture and its drawing are saved, and its words are printed.
+ghost use Rattle.std.specs.Prelude.{◌≤◌, Some, length};
+ghost use Rattle.velo_events.specs.declared.limits.TheConstants.{MAX_EVENTS};
+ghost use Rattle.velo_explain.specs.Evidence.{IsWithin};
+ghost use Rattle.velo_explain.specs.Picture.{named_picture_text};
+ghost use Rattle.velo_log_commands.specs.Explaining.{explained, saying};
+ghost use Rattle.velo_picture.specs.Drawing.{drawing_text};
+ghost use Rattle.velo_fate.specs.Delivery.{IsDelivered, IsDeliveredInTurn};
+ghost use Rattle.velo_delivery.specs.Disk.{store};
+ghost use Rattle.velo_delivery.specs.Writing.{writing};
+ghost use Rattle.velo_inputs.specs.Sending.{DeliversOrLacks};
+ghost use Rattle.velo_log_commands.specs.Steps.{DrawsOrLacks};
+
+use crate::explaining_words::{Legend, all_words};
+use std::alloc::Global;
+use velo_bytes::Sink;
+use velo_delivery::Files;
+use velo_events::Memory;
+use velo_explain::{Evidence, picture_named};
+use velo_fate::Fate;
+use velo_inputs::{print, save_text};
+use velo_names::Names;
+use velo_picture::drawing;
+use velo_request::ExplainOptions;
+use velo_traces::Trace;
+
+/// Saves a text at a path, and then prints words.
+fn put<F: Files, O: Sink>(words: &[u8], text: &[u8], path: &str, files: &mut F, out: &mut O) -> Fate
+    ensures { IsDelivered (store F.disk files.old files.new) (Some path.entry)
+        (writing O.contents O.failures out.old out.new) (saying text.now words.now) result }
+{
+    match save_text(text, path, files) {
+        Ok(()) => print(words, true, out),
+        Err(fate) => fate,
+    }
+}
+
+/// Saves the picture of an alarm at the target, if there is one, and then prints words. It is made
+/// before.
+fn put_picture<F: Files, O: Sink>(
+    alloc: Global,
+    log: &Trace,
+    position: usize,
+    evidence: &Evidence,
+    names: &Names,
+    words: &[u8],
+    target: Option<&str>,
+    files: &mut F,
+    out: &mut O,
+) -> Fate
+    requires few { length log.now.events ≤ MAX_EVENTS }
+    requires within { IsWithin (length log.now.events) position evidence.now }
+    ensures { DeliversOrLacks
+        (saying (named_picture_text names.now log.now.events evidence.now) words.now)
+        (store F.disk files.old files.new) target.entry
+        (writing O.contents O.failures out.old out.new) result }
+{
+    let Some(path) = target else {
+        return print(words, true, out);
+    };
+    match picture_named(alloc, log, position, evidence, names) {
+        Ok(picture) => put(words, picture.as_slice(), path, files, out),
+        Err(Memory) => Fate::Memory,
+    }
+}
+
+/// Saves a picture, and then a drawing, and then prints words.
+fn put_both<F: Files, O: Sink>(
+    words: &[u8],
+    picture: &[u8],
+    drawing: &[u8],
+    target: &str,
+    path: &str,
+    files: &mut F,
+    out: &mut O,
+) -> Fate
+    ensures { IsDeliveredInTurn (store F.disk files.old files.new) (Some target.entry)
+        (Some path.entry) drawing.now (writing O.contents O.failures out.old out.new)
+        (saying picture.now words.now) result }
+{
+    match save_text(picture, target, files) {
+        Ok(()) => put(words, drawing, path, files, out),
+        Err(fate) => fate,
+    }
+}
+
+/// Explains an alarm by its evidence and the legend: the picture and the drawing are saved, where
+/// they are asked for, and then the words are printed. All are made before.
+pub fn explain_by<F: Files, O: Sink>(
+    alloc: Global,
+    log: &Trace,
+    position: usize,
+    evidence: &Evidence,
+    legend: &Legend,
+    options: &ExplainOptions,
+    files: &mut F,
+    out: &mut O,
+) -> Fate
+    requires few { length log.now.events ≤ MAX_EVENTS }
+    requires within { IsWithin (length log.now.events) position evidence.now }
+    ensures { DrawsOrLacks
+        (explained legend.now.before.now legend.now.names.now legend.now.sites.now log.now.events
+        position evidence.now)
+        (drawing_text legend.now.names.now legend.now.sites.now log.now.events position
+        evidence.now)
+        (store F.disk files.old files.new) options.now
+        (writing O.contents O.failures out.old out.new) result }
+{
+    let words = match all_words(alloc, log, position, evidence, legend) {
+        Ok(words) => words,
+        Err(Memory) => return Fate::Memory,
+    };
+    let names = legend.names;
+    let words = words.as_slice();
+    let Some(path) = options.drawing else {
+        let target = options.target;
+        return put_picture(
+            alloc, log, position, evidence, names, words, target, files, out,
+        );
+    };
+    let events = log.as_slice();
+    let drawn = match drawing(alloc, names, legend.sites, events, position, evidence) {
+        Ok(drawn) => drawn,
+        Err(Memory) => return Fate::Memory,
+    };
+    let drawn = drawn.as_slice();
+    let Some(target) = options.target else {
+        return put(words, drawn, path, files, out);
+    };
+    match picture_named(alloc, log, position, evidence, names) {
+        Ok(picture) => put_both(words, picture.as_slice(), drawn, target, path, files, out),
+        Err(Memory) => Fate::Memory,
+    }
+}
