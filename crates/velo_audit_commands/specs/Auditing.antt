@@ -132,19 +132,22 @@ pub record HasFullGraph (asked : Asked) (nodes : ℕ) (bounds : Bounds) (log : L
   pub is_full : IsFullAfter config log (left_out_at_first asked) position
   pub said : answer ≡ silent (Check (Refused position GraphFull))
 
-abbrev pub AuditsEvents : NameLists → Option Table → Asked → AuditOptions → Bounds → List Event → CommandAnswer
+abbrev pub AuditsEvents : NameLists → Option Table → Asked → AuditOptions → Bounds → List Event
+    → CommandAnswer
     → Type 0
 AuditsEvents names sites asked options bounds log answer =
     TellsRounds names sites asked options log answer
     ⊎ HasFullGraph asked options.limits.nodes bounds log answer
 
 -- nothing is said of the log: the sites are of another number of events
-pub record IsOfOtherLog (sites : Option Table) (log : List Event) (answer : CommandAnswer) : Type 0 where
+pub record IsOfOtherLog (sites : Option Table) (log : List Event)
+    (answer : CommandAnswer) : Type 0 where
   pub of_other : ¬ HaveLengthOf sites log
   pub said : answer ≡ silent OtherSites
 
 -- with as many sites as events it is audited, and else nothing is said
-abbrev pub AuditsSited : NameLists → Option Table → Asked → AuditOptions → Bounds → List Event → CommandAnswer
+abbrev pub AuditsSited : NameLists → Option Table → Asked → AuditOptions → Bounds → List Event
+    → CommandAnswer
     → Type 0
 AuditsSited names sites asked options bounds log answer =
     (HaveLengthOf sites log × AuditsEvents names sites asked options bounds log answer)
@@ -161,7 +164,8 @@ pub record IsAudited (names : NameLists) (sites : Option Table) (asked : Asked)
   pub verdict : AuditsSited names sites asked options bounds log answer
 
 -- What an audit has to say: the rounds, in the form that was asked for; or nothing, for a reason.
-abbrev pub IsAuditAnswer : NameLists → Option Table → Asked → AuditOptions → Option (List ℕ) → CommandAnswer
+abbrev pub IsAuditAnswer : NameLists → Option Table → Asked → AuditOptions → Option (List ℕ)
+    → CommandAnswer
     → Type 0
 IsAuditAnswer names sites asked options read answer =
     IsAudited names sites asked options read answer

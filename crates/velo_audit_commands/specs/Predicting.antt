@@ -88,7 +88,8 @@ predicted names sites options bounds log asked rounds findings =
 -- The rounds of the log are told, as by an audit with witnesses. Their labels are left out, and then
 -- predictions are told. Of the number of tries nothing is claimed.
 pub record TellsPredictions (names : NameLists) (sites : Option Table) (asked : Asked)
-    (options : PredictOptions) (bounds : Bounds) (log : List Event) (answer : CommandAnswer) : Type 0 where
+    (options : PredictOptions) (bounds : Bounds) (log : List Event)
+    (answer : CommandAnswer) : Type 0 where
   pub rounds : List Told
   pub are_rounds : AreRoundsOf true log (left_out_at_first asked) rounds
   pub findings : PredictedFindings

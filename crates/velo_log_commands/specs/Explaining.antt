@@ -93,14 +93,16 @@ pub record ExplainsFirst (before : List ℕ) (names : NameLists) (sites : Option
   pub drawn : drawing ≡ drawing_text names sites log position evidence
 
 -- where what is left has no cycle, its events and its transactions are counted
-abbrev pub ExplainsRest : List ℕ → NameLists → Option Table → Left → List Event → CommandAnswer → List ℕ → Type 0
+abbrev pub ExplainsRest : List ℕ → NameLists → Option Table → Left → List Event → CommandAnswer
+    → List ℕ → Type 0
 ExplainsRest before names sites left log answer drawing =
     ExplainsFirst before names sites left log answer drawing
     ⊎ ((¬ HasCycle (rest_of left log)) × (answer ≡ counted before (rest_of left log)))
 
 -- ---- either, by what was asked for
 
-abbrev pub ExplainsVerdict : NameLists → Option Table → Asked → List Event → CommandAnswer → List ℕ → Type 0
+abbrev pub ExplainsVerdict : NameLists → Option Table → Asked → List Event → CommandAnswer
+    → List ℕ → Type 0
 ExplainsVerdict names sites asked log answer drawing =
     ((is_whole asked ≡ true) × ExplainsWhole names sites log answer drawing)
     ⊎ ((is_whole asked ≡ false)
@@ -129,7 +131,8 @@ pub record IsOfOtherLog (sites : Option Table) (read : Option (List ℕ)) (answe
 
 -- What an explanation has to say: the verdict in words, the cycle of an alarm, and its drawing; or
 -- nothing, for a reason.
-abbrev pub IsExplainAnswer : NameLists → Option Table → Asked → Option (List ℕ) → CommandAnswer → List ℕ → Type 0
+abbrev pub IsExplainAnswer : NameLists → Option Table → Asked → Option (List ℕ) → CommandAnswer
+    → List ℕ → Type 0
 IsExplainAnswer names sites asked read answer drawing =
     IsExplained names sites asked read answer drawing
     ⊎ (IsOfOtherLog sites read answer

@@ -53,7 +53,8 @@ DrawsOrLacks answer drawing store options stdout f =
     ⊎ (GrowthRefused × (f ≡ Memory) × store.is_kept × WritesNothing stdout)
 
 -- an answer that explains so was delivered, or that memory was wanting
-abbrev pub Explains : (CommandAnswer → List ℕ → Type 0) → Store → ExplainOptions → Writing → Fate → Type 0
+abbrev pub Explains : (CommandAnswer → List ℕ → Type 0) → Store → ExplainOptions → Writing
+    → Fate → Type 0
 Explains explains store options stdout f =
     (answer : CommandAnswer) × (drawing : List ℕ)
     × (explains answer drawing ⊎ LacksMemory answer)

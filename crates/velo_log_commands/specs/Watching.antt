@@ -108,7 +108,8 @@ IsFaultOfHeader read _ = ⊥
 
 -- the line of the alarm, if there is one, by numbers; then the report by these names of the events
 -- that were read, with its certificate if that is asked for; the fate has the verdict
-pub record IsWatched (names : Names) (terms : Terms) (read : Option (List ℕ)) (answer : CommandAnswer)
+pub record IsWatched (names : Names) (terms : Terms) (read : Option (List ℕ))
+    (answer : CommandAnswer)
     : Type 0 where
   pub bounds : Bounds
   pub log : List Event
@@ -124,7 +125,8 @@ pub record IsWatched (names : Names) (terms : Terms) (read : Option (List ℕ)) 
 
 -- the line of the alarm of the events so far, if they have one, and no report: the input goes no
 -- further, for a reason, or a growth was refused
-pub record IsCutShort (terms : Terms) (read : Option (List ℕ)) (answer : CommandAnswer) : Type 0 where
+pub record IsCutShort (terms : Terms) (read : Option (List ℕ))
+    (answer : CommandAnswer) : Type 0 where
   pub bounds : Bounds
   pub log : List Event
   pub so_far : IsSoFar terms.most read bounds log

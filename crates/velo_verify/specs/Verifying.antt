@@ -67,7 +67,8 @@ told outcome = printing (outcome_line outcome) (Finished Done (not (is_verified 
 
 -- What became of the claim by the log of the input (`Judging` of `velo_claims`): it is borne out
 -- exactly where its certificate certifies it, and what this means for the log is said there
-pub record IsJudged (claim : Claimed) (read : Option (List ℕ)) (answer : CommandAnswer) : Type 0 where
+pub record IsJudged (claim : Claimed) (read : Option (List ℕ))
+    (answer : CommandAnswer) : Type 0 where
   pub bounds : Bounds
   pub log : List Event
   pub input : IfSome read (λ bytes. IsLogText bytes bounds log)
@@ -92,7 +93,8 @@ IsVerifyAnswer claim read answer =
 abbrev pub VerifiesInput : Claimed → Reading → Writing → Fate → Type 0
 VerifiesInput claim read stdout f =
     FailuresAsTold read f
-    × ((answer : CommandAnswer) × IsVerifyAnswer claim read.bytes answer × IsPrinted stdout answer f)
+    × ((answer : CommandAnswer) × IsVerifyAnswer claim read.bytes answer
+    × IsPrinted stdout answer f)
 
 -- ---- on the way. Contracts within the crate cite these words
 

@@ -35,7 +35,8 @@ pub record IsBlameOf (program : Program) (config : Config) (schedules : List (Li
 -- The program was replayed so often as was asked for, by the schedules that the seed draws. What
 -- these runs show is told by simple schedules, and whom their alarms blame. Of other schedules
 -- nothing is said.
-pub record IsByChance (program : Program) (config : Config) (random : RandomRuns) (survey : Survey) : Type 0 where
+pub record IsByChance (program : Program) (config : Config) (random : RandomRuns)
+    (survey : Survey) : Type 0 where
   pub tally : RunTally
   pub is_tried : IsTried program config random.seed random.runs tally
   pub tried : survey.tried ≡ ByChance random.seed random.runs

@@ -73,12 +73,16 @@ pub record IsExplorationOf (program : Program) (config : Config) (options : Expl
 
 -- the survey of the program's schedules: all of them are tried; or where runs by chance are asked
 -- for, so many (`ByChance`)
-abbrev pub IsSurveyBy : Program → Config → ExploreOptions → Bool → Option RandomRuns → Survey → Type 0
-IsSurveyBy program config options over None survey = IsExplorationOf program config options over survey
-IsSurveyBy program config options over (Some random) survey = IsByChance program config random survey
+abbrev pub IsSurveyBy : Program → Config → ExploreOptions → Bool → Option RandomRuns → Survey
+    → Type 0
+IsSurveyBy program config options over None survey =
+    IsExplorationOf program config options over survey
+IsSurveyBy program config options over (Some random) survey =
+    IsByChance program config random survey
 
 abbrev pub IsSurveyOf : Program → Config → ExploreOptions → Bool → Survey → Type 0
-IsSurveyOf program config options over survey = IsSurveyBy program config options over options.random survey
+IsSurveyOf program config options over survey =
+    IsSurveyBy program config options over options.random survey
 
 -- ---- its text
 
@@ -132,7 +136,8 @@ blame_text program blame = flat_map (blamed_text program blame.alarms) blame.lab
 
 abbrev pub survey_text : Program → Survey → List ℕ
 survey_text program survey =
-    tried_text survey.tried ++ found_text program survey.shrunk.findings ++ blame_text program survey.blame
+    tried_text survey.tried ++ found_text program survey.shrunk.findings
+    ++ blame_text program survey.blame
 
 -- ---- what it comes to
 
@@ -190,7 +195,8 @@ abbrev pub IsSaidOf : Program → Bool → Survey → Option Replay → CommandA
 IsSaidOf program certificate survey (Some replay) answer =
     IsReported program certificate (survey_text program survey) replay.closed (waits_after program replay)
     (fate_of_survey survey) answer
-IsSaidOf program certificate survey None answer = answer ≡ printing (survey_text program survey) (fate_of_survey survey)
+IsSaidOf program certificate survey None answer =
+    answer ≡ printing (survey_text program survey) (fate_of_survey survey)
 
 -- The schedules of the program are tried within the limits that were asked for, and this is said.
 -- Only where it may take so many seconds and no more, the search may have been told that it is over.

@@ -135,8 +135,8 @@ listed program =
 abbrev pub text_of_names : Program → List ℕ
 text_of_names program = names_text (listed program)
 
--- The program's names fit into one file of names: it has no more lines, and no more bytes, than such
--- a file may have.
+-- The program's names fit into one file of names: it has no more lines, and no more bytes, than
+-- such a file may have.
 pub record FitsNames (program : Program) : Type 0 where
   pub few_lines : length program.thread_names + (length program.variable_names
       + (length program.lock_names + length program.label_names)) ≤ MAX_NAME_LINES
@@ -173,7 +173,8 @@ IsSaidOfRun program certificate ended w answer =
     ⊎ ((is_unreported ended ≡ false) × IsRunReport program certificate ended w answer)
 
 -- a run that came to an end, and what is said of it
-pub record IsPlayed (play : Play) (options : RunOptions) (program : Program) (answer : CommandAnswer)
+pub record IsPlayed (play : Play) (options : RunOptions) (program : Program)
+    (answer : CommandAnswer)
     : Type 0 where
   pub ended : Ending
   pub world : WorldState
