@@ -1,6 +1,7 @@
 -- What is kept of a log without end, as events come and as it is cut.
 use Rattle.std.proofs.Common.{◌≡◌, ℕ, ◌+◌, ◌<◌, ◌≤◌, List, [], ◌∷◌, ◌++◌, length, take, drop, Option, Some, None, Result, Ok, Err, inl, inr, refl, sym, ap, ◌∙◌, subst, append_assoc, length-append, arith, ⊎_elim}
 use Rattle.std.specs.Prelude.{◌↔◌, ◌⊎◌, IfOk, IfErr, OnErr}
+use Rattle.std.proofs.lemmas.Bool.{cases_lt}
 use Rattle.std.proofs.lemmas.List.{append-nil, length-take-le, take-append-drop, take-append-le, take_all}
 use Rattle.velo_events.specs.declared.config.Bounds.{Bounds}
 use Rattle.velo_events.specs.declared.config.Config.{Config}
@@ -31,8 +32,8 @@ use Rattle.velo_world.specs.declared.log_replay.LogReplayFault.TheVariants.{Refu
 use Rattle.velo_world.specs.Faults.{IsFaultOfLog, IsRefusedAt}
 use Rattle.velo_world.specs.World.{IsAlarm}
 use Rattle.velo_endless.specs.declared.piece.LogPiece.{LogPiece}
-use Rattle.velo_endless.specs.Kept.{IsKept, CannotBeCut, IsFaultBehind, IsLimitBehind}
-use Rattle.velo_endless.specs.Piece.{AllLieBehind, BeginsWithPrologue, Follows, IsInWhole, IsJudged, IsLate, IsPieceOf, in_whole, moved_fault}
+use Rattle.velo_endless.specs.Kept.{IsKept, IsKeptInTime, CannotBeCut, WasCutInTime, IsFaultBehind, IsLimitBehind}
+use Rattle.velo_endless.specs.Piece.{AllLieBehind, BeginsWithPrologue, Follows, IsCutInTime, IsInWhole, IsJudged, IsPieceOf, in_whole, moved_fault}
 use Rattle.velo_endless.proofs.OnAlarms.{all_behind, alarm_moved}
 
 -- ---- the first events of the kept ones
@@ -132,11 +133,13 @@ pub nothing_closes : ¬ HasCycle []
 nothing_closes = (prologue_law [] nothing_begins).2
 
 -- and what is kept of none is not late
-pub nothing_late : (piece : LogPiece) → IsPieceOf [] piece → piece.world.log ≡ [] → IsLate piece → ⊥
-nothing_late piece k none late =
-    let some = piece.world.config.some_event in
-    let length_none = ap length none in
-    omega (arith, late, some, length_none)
+pub nothing_late : (piece : LogPiece) → IsPieceOf [] piece → piece.world.log ≡ [] → IsCutInTime [] piece
+nothing_late piece k none = record {
+  since = λ n within half.
+      let some = piece.world.config.some_event in
+      let kept : 0 ≡ length k.prologue + length k.after = sym (ap length none) ∙ ap length k.kept_is ∙ length-append k.prologue k.after in
+      absurd (omega (arith, within, half, some, kept, k.measured));
+}
 
 -- the positions of the alarm of a log that begins with a prologue
 pub alarm_lies : (log : List Event) (n : ℕ) (alarm : Alarm) → BeginsWithPrologue log n → length log ≤ MAX_EVENTS → IsAlarm log alarm → AllLieBehind n alarm
@@ -162,8 +165,33 @@ kept_cut bounds whole made so_many well none count h = record {
   measured = refl;
 }
 
-pub late_cut : (config : Config) (whole made : List Event) → Restarts config.bounds whole made → length made + config.events ≤ length made + length made → CannotBeCut config whole
-late_cut config whole made h late = inr (omega (arith, late, h.length))
+module _ (config : Config) (whole : List Event) (so_many so_long : ℕ) where
+  -- where it is not late, it never was since the cut
+  pub never_late : (kept : List Event) → IsKept config.bounds whole kept so_many so_long → (so_long + config.events ≤ length kept + length kept → ⊥) → WasCutInTime config whole so_many so_long
+  never_late kept k early = record {
+    since = λ n within half.
+        let a = ap length k.whole_is ∙ length-append k.before k.after in
+        let b = ap length k.kept_is ∙ length-append k.prologue k.after in
+        absurd (early (omega (arith, within, half, a, b, k.counted, k.measured)));
+  }
+
+  -- a cut that was made just now
+  pub late_cut : (made : List Event) → length whole ≡ so_many → length made ≡ so_long → Restarts config.bounds whole made → WasCutInTime config whole so_many so_long
+  late_cut made count long h = record {
+    since = λ n within half.
+        subst (CannotBeCut config) (sym (take_all (so_many + n) whole (omega (arith, count)))) (inr (omega (arith, within, half, count, long, h.length)));
+  }
+
+  -- one that is not possible
+  pub late_still : (log : List Event) (e : Event) → whole ≡ log ++ e ∷ [] → WasCutInTime config log so_many so_long → CannotBeCut config whole → WasCutInTime config whole so_many so_long
+  late_still log e is was none = record {
+    since = λ n within half. ⊎_elim
+        (λ before.
+        let earlier : so_many + n ≤ length log = omega (arith, before, ap length is, length-append log (e ∷ [])) in
+        subst (CannotBeCut config) (sym (ap (take (so_many + n)) is ∙ take-append-le (so_many + n) log (e ∷ []) earlier)) (was.since n earlier half))
+        (λ here. subst (CannotBeCut config) (sym (take_all (so_many + n) whole here)) none)
+        (cases_lt (so_many + n) (length whole));
+  }
 
 pub not_cut : (config : Config) (whole : List Event) (reason : NotRenewed) → StandsInTheWay config whole reason → (reason ≡ not_renewed.Memory → ⊥) → CannotBeCut config whole
 not_cut config whole not_renewed.Alarm h other = absurd h
@@ -176,12 +204,23 @@ not_cut config whole not_renewed.Memory h other = absurd (other refl)
 no_flaw : (bounds : Bounds) (log : List Event) (p : ℕ) (flaw : Flaw) → IsWellFormed bounds log → IsFirstFlaw bounds log p flaw → ⊥
 no_flaw bounds log p flaw well first = first.does_not_follow (well.each p first.event first.here)
 
-module _ (config : Config) (whole kept : List Event) (so_many so_long : ℕ) (e : Event) (k : IsKept config.bounds whole kept so_many so_long) (in_time : so_long + config.events ≤ length kept + length kept → CannotBeCut config whole) (none : ¬ HasCycle whole) (well : IsWellFormed config.bounds (whole ++ e ∷ [])) where
+module _ (config : Config) (whole kept : List Event) (so_many so_long : ℕ) (e : Event) (k : IsKept config.bounds whole kept so_many so_long) (in_time : WasCutInTime config whole so_many so_long) (none : ¬ HasCycle whole) (well : IsWellFormed config.bounds (whole ++ e ∷ [])) where
   well_next : IsWellFormed config.bounds (kept ++ e ∷ [])
   well_next = well_kept config.bounds (whole ++ e ∷ []) (kept ++ e ∷ []) so_many so_long (kept_more config.bounds whole kept so_many so_long k e) well
 
   flawless : flaw_of config.bounds whole e ≡ None
   flawless = no_flaw-from_MayFollow config.bounds whole e (IsWellFormed-before config.bounds whole (e ∷ []) well) (IsWellFormed-last config.bounds whole e well)
+
+  kept_in_time : IsKeptInTime config whole kept
+  kept_in_time = record { so_many = so_many; so_long = so_long; is_kept = k; in_time = in_time }
+
+  full_now : config.events ≤ length kept → CannotBeCut config whole
+  full_now many =
+      let a = ap length k.whole_is ∙ length-append k.before k.after in
+      let b = ap length k.kept_is ∙ length-append k.prologue k.after in
+      let n = length k.after in
+      subst (CannotBeCut config) (take_all (so_many + n) whole (omega (arith, a, k.counted)))
+      (in_time.since n (omega (arith, a, k.counted)) (omega (arith, many, b, k.measured)))
 
   at_limit : (p : ℕ) (refusal : Refusal) → IsRefusedAt config.events config.nodes config.bounds (kept ++ e ∷ []) p refusal → IsLimitBehind config whole e refusal
   at_limit p refusal h = (
@@ -192,9 +231,8 @@ module _ (config : Config) (whole kept : List Event) (so_many so_long : ℕ) (e 
         (λ full.
         let within = full.1.within in
         let many : config.events ≤ length kept = omega (arith, within, full.1.full, length-append kept (e ∷ [])) in
-        let long : so_long ≤ length kept = omega (arith, ap length k.kept_is, length-append k.prologue k.after, k.measured) in
-        inl (full.0, in_time (omega (arith, many, long))))
-        (λ full. inr (full.0, (kept, so_many, so_long, p, k, full.1)))
+        inl (full.0, record { kept = kept; is_kept = kept_in_time; full = many; no_cut = full_now many }))
+        (λ full. inr (full.0, record { kept = kept; is_kept = kept_in_time; position = p; no_node = full.1 }))
         limit)
         h,
   )

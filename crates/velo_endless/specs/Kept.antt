@@ -1,5 +1,5 @@
 -- What is kept of a log without end, and how long it may be.
-use Rattle.std.specs.Prelude.{◌≡◌, ◌≢◌, ℕ, ◌≤◌, ◌⊎◌, List, [], ◌∷◌, ◌++◌, length, Some, None}
+use Rattle.std.specs.Prelude.{◌≡◌, ◌≢◌, ℕ, ◌+◌, ◌≤◌, ◌⊎◌, List, [], ◌∷◌, ◌++◌, length, take, Some, None}
 use Rattle.velo_events.specs.declared.config.Bounds.{Bounds}
 use Rattle.velo_events.specs.declared.config.Config.{Config}
 use Rattle.velo_events.specs.declared.event.Event.{Event}
@@ -39,13 +39,40 @@ abbrev pub CannotBeCut : Config → List Event → Type 0
 CannotBeCut config whole =
     ((t : ℕ) × (depth_in whole t ≢ 0)) ⊎ (config.events ≤ events_to_leave config.bounds whole)
 
--- The event can't be kept, while there is no alarm: as many are kept as may be, and no cut is possible; or it finds no node in
--- the graph of the kept ones
+-- so many events after a cut, at least half the room behind the prologue is used
+abbrev pub IsHalfUsed : Config → ℕ → ℕ → Type 0
+IsHalfUsed config so_long n = config.events ≤ so_long + n + n
+
+-- The log was cut so many events after its begin, and in time: since then, whenever half the room was used, it could not be cut
+pub record WasCutInTime (config : Config) (whole : List Event) (so_many so_long : ℕ) : Type 0 where
+  pub since : (n : ℕ) → so_many + n ≤ length whole → IsHalfUsed config so_long n → CannotBeCut config (take (so_many + n) whole)
+
+-- this is what is kept of the log, which was cut in time
+pub record IsKeptInTime (config : Config) (whole kept : List Event) : Type 0 where
+  pub so_many : ℕ
+  pub so_long : ℕ
+  pub is_kept : IsKept config.bounds whole kept so_many so_long
+  pub in_time : WasCutInTime config whole so_many so_long
+
+-- as many events are kept as may be, and no cut is possible
+pub record FillsLogBehind (config : Config) (whole : List Event) : Type 0 where
+  pub kept : List Event
+  pub is_kept : IsKeptInTime config whole kept
+  pub full : config.events ≤ length kept
+  pub no_cut : CannotBeCut config whole
+
+-- the kept events, and then this one, are at the limit of nodes
+pub record FindsNoNodeBehind (config : Config) (whole : List Event) (e : Event) : Type 0 where
+  pub kept : List Event
+  pub is_kept : IsKeptInTime config whole kept
+  pub position : ℕ
+  pub no_node : IsAtNodeLimit config.events config.nodes config.bounds (kept ++ e ∷ []) position
+
+-- the event can't be kept, while there is no alarm: for want of room in the log, or of a node in the graph
 abbrev pub IsLimitBehind : Config → List Event → Event → Refusal → Type 0
 IsLimitBehind config whole e refusal = (¬ HasCycle whole) ×
-    (((refusal ≡ LogFull) × CannotBeCut config whole)
-    ⊎ ((refusal ≡ GraphFull) × ((kept : List Event) × (so_many : ℕ) × (so_long : ℕ) × (p : ℕ) × IsKept config.bounds whole kept so_many so_long
-    × IsAtNodeLimit config.events config.nodes config.bounds (kept ++ e ∷ []) p)))
+    (((refusal ≡ LogFull) × FillsLogBehind config whole)
+    ⊎ ((refusal ≡ GraphFull) × FindsNoNodeBehind config whole e))
 
 -- Why the event does not come next in the whole log: a refusal, a wrong value, or a limit, in this order, at its position; or
 -- a growth was refused

@@ -11,7 +11,7 @@ use Rattle.velo_world.specs.declared.log_replay.LogReplayFault.TheVariants.{Refu
 use Rattle.velo_world.specs.World.{IsAlarm, HoldsLiveShares}
 use Rattle.velo_endless.specs.declared.piece.LogPiece.{LogPiece}
 use Rattle.velo_endless.specs.declared.reading.TheConstants.{MAX_WATCHED}
-use Rattle.velo_endless.specs.Kept.{IsKept, CannotBeCut, IsFaultBehind}
+use Rattle.velo_endless.specs.Kept.{IsKept, WasCutInTime, IsFaultBehind}
 
 -- the first events of a log are those of a prologue
 pub record BeginsWithPrologue (log : List Event) (n : ℕ) : Type 0 where
@@ -30,13 +30,13 @@ pub record CanFollow (piece : LogPiece) : Type 0 where
 abbrev pub IsPieceOf : List Event → LogPiece → Type 0
 IsPieceOf whole piece = IsKept piece.world.config.bounds whole piece.world.log piece.before piece.prologue
 
--- more than half the room behind the prologue is used
+-- at least half the room behind the prologue is used
 abbrev pub IsLate : LogPiece → Type 0
 IsLate piece = piece.prologue + piece.world.config.events ≤ length piece.world.log + length piece.world.log
 
--- where it is late, the log can't be cut
+-- whenever it was late, the log could not be cut
 abbrev pub IsCutInTime : List Event → LogPiece → Type 0
-IsCutInTime whole piece = IsLate piece → CannotBeCut piece.world.config whole
+IsCutInTime whole piece = WasCutInTime piece.world.config whole piece.before piece.prologue
 
 -- Without an alarm the piece is one of the whole log, which has no cycle; else the alarm is that of the whole
 abbrev pub IsJudged : List Event → LogPiece → Option Alarm → Type 0

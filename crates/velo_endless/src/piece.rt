@@ -68,6 +68,7 @@ impl LogPiece {
         ensures follows { CanFollow self.new }
         ensures config { self.new.world.config ≡ self.old.world.config }
         ensures kept { length self.new.world.log ≤ self.new.world.config.events }
+        ensures in_time { (whole : List EventOf) → IsCutInTime whole self.old → IsCutInTime whole self.new }
         ensures outcome { (whole : List EventOf) → ¬ HasCycle whole → IsPieceOf whole self.old
             → IsCutInTime whole self.old
             → IsWellFormed self.old.world.config.bounds (whole ++ event.now ∷ [])
@@ -96,7 +97,9 @@ impl LogPiece {
         ensures kept { length self.new.world.log ≤ self.new.world.config.events }
         ensures cut { OnOk result (ForItsTraces heap.now (λ whole. length whole ≡ count → ¬ HasCycle whole
             → IsPieceOf whole self.old → IsPieceOf whole self.new)) }
-        ensures in_time { OnOk result (ForItsTraces heap.now (λ whole. IsCutInTime whole self.new)) }
+        ensures in_time { OnOk result (ForItsTraces heap.now (λ whole. (log : List EventOf) (event : EventOf)
+            → whole ≡ log ++ event ∷ [] → length whole ≡ count → IsPieceOf whole self.old
+            → IsCutInTime log self.old → IsCutInTime whole self.new)) }
         ensures fault { IfErr result (λ fault. fault ≡ log_replay_fault.Memory) }
         ensures memory { OnErr result GrowthRefused }
     {

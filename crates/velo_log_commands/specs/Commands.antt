@@ -122,10 +122,10 @@ DoesThin options store stdout f =
 -- ---- velodrome watch LOG [--names FILE] [--stop] [--events N] [--nodes N] [--certificate]
 -- ---- velodrome watch --endless LOG [--names FILE] [--stop] [--events N] [--nodes N]
 
--- LOG is read line by line, to its end, or with --stop up to the event that raises the alarm. The
--- line of the alarm goes to standard output, by numbers, then the report by these names of the
--- events that were read, and the certificate after it; or after the line of the alarm nothing, for
--- a reason, which is the first in the order of the text (`Watching`). No file is opened to be
+-- LOG is read line by line, to its end, or with --stop to the event that raises the alarm, this one
+-- too. The line of the alarm goes to standard output, by numbers, then the report by these names of
+-- the events that were read, and the certificate after it; or after the line of the alarm nothing,
+-- for a reason, which is the first in the order of the text (`Watching`). No file is opened to be
 -- written.
 abbrev pub WatchesLog : Names → Terms → Store → Writing → Fate → Type 0
 WatchesLog shown terms store stdout f =

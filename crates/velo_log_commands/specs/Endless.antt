@@ -14,8 +14,11 @@ use Rattle.velo_request.specs.declared.request.Limits.{Limits}
 use Rattle.velo_world.specs.declared.log_replay.LogReplayFault.{LogReplayFault}
 use Rattle.velo_log_commands.specs.Watching.{KeepsTo, Terms}
 
--- The event is refused, or reads a wrong value, at its position in the whole log. A limit is met only
--- where no cut helps: a block is open, or what the events leave takes as many events as may be kept.
+-- The event is refused, or reads a wrong value, at its position in the whole log; or without an alarm
+-- there is a limit. It is met only if the log was cut in time: since the last cut, whenever half of
+-- the room behind the prologue was used, no cut was possible, as a block was open, or what the events
+-- left took as many events as may be kept. That of events is met where none is possible now; that of
+-- nodes where one of the events that are kept, or this one, may find no node.
 abbrev pub IsFaultOfWhole : Limits → Bounds → List Event → Event → LogReplayFault → Type 0
 IsFaultOfWhole limits bounds log e fault =
     (config : Config) × (config.bounds ≡ bounds) × KeepsTo limits config

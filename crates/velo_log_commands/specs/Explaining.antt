@@ -49,8 +49,8 @@ words_of names (Some sites) log p evidence = sited_explanation_text names sites 
 abbrev pub saying : List ℕ → List ℕ → CommandAnswer
 saying text words = record { saved = Some text; printed = Some words; fate = Finished Done true }
 
--- what is said of an alarm at position p by its evidence, behind some text: the picture of its cycle
--- is to be saved, and its words printed, both by these names
+-- what is said of an alarm at position p by its evidence: the picture of its cycle is to be saved, and
+-- its words are to be printed after some text, both by these names
 abbrev pub explained : List ℕ → NameLists → Option Table → List Event → ℕ → Evidence → CommandAnswer
 explained before names sites log p evidence =
     saying (named_picture_text names log evidence) (before ++ words_of names sites log p evidence)

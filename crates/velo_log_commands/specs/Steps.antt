@@ -45,8 +45,8 @@ Shows names certificate w stdout result =
 
 -- ---- an explanation
 
--- this answer was delivered, and this drawing behind what it saves; or an allocation failed, and
--- nothing was written
+-- this answer was delivered, and this drawing after what it saves and before what it prints; or an
+-- allocation failed, and nothing was written
 abbrev pub DrawsOrLacks : CommandAnswer → List ℕ → Store → ExplainOptions → Writing → Fate → Type 0
 DrawsOrLacks answer drawing store options stdout f =
     IsDeliveredInTurn store options.target options.drawing drawing stdout answer f

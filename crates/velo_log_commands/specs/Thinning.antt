@@ -39,7 +39,7 @@ check_fault_of_thinning (thin_fault.Refused p refusal) = Refused p refusal
 check_fault_of_thinning (thin_fault.WrongValue p) = WrongValue p
 check_fault_of_thinning thin_fault.Memory = Memory
 
--- it is done, whatever the verdict of the log is; or something failed on the way out
+-- it is done, whatever the verdict of the log is; or what was to be saved or printed was not
 abbrev pub fate_of_delivery : Result ⊤ Failure → Fate
 fate_of_delivery (Ok end) = Finished Done false
 fate_of_delivery (Err failure) = fate_of_failure failure

@@ -77,7 +77,8 @@ pub record EndsAtAlarm (log : List Event) : Type 0 where
 abbrev pub GoesOn : Bool → List Event → Type 0
 GoesOn stop log = stop ≡ true → ¬ HasCycle log
 
--- how far the input is read: to its end, or with `stop` up to its alarm
+-- how far the input is read: to its end, or with `stop` to the event that raises the alarm, this
+-- one too
 abbrev pub IsReadTo : Bool → Option (List ℕ) → Bounds → List Event → Type 0
 IsReadTo stop read bounds log =
     (IsInput read bounds log × GoesOn stop log) ⊎ ((stop ≡ true) × EndsAtAlarm log)

@@ -92,7 +92,9 @@ pub record IsReplayOf (schedule : List ThreadId) (options : RunOptions) (program
 
 -- a run of the program by threads of its own: it is configured as was asked for, and its log is one
 -- of the program's; where it is done, each thread that was born did its body; where it is halted,
--- an alarm did so
+-- an alarm did so. Of a run that ended stuck, refused or gated no more is said: some thread could
+-- perhaps have gone on, and the refusal need not be one that is due after this log. Only where it is
+-- of memory, or of the start of a thread, did that fail
 pub record IsLiveRunOf (options : RunOptions) (program : Program) (ended : Ending) (w : WorldState)
     : Type 0 where
   pub configured : IsConfigOf program options w.config

@@ -34,7 +34,7 @@ IsListFor true log (Some list) = IsOrderOrCycle log list
 IsListFor false log None = ⊤
 IsListFor certificate log list = ⊥
 
--- it comes on no way out: it is no failure of a file
+-- it is no failure of a file to open or to be written
 pub record IsNoFileFailure (f : Fate) : Type 0 where
   pub opened : f ≢ CannotOpen
   pub written : f ≢ WriteFailed

@@ -1,8 +1,9 @@
 use Rattle.std.proofs.Common.{◌≡◌, ℕ, length, refl, ap, sym, subst, ◌∙◌}
+use Rattle.velo_events.specs.declared.config.Config.{Config}
 use Rattle.velo_world.specs.World.{WorldState}
 use Rattle.velo_world.specs.declared.log_replay.LogReplayFault.{LogReplayFault}
 use Rattle.velo_endless.specs.declared.piece.LogPiece.{LogPiece}
-use Rattle.velo_endless.specs.Kept.{IsFaultBehind}
+use Rattle.velo_endless.specs.Kept.{IsFaultBehind, WasCutInTime}
 use Rattle.velo_endless.specs.Piece.{in_whole, moved_fault}
 use Rattle.velo_endless.proofs.OnPieces.{piece_more, follows_alarm, fault_kept}
 use Rattle.velo_endless.proofs.piece.LogPiece.follow.Goals as goal
@@ -23,3 +24,13 @@ returns-in-Err-clause-outcome c = λ whole none k in_time well.
     c.fault_in_whole.ensures ∙ ap (λ (n : ℕ). moved_fault (in_whole old.before old.prologue n) c.in-Err.fault) same in
     subst (λ (f : LogReplayFault). IsFaultBehind old.world.config whole c.args.event.now f) (sym is)
     (fault_kept old.world.config whole old.world.log old.before old.prologue c.args.event.now k in_time none well c.in-Err.fault c.in-Err.ensures.outcome.0)
+
+pub returns-in-Ok-clause-in_time : goal.returns-in-Ok-clause-in_time
+returns-in-Ok-clause-in_time c = λ whole was.
+    let old = c.args.self.now in
+    subst (λ (k : Config). WasCutInTime k whole old.before old.prologue) (sym c.in-Ok.ensures.outcome.0.acts.1.config) was
+
+pub returns-in-Err-clause-in_time : goal.returns-in-Err-clause-in_time
+returns-in-Err-clause-in_time c = λ whole was.
+    let old = c.args.self.now in
+    subst (λ (w : WorldState). WasCutInTime w.config whole old.before old.prologue) (sym c.in-Err.ensures.outcome.1) was

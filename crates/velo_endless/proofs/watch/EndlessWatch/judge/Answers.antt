@@ -87,5 +87,5 @@ returns-clause-judges c = λ log h count.
     (c.take_in-2.ensures.bounds ∙ (h.bounds ∙ sym (ap (λ (x : Config). x.bounds) (c.cut.ensures.config ∙ c.follow.ensures.config))))
     (none_is c.in_ok-self.field-0 after) acyclic
     (on_ok_weaker c.cut.result (λ f. f all whole.heap many acyclic kept) c.cut.ensures.cut)
-    (on_ok_weaker c.cut.result (λ f. f all whole.heap) c.cut.ensures.in_time)
+    (on_ok_weaker c.cut.result (λ f. f all whole.heap log e refl many kept (c.follow.ensures.in_time log in_time)) c.cut.ensures.in_time)
     c.cut.ensures.fault c.cut.ensures.memory

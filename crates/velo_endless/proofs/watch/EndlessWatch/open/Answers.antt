@@ -18,7 +18,7 @@ returns-in-Ok-new-2-clause-ok g c contents =
           whole = c.in-Ok-new.ensures.none;
           bounds = c.in-Ok-new.ensures.bounds ∙ sym (ap (λ (k : Config). k.bounds) config);
           judged = (nothing_closes, c.in-Ok-new-2.ensures.none);
-          in_time = λ is late. absurd (nothing_late piece c.in-Ok-new-2.ensures.none c.in-Ok-new-2.ensures.empty late);
+          in_time = λ is. nothing_late piece c.in-Ok-new-2.ensures.none c.in-Ok-new-2.ensures.empty;
         };
         count = c.in-Ok.ensures.ok.count;
       };
