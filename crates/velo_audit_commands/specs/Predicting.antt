@@ -49,8 +49,8 @@ pub record ArePredictionsOf (values : Bool) (bounds : Bounds) (log : List Event)
     (findings : PredictedFindings) : Type 0 where
   pub searched : List Event
   pub is_searched : IsSearched values log searched
-  -- Without the begins and ends of some more labels (`IsFoundIn`) the trace has a cycle, and the
-  -- blocks told are those to blame at its first alarm.
+  -- What is left out stays so, and maybe the begins and ends of some labels more (`IsFoundIn`). The
+  -- trace has a cycle, and the blocks told are those to blame at its first alarm.
   pub labels : All (IsFoundIn bounds searched left) findings.labels.items
   -- After the trace threads wait in a circle (`IsDeadlock`), to do the events that are told.
   pub deadlocks : All (IsDeadlockIn bounds searched left) findings.deadlocks.items

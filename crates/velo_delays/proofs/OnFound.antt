@@ -1,12 +1,13 @@
 -- What is found in a list that goes on.
 use Rattle.std.proofs.Common.{◌≡◌, ℕ, ◌<◌, Bool, true, List, [], ◌∷◌, ◌++◌, length, map, Option, Some, None, refl, sym, ap, ◌∙◌, subst, append_assoc, ⊎_elim}
 use Rattle.std.specs.Prelude.{All, Contains, IfSome, OnOk, Result, Ok, Err, slice_get}
+use Rattle.std.proofs.lemmas.Bool.{or_left}
 use Rattle.std.proofs.lemmas.List.{append-nil}
 use Rattle.std.proofs.lemmas.List.Elements.{All-nil, All-cons, All-head, All-append, All-weaker, All-contains_itself}
 use Rattle.std.proofs.lemmas.Option.{none-some, same_Some, slice_get_within}
 use Rattle.velo_events.specs.declared.config.Bounds.{Bounds}
 use Rattle.velo_events.specs.declared.event.Event.{Event}
-use Rattle.velo_filter.specs.Left.{Left, rest_of}
+use Rattle.velo_filter.specs.Left.{Left, is_listed, rest_of, with_labels}
 use Rattle.velo_audit.specs.Audit.{AreWitnessed}
 use Rattle.velo_audit.specs.Rounds.{IsRound, Rounds}
 use Rattle.velo_audit.specs.Tells.{told_as}
@@ -15,7 +16,7 @@ use Rattle.velo_audit.specs.declared.told.Told.{Told}
 use Rattle.velo_predict.specs.declared.difference.Difference.{Difference}
 use Rattle.velo_predict.specs.Differences.{AreDifferences}
 use Rattle.velo_delays.specs.declared.judged.PredictedCycle.{PredictedCycle}
-use Rattle.velo_delays.specs.Found.{IsFound, IsFoundIn, SameButLabels, Adds, AddsAtMost}
+use Rattle.velo_delays.specs.Found.{IsFound, IsFoundIn, LeavesOutMore, Adds, AddsAtMost}
 
 -- ---- lists that go on
 
@@ -48,23 +49,34 @@ on_ok (Err e) f h = tt
 
 -- ---- labels that are left out
 
-pub SameButLabels-refl : (left : Left) → SameButLabels left left
-SameButLabels-refl left = record { locks = refl; variables = refl }
+pub LeavesOutMore-refl : (left : Left) → LeavesOutMore left left
+LeavesOutMore-refl left = record { locks = refl; variables = refl; labels = λ l out. out }
 
-pub SameButLabels-more : (one two three : Left) → SameButLabels one two → SameButLabels two three → SameButLabels one three
-SameButLabels-more one two three first then = record { locks = then.locks ∙ first.locks; variables = then.variables ∙ first.variables }
+pub LeavesOutMore-same : (one two : Left) → two ≡ one → LeavesOutMore one two
+LeavesOutMore-same one two same = subst (LeavesOutMore one) (sym same) (LeavesOutMore-refl one)
+
+pub LeavesOutMore-labels : (one two : Left) (labels : List ℕ) → two ≡ with_labels one labels → LeavesOutMore one two
+LeavesOutMore-labels one two labels is = subst (LeavesOutMore one) (sym is) (record { locks = refl; variables = refl; labels = λ l out. or_left (one.labels l) (is_listed labels l) out })
+
+pub LeavesOutMore-more : (one two three : Left) → LeavesOutMore one two → LeavesOutMore two three → LeavesOutMore one three
+LeavesOutMore-more one two three first then = record {
+  locks = then.locks ∙ first.locks;
+  variables = then.variables ∙ first.variables;
+  labels = λ l out. then.labels l (first.labels l out);
+}
 
 pub IsFoundIn-rest : (bounds : Bounds) (log : List Event) (left : Left) (found : PredictedCycle) → IsFound bounds (rest_of left log) found → IsFoundIn bounds log left found
-IsFoundIn-rest bounds log left found is = record { labels = left.labels; is_found = is }
+IsFoundIn-rest bounds log left found is = record { labels = left.labels; more = λ l out. out; is_found = is }
 
-pub IsFoundIn-same : (bounds : Bounds) (log : List Event) (old new : Left) → SameButLabels old new → (found : PredictedCycle) → IsFoundIn bounds log new found → IsFoundIn bounds log old found
-IsFoundIn-same bounds log old new same found is = record {
+pub IsFoundIn-before : (bounds : Bounds) (log : List Event) (old new : Left) → LeavesOutMore old new → (found : PredictedCycle) → IsFoundIn bounds log new found → IsFoundIn bounds log old found
+IsFoundIn-before bounds log old new adds found is = record {
   labels = is.labels;
+  more = λ l out. is.more l (adds.labels l out);
   is_found = subst (λ (left : Left). IsFound bounds (rest_of left log) found) equal is.is_found;
 }
   where
     equal : record new { labels = is.labels } ≡ record old { labels = is.labels }
-    equal = ap (λ (f : ℕ → Bool). record { labels = is.labels; locks = f; variables = new.variables }) same.locks ∙ ap (λ (f : ℕ → Bool). record { labels = is.labels; locks = old.locks; variables = f }) same.variables
+    equal = ap (λ (f : ℕ → Bool). record { labels = is.labels; locks = f; variables = new.variables }) adds.locks ∙ ap (λ (f : ℕ → Bool). record { labels = is.labels; locks = old.locks; variables = f }) adds.variables
 
 -- ---- the first round of an audit
 

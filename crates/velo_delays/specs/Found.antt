@@ -24,15 +24,18 @@ pub record IsFound (bounds : Bounds) (log : List Event) (found : PredictedCycle)
   -- and these reads have another value than in the log
   pub differing : AreDiffering log found.trace.events found.differing.items
 
--- the same where the blocks of some more labels are dissolved
+-- the same of what is left of a log where the blocks of these labels, and maybe of some more, are dissolved
 pub record IsFoundIn (bounds : Bounds) (log : List Event) (left : Left) (found : PredictedCycle) : Type 0 where
   pub labels : ℕ → Bool
+  -- what was left out is still left out
+  pub more : (l : ℕ) → IsTrue (left.labels l) → IsTrue (labels l)
   pub is_found : IsFound bounds (rest_of (record left { labels = labels }) log) found
 
--- what is left out differs by labels alone. Private contracts cite this word
-pub record SameButLabels (old new : Left) : Type 0 where
+-- the same is left out, and maybe some labels more. Private contracts cite this word
+pub record LeavesOutMore (old new : Left) : Type 0 where
   pub locks : new.locks ≡ old.locks
   pub variables : new.variables ≡ old.variables
+  pub labels : (l : ℕ) → IsTrue (old.labels l) → IsTrue (new.labels l)
 
 -- the new list goes on with some items more, and each of these is such. Private contracts cite this word
 pub record Adds {X : Type 0} (P : X → Type 0) (old new : List X) : Type 0 where

@@ -3,7 +3,7 @@ ghost use Rattle.std.specs.Prelude.{◌≡◌, ◌≤◌, false, length, All, If
 ghost use Rattle.velo_events.specs.declared.limits.TheConstants.{MAX_EVENTS};
 ghost use Rattle.velo_events.specs.WellFormed.{IsWellFormed};
 ghost use Rattle.velo_filter.specs.Tables.{left_of};
-ghost use Rattle.velo_delays.specs.Found.{Adds, AddsAtMost, IsFound, IsFoundIn, SameButLabels};
+ghost use Rattle.velo_delays.specs.Found.{Adds, AddsAtMost, IsFound, IsFoundIn, LeavesOutMore};
 ghost use Rattle.velo_delays.specs.Stands.{Stands};
 
 use crate::drawing::{Delay, draw_all};
@@ -49,7 +49,7 @@ fn has_new(blocks: &[Block], left: &LeftOut) -> bool {
 
 /// Leaves out the labels of the blocks.
 fn leave_out_all(left: &mut LeftOut, blocks: &[Block]) -> Result<(), Memory>
-    ensures { SameButLabels (left_of left.old) (left_of left.new) }
+    ensures { LeavesOutMore (left_of left.old) (left_of left.new) }
 {
     for block in blocks {
         left.leave_out_label(block.label)?;
@@ -122,7 +122,7 @@ fn take_in(
     label: Label,
     found: Option<PredictedCycle>,
 ) -> Result<(), Memory>
-    ensures labels { SameButLabels (left_of left.old) (left_of left.new) }
+    ensures labels { LeavesOutMore (left_of left.old) (left_of left.new) }
     ensures found { AddsAtMost searched.old.found.items searched.new.found.items found }
 {
     let Some(found) = found else {
@@ -149,7 +149,7 @@ fn try_all(
     searched: &mut PredictedCycles,
 ) -> Result<(), Memory>
     requires goes_on { config.now.stop ≡ false }
-    ensures labels { SameButLabels (left_of left.old) (left_of left.new) }
+    ensures labels { LeavesOutMore (left_of left.old) (left_of left.new) }
     ensures found { OnOk result (Adds (IsFound config.now.bounds log.now.events) searched.old.found.items searched.new.found.items) }
 {
     let mut base = Run::new(alloc, config, lookup, true)?;
@@ -182,7 +182,7 @@ fn search_once(
     requires goes_on { config.now.stop ≡ false }
     requires few { length log.now.events ≤ MAX_EVENTS }
     requires well_formed { IsWellFormed config.now.bounds log.now.events }
-    ensures labels { SameButLabels (left_of left.old) (left_of left.new) }
+    ensures labels { LeavesOutMore (left_of left.old) (left_of left.new) }
     ensures found { OnOk result (Adds (IsFoundIn config.now.bounds log.now.events (left_of left.old)) searched.old.found.items searched.new.found.items) }
 {
     let rest = thin(alloc, log, left)?;

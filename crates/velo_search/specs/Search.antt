@@ -36,6 +36,10 @@ pub record IsClean (bounds : Bounds) (scripts : List (List Kind)) (n : ℕ) (fau
   pub each : (log : List Event) → IsRunOf bounds scripts log → IsStateOf log state →
       NeverWithin n (IsFault bounds scripts fault) bounds scripts log
 
+-- the event is next after each run for which the state stands
+abbrev pub IsNextAt : Bounds → List (List Kind) → State → Event → Type 0
+IsNextAt bounds scripts state e = (log : List Event) → IsRunOf bounds scripts log → IsStateOf log state → IsNext bounds scripts log e
+
 -- none that goes on with an event of thread t, and then by fewer than n events, has it
 pub record IsCleanBy (bounds : Bounds) (scripts : List (List Kind)) (n : ℕ) (fault : Fault) (state : State) (t : ℕ) : Type 0 where
   pub each : (log : List Event) (e : Event) → IsRunOf bounds scripts log → IsStateOf log state → thread_of e ≡ t →

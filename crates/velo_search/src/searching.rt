@@ -8,9 +8,9 @@ ghost use Rattle.velo_events.specs.Tally.{events_of};
 ghost use Rattle.velo_heap.specs.Contents.{bounds_of};
 ghost use Rattle.velo_search.specs.declared.state.State.{State};
 ghost use Rattle.velo_search.specs.Faults.{Fault, IsFault, NextIs, is_wait};
-ghost use Rattle.velo_search.specs.Runs.{script_of, IsRunOf, IsNext, Never, NeverWithin};
+ghost use Rattle.velo_search.specs.Runs.{script_of, IsRunOf, Never, NeverWithin};
 ghost use Rattle.velo_search.specs.States.{IsStateOf};
-ghost use Rattle.velo_search.specs.Search.{ArePlain, AreShort, IsClean, StandsAmong, IsCleanBy, IsTried, IsTrueOf, IsCutShort, has_fault};
+ghost use Rattle.velo_search.specs.Search.{ArePlain, AreShort, IsClean, StandsAmong, IsCleanBy, IsNextAt, IsTried, IsTrueOf, IsCutShort, has_fault};
 ghost use Rattle.velo_search.specs.Told.{has_ended, shown_of};
 ghost use Rattle.velo_search.specs.Trail.{AlarmsGoOn, LeadToCycles, AreShown, GoesOn, IsNoted, IsReachedBy, LeadsTo};
 ghost use Rattle.velo_search.specs.Trail.{alarms_of, turns_for};
@@ -71,7 +71,7 @@ fn follow(
     requires short { AreShort scripts.now.kinds }
     requires reached { IsReachedBy (bounds_of state.now.heap) scripts.now.kinds trail.old.steps.items
         state.now }
-    requires next { (log : List Event) → IsRunOf (bounds_of state.now.heap) scripts.now.kinds log → IsStateOf log state.now → IsNext (bounds_of state.now.heap) scripts.now.kinds log event.now }
+    requires next { IsNextAt (bounds_of state.now.heap) scripts.now.kinds state.now event.now }
     ensures reached { IfOk result
         (IsReachedBy (bounds_of state.now.heap) scripts.now.kinds trail.new.steps.items) }
     ensures goes_on { OnOk result (GoesOn trail.old trail.new) }
