@@ -5,9 +5,9 @@ use Rattle.velo_delivery.specs.Reading.{Reading, reading}
 use Rattle.velo_delivery.specs.Writing.{Writing}
 
 -- What an implementation of `Files` promises of each path at one time: a field holds of what may
--- happen there, and of everything where nothing is promised. The path `-` is that of standard input.
--- Of the system's own files nothing is promised (`untold`). So the bytes that a definition says a
--- file gives are those that the program was given: that they stand on the disk is not said.
+-- happen there, and of everything where nothing is promised. The path `-` is that of standard
+-- input. Of the system's own files nothing is promised (`untold`). So the bytes that a definition
+-- says a file gives are those that the program was given: that they stand on the disk is not said.
 pub record Disk : Type 1 where
   -- a source that opens there may be read in this way
   pub gives : List ℕ → Reading → Type 0

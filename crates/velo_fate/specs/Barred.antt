@@ -1,6 +1,6 @@
--- Why a command does not read its input: it does not open, or two of the files are one. These fates
--- stand side by side, without an order. For a disk says what may happen at a path, and not what does
--- happen: so of two faults that may both be there, either may be told.
+-- Why a command does not read its input: it does not open, or two of the files are one. These
+-- fates stand side by side, without an order. For a disk says what may happen at a path, and not
+-- what does happen: so of two faults that may both be there, either may be told.
 use Rattle.std.specs.Prelude.{◌≡◌, ◌⊎◌, List, Option, ℕ}
 use Rattle.std.specs.Borrow.{Bor}
 use Rattle.velo_delivery.specs.Disk.{AreOneTarget, Disk, FailsToOpen, IsTarget, Store}

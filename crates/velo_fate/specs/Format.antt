@@ -9,9 +9,10 @@ use Rattle.velo_fate.specs.declared.fate.Fate.{Fate}
 use Rattle.velo_fate.specs.declared.fate.Fate.TheVariants.{CannotOpen, Memory, ReadFailed}
 use Rattle.velo_fate.specs.Failures.{FailuresAsTold}
 
--- A format is a kind of file, that of names, say: `says` is which value the bytes of such a file mean,
--- and `lacks` how the command ends where they mean none. Bytes that are not known may mean any value,
--- and may have any fault that such a file can have: so both hold of them, and nothing is claimed.
+-- A format is a kind of file, that of names, say: `says` is which value the bytes of such a file
+-- mean, and `lacks` how the command ends where they mean none. Bytes that are not known may mean any
+-- value, and may have any fault that such a file can have: so both hold of them, and nothing is
+-- claimed.
 pub record Format (X : Type 0) : Type 1 where
   pub says : Option (List ℕ) → X → Type 0
   pub lacks : Option (List ℕ) → Fate → Type 0

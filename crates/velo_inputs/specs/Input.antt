@@ -45,8 +45,8 @@ pub record IsWrongValue (limit : ℕ) (read : Option (List ℕ)) (p : ℕ) : Typ
   pub input : IsInput read bounds trace
   pub reason : IsWrongValueAt limit bounds trace p
 
--- Why a text gives no log, where so many events are the most that it may have: its first wrong line,
--- or an event too many, or the source failed (all in `ReadsAs`; that it did fail is in
+-- Why a text gives no log, where so many events are the most that it may have: its first wrong
+-- line, or an event too many, or the source failed (all in `ReadsAs`; that it did fail is in
 -- `FailuresAsTold`); or an allocation failed. If the bytes are not known, only the last is claimed.
 abbrev pub IsFaultOfTextUpTo : ℕ → Option (List ℕ) → LogFault → Type 0
 IsFaultOfTextUpTo longest read fault =
