@@ -193,6 +193,9 @@ module _ (config : Config) (whole : List Event) (so_many so_long : ℕ) where
         (cases_lt (so_many + n) (length whole));
   }
 
+pub cut_late : (config : Config) (whole made : List Event) → Restarts config.bounds whole made → length made + config.events ≤ length made + length made → CannotBeCut config whole
+cut_late config whole made h late = inr (omega (arith, late, h.length))
+
 pub not_cut : (config : Config) (whole : List Event) (reason : NotRenewed) → StandsInTheWay config whole reason → (reason ≡ not_renewed.Memory → ⊥) → CannotBeCut config whole
 not_cut config whole not_renewed.Alarm h other = absurd h
 not_cut config whole (not_renewed.BlockOpen t) h other = inl (t.0, h.is_open)

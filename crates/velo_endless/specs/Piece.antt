@@ -11,7 +11,7 @@ use Rattle.velo_world.specs.declared.log_replay.LogReplayFault.TheVariants.{Refu
 use Rattle.velo_world.specs.World.{IsAlarm, HoldsLiveShares}
 use Rattle.velo_endless.specs.declared.piece.LogPiece.{LogPiece}
 use Rattle.velo_endless.specs.declared.reading.TheConstants.{MAX_WATCHED}
-use Rattle.velo_endless.specs.Kept.{IsKept, WasCutInTime, IsFaultBehind}
+use Rattle.velo_endless.specs.Kept.{IsKept, CannotBeCut, WasCutInTime, IsFaultBehind}
 
 -- the first events of a log are those of a prologue
 pub record BeginsWithPrologue (log : List Event) (n : ℕ) : Type 0 where
@@ -33,6 +33,10 @@ IsPieceOf whole piece = IsKept piece.world.config.bounds whole piece.world.log p
 -- at least half the room behind the prologue is used
 abbrev pub IsLate : LogPiece → Type 0
 IsLate piece = piece.prologue + piece.world.config.events ≤ length piece.world.log + length piece.world.log
+
+-- where it is late, the log can't be cut
+abbrev pub IsCutWhereLate : List Event → LogPiece → Type 0
+IsCutWhereLate whole piece = IsLate piece → CannotBeCut piece.world.config whole
 
 -- whenever it was late, the log could not be cut
 abbrev pub IsCutInTime : List Event → LogPiece → Type 0

@@ -7,7 +7,7 @@ use Rattle.velo_renew.specs.Renewal.{StandsInTheWay}
 use Rattle.velo_world.specs.World.{WorldState}
 use Rattle.velo_endless.specs.Kept.{IsKept, CannotBeCut, WasCutInTime}
 use Rattle.velo_endless.specs.Piece.{BeginsWithPrologue}
-use Rattle.velo_endless.proofs.OnPieces.{prologue_alone, kept_cut, late_cut, late_still, never_late, not_cut}
+use Rattle.velo_endless.proofs.OnPieces.{prologue_alone, kept_cut, cut_late, late_cut, late_still, never_late, not_cut}
 use Rattle.velo_endless.proofs.piece.LogPiece.cut.Goals as goal
 
 pub restart-requires-clause-heap : goal.restart-requires-clause-heap
@@ -51,6 +51,21 @@ returns-in-Err-clause-in_time c =
     let own = c.args.self.now in
     let none : CannotBeCut own.world.config whole = subst (λ (k : Config). CannotBeCut k whole) c.config-2.ensures (not_cut c.config-2.result whole c.in-Err.reason (c.in-Err.ensures.reason whole stands) other) in
     late_still own.world.config whole own.before own.prologue log event is was none)
+    c.unless_memory.ensures.other
+
+pub returns-in-Ok-clause-late : goal.returns-in-Ok-clause-late
+returns-in-Ok-clause-late c = λ whole stands late.
+    let made = c.in-Ok.world.log in
+    let long : c.len-self.result ≡ length made = c.len-self.ensures ∙ ap length c.log-in-Ok.ensures.events in
+    let config : c.in-Ok.world.config ≡ c.config-2.result = ap (λ (w : WorldState). w.config) c.in-Ok.ensures.world in
+    let late_now : length made + c.config-2.result.events ≤ length made + length made =
+    subst (λ (k : Config). length made + k.events ≤ length made + length made) config (subst (λ (n : ℕ). n + c.in-Ok.world.config.events ≤ length made + length made) long late) in
+    subst (λ (k : Config). CannotBeCut k whole) (sym config) (cut_late c.config-2.result whole made (c.in-Ok.ensures.stands whole stands) late_now)
+
+pub returns-in-Err-clause-late : goal.returns-in-Err-clause-late
+returns-in-Err-clause-late c =
+    on_ok_weaker c.unless_memory.result
+    (λ other whole stands late. subst (λ (k : Config). CannotBeCut k whole) c.config-2.ensures (not_cut c.config-2.result whole c.in-Err.reason (c.in-Err.ensures.reason whole stands) other))
     c.unless_memory.ensures.other
 
 pub returns-in-Err-clause-memory : goal.returns-in-Err-clause-memory
