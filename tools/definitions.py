@@ -58,7 +58,7 @@ PARTS = [
         "velo_races": "Races*"}),
     ("What the program does", {
         "velo_commands": "Program* Causes",
-        "velo_inputs": "Before* Input",
+        "velo_inputs": "Context* Input",
         "velo_log_commands": "Commands* Check Explaining Carrying",
         "velo_audit_commands": "Commands* Predicting",
         "velo_verify": "Commands* Verifying",
