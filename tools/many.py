@@ -81,8 +81,7 @@ def summary_of(logs):
         for found in log["found"]:
             key = found["label"]["name"] or found["label"]["number"]
             label = labels.setdefault(key, {"label": found["label"], "logs": [], "first": {"log": log["log"], **found}})
-            if log["log"] not in label["logs"]:
-                label["logs"].append(log["log"])
+            label["logs"].append(log["log"])
     return {"schema": SCHEMA, "logs": logs, "labels": sorted(labels.values(), key=lambda it: -len(it["logs"]))}
 
 
