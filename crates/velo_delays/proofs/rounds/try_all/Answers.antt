@@ -8,3 +8,6 @@ loop-at-preserved c = record {
   labels = LeavesOutMore-more _ _ _ c.loop-at.invariant.labels c.take_in.ensures.labels;
   found = Adds-more _ _ _ _ c.loop-at.invariant.found (Adds-most (IsFound c.args.config.now.bounds c.args.log.now.events) _ _ _ c.in_ok-found.ensures c.take_in.ensures.found);
 }
+
+pub returns-in_err-take_in-clause-labels : goal.returns-in_err-take_in-clause-labels
+returns-in_err-take_in-clause-labels c = LeavesOutMore-more _ _ _ c.loop-at.invariant.labels c.take_in.ensures.labels
