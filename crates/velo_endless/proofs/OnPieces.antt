@@ -78,6 +78,7 @@ module _ (bounds : Bounds) (whole kept : List Event) (so_many so_long : ℕ) (k 
     stands = k.stands;
     counted = k.counted;
     measured = k.measured;
+    short = k.short;
   }
 
   -- if the whole can come about, so can what is kept
@@ -115,6 +116,7 @@ kept_none bounds log is none ended stands = record {
   stands = stands;
   counted = refl;
   measured = refl;
+  short = omega arith;
 }
 
 -- a prologue of no events stands for none
@@ -163,6 +165,7 @@ kept_cut bounds whole made so_many well none count h = record {
   stands = h.prologue;
   counted = sym count;
   measured = refl;
+  short = omega (arith, h.length);
 }
 
 module _ (config : Config) (whole : List Event) (so_many so_long : ℕ) where

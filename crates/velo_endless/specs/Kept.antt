@@ -33,6 +33,8 @@ pub record IsKept (bounds : Bounds) (whole kept : List Event) (so_many so_long :
   -- so many events were before the cut, and so long is the prologue
   pub counted : so_many ≡ length before
   pub measured : so_long ≡ length prologue
+  -- it has no more events than it takes to say what those before the cut leave
+  pub short : so_long ≤ events_to_leave bounds before
 
 -- The log can't be cut at its end: a block is open, or what the events leave takes as many events as may be kept
 abbrev pub CannotBeCut : Config → List Event → Type 0
