@@ -1,9 +1,11 @@
 -- What a run of a workload has to say, by the bytes of its text and by the definitions.
-use Rattle.std.specs.Prelude.{◌≡◌, ◌⊎◌, ◌≤◌, ◌<◌, ◌+◌, ◌++◌, [], ℕ, Bool, true, false, List, length, map, string_bytes, Option, Some, IfSome, Ok, Err}
+use Rattle.std.specs.Prelude.{◌≡◌, ◌≢◌, ◌⊎◌, ◌≤◌, ◌<◌, ◌+◌, ◌++◌, [], ℕ, Bool, true, false, List, length, map, string_bytes, Option, Some, IfSome, Ok, Err}
 use Rattle.std.specs.Str.{IsUtf8}
 use Rattle.velo_events.specs.declared.config.Config.{Config}
+use Rattle.velo_events.specs.declared.event.Event.{Event}
 use Rattle.velo_events.specs.declared.event.ThreadId.{ThreadId}
 use Rattle.velo_events.specs.declared.refusal.Refusal.TheVariants as refusal
+use Rattle.velo_events.specs.Graph.{IsClosing}
 use Rattle.velo_events.specs.Refusals.{GrowthRefused}
 use Rattle.velo_names.specs.declared.limits.TheConstants.{MAX_NAME_LINES, MAX_NAMES_BYTES}
 use Rattle.velo_names.specs.Names.{NameLists, by_place, names_text}
@@ -90,14 +92,25 @@ pub record IsReplayOf (schedule : List ThreadId) (options : RunOptions) (program
   pub replays : Replays program schedule config ended w
   pub cause : EndsByGrowth ended
 
--- a run of the program by threads of its own: it is configured as was asked for, and its log is one
--- of the program's; where it is done, each thread that was born did its body; where it is halted,
--- an alarm did so. Of a run that ended stuck, refused or gated no more is said: some thread could
+-- the event that closes the first cycle, if one does, is the last
+abbrev pub EndsAtCycle : List Event → Type 0
+EndsAtCycle log = (p : ℕ) → IsClosing log p → p + 1 ≡ length log
+
+-- the gate let all go on; and where a run is to stop at its first cycle, no event came after it
+pub record KeepsTo (stop : Bool) (log : List Event) (ended : Ending) : Type 0 where
+  pub not_gated : ended ≢ ending.Gated
+  pub stops : stop ≡ true → EndsAtCycle log
+
+-- a run of the program by threads of its own: it is configured as was asked for, and keeps to that;
+-- its log is one of the program's; where it is done, each thread that was born did its body; where it
+-- is halted, an alarm did so. Of a run that ended stuck or refused no more is said: some thread could
 -- perhaps have gone on, and the refusal need not be one that is due after this log. Only where it is
 -- of memory, or of the start of a thread, did that fail
 pub record IsLiveRunOf (options : RunOptions) (program : Program) (ended : Ending) (w : WorldState)
     : Type 0 where
   pub configured : IsConfigOf program options w.config
+  pub within : length w.log ≤ options.limits.events
+  pub keeps : KeepsTo options.stop w.log ended
   pub log : IsLogOf program w.log
   pub done : ended ≡ ending.Done → AllDone program w
   pub halted : HaltsAtAlarm options.stop w.log ended

@@ -1,5 +1,6 @@
 //! `velodrome run`.
-ghost use Rattle.velo_workload_commands.specs.Playing.{ByThreads};
+ghost use Rattle.std.specs.Prelude.{◌≤◌, length, IsTrue};
+ghost use Rattle.velo_workload_commands.specs.Playing.{ByThreads, EndsAtCycle, KeepsTo};
 ghost use Rattle.velo_workload_commands.specs.Commands.{DoesRun};
 ghost use Rattle.velo_delivery.specs.Disk.{store};
 ghost use Rattle.velo_delivery.specs.Writing.{writing};
@@ -13,8 +14,33 @@ use velo_bytes::Sink;
 use velo_delivery::Files;
 use velo_fate::Fate;
 use velo_request::RunOptions;
-use velo_worker::{LiveFault, OpenGate, live};
+use velo_worker::{Ending, LiveFault, OpenGate, live};
 use velo_workload::Workload;
+use velo_world::Closed;
+
+/// Whether no event came after the one that closes the first cycle.
+fn ends_at_cycle(closed: &Closed) -> bool
+    ensures within { length closed.now.log ≤ closed.now.config.events }
+    ensures last { IsTrue result → EndsAtCycle closed.now.log }
+{
+    let events = closed.log().len();
+    match closed.alarm() {
+        Some(alarm) => alarm.position < events && alarm.position + 1 == events,
+        None => true,
+    }
+}
+
+/// Whether a run by threads keeps to what was asked for: the gate let all go on, and where it is to stop at its first cycle, it did.
+fn keeps_to(run: &(Closed, Ending), stop: bool) -> bool
+    ensures within { length run.now.0.log ≤ run.now.0.config.events }
+    ensures keeps { IsTrue result → KeepsTo stop run.now.0.log run.now.1 }
+{
+    let is_last = ends_at_cycle(&run.0);
+    match run.1 {
+        Ending::Gated => false,
+        _ => !stop || is_last,
+    }
+}
 
 /// Runs a workload by threads of its own, and writes what the run shows.
 fn run_workload<R: Threads + Wait + Sync, F: Files, O: Sink>(
@@ -30,7 +56,14 @@ fn run_workload<R: Threads + Wait + Sync, F: Files, O: Sink>(
 {
     let config = config_of_run(workload, options);
     match live(rt, alloc, workload, config, &OpenGate) {
-        Ok(ended) => finish_run(alloc, workload, ended, options, files, out),
+        Ok(ended) => {
+            if keeps_to(&ended, options.stop) {
+                finish_run(alloc, workload, ended, options, files, out)
+            } else {
+                drop(ended);
+                Fate::Lost
+            }
+        }
         Err(LiveFault::Memory) => Fate::Memory,
         Err(LiveFault::Lost) => Fate::Lost,
     }
