@@ -3,6 +3,7 @@ use Rattle.std.proofs.Common.{◌≡◌, ℕ, ◌+◌, ◌<◌, ◌≤◌, List,
 use Rattle.std.specs.Prelude.{◌↔◌, ◌⊎◌, IfOk, IfErr, OnErr}
 use Rattle.std.proofs.lemmas.Bool.{cases_lt}
 use Rattle.std.proofs.lemmas.List.{append-nil, length-take-le, take-append-drop, take-append-le, take_all}
+use Rattle.std.proofs.lemmas.Option.{none-some}
 use Rattle.velo_events.specs.declared.config.Bounds.{Bounds}
 use Rattle.velo_events.specs.declared.config.Config.{Config}
 use Rattle.velo_events.specs.declared.event.Event.{Event}
@@ -15,7 +16,7 @@ use Rattle.velo_events.specs.Refusals.{GrowthRefused}
 use Rattle.velo_events.specs.WellFormed.{IsWellFormed}
 use Rattle.velo_events.proofs.OnWellFormed.{IsWellFormed-nil, IsWellFormed-before, IsWellFormed-last}
 use Rattle.velo_traces.specs.declared.judge.Flaw.{Flaw}
-use Rattle.velo_traces.specs.Flaws.{flaw_of, IsFirstFlaw}
+use Rattle.velo_traces.specs.Flaws.{flaw_of}
 use Rattle.velo_traces.proofs.OnFlaws.{no_flaw-from_MayFollow}
 use Rattle.velo_laws.specs.Cut.{NoBlockOpen, IsQuiet}
 use Rattle.velo_laws.specs.Length.{events_to_leave}
@@ -29,7 +30,7 @@ use Rattle.velo_renew.specs.Renewal.{Restarts, StandsInTheWay}
 use Rattle.velo_world.specs.declared.analysis.Alarm.{Alarm}
 use Rattle.velo_world.specs.declared.log_replay.LogReplayFault.{LogReplayFault}
 use Rattle.velo_world.specs.declared.log_replay.LogReplayFault.TheVariants.{Refused, WrongValue, Memory}
-use Rattle.velo_world.specs.Faults.{IsFaultOfLog, IsRefusedAt}
+use Rattle.velo_world.specs.Faults.{IsFaultAtEvent, IsLimit}
 use Rattle.velo_world.specs.World.{IsAlarm}
 use Rattle.velo_endless.specs.declared.piece.LogPiece.{LogPiece}
 use Rattle.velo_endless.specs.Kept.{IsKept, IsKeptInTime, CannotBeCut, WasCutInTime, IsFaultBehind, IsLimitBehind}
@@ -207,9 +208,6 @@ not_cut config whole not_renewed.Memory h other = absurd (other refl)
 
 -- ---- an event that does not come next
 
-no_flaw : (bounds : Bounds) (log : List Event) (p : ℕ) (flaw : Flaw) → IsWellFormed bounds log → IsFirstFlaw bounds log p flaw → ⊥
-no_flaw bounds log p flaw well first = first.does_not_follow (well.each p first.event first.here)
-
 module _ (config : Config) (whole kept : List Event) (so_many so_long : ℕ) (e : Event) (k : IsKept config.bounds whole kept so_many so_long) (in_time : WasCutInTime config whole so_many so_long) (none : ¬ HasCycle whole) (well : IsWellFormed config.bounds (whole ++ e ∷ [])) where
   well_next : IsWellFormed config.bounds (kept ++ e ∷ [])
   well_next = well_kept config.bounds (whole ++ e ∷ []) (kept ++ e ∷ []) so_many so_long (kept_more config.bounds whole kept so_many so_long k e) well
@@ -228,24 +226,22 @@ module _ (config : Config) (whole kept : List Event) (so_many so_long : ℕ) (e 
       subst (CannotBeCut config) (take_all (so_many + n) whole (omega (arith, a, k.counted)))
       (in_time.since n (omega (arith, a, k.counted)) (omega (arith, many, b, k.measured)))
 
-  at_limit : (p : ℕ) (refusal : Refusal) → IsRefusedAt config.events config.nodes config.bounds (kept ++ e ∷ []) p refusal → IsLimitBehind config whole e refusal
-  at_limit p refusal h = (
+  kept_flawless : (flaw : Flaw) → flaw_of config.bounds kept e ≡ Some flaw → ⊥
+  kept_flawless flaw is = none-some flaw (sym (no_flaw-from_MayFollow config.bounds kept e (IsWellFormed-before config.bounds kept (e ∷ []) well_next) (IsWellFormed-last config.bounds kept e well_next)) ∙ is)
+
+  at_limit : (refusal : Refusal) → IsLimit config kept e refusal → IsLimitBehind config whole e refusal
+  at_limit refusal h = (
     none,
     ⊎_elim
-        (λ flaw. absurd (no_flaw config.bounds (kept ++ e ∷ []) p _ well_next flaw.first))
-        (λ limit. ⊎_elim
-        (λ full.
-        let within = full.1.within in
-        let many : config.events ≤ length kept = omega (arith, within, full.1.full, length-append kept (e ∷ [])) in
-        inl (full.0, record { kept = kept; is_kept = kept_in_time; full = many; no_cut = full_now many }))
-        (λ full. inr (full.0, record { kept = kept; is_kept = kept_in_time; position = p; no_node = full.1 }))
-        limit)
+        (λ full. inl (full.1, record { kept = kept; is_kept = kept_in_time; full = full.2; no_cut = full_now full.2 }))
+        (λ full. inr (full.1, record { kept = kept; is_kept = kept_in_time; no_node = full.2.2 }))
         h,
   )
 
-  pub fault_kept : (fault : LogReplayFault) → IsFaultOfLog config (kept ++ e ∷ []) fault → IsFaultBehind config whole e (moved_fault (in_whole so_many so_long (length kept)) fault)
-  fault_kept (Refused p refusal) h = (end_kept config.bounds whole kept so_many so_long k, inr (flawless, at_limit p refusal h))
-  fault_kept (WrongValue p) h = absurd (no_flaw config.bounds (kept ++ e ∷ []) p _ well_next h.first)
+  pub fault_kept : (fault : LogReplayFault) → IsFaultAtEvent config kept e fault → IsFaultBehind config whole e (moved_fault (in_whole so_many so_long (length kept)) fault)
+  fault_kept (Refused p refusal) (at, inl flawed) = absurd (kept_flawless _ flawed)
+  fault_kept (Refused p refusal) (at, inr (unflawed, limit)) = (end_kept config.bounds whole kept so_many so_long k, inr (flawless, at_limit refusal limit))
+  fault_kept (WrongValue p) (at, flawed) = absurd (kept_flawless _ flawed)
   fault_kept Memory h = h
 
 -- ---- an event that comes next

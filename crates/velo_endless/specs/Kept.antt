@@ -14,7 +14,7 @@ use Rattle.velo_traces.specs.Flaws.{flaw_of}
 use Rattle.velo_laws.specs.Cut.{NoBlockOpen}
 use Rattle.velo_laws.specs.Length.{events_to_leave}
 use Rattle.velo_laws.specs.Restart.{IsPrologueOf}
-use Rattle.velo_world.specs.Faults.{IsAtNodeLimit}
+use Rattle.velo_world.specs.World.{FindsNoNode}
 use Rattle.velo_world.specs.declared.log_replay.LogReplayFault.{LogReplayFault}
 use Rattle.velo_world.specs.declared.log_replay.LogReplayFault.TheVariants.{Refused, WrongValue, Memory}
 
@@ -63,12 +63,11 @@ pub record FillsLogBehind (config : Config) (whole : List Event) : Type 0 where
   pub full : config.events ≤ length kept
   pub no_cut : CannotBeCut config whole
 
--- the kept events, and then this one, are at the limit of nodes
+-- the event finds no node after the kept ones
 pub record FindsNoNodeBehind (config : Config) (whole : List Event) (e : Event) : Type 0 where
   pub kept : List Event
   pub is_kept : IsKeptInTime config whole kept
-  pub position : ℕ
-  pub no_node : IsAtNodeLimit config.events config.nodes config.bounds (kept ++ e ∷ []) position
+  pub no_node : FindsNoNode config.bounds.threads kept e config.nodes
 
 -- the event can't be kept, while there is no alarm: for want of room in the log, or of a node in the graph
 abbrev pub IsLimitBehind : Config → List Event → Event → Refusal → Type 0
