@@ -13,7 +13,7 @@ use Rattle.velo_laws.specs.Cut.{IsQuiet}
 use Rattle.velo_laws.specs.Restart.{HasNoBegin}
 use Rattle.velo_audit.specs.Audit.{CheckTells, RoundTells}
 use Rattle.velo_audit.specs.Cut.{AreBegun, IsCut, GoesTo, EndsAt}
-use Rattle.velo_audit.specs.Verdict.{IsVerdict, Judges}
+use Rattle.velo_audit.specs.Verdict.{IsRoundVerdict, Judges}
 use Rattle.velo_audit.specs.declared.cut.Cut.{Cut}
 use Rattle.velo_audit.specs.declared.pieces.Verdict.{Verdict}
 use Rattle.velo_audit.specs.declared.pieces.Verdict.TheVariants as verdict
@@ -26,10 +26,10 @@ EndsAt-from left log events same cut end n at marks trace places goes many are l
     subst (λ es. EndsAt left es cut end marks trace places) same (subst (λ k. EndsAt left events cut k marks trace places) (sym at)
     (record { goes = goes; as_many = many; marks_are = are; later = later; within = within }))
 
-pub Judges-verdict : (asked : Bool) (log : List Event) (left : Left) (place : ℕ) (cut : Cut) (v : Verdict) → IsCut left log cut → IsVerdict asked log left v → Judges asked log left place cut (Some v)
+pub Judges-verdict : (asked : Bool) (log : List Event) (left : Left) (place : ℕ) (cut : Cut) (v : Verdict) → IsCut left log cut → IsRoundVerdict asked log left v → Judges asked log left place cut (Some v)
 Judges-verdict asked log left place cut v is said = record {
   is_cut = is;
-  verdict = λ w same. subst (IsVerdict asked log left) (same_Some v w same) said;
+  verdict = λ w same. subst (IsRoundVerdict asked log left) (same_Some v w same) said;
   moved = λ none. absurd (none-some v (sym none));
 }
 
@@ -53,7 +53,7 @@ module _ (asked : Bool) (log : List Event) (left : Left) (cut : Cut) (end : ℕ)
   }
 
 -- at a cut behind all events
-pub NoCycle-at_end : (asked : Bool) (log : List Event) (left : Left) (cut : Cut) → IsCut left log cut → length log ≤ cut.place → IsVerdict asked log left verdict.NoCycle
+pub NoCycle-at_end : (asked : Bool) (log : List Event) (left : Left) (cut : Cut) → IsCut left log cut → length log ≤ cut.place → IsRoundVerdict asked log left verdict.NoCycle
 NoCycle-at_end asked log left cut is past =
     let at : cut.place ≡ length log = let l = is.within in omega (arith, l, past) in
     subst (λ es. ¬ HasCycle es) (ap (first_of_rest left log) at ∙ first_of_rest-all left log) is.no_cycle

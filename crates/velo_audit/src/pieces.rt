@@ -8,7 +8,7 @@ ghost use Rattle.velo_filter.specs.Left.{Left};
 ghost use Rattle.velo_laws.specs.Restart.{HasNoBegin};
 ghost use Rattle.velo_audit.specs.Audit.{out_of_memory};
 ghost use Rattle.velo_audit.specs.Cut.{AreBegun, EndsAt, IsCut, IsPiece};
-ghost use Rattle.velo_audit.specs.Verdict.{IsVerdict, Judges};
+ghost use Rattle.velo_audit.specs.Verdict.{IsRoundVerdict, Judges};
 
 use crate::cut::{Cut, add_begun};
 use crate::piece::{Piece, next_piece};
@@ -49,7 +49,7 @@ pub fn by_pieces(
     requires short { length log.now.events ≤ config.now.events }
     requires well_formed { IsWellFormed config.now.bounds log.now.events }
     requires cut { IsCut (left_of left.now) log.now.events cut.old }
-    ensures verdict { IfOk result (IsVerdict asked log.now.events (left_of left.now)) }
+    ensures verdict { IfOk result (IsRoundVerdict asked log.now.events (left_of left.now)) }
     ensures cut { OnOk result (IsCut (left_of left.now) log.now.events cut.new) }
     ensures fault { IfErr result (λ fault. fault ≡ out_of_memory) }
     ensures memory { OnErr result GrowthRefused }

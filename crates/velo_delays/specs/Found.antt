@@ -21,10 +21,10 @@ pub record IsFound (bounds : Bounds) (log : List Event) (found : PredictedCycle)
   pub to_blame : IsTrue found.told.to_blame
   pub truly : TellsTruly found.trace.events found.told
   pub witness : HasWitness true found.trace.events nothing found.told.closing found.told.witness
-  -- and these reads have another value than in the log
+  -- and these reads have another value than in this log
   pub differing : AreDiffering log found.trace.events found.differing.items
 
--- the same of what is left of a log where the blocks of these labels, and maybe of some more, are dissolved
+-- the same of what is left of the log where the blocks of these labels, and maybe of some more, are dissolved
 pub record IsFoundIn (bounds : Bounds) (log : List Event) (left : Left) (found : PredictedCycle) : Type 0 where
   pub labels : ℕ → Bool
   -- what was left out is still left out

@@ -24,7 +24,7 @@ use Rattle.velo_explore.specs.declared.goal.Goal.TheVariants.{Alarm, Stuck, Refu
 use Rattle.velo_explore.specs.declared.outcome.RunOutcome.{RunOutcome}
 use Rattle.velo_explore.specs.Goals.{HasAlarm, Reached, Reaches, fault_of, goal_in}
 use Rattle.velo_explore.specs.Logs.{ends_refused, is_for_room}
-use Rattle.velo_explore.specs.Told.{AreAlarms, IsMissed, IsOutcome, Lacks, OnShown}
+use Rattle.velo_explore.specs.Told.{AreAlarms, IsMissed, HasOutcome, LacksFault, OnShown}
 use Rattle.velo_explore.specs.Bodies.{all_scripts}
 use Rattle.velo_search.specs.declared.fault.Fault.TheVariants as faults
 use Rattle.velo_search.specs.declared.fault.Fault.{Fault}
@@ -66,7 +66,7 @@ goal-reaches Refusing alarm endings.Gated closed goal is h = absurd (none-some g
 
 -- ---- a replay
 
-module _ (program : Program) (config : Config) (turns : List ThreadId) (outcome : RunOutcome) (h : IsOutcome program config turns outcome) where
+module _ (program : Program) (config : Config) (turns : List ThreadId) (outcome : RunOutcome) (h : HasOutcome program config turns outcome) where
   pub shows-goal : (fault : Fault) (goal : Goal) (schedule : List ThreadId) → turns ≡ schedule → goal_in fault outcome.alarm outcome.ending ≡ Some goal → Reached program config goal schedule × (fault_of goal ≡ fault)
   shows-goal fault goal schedule same is =
       let shown = goal-reaches fault outcome.alarm outcome.ending h.closed goal h.cycle is in (
@@ -83,8 +83,8 @@ module _ (program : Program) (config : Config) (turns : List ThreadId) (outcome 
         shown.1,
       )
 
-  pub lacks-goal : (fault : Fault) (schedule : List ThreadId) → turns ≡ schedule → goal_in fault outcome.alarm outcome.ending ≡ None → Lacks program config fault schedule
-  lacks-goal fault schedule same none = record { outcome = outcome; is_outcome = subst (λ (ts : List ThreadId). IsOutcome program config ts outcome) same h; none = none }
+  pub lacks-goal : (fault : Fault) (schedule : List ThreadId) → turns ≡ schedule → goal_in fault outcome.alarm outcome.ending ≡ None → LacksFault program config fault schedule
+  lacks-goal fault schedule same none = record { outcome = outcome; is_outcome = subst (λ (ts : List ThreadId). HasOutcome program config ts outcome) same h; none = none }
 
 no_alarm : (alarm : Bool) (ending : Ending) → goal_in Cycle alarm ending ≡ None → alarm ≡ false
 no_alarm false ending none = refl
@@ -102,7 +102,7 @@ not_refused alarm endings.Halted none = refl
 not_refused alarm endings.Gated none = refl
 
 module _ (program : Program) (config : Config) (same : config.bounds ≡ program.bounds) (schedule : List ThreadId) where
-  pub missed-alarm : Lacks program config Cycle schedule → LeadsTo program.bounds (all_scripts program) Cycle schedule → IsMissed program config Cycle
+  pub missed-alarm : LacksFault program config Cycle schedule → LeadsTo program.bounds (all_scripts program) Cycle schedule → IsMissed program config Cycle
   missed-alarm w leads =
       let h = w.is_outcome in
       record {
@@ -118,7 +118,7 @@ module _ (program : Program) (config : Config) (same : config.bounds ≡ program
             (follows-cycle program leads.log leads.run config same w.outcome.ending h.closed leads.bad (subst (λ ts. Replays program ts config w.outcome.ending h.closed) (sym leads.by) h.replays));
       }
 
-  pub missed-stuck : length program.bodies ≡ program.bounds.threads → Lacks program config faults.Stuck schedule → LeadsTo program.bounds (all_scripts program) faults.Stuck schedule → IsMissed program config faults.Stuck
+  pub missed-stuck : length program.bodies ≡ program.bounds.threads → LacksFault program config faults.Stuck schedule → LeadsTo program.bounds (all_scripts program) faults.Stuck schedule → IsMissed program config faults.Stuck
   missed-stuck count w leads =
       let h = w.is_outcome in
       record {
@@ -134,7 +134,7 @@ module _ (program : Program) (config : Config) (same : config.bounds ≡ program
             (follows-stuck program leads.log leads.run config same count leads.bad w.outcome.ending h.closed (subst (λ ts. Replays program ts config w.outcome.ending h.closed) (sym leads.by) h.replays));
       }
 
-  pub missed-refusal : ((t : ℕ) → t < program.bounds.threads → Lacks program config Refusing (schedule ++ record { 0 = t } ∷ [])) → LeadsTo program.bounds (all_scripts program) Refusing schedule → IsMissed program config Refusing
+  pub missed-refusal : ((t : ℕ) → t < program.bounds.threads → LacksFault program config Refusing (schedule ++ record { 0 = t } ∷ [])) → LeadsTo program.bounds (all_scripts program) Refusing schedule → IsMissed program config Refusing
   missed-refusal lacks leads =
       let t = leads.bad.some.0 in
       let w = lacks t leads.bad.some.1 in

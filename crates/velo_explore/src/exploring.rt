@@ -1,5 +1,5 @@
 //! All schedules of a workload at once.
-ghost use Rattle.std.specs.Prelude.{◌≡◌, ◌⊎◌, ◌≤◌, ◌-◌, ◌^◌, ◌&&◌, [], true, false, is_some, length, map, min, sum_by, IfOk, IfSome, IsTrue};
+ghost use Rattle.std.specs.Prelude.{◌≡◌, ◌⊎◌, ◌<◌, ◌≤◌, ◌-◌, ◌^◌, ◌&&◌, [], true, false, is_some, length, map, min, sum_by, IfOk, IfSome, IsTrue};
 ghost use Rattle.velo_worker.specs.Counts.{body_events};
 ghost use Rattle.velo_search.specs.declared.fault.Fault.{Fault as FaultOf};
 ghost use Rattle.velo_search.specs.Search.{has_fault};
@@ -8,7 +8,7 @@ ghost use Rattle.velo_search.specs.Trail.{LeadToCycles, LeadsTo, turns_for};
 ghost use Rattle.velo_explore.specs.declared.finding.Finding.TheVariants.{Open};
 ghost use Rattle.velo_explore.specs.Bodies.{all_scripts};
 ghost use Rattle.velo_explore.specs.Goals.{finding_of};
-ghost use Rattle.velo_explore.specs.Told.{AreAlarms, AreSpent, IsLeftOpen, IsSomewhere, IsTold, NeverHas, OnOpen};
+ghost use Rattle.velo_explore.specs.Told.{AreAlarms, AreSpent, IsLeftOpen, IsSomewhere, IsTold, IsUntried, NeverHas, OnOpen};
 
 use crate::exploration::Exploration;
 use crate::finding::{Finding, Findings};
@@ -50,6 +50,8 @@ pub fn explore<P: Progress>(
     ensures left_open { IfOk result (λ x. (fault : FaultOf) → OnOpen (finding_of x.findings fault)
         (IsLeftOpen workload.now config most_states first
         (P.may_end progress.old && P.says_over progress.new) x.states x.findings fault)) }
+    ensures untried { IfOk result (λ x. config.events < sum_by body_events workload.now.bodies →
+        IsUntried x.states x.findings) }
     ensures alarms { IfOk result (λ x. AreAlarms workload.now config first x.findings.alarm
         (map (λ v. v.items) x.alarms.items)) }
 {

@@ -2,7 +2,7 @@
 ghost use Rattle.std.specs.Prelude.{◌≡◌, ◌↔◌, ◌<◌, ◌++◌, ◌∷◌, [], ℕ, true, false, is_some, length, IsTrue, IfNone, IfOk, IfSome};
 ghost use Rattle.velo_worker.specs.Schedule.{Replays};
 ghost use Rattle.velo_explore.specs.Goals.{IsWitness, lacks_memory};
-ghost use Rattle.velo_explore.specs.Told.{IsMissed, IsOutcome, IsTold, Lacks, NeverHas, OnOpen, OnShown};
+ghost use Rattle.velo_explore.specs.Told.{IsMissed, HasOutcome, IsTold, LacksFault, NeverHas, OnOpen, OnShown};
 ghost use Rattle.velo_explore.specs.Bodies.{all_scripts};
 ghost use Rattle.velo_search.specs.declared.fault.Fault.TheVariants.{Refusing};
 ghost use Rattle.velo_search.specs.Trail.{LeadsTo};
@@ -51,7 +51,7 @@ fn outcome_of(
     config: Config,
 ) -> Result<RunOutcome, Memory>
     requires { config.bounds ≡ workload.now.bounds }
-    ensures { IfOk result (IsOutcome workload.now config schedule.now) }
+    ensures { IfOk result (HasOutcome workload.now config schedule.now) }
 {
     let (closed, ending) = replayed(alloc, workload, schedule, config)?;
     let outcome = RunOutcome::of(&closed, ending);
@@ -70,7 +70,7 @@ fn witness_by(
     requires { config.bounds ≡ workload.now.bounds }
     ensures shows { IfOk result (λ found. IfSome found (IsWitness workload.now config fault)) }
     ensures none { IfOk result
-        (λ found. IfNone found (Lacks workload.now config fault schedule.items)) }
+        (λ found. IfNone found (LacksFault workload.now config fault schedule.items)) }
 {
     let outcome = outcome_of(alloc, workload, &schedule, config)?;
     match outcome.goal(fault) {
@@ -107,7 +107,7 @@ fn refused_after(
     requires { config.bounds ≡ workload.now.bounds }
     ensures shows { IfOk result (λ found. IfSome found (IsWitness workload.now config Refusing)) }
     ensures none { IfOk result (λ found. IfNone found ((t : ℕ) → t < workload.now.bounds.threads →
-        Lacks workload.now config Refusing (schedule.now ++ record { 0 = t } ∷ []))) }
+        LacksFault workload.now config Refusing (schedule.now ++ record { 0 = t } ∷ []))) }
 {
     for thread in 0..workload.bounds().threads {
         let longer = with_turn(alloc, schedule, ThreadId(thread))?;

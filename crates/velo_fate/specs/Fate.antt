@@ -90,7 +90,9 @@ status_of_ending (ending.Refused thread refusal.Memory) alarm = 5
 status_of_ending (ending.Refused thread RuntimeMemory) alarm = 5
 status_of_ending (ending.Refused thread refused) alarm = 4
 status_of_ending ending.Stuck alarm = 4
-status_of_ending _ alarm = if alarm then 3 else 0
+status_of_ending ending.Done alarm = if alarm then 3 else 0
+status_of_ending ending.Halted alarm = if alarm then 3 else 0
+status_of_ending ending.Gated alarm = if alarm then 3 else 0
 
 abbrev pub status_of_schedule : ScheduleFault → ℕ
 status_of_schedule schedule_fault.Bad = 2

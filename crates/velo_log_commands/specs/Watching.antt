@@ -126,7 +126,7 @@ pub record IsWatched (names : Names) (terms : Terms) (read : Option (List ℕ))
 
 -- the line of the alarm of the events so far, if they have one, and no report: the input goes no
 -- further, for a reason, or a growth was refused
-pub record IsCutShort (terms : Terms) (read : Option (List ℕ))
+pub record EndsUnreported (terms : Terms) (read : Option (List ℕ))
     (answer : CommandAnswer) : Type 0 where
   pub bounds : Bounds
   pub log : List Event
@@ -146,7 +146,7 @@ IsUnopened read answer =
 -- What a watch has to say.
 abbrev pub IsWatchAnswer : Names → Terms → Option (List ℕ) → CommandAnswer → Type 0
 IsWatchAnswer names terms read answer =
-    IsWatched names terms read answer ⊎ IsCutShort terms read answer ⊎ IsUnopened read answer
+    IsWatched names terms read answer ⊎ EndsUnreported terms read answer ⊎ IsUnopened read answer
 
 -- the sink failed within the line of the alarm, which the last of the events so far raised
 pub record FailsAtAlarm (terms : Terms) (read : Option (List ℕ)) (stdout : Writing) : Type 0 where

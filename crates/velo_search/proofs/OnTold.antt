@@ -15,7 +15,7 @@ use Rattle.velo_search.specs.Faults.{IsRefused, Fault, Cycle, Stuck, Refusing, I
 use Rattle.velo_search.specs.Runs.{IsRunOf, IsNext, NeverWithin}
 use Rattle.velo_search.specs.States.{IsStateOf}
 use Rattle.velo_search.specs.Told.{nothing, is_told, found_after, has_ended}
-use Rattle.velo_search.specs.Search.{IsReached, IsClean, IsCutShort, IsSeen, IsTried, IsTrueOf, has_fault, ways}
+use Rattle.velo_search.specs.Search.{IsReached, IsClean, IsSearchCut, IsSeen, IsTried, IsTrueOf, has_fault, ways}
 use Rattle.velo_search.proofs.OnFaults.{refused-not_waiting, refused-not_idle, next-not_turned, next-not_idle}
 use Rattle.velo_search.proofs.OnRuns.{IsRunOf-nil, rule_of_all}
 
@@ -86,7 +86,7 @@ module _ (bounds : Bounds) (scripts : List (List Kind)) where
   -- where the states are spent, no run of fewer events than there are levels has what was not found
   pub spent-cut : (most : ℕ) (first over : Bool) (found : Found) (states levels : ℕ) (level : List State) → most ≤ states * bounds.threads → states ≤ ways bounds.threads levels →
       ((n : ℕ) (fault : Fault) → has_fault found fault ≡ false → All (IsClean bounds scripts n fault) level → NeverWithin (levels + n) (IsFault bounds scripts fault) bounds scripts []) →
-      IsCutShort bounds scripts most first over found states
+      IsSearchCut bounds scripts most first over found states
   spent-cut most first over found states levels level all few leads = inr (inr (record {
     all = all;
     events = levels;
@@ -100,7 +100,7 @@ module _ (bounds : Bounds) (scripts : List (List Kind)) where
 
   -- why a search has ended that ends after a level
   pub ended-cut : (most : ℕ) (first over : Bool) (said : Bool) (found : Found) (states : ℕ) → (said || has_ended first found) ≡ true → (said ≡ true → over ≡ true) →
-      IsCutShort bounds scripts most first over found states
+      IsSearchCut bounds scripts most first over found states
   ended-cut most first over said found states ended told =
       ⊎_elim (λ says. inr (inl (told says))) (λ some. inl some) (or_cases said (has_ended first found) ended)
 

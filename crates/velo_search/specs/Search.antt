@@ -113,13 +113,13 @@ pub record IsTriedBelow (bounds : Bounds) (scripts : List (List Kind)) (found : 
   pub few : states ≤ ways bounds.threads n
 
 -- The states next to those that were looked at, one a thread, are as many as may be looked at
-pub record AreSpent (bounds : Bounds) (scripts : List (List Kind)) (most : ℕ) (found : Found) (states : ℕ) : Type 0 where
+pub record AreStatesSpent (bounds : Bounds) (scripts : List (List Kind)) (most : ℕ) (found : Found) (states : ℕ) : Type 0 where
   pub all : most ≤ states * bounds.threads
   pub events : ℕ
   pub tried : IsTriedBelow bounds scripts found states events
 
 -- the search was to end at the first finding, and has one; or the caller said that it is over; or
 -- its states are spent
-abbrev pub IsCutShort : Bounds → List (List Kind) → ℕ → Bool → Bool → Found → ℕ → Type 0
-IsCutShort bounds scripts most first over found states =
-    (has_ended first found ≡ true) ⊎ (over ≡ true) ⊎ AreSpent bounds scripts most found states
+abbrev pub IsSearchCut : Bounds → List (List Kind) → ℕ → Bool → Bool → Found → ℕ → Type 0
+IsSearchCut bounds scripts most first over found states =
+    (has_ended first found ≡ true) ⊎ (over ≡ true) ⊎ AreStatesSpent bounds scripts most found states

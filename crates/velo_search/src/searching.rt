@@ -10,7 +10,7 @@ ghost use Rattle.velo_search.specs.declared.state.State.{State};
 ghost use Rattle.velo_search.specs.Faults.{Fault, IsFault, NextIs, is_wait};
 ghost use Rattle.velo_search.specs.Runs.{script_of, IsRunOf, Never, NeverWithin};
 ghost use Rattle.velo_search.specs.States.{IsStateOf};
-ghost use Rattle.velo_search.specs.Search.{ArePlain, AreShort, IsClean, StandsAmong, IsCleanBy, IsNextAt, IsTried, IsTrueOf, IsCutShort, has_fault};
+ghost use Rattle.velo_search.specs.Search.{ArePlain, AreShort, IsClean, StandsAmong, IsCleanBy, IsNextAt, IsTried, IsTrueOf, IsSearchCut, has_fault};
 ghost use Rattle.velo_search.specs.Told.{has_ended, shown_of};
 ghost use Rattle.velo_search.specs.Trail.{AlarmsGoOn, LeadToCycles, AreShown, GoesOn, IsNoted, IsReachedBy, LeadsTo};
 ghost use Rattle.velo_search.specs.Trail.{alarms_of, turns_for};
@@ -362,7 +362,7 @@ pub fn search<P: Progress>(
     ensures first { IfOk result (λ x. first ≡ true → x.whole ≡ true → (fault : Fault) → has_fault x.found fault ≡ false) }
     ensures states { IfOk result (λ x. x.states ≤ most_states) }
     ensures cut { IfOk result (λ x. x.whole ≡ false →
-        IsCutShort config.now.bounds scripts.now.kinds most_states first
+        IsSearchCut config.now.bounds scripts.now.kinds most_states first
         (P.may_end progress.old && P.says_over progress.new) x.found x.states) }
     ensures shown { IfOk result (λ x. (fault : Fault) → IfSome (turns_for x.schedules fault)
         (LeadsTo config.now.bounds scripts.now.kinds fault)) }

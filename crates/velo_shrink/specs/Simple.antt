@@ -87,15 +87,15 @@ abbrev pub IsSayable : List ThreadId → Type 0
 IsSayable schedule = SaysTurns (short_text schedule) schedule
 
 -- the schedule that was found was made simple, and can't be told then, or does not show its goal in one more replay
-abbrev pub IsLeftOpen : Program → Config → Witness → Type 0
-IsLeftOpen program config found =
+abbrev pub CannotBeTold : Program → Config → Witness → Type 0
+CannotBeTold program config found =
     (simple : Witness) × SimplifiesWitness program config found simple
     × ((¬ IsSayable simple.schedule.items) ⊎ DoesNotShow program config simple.goal simple.schedule.items)
 
 -- a finding is told by its schedule, made simple; or it is left open. Any other is told as it was
 abbrev pub SimplifiesFinding : Program → Config → Finding → Finding → Type 0
 SimplifiesFinding program config (Shown found) (Shown told) = SimplifiesWitness program config found told
-SimplifiesFinding program config (Shown found) Open = IsLeftOpen program config found
+SimplifiesFinding program config (Shown found) Open = CannotBeTold program config found
 SimplifiesFinding program config found told = told ≡ found
 
 -- the replay is by the schedule, and shows its goal

@@ -13,7 +13,7 @@ use Rattle.velo_fate.specs.declared.fate.Fate.TheVariants as fate
 use Rattle.velo_request.specs.declared.request.RunOptions.{RunOptions}
 use Rattle.velo_fate.specs.Delivery.{CommandAnswer, IsDelivered, IsDeliveredInTurn, silent}
 use Rattle.velo_delivery.specs.Disk.{Disk, Store}
-use Rattle.velo_workload_commands.specs.Playing.{ByThreads, ByTurns, IsFaultOfText, IsFaultOfWork, IsRunAnswer, IsSaidOfRun, IsTextOf, IsUnread, Play, workload_file}
+use Rattle.velo_workload_commands.specs.Playing.{ByThreads, ByTurns, IsFaultOfText, IsFaultOfWork, IsRunAnswer, IsSaidOfRun, IsWorkload, IsUnread, Play, workload_file}
 use Rattle.velo_fate.specs.Failures.{FailuresAsTold, failures_told}
 use Rattle.velo_delivery.specs.Reading.{Reading, IsReadOf}
 use Rattle.velo_delivery.specs.Writing.{Writing, WritesNothing}
@@ -25,7 +25,7 @@ use Rattle.velo_fate.proofs.OnFormats.{whole, longer}
 
 -- ---- from the bytes that were read to those of the file
 
-pub text_read : (read : Option (List ℕ)) (bytes : List ℕ) (program : Program) → IsReadOf MAX_WORKLOAD_BYTES read bytes → IsTextOf (Some bytes) program → IsTextOf read program
+pub text_read : (read : Option (List ℕ)) (bytes : List ℕ) (program : Program) → IsReadOf MAX_WORKLOAD_BYTES read bytes → IsWorkload (Some bytes) program → IsWorkload read program
 text_read None bytes program is text = tt
 text_read (Some all) bytes program is text =
     subst (λ (b : List ℕ). (length b ≤ MAX_WORKLOAD_BYTES) × (meaning_of b ≡ Ok program)) (whole all bytes is.0 is.1 (is.2 text.0)) text
@@ -74,7 +74,7 @@ unread_put read fate.WriteFailed unread store kept path out nothing = absurd unr
 unread_put read f unread store kept path out nothing = (refl, kept, nothing)
 
 -- a program that was read was opened; else there is none
-pub opened : (disk : Disk) (path : List ℕ) (read : Reading) → disk.gives path read → (result : Result Program Fate) → IfOk result (IsTextOf read.bytes)
+pub opened : (disk : Disk) (path : List ℕ) (read : Reading) → disk.gives path read → (result : Result Program Fate) → IfOk result (IsWorkload read.bytes)
     → OnOk result (read.failures_after ≡ read.failures_before) → IfOk result (Reads workload_file disk path)
 opened disk path read given (Ok program) text kept = record { read = read; given = given; said = text; no_failure = kept }
 opened disk path read given (Err f) text kept = tt

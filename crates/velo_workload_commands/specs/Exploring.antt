@@ -1,5 +1,5 @@
 -- What an exploration of a workload has to say, by the bytes of its text and by the definitions.
-use Rattle.std.specs.Prelude.{◌≡◌, ◌⊎◌, ◌≤◌, ◌-◌, ◌^◌, ◌++◌, ◌&&◌, [], ℕ, Bool, true, false, List, codes, decimal, is_some, map, min, slice_get, sum_by, take, Option, Some, None, if◌then◌else◌}
+use Rattle.std.specs.Prelude.{◌≡◌, ◌⊎◌, ◌<◌, ◌≤◌, ◌-◌, ◌^◌, ◌++◌, ◌&&◌, [], ℕ, Bool, true, false, List, codes, decimal, is_some, map, min, slice_get, sum_by, take, Option, Some, None, if◌then◌else◌}
 use Rattle.std.specs.List.{flat_map}
 use Rattle.std.specs.Option.{option_map_or}
 use Rattle.velo_random.specs.declared.tally.BlamedLabel.{BlamedLabel}
@@ -15,7 +15,7 @@ use Rattle.velo_explore.specs.declared.goal.Goal.{Goal}
 use Rattle.velo_explore.specs.declared.goal.Goal.TheVariants.{Alarm, Refused}
 use Rattle.velo_explore.specs.declared.goal.Goal.TheVariants as goals
 use Rattle.velo_explore.specs.Goals.{finding_of, first_of}
-use Rattle.velo_explore.specs.Told.{AreAlarms, IsLeftOpen, IsTold, OnOpen}
+use Rattle.velo_explore.specs.Told.{AreAlarms, IsLeftOpen, IsTold, IsUntried, OnOpen}
 use Rattle.velo_shrink.specs.declared.findings.Replay.{Replay}
 use Rattle.velo_shrink.specs.Simple.{IsShrunkFrom}
 use Rattle.velo_deadlock.specs.Waits.{waits_text}
@@ -36,7 +36,7 @@ use Rattle.velo_workload_commands.specs.declared.survey.Tried.TheVariants as how
 use Rattle.velo_workload_commands.specs.ByChance.{IsBlameOf, IsByChance}
 use Rattle.velo_fate.specs.Delivery.{CommandAnswer, LacksMemory, printing, silent}
 use Rattle.velo_fate.specs.Fate.{number_of}
-use Rattle.velo_workload_commands.specs.Playing.{IsConfigOf, IsReported, IsTextOf, IsUnread, text_of_names}
+use Rattle.velo_workload_commands.specs.Playing.{IsConfigOf, IsReported, IsWorkload, IsUnread, text_of_names}
 use Rattle.velo_schedule_text.specs.Schedule.{spaced}
 use Rattle.velo_schedule_text.specs.Short.{longest}
 
@@ -48,7 +48,8 @@ most_to_blame first = if first then 0 else MAX_BLAMING
 
 -- what a search within the limits that were asked for, which was told or not that it is over, may
 -- say of the program's schedules: what is shown is so, what is never shown is so by no schedule, and
--- what is open is so for a cause. The schedules that it hands out lead to alarms
+-- what is open is so for a cause. Of more events than may be, nothing is tried. The schedules that it
+-- hands out lead to alarms
 pub record IsSearchOf (program : Program) (config : Config) (options : ExploreOptions) (over : Bool)
     (search : Exploration) : Type 0 where
   pub events : search.events ≡ min (sum_by body_events program.bodies) (2 ^ 64 - 1)
@@ -56,6 +57,7 @@ pub record IsSearchOf (program : Program) (config : Config) (options : ExploreOp
   pub told : (fault : Fault) → IsTold program config fault (finding_of search.findings fault)
   pub left_open : (fault : Fault) → OnOpen (finding_of search.findings fault)
       (IsLeftOpen program config options.states options.first over search.states search.findings fault)
+  pub untried : config.events < sum_by body_events program.bodies → IsUntried search.states search.findings
   pub alarms : AreAlarms program config options.first search.findings.alarm
       (map (λ schedule. schedule.items) search.alarms.items)
 
@@ -214,6 +216,6 @@ pub record IsExplored (options : ExploreOptions) (program : Program) (answer : C
 -- nothing, for a reason.
 abbrev pub IsExploreAnswer : ExploreOptions → Option (List ℕ) → CommandAnswer → List ℕ → Type 0
 IsExploreAnswer options read answer names =
-    ((program : Program) × IsTextOf read program × (names ≡ text_of_names program)
+    ((program : Program) × IsWorkload read program × (names ≡ text_of_names program)
     × (IsExplored options program answer ⊎ LacksMemory answer))
     ⊎ ((f : Fate) × IsUnread read f × (answer ≡ silent f))

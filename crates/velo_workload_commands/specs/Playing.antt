@@ -34,8 +34,8 @@ use Rattle.velo_fate.specs.Saving.{text_of_log}
 -- ---- the workload of an input
 
 -- the bytes are the text of this program; where they are not known nothing is said
-abbrev pub IsTextOf : Option (List ℕ) → Program → Type 0
-IsTextOf read program =
+abbrev pub IsWorkload : Option (List ℕ) → Program → Type 0
+IsWorkload read program =
     IfSome read (λ bytes. (length bytes ≤ MAX_WORKLOAD_BYTES) × (meaning_of bytes ≡ Ok program))
 
 -- there are more bytes than a workload may have
@@ -64,7 +64,7 @@ HaveNoWorkload read f = ⊥
 
 -- a file of a workload
 abbrev pub workload_file : Format Program
-workload_file = record { says = IsTextOf; lacks = HaveNoWorkload }
+workload_file = record { says = IsWorkload; lacks = HaveNoWorkload }
 
 -- why there is no workload
 abbrev pub IsUnread : Option (List ℕ) → Fate → Type 0
@@ -85,7 +85,7 @@ pub record IsConfigOf (program : Program) (options : RunOptions) (config : Confi
   pub stop : config.stop ≡ options.stop
 
 -- a replay of the program by a schedule
-pub record IsReplayOf (schedule : List ThreadId) (options : RunOptions) (program : Program)
+pub record IsReplayedRunOf (schedule : List ThreadId) (options : RunOptions) (program : Program)
     (ended : Ending) (w : WorldState) : Type 0 where
   pub config : Config
   pub configured : IsConfigOf program options config
@@ -117,7 +117,7 @@ pub record IsLiveRunOf (options : RunOptions) (program : Program) (ended : Endin
   pub cause : EndsWithCause ended
 
 abbrev pub IsRunOf : Play → RunOptions → Program → Ending → WorldState → Type 0
-IsRunOf (ByTurns schedule) options program ended w = IsReplayOf schedule options program ended w
+IsRunOf (ByTurns schedule) options program ended w = IsReplayedRunOf schedule options program ended w
 IsRunOf ByThreads options program ended w = IsLiveRunOf options program ended w
 
 -- ---- what a run has to say
@@ -209,6 +209,6 @@ IsRunAnswer play options program answer =
 -- the reason that there is none.
 abbrev pub IsPlayAnswer : Play → RunOptions → Option (List ℕ) → CommandAnswer → List ℕ → Type 0
 IsPlayAnswer play options read answer names =
-    ((program : Program) × IsTextOf read program × (names ≡ text_of_names program)
+    ((program : Program) × IsWorkload read program × (names ≡ text_of_names program)
     × IsRunAnswer play options program answer)
     ⊎ ((f : Fate) × IsUnread read f × (answer ≡ silent f))

@@ -2,7 +2,7 @@
 ghost use Rattle.std.specs.Prelude.{◌≡◌, Some, IfOk, IfErr, OnOk};
 ghost use Rattle.velo_fate.specs.Failures.{failures_told};
 ghost use Rattle.velo_fate.specs.Format.{Reads};
-ghost use Rattle.velo_workload_commands.specs.Playing.{IsConfigOf, IsFaultOfWork, IsTextOf, IsUnread, is_unreported, workload_file};
+ghost use Rattle.velo_workload_commands.specs.Playing.{IsConfigOf, IsFaultOfWork, IsWorkload, IsUnread, is_unreported, workload_file};
 ghost use Rattle.velo_delivery.specs.Disk.{store};
 ghost use Rattle.velo_delivery.specs.Writing.{writing};
 ghost use Rattle.velo_workload_commands.specs.Steps.{OpensNoProgram, TellsEnd};
@@ -20,7 +20,7 @@ use velo_world::Closed;
 
 /// Reads a workload from a source.
 fn read_workload<I: Source>(alloc: Global, source: &mut I) -> Result<Workload, Fate>
-    ensures some { IfOk result (IsTextOf (I.remaining source.old)) }
+    ensures some { IfOk result (IsWorkload (I.remaining source.old)) }
     ensures none { IfErr result (IsUnread (I.remaining source.old)) }
     ensures read { OnOk result (I.failures source.new ≡ I.failures source.old) }
     ensures failure { IfErr result (λ fate. I.failures source.new ≡ failures_told fate
@@ -42,7 +42,7 @@ fn read_workload<I: Source>(alloc: Global, source: &mut I) -> Result<Workload, F
 
 /// The workload of a file's bytes.
 fn workload_of(alloc: Global, bytes: &[u8]) -> Result<Workload, WorkFault>
-    ensures some { IfOk result (IsTextOf (Some bytes.now)) }
+    ensures some { IfOk result (IsWorkload (Some bytes.now)) }
     ensures none { IfErr result (IsFaultOfWork (Some bytes.now)) }
 {
     match text_of(bytes) {

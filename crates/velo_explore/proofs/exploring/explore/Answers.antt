@@ -1,4 +1,4 @@
-use Rattle.std.proofs.Common.{◌≡◌, ◌&&◌, true}
+use Rattle.std.proofs.Common.{◌≡◌, ◌&&◌, true, arith}
 use Rattle.std.specs.Prelude.{IsTrue, is_some}
 use Rattle.velo_search.specs.declared.fault.Fault.{Fault}
 use Rattle.velo_search.specs.declared.fault.Fault.TheVariants.{Cycle, Stuck, Refusing}
@@ -67,6 +67,9 @@ returns-clause-left_open g c =
     c.rules_out-no_deadlock.ensures (λ part none. cut Stuck (says.cut part Stuck none)) (ended Stuck) (λ whole. says.each whole Stuck) (λ all some. says.shown Stuck (shown-all c.args.first x.found Stuck all some)) c.in_ok-stuck.ensures.missed)
     (open-told c.args.workload.now c.args.config c.args.most_states c.args.first over x.states found Refusing x.whole x.found.refused c.rules_out-no_refusal.result x.schedules.refused c.in_ok-refused.refused
     c.rules_out-no_refusal.ensures (λ part none. cut Refusing (says.cut part Refusing none)) (ended Refusing) (λ whole. says.each whole Refusing) (λ all some. says.shown Refusing (shown-all c.args.first x.found Refusing all some)) c.in_ok-refused.ensures.missed)
+
+pub returns-clause-untried : goal.returns-clause-untried
+returns-clause-untried g c = λ many. absurd (let few = c.search_all.requires.few in omega (arith, many, few))
 
 pub returns-clause-alarms : goal.returns-clause-alarms
 returns-clause-alarms g c =

@@ -7,7 +7,7 @@ use Rattle.velo_search.specs.declared.found.Found.{Found}
 use Rattle.velo_search.specs.declared.schedules.Schedules.{Schedules}
 use Rattle.velo_search.specs.Trail.{LeadToCycles, LeadsTo, turns_for}
 use Rattle.velo_search.specs.Told.{shown_of}
-use Rattle.velo_search.specs.Search.{IsClean, IsCutShort, IsTrueOf, has_fault}
+use Rattle.velo_search.specs.Search.{IsClean, IsSearchCut, IsTrueOf, has_fault}
 use Rattle.velo_search.proofs.OnCounts.{few-level, ways-level}
 use Rattle.velo_search.proofs.OnRuns.{never-any}
 use Rattle.velo_search.proofs.OnTold.{ended-cut, nothing-true, goes_on-nothing, spent-cut}
@@ -134,8 +134,8 @@ returns-clause-cut g c = λ _.
     let inv = c.loop-states.invariant in
     let over = g.P.Progress.may_end c.args.progress.now && g.P.Progress.says_over c.loop-states.progress in
     let most : c.args.most_states ≤ c.loop-states.states * bounds.threads = omega (arith, inv.kept, inv.most, c.loop-states-test.false, c.len.ensures) in
-    subst (λ (f : Found). IsCutShort bounds scripts c.args.most_states c.args.first over f c.into_searched-2.result.states) (sym c.into_searched-2.ensures.found)
-    (subst (λ n. IsCutShort bounds scripts c.args.most_states c.args.first over c.loop-states.found n) (sym c.into_searched-2.ensures.states)
+    subst (λ (f : Found). IsSearchCut bounds scripts c.args.most_states c.args.first over f c.into_searched-2.result.states) (sym c.into_searched-2.ensures.found)
+    (subst (λ n. IsSearchCut bounds scripts c.args.most_states c.args.first over c.loop-states.found n) (sym c.into_searched-2.ensures.states)
     (spent-cut bounds scripts c.args.most_states c.args.first over c.loop-states.found c.loop-states.states c.loop-states.levels c.loop-states.level.states.items most inv.depth inv.leads))
 
 pub returns-then-has_ended-clause-cut : goal.returns-then-has_ended-clause-cut
@@ -148,5 +148,5 @@ returns-then-has_ended-clause-cut g c = λ _.
     let said : looked.over ≡ true → over ≡ true = λ says.
     subst (λ b. (b && g.P.Progress.says_over c.level_done.new.self) ≡ true) c.loop-states.invariant.may
     (subst (λ b. (may c.loop-states.progress && b) ≡ true) (sym c.level_done.ensures.says) (c.in_ok-looked.ensures.over says)) in
-    subst (λ (f : Found). IsCutShort bounds scripts c.args.most_states c.args.first over f c.into_searched.result.states) (sym c.into_searched.ensures.found)
+    subst (λ (f : Found). IsSearchCut bounds scripts c.args.most_states c.args.first over f c.into_searched.result.states) (sym c.into_searched.ensures.found)
     (ended-cut bounds scripts c.args.most_states c.args.first over looked.over looked.found c.into_searched.result.states (sym c.has_ended.ensures ∙ c.if-has_ended.true) said)

@@ -29,6 +29,7 @@ returns g c =
         left_open = λ fault.
             subst (λ (n : ℕ). OnOpen (finding_of search.findings fault) (IsLeftOpen program c.args.config n options.first over search.states search.findings fault))
             c.from-most_states.ensures (c.in_ok-events.ensures.left_open fault);
+        untried = c.in_ok-events.ensures.untried;
         alarms = c.in_ok-events.ensures.alarms;
       };
       tried = refl;
