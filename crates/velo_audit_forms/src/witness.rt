@@ -160,9 +160,13 @@ fn add_reasons(
     add_array(json.key("reasons")?, background, &evidence.blames)
 }
 
-/// Adds a witness.
+/// Adds a witness: the transactions of the cycle, the events of its edges, and why the blocks are to
+/// blame.
+///
+/// # Errors
+/// `Memory` if an allocation failed.
 #[tactic(auto, unfolding(crate::specs::Witness::witness_json))]
-pub(crate) fn add_witness(
+pub fn add_witness(
     json: JsonWriter,
     background: &Background,
     evidence: &Evidence,
