@@ -1,4 +1,4 @@
-"""Compares the JSON of audits and of predictions with their text, and SARIF logs and JUnit reports with the JSON, which is
+"""Compares the JSON of audits, explanations and predictions with their text, and SARIF logs and JUnit reports with the JSON, which is
 validated where the Python module `jsonschema` is installed.
 
     python3 tools/formats.py PROGRAM LOG..
@@ -13,8 +13,9 @@ import sys
 import xml.etree.ElementTree
 
 DOCS = os.path.join(os.path.dirname(os.path.dirname(os.path.abspath(__file__))), "docs")
-SCHEMAS = ("audit.schema.json", "predict.schema.json")
+SCHEMAS = ("audit.schema.json", "explain.schema.json", "predict.schema.json")
 AUDITS = ([], ["--no-witness"], ["--counts"], ["--innermost", "--by-count", "--counts"])
+EXPLANATIONS = ([], ["--ignore-lock", "0", "--ignore-variable", "0"], ["--ignore-locks"])
 PREDICTIONS = (["--tries", "20"], ["--tries", "20", "--values"], ["--tries", "20", "--ignore-lock", "0", "--ignore-variable", "0"])
 
 
@@ -74,6 +75,67 @@ def cycle(alarm):
     return f"  Line {alarm['closing']['line']} {about(alarm['closing'])} closes a cycle of {len(alarm['witness']['transactions'])} transactions:"
 
 
+def transaction(number, one):
+    first, last = one["first"], one["last"]
+    kind = first["text"].split(" ", 1)[1]
+    block = "outside blocks" if not kind.startswith("begin ") else "block " + named({"number": kind[6:], "name": first["name"]})
+    lines = f"line {first['line']}" if first == last else f"lines {first['line']} to {last['line']}"
+    return f"  T{number}: thread {named(first['thread'])}, {block}, {lines}"
+
+
+def place(event):
+    return f"line {event['line']} {about(event)}"
+
+
+def reasons(alarm):
+    blames, closing = alarm["witness"]["reasons"], alarm["closing"]
+    if not blames:
+        return ["No block alone is to blame: each can be brought together, but not all transactions at once."]
+    return [f"To blame in thread {named(closing['thread'])}:",
+            *(f"  block {named(one['block']['label'])}, from line {one['block']['begin']['line']}: {place(one['event'])}"
+              f" must come after its begin and before line {closing['line']}" for one in blames)]
+
+
+def sources(alarm):
+    """The lines that say where the events happened that the words mention."""
+    witness = alarm["witness"]
+    events = ([alarm["closing"]] + [one[end] for one in witness["transactions"] for end in ("first", "last")]
+              + [edge[end]["event"] for edge in witness["edges"] for end in ("from", "to")]
+              + [event for one in witness["reasons"] for event in (one["event"], one["block"]["begin"])])
+    sites = {event["line"]: event["site"] for event in events if event["site"] is not None}
+    return [f"{line:8}  {sites[line]}" for line in sorted(sites)]
+
+
+def words_of(alarm):
+    transactions, edges = alarm["witness"]["transactions"], alarm["witness"]["edges"]
+    return [cycle(alarm)[2:], *(transaction(k + 1, one) for k, one in enumerate(transactions)),
+            "Each must come before the next, and the last before the first:",
+            *(f"  T{k + 1} before T{(k + 1) % len(edges) + 1}: {place(edge['from']['event'])}, then {place(edge['to']['event'])}"
+              for k, edge in enumerate(edges)), *reasons(alarm)]
+
+
+def explanation_faults(program, log, words, text, status, answer):
+    lines, alarm, serial = text.splitlines(), answer["alarm"], answer["serial"]
+    expected = left_out(answer["left_out"])
+    expected += ["What is left of the log:"] if expected else []
+    if alarm:
+        expected += ["The blocks of this log cannot be serialized.", *words_of(alarm)]
+        lanes = [k for k, line in enumerate(lines) if line.startswith("    line  ")][0]
+        lines = lines[:lanes] + lines[[k for k, line in enumerate(lines) if line.startswith("Line ")][0]:]
+        if "In the source:" in lines:
+            expected += ["In the source:", *sources(alarm)]
+    else:
+        expected += ["The blocks of this log can be serialized.", f"Events: {serial['events']}",
+                     f"Transactions, which can follow one another: {serial['transactions']}"]
+    with open(log, encoding="utf-8") as it:
+        events = sum(1 for line in it) - 1
+    return [what for what, right in (
+        ("lines", lines == expected),
+        ("events", answer["events"] == events),
+        ("verdict", (answer["verdict"] == "not serializable") == (status == 3) == (alarm is not None) == (serial is None)),
+    ) if not right]
+
+
 def told(prediction):
     """The lines of a prediction, up to the cycle."""
     if prediction["kind"] == "deadlock":
@@ -106,7 +168,7 @@ def faults(program, command, log, words, validate):
         return [f"status {status}, {same}"]
     if out.count("\n") != 1 or not out.endswith("\n"):
         return ["not one line"]
-    answer, more = json.loads(out), audit_faults if command == "audit" else prediction_faults
+    answer, more = json.loads(out), {"audit": audit_faults, "explain": explanation_faults, "predict": prediction_faults}[command]
     return more(program, log, words, text, status, answer) + [error.message for error in validate[command](answer)]
 
 
@@ -116,14 +178,14 @@ def validators():
         import referencing
     except ImportError:
         print("not validated: the Python module jsonschema is not installed")
-        return {"audit": lambda answer: [], "predict": lambda answer: []}
+        return {command: lambda answer: [] for command in ("audit", "explain", "predict")}
     schemas = {}
     for name in SCHEMAS:
         with open(os.path.join(DOCS, name), encoding="utf-8") as it:
             schemas[name] = json.load(it)
     known = referencing.Registry().with_resources((name, referencing.Resource.from_contents(schemas[name])) for name in SCHEMAS)
-    audit, predict = (jsonschema.Draft202012Validator(schemas[name], registry=known) for name in SCHEMAS)
-    return {"audit": audit.iter_errors, "predict": predict.iter_errors}
+    audit, explain, predict = (jsonschema.Draft202012Validator(schemas[name], registry=known) for name in SCHEMAS)
+    return {"audit": audit.iter_errors, "explain": explain.iter_errors, "predict": predict.iter_errors}
 
 
 def main(words):
@@ -131,7 +193,8 @@ def main(words):
         print(__doc__)
         return 2
     validate, passed, failed = validators(), 0, 0
-    tries = [("audit", choice) for choice in AUDITS] + [("predict", choice) for choice in PREDICTIONS]
+    tries = [(command, choice) for command, choices in (("audit", AUDITS), ("explain", EXPLANATIONS), ("predict", PREDICTIONS))
+             for choice in choices]
     for log in words[1:]:
         for command, choice in tries:
             wrong = faults(os.path.abspath(words[0]), command, log, choice, validate)

@@ -6,10 +6,10 @@ use Rattle.clap.specs.Words.{ReadsOne, Row, Text, all_of, first_of, first_value,
 use Rattle.clap.specs.declared.parser.matches.Found.{Found}
 use Rattle.clap.proofs.WalkLemmas.{first_value-rows, one_text-rows, raw_values-rows}
 use Rattle.velo_request.specs.declared.request.OutputFormat.{OutputFormat}
-use Rattle.velo_request.specs.declared.request.PredictFormat.{PredictFormat}
+use Rattle.velo_request.specs.declared.request.TextOrJson.{TextOrJson}
 use Rattle.velo_request.specs.declared.request.RandomRuns.{RandomRuns}
 use Rattle.velo_request.specs.declared.request.TheConstants.{MAX_SECONDS}
-use Rattle.velo_arguments.specs.Asked.{AreRandomRuns, AreSeconds, IsFlag, IsSeed, WritesNumber, form_of, predict_form_of}
+use Rattle.velo_arguments.specs.Asked.{AreRandomRuns, AreSeconds, IsFlag, IsSeed, WritesNumber, form_of, text_or_json_of}
 
 pub option_read : (f : Found) (id : Text) (r : Option (Bor Text)) → option_map (λ s. s.now) r ≡ first_value f id
     → first_of id (rows_of f) ≡ option_map (λ s. s.now) r
@@ -86,9 +86,9 @@ pub form_read : (f : Found) (id : Text) (r : Option (Bor Text)) (form : OutputFo
     → form ≡ form_of (option_map (λ s. s.now) r) → form ≡ form_of (first_of id (rows_of f))
 form_read f id r form read is = is ∙ ap form_of (sym (option_read f id r read))
 
-pub predict_form_read : (f : Found) (id : Text) (r : Option (Bor Text)) (form : PredictFormat) → option_map (λ s. s.now) r ≡ first_value f id
-    → form ≡ predict_form_of (option_map (λ s. s.now) r) → form ≡ predict_form_of (first_of id (rows_of f))
-predict_form_read f id r form read is = is ∙ ap predict_form_of (sym (option_read f id r read))
+pub text_or_json_read : (f : Found) (id : Text) (r : Option (Bor Text)) (form : TextOrJson) → option_map (λ s. s.now) r ≡ first_value f id
+    → form ≡ text_or_json_of (option_map (λ s. s.now) r) → form ≡ text_or_json_of (first_of id (rows_of f))
+text_or_json_read f id r form read is = is ∙ ap text_or_json_of (sym (option_read f id r read))
 
 -- ---- where nothing is asked for
 

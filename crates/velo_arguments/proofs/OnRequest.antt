@@ -30,7 +30,7 @@ use Rattle.velo_request.specs.declared.request.ThinOptions.{ThinOptions}
 use Rattle.velo_request.specs.declared.request.VerifyOptions.{VerifyOptions}
 use Rattle.velo_request.specs.declared.request.Request.{Request}
 use Rattle.velo_request.specs.declared.request.Request.TheVariants.{Audit, Carry, Check, Explain, Explore, Predict, Replay, Run, Thin, Verify, Watch, WatchEndless}
-use Rattle.velo_arguments.specs.Asked.{AreLeftOut, AreLimits, AreRandomRuns, AreSeconds, AreTurns, AsksFor, AsksForNothing, AsksAudit, AsksCarry, AsksCheck, AsksExplain, AsksExplore, IsFlag, AsksPredict, AsksReplay, AsksRun, IsSchedule, IsSeed, AsksThin, AsksVerify, WritesNumber, form_of, predict_form_of}
+use Rattle.velo_arguments.specs.Asked.{AreLeftOut, AreLimits, AreRandomRuns, AreSeconds, AreTurns, AsksFor, AsksForNothing, AsksAudit, AsksCarry, AsksCheck, AsksExplain, AsksExplore, IsFlag, AsksPredict, AsksReplay, AsksRun, IsSchedule, IsSeed, AsksThin, AsksVerify, WritesNumber, form_of, text_or_json_of}
 use Rattle.velo_arguments.specs.CommandLine.{asked_by, audit, carry, check, command_line, explain, explore, faults_of, predict, replay, run, thin, verify, watch}
 use Rattle.velo_arguments.proofs.OnLimits.{HasLimit, HasWide, HasWord, MayHave}
 use Rattle.velo_arguments.proofs.OnWalk.{Each, found_has}
@@ -183,6 +183,7 @@ an_explanation rows word =
         input = a_path word.0;
         target = a_path_if (first_of (codes "dot") rows);
         drawing = a_path_if (first_of (codes "svg") rows);
+        format = text_or_json_of (first_of (codes "format") rows);
         names = a_path_if (first_of (codes "names") rows);
         sites = a_path_if (first_of (codes "sites") rows);
         ignored = left.0;
@@ -191,6 +192,7 @@ an_explanation rows word =
         word.1,
         path_of (first_of (codes "dot") rows),
         path_of (first_of (codes "svg") rows),
+        refl,
         path_of (first_of (codes "names") rows),
         path_of (first_of (codes "sites") rows),
         left.1,
@@ -330,7 +332,7 @@ a_predicting rows word has =
         tries = tries.0;
         seed = seed.0;
         target = a_path_if (first_of (codes "log") rows);
-        format = predict_form_of (first_of (codes "format") rows);
+        format = text_or_json_of (first_of (codes "format") rows);
         limits = limits.0;
         some_try = tries.1;
         few_tries = tries.2;

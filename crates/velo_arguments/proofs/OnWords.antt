@@ -16,7 +16,7 @@ use Rattle.velo_request.specs.declared.request.CheckOptions.{CheckOptions}
 use Rattle.velo_request.specs.declared.request.EndlessOptions.{EndlessOptions}
 use Rattle.velo_request.specs.declared.request.ExplainOptions.{ExplainOptions}
 use Rattle.velo_request.specs.declared.request.OutputFormat.TheVariants as form
-use Rattle.velo_request.specs.declared.request.PredictFormat.TheVariants as predict_form
+use Rattle.velo_request.specs.declared.request.TextOrJson.TheVariants as text_or_json
 use Rattle.velo_request.specs.declared.request.PredictOptions.{PredictOptions}
 use Rattle.velo_request.specs.declared.request.ReplayOptions.{ReplayOptions}
 use Rattle.velo_request.specs.declared.request.RunOptions.{RunOptions}
@@ -86,7 +86,7 @@ replay_asks options text schedule says file stop log names events nodes certific
   ),
 )
 
-replay_gives : given_by (asked_by replay_words) ≡ record { states = false; seed = false; schedule = true; certificate = false; other_form = false; other_predict_form = false }
+replay_gives : given_by (asked_by replay_words) ≡ record { states = false; seed = false; schedule = true; certificate = false; other_form = false; neither_text_nor_json = false }
 unfolding asked_by walked
 replay_gives = refl
 
@@ -155,19 +155,19 @@ replay_file_asks options path schedule says file stop log names events nodes cer
 
 -- a log without a label and a lock, a picture and a drawing
 abbrev explain_words : List Text
-explain_words = codes "velodrome" ∷ codes "explain" ∷ codes "a" ∷ codes "--dot" ∷ codes "p" ∷ codes "--svg=d" ∷ codes "--names=n" ∷ codes "--sites" ∷ codes "s" ∷ codes "--ignore-lock=m" ∷ codes "--ignore-label" ∷ codes "7" ∷ []
+explain_words = codes "velodrome" ∷ codes "explain" ∷ codes "a" ∷ codes "--dot" ∷ codes "p" ∷ codes "--svg=d" ∷ codes "--format=json" ∷ codes "--names=n" ∷ codes "--sites" ∷ codes "s" ∷ codes "--ignore-lock=m" ∷ codes "--ignore-label" ∷ codes "7" ∷ []
 
 explain_is_right : faults_of explain_words ≡ []
 unfolding faults_of walk_fault walked defaults_fault
 explain_is_right = refl
 
 explain_asks : (options : ExplainOptions) → options.input.now ≡ codes "a" → option_map (λ path. path.now) options.target ≡ Some (codes "p")
-    → option_map (λ path. path.now) options.drawing ≡ Some (codes "d") → option_map (λ path. path.now) options.names ≡ Some (codes "n") → option_map (λ path. path.now) options.sites ≡ Some (codes "s")
+    → option_map (λ path. path.now) options.drawing ≡ Some (codes "d") → options.format ≡ text_or_json.Json → option_map (λ path. path.now) options.names ≡ Some (codes "n") → option_map (λ path. path.now) options.sites ≡ Some (codes "s")
     → options.ignored.known ≡ None → map (λ w. w.now) options.ignored.labels.now ≡ codes "7" ∷ [] → map (λ w. w.now) options.ignored.locks.now ≡ codes "m" ∷ [] → map (λ w. w.now) options.ignored.variables.now ≡ []
     → options.ignored.all_locks ≡ false → AsksFor (asked_by explain_words) (Explain options)
 unfolding asked_by walked
-explain_asks options log dot svg names sites known labels locks variables all =
-    (refl, (ap Some (sym log), sym dot, sym svg, sym names, sym sites, (ap (option_map (λ path. path.now)) (sym known), sym labels, sym locks, sym variables, search rules)))
+explain_asks options log dot svg format names sites known labels locks variables all =
+    (refl, (ap Some (sym log), sym dot, sym svg, format, sym names, sym sites, (ap (option_map (λ path. path.now)) (sym known), sym labels, sym locks, sym variables, search rules)))
 
 -- a log, and the file for it
 abbrev carry_words : List Text
@@ -213,7 +213,7 @@ explore_asks options file states seconds first progress random log names events 
   ),
 )
 
-explore_gives : given_by (asked_by explore_words) ≡ record { states = false; seed = false; schedule = false; certificate = false; other_form = false; other_predict_form = false }
+explore_gives : given_by (asked_by explore_words) ≡ record { states = false; seed = false; schedule = false; certificate = false; other_form = false; neither_text_nor_json = false }
 unfolding asked_by walked
 explore_gives = refl
 
@@ -225,7 +225,7 @@ chance_is_right : faults_of chance_words ≡ []
 unfolding faults_of walk_fault walked defaults_fault
 chance_is_right = refl
 
-chance_gives : given_by (asked_by chance_words) ≡ record { states = false; seed = true; schedule = false; certificate = false; other_form = false; other_predict_form = false }
+chance_gives : given_by (asked_by chance_words) ≡ record { states = false; seed = true; schedule = false; certificate = false; other_form = false; neither_text_nor_json = false }
 unfolding asked_by walked
 chance_gives = refl
 
@@ -257,7 +257,7 @@ unfolding asked_by walked
 endless_asks options log stop events nodes names =
     (refl, (search rules, (ap Some (sym log), search rules, search rules, ap (option_map (λ path. path.now)) (sym names))))
 
-endless_gives : given_by (asked_by endless_words) ≡ record { states = false; seed = false; schedule = false; certificate = true; other_form = false; other_predict_form = false }
+endless_gives : given_by (asked_by endless_words) ≡ record { states = false; seed = false; schedule = false; certificate = true; other_form = false; neither_text_nor_json = false }
 unfolding asked_by walked
 endless_gives = refl
 
@@ -298,7 +298,7 @@ predict_asks : (options : PredictOptions) → options.input.now ≡ codes "a" �
     → map (λ w. w.now) options.ignored.labels.now ≡ [] → map (λ w. w.now) options.ignored.locks.now ≡ [] → map (λ w. w.now) options.ignored.variables.now ≡ []
     → options.ignored.all_locks ≡ false → options.values ≡ true
     → options.tries ≡ DEFAULT_TRIES → options.seed ≡ DEFAULT_SEED → option_map (λ path. path.now) options.target ≡ Some (codes "o")
-    → options.format ≡ predict_form.Json → options.limits.events ≡ 16777216 → options.limits.nodes ≡ 4096 → AsksFor (asked_by predict_words) (Predict options)
+    → options.format ≡ text_or_json.Json → options.limits.events ≡ 16777216 → options.limits.nodes ≡ 4096 → AsksFor (asked_by predict_words) (Predict options)
 unfolding asked_by walked
 predict_asks options log names sites known labels locks variables all values tries seed out format events nodes = (
   refl,
@@ -324,7 +324,7 @@ sarif_is_right : faults_of sarif_words ≡ []
 unfolding faults_of walk_fault walked defaults_fault
 sarif_is_right = refl
 
-sarif_gives : given_by (asked_by sarif_words) ≡ record { states = false; seed = false; schedule = false; certificate = false; other_form = false; other_predict_form = true }
+sarif_gives : given_by (asked_by sarif_words) ≡ record { states = false; seed = false; schedule = false; certificate = false; other_form = false; neither_text_nor_json = true }
 unfolding asked_by walked
 sarif_gives = refl
 
@@ -363,7 +363,7 @@ no_locks_is_right : faults_of no_locks_words ≡ []
 unfolding faults_of walk_fault walked defaults_fault
 no_locks_is_right = refl
 
-no_locks_gives : given_by (asked_by no_locks_words) ≡ record { states = false; seed = false; schedule = false; certificate = false; other_form = true; other_predict_form = true }
+no_locks_gives : given_by (asked_by no_locks_words) ≡ record { states = false; seed = false; schedule = false; certificate = false; other_form = true; neither_text_nor_json = true }
 unfolding asked_by walked
 no_locks_gives = refl
 

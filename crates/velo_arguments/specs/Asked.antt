@@ -14,8 +14,8 @@ use Rattle.velo_request.specs.declared.request.CarryOptions.{CarryOptions}
 use Rattle.velo_request.specs.declared.request.CheckOptions.{CheckOptions}
 use Rattle.velo_request.specs.declared.request.EndlessOptions.{EndlessOptions}
 use Rattle.velo_request.specs.declared.request.ExploreOptions.{ExploreOptions}
-use Rattle.velo_request.specs.declared.request.PredictFormat.{PredictFormat}
-use Rattle.velo_request.specs.declared.request.PredictFormat.TheVariants as predict_form
+use Rattle.velo_request.specs.declared.request.TextOrJson.{TextOrJson}
+use Rattle.velo_request.specs.declared.request.TextOrJson.TheVariants as text_or_json
 use Rattle.velo_request.specs.declared.request.PredictOptions.{PredictOptions}
 use Rattle.velo_request.specs.declared.request.RandomRuns.{RandomRuns}
 use Rattle.velo_request.specs.declared.request.RunOptions.{RunOptions}
@@ -101,11 +101,22 @@ AreLeftOut rows ignored =
     × AreWords (codes "ignore-variable") rows ignored.variables.now
     × IsFlag (one_of (codes "ignore-locks") rows) ignored.all_locks
 
+-- the one of the two forms that a word names, if it names one
+abbrev pub text_or_json_named : Text → Option TextOrJson
+text_or_json_named word =
+    if bytes_eq word (codes "text") then Some text_or_json.Text
+    else (if bytes_eq word (codes "json") then Some text_or_json.Json else None)
+
+-- the one of the two that is asked for: text, where no other one is named
+abbrev pub text_or_json_of : Option Text → TextOrJson
+text_or_json_of word = unwrap_or (option_and_then text_or_json_named word) text_or_json.Text
+
 abbrev pub AsksExplain : List Row → ExplainOptions → Type 0
 AsksExplain rows options =
     (first_of (codes "LOG") rows ≡ Some options.input.now)
     × IsPath (codes "dot") rows options.target
     × IsPath (codes "svg") rows options.drawing
+    × (options.format ≡ text_or_json_of (first_of (codes "format") rows))
     × IsPath (codes "names") rows options.names
     × IsPath (codes "sites") rows options.sites
     × AreLeftOut rows options.ignored
@@ -200,16 +211,6 @@ AsksThin rows options =
     × (first_of (codes "log") rows ≡ Some options.target.now)
     × IsPath (codes "map") rows options.map
 
--- the form of predictions that a word names, if it names one
-abbrev pub predict_form_named : Text → Option PredictFormat
-predict_form_named word =
-    if bytes_eq word (codes "text") then Some predict_form.Text
-    else (if bytes_eq word (codes "json") then Some predict_form.Json else None)
-
--- the form that is asked for: text, where no other one is named
-abbrev pub predict_form_of : Option Text → PredictFormat
-predict_form_of word = unwrap_or (option_and_then predict_form_named word) predict_form.Text
-
 abbrev pub AsksPredict : List Row → PredictOptions → Type 0
 AsksPredict rows options =
     (first_of (codes "LOG") rows ≡ Some options.input.now)
@@ -220,7 +221,7 @@ AsksPredict rows options =
     × WritesNumber 32 (one_of (codes "tries") rows) options.tries
     × IsSeed rows options.seed
     × IsPath (codes "log") rows options.target
-    × (options.format ≡ predict_form_of (first_of (codes "format") rows))
+    × (options.format ≡ text_or_json_of (first_of (codes "format") rows))
     × AreLimits rows options.limits
 
 abbrev pub AsksVerify : List Row → VerifyOptions → Type 0

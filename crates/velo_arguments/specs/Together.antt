@@ -7,6 +7,7 @@ use Rattle.clap.specs.Takes.{is_given}
 use Rattle.clap.specs.Words.{Row, first_of}
 use Rattle.velo_request.specs.declared.request.AuditOptions.{AuditOptions}
 use Rattle.velo_request.specs.declared.request.EndlessOptions.{EndlessOptions}
+use Rattle.velo_request.specs.declared.request.ExplainOptions.{ExplainOptions}
 use Rattle.velo_request.specs.declared.request.ExploreOptions.{ExploreOptions}
 use Rattle.velo_request.specs.declared.request.PredictOptions.{PredictOptions}
 use Rattle.velo_request.specs.declared.request.RandomRuns.{RandomRuns}
@@ -15,9 +16,9 @@ use Rattle.velo_request.specs.declared.request.Request.{Request}
 use Rattle.velo_request.specs.declared.request.Request.TheVariants.{Audit, Carry, Check, Explain, Explore, Predict, Replay, Run, Thin, Verify, Watch, WatchEndless}
 use Rattle.velo_request.specs.declared.request.ScheduleSource.{ScheduleSource}
 use Rattle.velo_request.specs.declared.request.ScheduleSource.TheVariants as schedule
-use Rattle.velo_arguments.specs.Asked.{Matches, AsksFor, form_named, predict_form_named}
+use Rattle.velo_arguments.specs.Asked.{Matches, AsksFor, form_named, text_or_json_named}
 use Rattle.velo_arguments.specs.declared.together.Clash.{Clash}
-use Rattle.velo_arguments.specs.declared.together.Clash.TheVariants.{DrawingIsPicture, EndlessCertificate, InputTwice, MapIsLog, NamesWithoutLog, NoSuchForm, NoSuchPredictForm, OnePath, SearchByChance, SeedAlone, TwoSchedules}
+use Rattle.velo_arguments.specs.declared.together.Clash.TheVariants.{DrawingIsPicture, EndlessCertificate, InputTwice, MapIsLog, NamesWithoutLog, NeitherTextNorJson, NoSuchForm, OnePath, SearchByChance, SeedAlone, TwoSchedules}
 use Rattle.velo_arguments.specs.declared.together.Given.{Given}
 
 -- ---- paths
@@ -64,10 +65,10 @@ abbrev pub is_other_form : Option (List ℕ) → Bool
 is_other_form None = false
 is_other_form (Some word) = not (is_some (form_named word))
 
--- a word is given that names no form of predictions
-abbrev pub is_other_predict_form : Option (List ℕ) → Bool
-is_other_predict_form None = false
-is_other_predict_form (Some word) = not (is_some (predict_form_named word))
+-- a word is given that names neither of two forms
+abbrev pub is_neither_text_nor_json : Option (List ℕ) → Bool
+is_neither_text_nor_json None = false
+is_neither_text_nor_json (Some word) = not (is_some (text_or_json_named word))
 
 -- which of the options that a request does not show are given by the values of a subcommand
 abbrev pub given_in : List Row → Given
@@ -77,7 +78,7 @@ given_in rows = record {
   schedule = is_given (codes "schedule") rows;
   certificate = is_given (codes "certificate") rows;
   other_form = is_other_form (first_of (codes "format") rows);
-  other_predict_form = is_other_predict_form (first_of (codes "format") rows);
+  neither_text_nor_json = is_neither_text_nor_json (first_of (codes "format") rows);
 }
 
 abbrev pub given_by : Matches → Given
@@ -87,7 +88,7 @@ given_by None = record {
   schedule = false;
   certificate = false;
   other_form = false;
-  other_predict_form = false;
+  neither_text_nor_json = false;
 }
 given_by (Some found) = given_in found.1
 
@@ -119,6 +120,19 @@ clash_of_search options given =
     clash_of_chance options.random
     (given.states || (options.first || (options.progress || is_some options.seconds))) given.seed
 
+-- ---- an explanation
+
+-- it is to have a form that there is not; or standard input is read twice, or one path is written twice
+abbrev pub clash_of_explain : ExplainOptions → Bool → Option Clash
+clash_of_explain options other_form =
+    if other_form
+    then Some NeitherTextNorJson
+    else option_or
+    (clash_of_inputs
+    (options.input.now ∷ path_if options.names ++ path_if options.sites
+    ++ path_if options.ignored.known))
+    (clash_of_drawing options.target options.drawing)
+
 -- ---- an audit
 
 -- its answer is to have a form that there is not; or standard input is read twice
@@ -132,11 +146,11 @@ clash_of_audit options other_form =
 
 -- ---- a search for predictions
 
--- the same, with the forms that predictions have
+-- the same, with two forms
 abbrev pub clash_of_predict : PredictOptions → Bool → Option Clash
 clash_of_predict options other_form =
     if other_form
-    then Some NoSuchPredictForm
+    then Some NeitherTextNorJson
     else clash_of_inputs
     (options.input.now ∷ path_if options.names ++ path_if options.sites
     ++ path_if options.ignored.known)
@@ -157,12 +171,7 @@ abbrev pub clash_of : Request → Given → Option Clash
 clash_of (Check options) given = clash_of_inputs (options.input.now ∷ path_if options.names)
 clash_of (Replay options) given = clash_of_replay options given.schedule
 clash_of (Run options) given = clash_of_targets options.target options.names_target
-clash_of (Explain options) given =
-    option_or
-    (clash_of_inputs
-    (options.input.now ∷ path_if options.names ++ path_if options.sites
-    ++ path_if options.ignored.known))
-    (clash_of_drawing options.target options.drawing)
+clash_of (Explain options) given = clash_of_explain options given.neither_text_nor_json
 clash_of (Carry options) given = None
 clash_of (Explore options) given =
     option_or (clash_of_search options given)
@@ -171,7 +180,7 @@ clash_of (Watch options) given = clash_of_inputs (options.input.now ∷ path_if 
 clash_of (WatchEndless options) given = clash_of_endless options given.certificate
 clash_of (Audit options) given = clash_of_audit options given.other_form
 clash_of (Thin options) given = clash_of_map options.target.now options.map
-clash_of (Predict options) given = clash_of_predict options given.other_predict_form
+clash_of (Predict options) given = clash_of_predict options given.neither_text_nor_json
 clash_of (Verify options) given = clash_of_inputs (options.input.now ∷ options.report.now ∷ [])
 
 -- the request that is asked for, whose options go together
@@ -188,8 +197,8 @@ pub record IsApart (asked : Matches) (clash : Clash) : Type 0 where
 abbrev pub line_of_clash : Clash → List ℕ
 line_of_clash InputTwice = codes "error: standard input can be read once\n"
 line_of_clash NamesWithoutLog = codes "error: --names-out goes only with --log\n"
+line_of_clash NeitherTextNorJson = codes "error: --format takes text or json\n"
 line_of_clash NoSuchForm = codes "error: --format takes text, json, sarif or junit\n"
-line_of_clash NoSuchPredictForm = codes "error: --format takes text or json\n"
 line_of_clash OnePath = codes "error: OUT and NAMES are one file\n"
 line_of_clash SearchByChance =
     codes "error: --random goes with neither --states nor --seconds nor --first nor --progress\n"

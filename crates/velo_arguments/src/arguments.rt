@@ -10,8 +10,8 @@ use crate::options::{
     ALL_EVENTS, ALL_NODES, Argument, BY_COUNT, CARRIED_LOG, CERTIFICATE, COUNTS, DELAY_SEED, DOT,
     ENDLESS, EVENTS, FILE, FIRST, FORMAT, FOUND_LOG, IGNORE_LABEL, IGNORE_LOCK, IGNORE_LOCKS,
     IGNORE_VARIABLE, INNERMOST, LOG, MAP, NAMES, NAMES_OUT, NO_WITNESS, NODES, NOT_ATOMIC,
-    PREDICT_FORMAT, PREDICTED_LOG, PROGRESS, RANDOM, REPORT, RUN_LOG, RUN_SEED, SCHEDULE, SECONDS,
-    SITES, STATES, STOP, STOP_WATCH, SVG, TRIES, TURNS, VALUES, WHY, argument_of,
+    PREDICTED_LOG, PROGRESS, RANDOM, REPORT, RUN_LOG, RUN_SEED, SCHEDULE, SECONDS, SITES, STATES,
+    STOP, STOP_WATCH, SVG, TEXT_OR_JSON, TRIES, TURNS, VALUES, WHY, argument_of,
 };
 use clap::Command;
 use std::alloc::Global;
@@ -109,6 +109,7 @@ fn explain<'a>(alloc: Global) -> Result<Command<'a>, Memory>
         LOG,
         DOT,
         SVG,
+        TEXT_OR_JSON,
         NAMES,
         SITES,
         NOT_ATOMIC,
@@ -199,7 +200,7 @@ fn predict<'a>(alloc: Global) -> Result<Command<'a>, Memory>
         VALUES,
         TRIES,
         DELAY_SEED,
-        PREDICT_FORMAT,
+        TEXT_OR_JSON,
         NAMES,
         SITES,
         NOT_ATOMIC,

@@ -172,7 +172,8 @@ the log, and how many lines are between two rows. Then it says which event close
 transactions are on it, which two events make each edge, and which blocks are to blame and why.
 
 --svg writes the same as a drawing that a browser shows, in one file: a column for each thread, blocks
-as bars, and an arrow for each edge. --dot writes the cycle alone, for Graphviz.
+as bars, and an arrow for each edge. --dot writes the cycle alone, for Graphviz. --format json prints the
+same for other programs, as one JSON object. docs/FORMATS.md describes it.
 
 For a log without an alarm it prints how many transactions a serial order has. It then prints no
 lanes, draws nothing, and opens neither OUT nor SVG. With --names the lanes, the words, the picture and
@@ -195,12 +196,13 @@ is not compared with OUT and SVG.
 
 Statuses, each with the lines on standard error:
   0  no alarm, or help
-  2  usage; 'error: standard input can be read once'; 'error: LOG and OUT are one file', the same of
-     LOG and SVG, and of OUT and SVG; the text is no log: 'log fault K', 'log fault K line N'; an event
-     cannot happen: 'refused K at P', 'wrong value at P'; the text of --names is no file of names:
-     'names fault K line N'; the text of --sites is no file of sites, or of another log:
-     'sites fault K line N'; the text of --not-atomic is no list: 'list fault K line N'; a word of
-     --ignore-label, --ignore-lock or --ignore-variable means nothing: 'ignored fault K'
+  2  usage; 'error: standard input can be read once'; 'error: --format takes text or json';
+     'error: LOG and OUT are one file', the same of LOG and SVG, and of OUT and SVG; the text is no log:
+     'log fault K', 'log fault K line N'; an event cannot happen: 'refused K at P', 'wrong value at P';
+     the text of --names is no file of names: 'names fault K line N'; the text of --sites is no file of
+     sites, or of another log: 'sites fault K line N'; the text of --not-atomic is no list:
+     'list fault K line N'; a word of --ignore-label, --ignore-lock or --ignore-variable means nothing:
+     'ignored fault K'
   3  an alarm: no serial reordering of the log, or of what is left of it, exists
   5  memory or a device failed: 'out of memory', 'read failed', 'write failed', 'cannot open'
 

@@ -255,7 +255,7 @@ pub const FORMAT: Argument<'static> = Argument {
     help: "Print the answer as text, json, sarif or junit [default: text]",
 };
 
-pub const PREDICT_FORMAT: Argument<'static> = Argument {
+pub const TEXT_OR_JSON: Argument<'static> = Argument {
     name: "format",
     takes: Takes::Value("FORM"),
     help: "Print the answer as text or json [default: text]",

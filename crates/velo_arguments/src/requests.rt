@@ -15,14 +15,14 @@ ghost use Rattle.velo_request.specs.declared.request.RunOptions.{RunOptions};
 ghost use Rattle.velo_request.specs.declared.request.ThinOptions.{ThinOptions};
 ghost use Rattle.velo_request.specs.declared.request.VerifyOptions.{VerifyOptions};
 ghost use Rattle.velo_request.specs.declared.request.WatchOptions.{WatchOptions};
-ghost use Rattle.velo_arguments.specs.Asked.{AreLeftOut, AreLimits, AreRandomRuns, AreSeconds, AreTurns, AsksFor, AsksForNothing, AsksAudit, AsksCarry, AsksCheck, AsksEndless, AsksExplain, AsksExplore, AsksPredict, AsksReplay, AsksRun, IsSchedule, IsSeed, AsksThin, AsksVerify, AsksWatch, WritesNumber, form_named, form_of, predict_form_named, predict_form_of};
+ghost use Rattle.velo_arguments.specs.Asked.{AreLeftOut, AreLimits, AreRandomRuns, AreSeconds, AreTurns, AsksFor, AsksForNothing, AsksAudit, AsksCarry, AsksCheck, AsksEndless, AsksExplain, AsksExplore, AsksPredict, AsksReplay, AsksRun, IsSchedule, IsSeed, AsksThin, AsksVerify, AsksWatch, WritesNumber, form_named, form_of, text_or_json_named, text_or_json_of};
 
 use clap::ArgMatches;
 use velo_events::{MAX_EVENTS, MAX_NODES};
 use velo_request::{
     AuditOptions, CarryOptions, CheckOptions, DEFAULT_SEED, EndlessOptions, ExplainOptions,
     ExploreOptions, Ignored, Limits, MAX_RUNS, MAX_SECONDS, MAX_STATES, MAX_TRIES, OutputFormat,
-    PredictFormat, PredictOptions, RandomRuns, ReplayOptions, Request, RunOptions, ScheduleSource,
+    PredictOptions, RandomRuns, ReplayOptions, Request, RunOptions, ScheduleSource, TextOrJson,
     ThinOptions, VerifyOptions, WatchOptions,
 };
 
@@ -116,6 +116,25 @@ fn run_options<'a>(found: &ArgMatches<'a>) -> Option<RunOptions<'a>>
     })
 }
 
+/// The one of the two forms that a word names, if it names one.
+pub fn text_or_json_named(word: &str) -> Option<TextOrJson>
+    ensures { result ≡ text_or_json_named word.now }
+{
+    match word {
+        "text" => Some(TextOrJson::Text),
+        "json" => Some(TextOrJson::Json),
+        _ => None,
+    }
+}
+
+/// The one of the two that is asked for: text, where no other one is named.
+fn text_or_json_of(word: Option<&str>) -> TextOrJson
+    ensures { result ≡ text_or_json_of (option_map (λ w. w.now) word.entry) }
+{
+    word.and_then(text_or_json_named)
+        .unwrap_or(TextOrJson::Text)
+}
+
 fn explain_options<'a>(found: &'a ArgMatches) -> Option<ExplainOptions<'a>>
     ensures some { IfSome result (AsksExplain (rows_of (found_of found.now))) }
     ensures none { IfNone result ((options : ExplainOptions)
@@ -125,6 +144,7 @@ fn explain_options<'a>(found: &'a ArgMatches) -> Option<ExplainOptions<'a>>
         input: found.get_str("LOG")?,
         target: found.get_str("dot"),
         drawing: found.get_str("svg"),
+        format: text_or_json_of(found.get_str("format")),
         names: found.get_str("names"),
         sites: found.get_str("sites"),
         ignored: left_out(found),
@@ -317,25 +337,6 @@ fn verify_options<'a>(found: &ArgMatches<'a>) -> Option<VerifyOptions<'a>>
     })
 }
 
-/// The form of predictions that a word names, if it names one.
-pub fn predict_form_named(word: &str) -> Option<PredictFormat>
-    ensures { result ≡ predict_form_named word.now }
-{
-    match word {
-        "text" => Some(PredictFormat::Text),
-        "json" => Some(PredictFormat::Json),
-        _ => None,
-    }
-}
-
-/// The form that is asked for: text, where no other one is named.
-fn predict_form_of(word: Option<&str>) -> PredictFormat
-    ensures { result ≡ predict_form_of (option_map (λ w. w.now) word.entry) }
-{
-    word.and_then(predict_form_named)
-        .unwrap_or(PredictFormat::Text)
-}
-
 fn predict_options<'a>(found: &'a ArgMatches) -> Option<PredictOptions<'a>>
     ensures some { IfSome result (AsksPredict (rows_of (found_of found.now))) }
     ensures none { IfNone result ((options : PredictOptions)
@@ -350,7 +351,7 @@ fn predict_options<'a>(found: &'a ArgMatches) -> Option<PredictOptions<'a>>
         tries: number_of(found, "tries", MAX_TRIES)?,
         seed: seed_of(found)?,
         target: found.get_str("log"),
-        format: predict_form_of(found.get_str("format")),
+        format: text_or_json_of(found.get_str("format")),
         limits: limits_of(found)?,
     })
 }

@@ -5,14 +5,14 @@ ghost use Rattle.std.specs.Str.{bytes_eq};
 ghost use Rattle.clap.specs.Takes.{is_given};
 ghost use Rattle.clap.specs.Words.{found_of, rows_of, subcommand_rows_of};
 ghost use Rattle.velo_arguments.specs.Asked.{AsksForNothing};
-ghost use Rattle.velo_arguments.specs.Together.{IsApart, IsTogether, clash_of, clash_of_audit, clash_of_chance, clash_of_drawing, clash_of_endless, clash_of_inputs, clash_of_map, clash_of_predict, clash_of_replay, clash_of_schedule, clash_of_search, clash_of_targets, given_by, given_in, is_other_form, is_other_predict_form, line_of_clash, path_if, schedule_path_if};
+ghost use Rattle.velo_arguments.specs.Together.{IsApart, IsTogether, clash_of, clash_of_audit, clash_of_chance, clash_of_drawing, clash_of_endless, clash_of_explain, clash_of_inputs, clash_of_map, clash_of_predict, clash_of_replay, clash_of_schedule, clash_of_search, clash_of_targets, given_by, given_in, is_other_form, is_neither_text_nor_json, line_of_clash, path_if, schedule_path_if};
 
-use crate::requests::{form_named, predict_form_named, request_of};
+use crate::requests::{form_named, request_of, text_or_json_named};
 use clap::ArgMatches;
 use clap::parser::ValueSource;
 use velo_request::{
-    AuditOptions, EndlessOptions, ExploreOptions, PredictOptions, RandomRuns, ReplayOptions,
-    Request, ScheduleSource,
+    AuditOptions, EndlessOptions, ExplainOptions, ExploreOptions, PredictOptions, RandomRuns,
+    ReplayOptions, Request, ScheduleSource,
 };
 
 /// Why the options of a request do not go together.
@@ -28,10 +28,10 @@ pub enum Clash {
     MapIsLog,
     /// The names of a run are to be saved, and its log is not.
     NamesWithoutLog,
+    /// The form of an explanation or of predictions is to be neither of the two.
+    NeitherTextNorJson,
     /// No form of an answer has this name.
     NoSuchForm,
-    /// No form of predictions has this name.
-    NoSuchPredictForm,
     /// The log and the names of a run are to be saved at one path.
     OnePath,
     /// Random runs are asked for, and what a search alone has.
@@ -55,8 +55,8 @@ pub struct Given {
     pub certificate: bool,
     /// `--format`, with a word that names no form.
     pub other_form: bool,
-    /// `--format`, with a word that names no form of predictions.
-    pub other_predict_form: bool,
+    /// `--format`, with a word that names neither of two forms.
+    pub neither_text_nor_json: bool,
 }
 
 /// Whether the words give this option: a value by default does not count.
@@ -80,12 +80,12 @@ fn is_other_form(word: Option<&str>) -> bool
     }
 }
 
-/// Whether a word is given that names no form of predictions.
-fn is_other_predict_form(word: Option<&str>) -> bool
-    ensures { result ≡ is_other_predict_form (option_map (λ w. w.now) word.entry) }
+/// Whether a word is given that names neither of two forms.
+fn is_neither_text_nor_json(word: Option<&str>) -> bool
+    ensures { result ≡ is_neither_text_nor_json (option_map (λ w. w.now) word.entry) }
 {
     match word {
-        Some(word) => predict_form_named(word).is_none(),
+        Some(word) => text_or_json_named(word).is_none(),
         None => false,
     }
 }
@@ -100,7 +100,7 @@ fn given_in(found: &ArgMatches) -> Given
         schedule: is_given(found, "schedule"),
         certificate: is_given(found, "certificate"),
         other_form: is_other_form(found.get_str("format")),
-        other_predict_form: is_other_predict_form(found.get_str("format")),
+        neither_text_nor_json: is_neither_text_nor_json(found.get_str("format")),
     }
 }
 
@@ -116,7 +116,7 @@ fn given_by(matches: &ArgMatches) -> Given
             schedule: false,
             certificate: false,
             other_form: false,
-            other_predict_form: false,
+            neither_text_nor_json: false,
         },
     }
 }
@@ -129,15 +129,7 @@ fn clash_of(request: &Request, given: Given) -> Option<Clash>
         Request::Check(options) => clash_of_inputs(options.input, options.names),
         Request::Replay(options) => clash_of_replay(options, given.schedule),
         Request::Run(options) => clash_of_targets(options.target, options.names_target),
-        Request::Explain(options) => {
-            clash_of_files(
-                options.input,
-                options.names,
-                options.sites,
-                options.ignored.known,
-            )
-            .or(clash_of_drawing(options.target, options.drawing))
-        }
+        Request::Explain(options) => clash_of_explain(options, given.neither_text_nor_json),
         Request::Carry(_) => None,
         Request::Explore(options) => clash_of_search(options, given).or(clash_of_targets(
             options.target,
@@ -147,7 +139,7 @@ fn clash_of(request: &Request, given: Given) -> Option<Clash>
         Request::WatchEndless(options) => clash_of_endless(options, given.certificate),
         Request::Audit(options) => clash_of_audit(options, given.other_form),
         Request::Thin(options) => clash_of_map(options.target, options.map),
-        Request::Predict(options) => clash_of_predict(options, given.other_predict_form),
+        Request::Predict(options) => clash_of_predict(options, given.neither_text_nor_json),
         Request::Verify(options) => clash_of_inputs(options.input, Some(options.report)),
     }
 }
@@ -211,6 +203,22 @@ fn clash_of_files(
     }
 }
 
+/// An explanation has one of two forms, and no clash of its paths.
+fn clash_of_explain(options: &ExplainOptions, other_form: bool) -> Option<Clash>
+    ensures { result ≡ clash_of_explain options.now other_form }
+{
+    if other_form {
+        return Some(Clash::NeitherTextNorJson);
+    }
+    clash_of_files(
+        options.input,
+        options.names,
+        options.sites,
+        options.ignored.known,
+    )
+    .or(clash_of_drawing(options.target, options.drawing))
+}
+
 /// An audit has a form that there is, and no clash of its paths.
 fn clash_of_audit(options: &AuditOptions, other_form: bool) -> Option<Clash>
     ensures { result ≡ clash_of_audit options.now other_form }
@@ -226,12 +234,12 @@ fn clash_of_audit(options: &AuditOptions, other_form: bool) -> Option<Clash>
     )
 }
 
-/// Predictions have a form that there is, and no clash of their paths.
+/// Predictions have one of two forms, and no clash of their paths.
 fn clash_of_predict(options: &PredictOptions, other_form: bool) -> Option<Clash>
     ensures { result ≡ clash_of_predict options.now other_form }
 {
     if other_form {
-        return Some(Clash::NoSuchPredictForm);
+        return Some(Clash::NeitherTextNorJson);
     }
     clash_of_files(
         options.input,
@@ -338,8 +346,8 @@ pub fn line_of_clash(clash: Clash) -> &'static [u8]
         Clash::InputTwice => b"error: standard input can be read once\n",
         Clash::MapIsLog => b"error: OUT and MAP are one file\n",
         Clash::NamesWithoutLog => b"error: --names-out goes only with --log\n",
+        Clash::NeitherTextNorJson => b"error: --format takes text or json\n",
         Clash::NoSuchForm => b"error: --format takes text, json, sarif or junit\n",
-        Clash::NoSuchPredictForm => b"error: --format takes text or json\n",
         Clash::OnePath => b"error: OUT and NAMES are one file\n",
         Clash::SearchByChance => {
             b"error: --random goes with neither --states nor --seconds nor --first nor --progress\n"

@@ -25,8 +25,8 @@ use Rattle.velo_fate.specs.Failures.{FailuresAsTold}
 use Rattle.velo_delivery.specs.Disk.{Store}
 use Rattle.velo_delivery.specs.Reading.{Reading}
 use Rattle.velo_delivery.specs.Writing.{Writing}
-use Rattle.velo_request.specs.declared.request.PredictFormat.{PredictFormat}
-use Rattle.velo_request.specs.declared.request.PredictFormat.TheVariants.{Json, Text}
+use Rattle.velo_request.specs.declared.request.TextOrJson.{TextOrJson}
+use Rattle.velo_request.specs.declared.request.TextOrJson.TheVariants.{Json, Text}
 use Rattle.velo_request.specs.declared.request.PredictOptions.{PredictOptions}
 use Rattle.velo_audit_commands.specs.declared.predicting.PredictedFindings.{PredictedFindings}
 use Rattle.velo_audit_commands.specs.Auditing.{AreRoundsOf, HasFullGraph, IsOfOtherLog, left_out_at_last}
@@ -65,7 +65,7 @@ first_trace [] [] = None
 
 -- The page of the rounds and the predictions in the form that was asked for: a text, or one JSON
 -- object, which has the path of the log
-abbrev pub predictions_page : PredictFormat → NameLists → Option Table → List Event → List ℕ → Asked
+abbrev pub predictions_page : TextOrJson → NameLists → Option Table → List Event → List ℕ → Asked
     → List Told → List PredictedCycle → List Deadlock → ℕ → List ℕ
 predictions_page Text names sites log path asked rounds founds deadlocks tries =
     predictions_text names sites log asked rounds founds deadlocks tries

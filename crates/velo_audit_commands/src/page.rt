@@ -26,7 +26,7 @@ use velo_inputs::left_out;
 use velo_names::Names;
 use velo_predict_forms::predictions_json;
 use velo_predict_text::predictions_text;
-use velo_request::{AuditOptions, OutputFormat, PredictFormat, PredictOptions};
+use velo_request::{AuditOptions, OutputFormat, PredictOptions, TextOrJson};
 use velo_sites::Sites;
 use velo_tally::marks_of;
 use velo_traces::Trace;
@@ -215,10 +215,10 @@ pub(crate) fn page_of_predictions(
 {
     let input = options.input;
     match options.format {
-        PredictFormat::Text => predictions_text(
+        TextOrJson::Text => predictions_text(
             alloc, names, sites, log, asked, rounds, founds, deadlocks, tries,
         ),
-        PredictFormat::Json => predictions_json(
+        TextOrJson::Json => predictions_json(
             alloc, names, sites, log, input, asked, rounds, founds, deadlocks, tries,
         ),
     }

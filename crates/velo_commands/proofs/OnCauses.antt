@@ -102,16 +102,16 @@ module _ (needs : Needs) where
   of_check names limit nodes certificate read answer done (inl c) = said answer _ c.said done
   of_check names limit nodes certificate read answer done (inr f) = said answer (silent (fate.Check f.0)) f.2 (of_fault limit nodes read f.0 f.1)
 
-  of_explanation : (names : NameLists) (sites : Option Table) (asked : Asked) (read : Option (List ℕ)) (answer : CommandAnswer) (drawing : List ℕ) → EndsByRefusal needs ending.Done → IsExplainAnswer names sites asked read answer drawing
+  of_explanation : (names : NameLists) (sites : Option Table) (asked : Asked) (options : ExplainOptions) (read : Option (List ℕ)) (answer : CommandAnswer) (drawing : List ℕ) → EndsByRefusal needs ending.Done → IsExplainAnswer names sites asked options read answer drawing
       → HasCause answer
-  of_explanation names sites asked read answer drawing done (inl e) =
+  of_explanation names sites asked options read answer drawing done (inl e) =
       ⊎_elim
       (λ whole. ⊎_elim (λ alarm. said answer _ alarm.said done) (λ clean. said answer _ clean.1 done) whole.1)
       (λ rest. ⊎_elim (λ first. said answer _ first.said done) (λ clean. said answer _ clean.1 done) rest.1)
       e.verdict
-  of_explanation names sites asked read answer drawing done (inr (inl other)) = said answer (silent fate.OtherSites) other.said tt
-  of_explanation names sites asked read answer drawing done (inr (inr (inl f))) = said answer (silent (fate.Check f.0)) f.2 (of_fault _ _ read f.0 f.1)
-  of_explanation names sites asked read answer drawing done (inr (inr (inr lacks))) = of_lack answer lacks
+  of_explanation names sites asked options read answer drawing done (inr (inl other)) = said answer (silent fate.OtherSites) other.said tt
+  of_explanation names sites asked options read answer drawing done (inr (inr (inl f))) = said answer (silent (fate.Check f.0)) f.2 (of_fault _ _ read f.0 f.1)
+  of_explanation names sites asked options read answer drawing done (inr (inr (inr lacks))) = of_lack answer lacks
 
   of_audit : (names : NameLists) (sites : Option Table) (asked : Asked) (options : AuditOptions) (read : Option (List ℕ)) (answer : CommandAnswer) → EndsByRefusal needs ending.Done → IsAuditAnswer names sites asked options read answer
       → HasCause answer
@@ -306,7 +306,7 @@ of_audited names asked options store stdout f sites (inr h) = of_delivered Growt
 of_explained : (names : NameLists) (asked : Asked) (options : ExplainOptions) (store : Store) (stdout : Writing) (f : Fate) (sites : Option Table) → ExplainsLog names sites asked options store stdout f → ComesByRefusal Growths f
 of_explained names asked options store stdout f sites (inl h) = unread_apart Growths store.disk Log options.input.now options.target (drawing_of options) f h.0
 of_explained names asked options store stdout f sites (inr h) =
-    of_in_turn Growths store options.target options.drawing h.2 stdout h.1 f (of_explanation Growths names sites asked h.0.bytes h.1 h.2 tt h.5) h.6
+    of_in_turn Growths store options.target options.drawing h.2 stdout h.1 f (of_explanation Growths names sites asked options h.0.bytes h.1 h.2 tt h.5) h.6
 
 of_predicted : (names : NameLists) (asked : Asked) (options : PredictOptions) (store : Store) (stdout : Writing) (f : Fate) (sites : Option Table) → PredictsLog names sites asked options store stdout f → ComesByRefusal Growths f
 of_predicted names asked options store stdout f sites (inl h) = unread Growths store.disk Log options.input.now options.target f h.0

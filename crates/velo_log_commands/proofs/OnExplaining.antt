@@ -8,12 +8,14 @@ use Rattle.velo_events.specs.declared.config.Config.{Config}
 use Rattle.velo_events.specs.declared.event.Event.{Event}
 use Rattle.velo_events.specs.declared.limits.TheConstants.{MAX_EVENTS, MAX_NODES}
 use Rattle.velo_events.specs.Graph.{HasCycle}
+use Rattle.velo_events.specs.WellFormed.{IsWellFormed}
 use Rattle.velo_traces.specs.declared.block.Block.{Block}
 use Rattle.velo_world.specs.declared.analysis.Alarm.{Alarm}
-use Rattle.velo_world.specs.World.{IsAlarm}
+use Rattle.velo_world.specs.World.{IsAlarm, WorldState}
 use Rattle.velo_names.specs.Names.{NameLists}
 use Rattle.velo_sites.specs.Sites.{Table}
 use Rattle.velo_filter.specs.Left.{Left}
+use Rattle.velo_filter.specs.Thinned.{CanComeAbout}
 use Rattle.velo_audit.specs.Audit.{IsFullAt}
 use Rattle.velo_audit.specs.Witness.{IsWitness}
 use Rattle.velo_audit_text.specs.declared.words.Asked.{Asked}
@@ -28,7 +30,7 @@ use Rattle.velo_fate.specs.Delivery.{CommandAnswer, IsDelivered, IsDeliveredInTu
 use Rattle.velo_delivery.specs.Disk.{Disk, Store, store}
 use Rattle.velo_delivery.specs.Reading.{Reading}
 use Rattle.velo_inputs.specs.Input.{ComesAbout}
-use Rattle.velo_log_commands.specs.Explaining.{ExplainsAlarm, ExplainsFirst, ExplainsVerdict, counted, explained, saying}
+use Rattle.velo_log_commands.specs.Explaining.{ExplainsAlarm, ExplainsFirst, ExplainsVerdict, Manner, counted, explained, saying}
 use Rattle.velo_fate.specs.Failures.{failures_told}
 use Rattle.velo_delivery.specs.Writing.{Writing, WritesNothing}
 use Rattle.velo_inputs.specs.Sending.{PrintsOrLacks}
@@ -61,11 +63,11 @@ module _ (store : Store) (target : Option (Bor (List ℕ))) (stdout : Writing) w
 
 module _ (store : Store) (options : ExplainOptions) (stdout : Writing) where
   -- no explanation is told as a failed read
-  pub explains_reads : (names : NameLists) (sites : Option Table) (asked : Asked) (log : List Event) (answer : CommandAnswer) (drawing : List ℕ) (n : ℕ) → ExplainsVerdict names sites asked log answer drawing ⊎ LacksMemory answer
+  pub explains_reads : (names : NameLists) (sites : Option Table) (asked : Asked) (log : List Event) (answer : CommandAnswer) (drawing : List ℕ) (n : ℕ) → ExplainsVerdict names sites asked options log answer drawing ⊎ LacksMemory answer
       → (f : Fate) → IsDeliveredInTurn store options.target options.drawing drawing stdout answer f → failures_told f n ≡ n
   explains_reads names sites asked log answer drawing n is f h = in_turn_reads store options.target drawing stdout answer f options.drawing n (by_fate is) h
     where
-      by_fate : ExplainsVerdict names sites asked log answer drawing ⊎ LacksMemory answer → failures_told answer.fate n ≡ n
+      by_fate : ExplainsVerdict names sites asked options log answer drawing ⊎ LacksMemory answer → failures_told answer.fate n ≡ n
       by_fate (inl (inl (whole, inl alarm))) = same_fate answer _ n alarm.said refl
       by_fate (inl (inl (whole, inr clean))) = same_fate answer _ n clean.1 refl
       by_fate (inl (inr (part, inl first))) = same_fate answer _ n first.said refl
@@ -80,11 +82,11 @@ module _ (store : Store) (options : ExplainOptions) (stdout : Writing) where
       (silent fate.Memory, [], inr (lacks.0, refl), subst (λ (f : Fate). IsDelivered store options.target stdout (silent fate.Memory) f) (sym lacks.1) (refl, lacks.2, lacks.3))
 
   -- words alone leave the files as they were
-  pub explains_clean : (explains : CommandAnswer → List ℕ → Type 0) (before : List ℕ) (log : List Event) (f : Fate) → explains (counted before log) [] → store.is_kept → PrintsOrLacks (counted before log) stdout f
+  pub explains_clean : (explains : CommandAnswer → List ℕ → Type 0) (manner : Manner) (log rest : List Event) (f : Fate) → explains (counted manner log rest) [] → store.is_kept → PrintsOrLacks (counted manner log rest) stdout f
       → Explains explains store options stdout f
-  explains_clean explains before log f is kept (inl told) =
-      (counted before log, [], inl is, printed_put store options.target stdout None None (counted before log).printed (fate.Finished ending.Done false) kept (λ e. cc) f told)
-  explains_clean explains before log f is kept (inr lacks) =
+  explains_clean explains manner log rest f is kept (inl told) =
+      (counted manner log rest, [], inl is, printed_put store options.target stdout None None (counted manner log rest).printed (fate.Finished ending.Done false) kept (λ e. cc) f told)
+  explains_clean explains manner log rest f is kept (inr lacks) =
       (silent fate.Memory, [], inr (lacks.0, refl), subst (λ (f : Fate). IsDelivered store options.target stdout (silent fate.Memory) f) (sym lacks.1) (refl, kept, lacks.2))
 
   -- what explains one thing explains another
@@ -133,11 +135,11 @@ drawn_both store target path stdout made picture words text drawn drawing f has 
     (subst (λ (d : List ℕ). IsDeliveredInTurn store (Some target) (Some path) d stdout (saying made words) f) is put))
 
 -- an alarm is explained by its evidence, whichever list of its events the evidence is of
-pub of_evidence : (names : NameLists) (sites : Option Table) (events log : List Event) → events ≡ log → (a : Alarm) (blamed : List Block) → blamed ≡ a.blamed.items → (evidence : Evidence)
+pub of_evidence : (manner : Manner) (events log : List Event) → events ≡ log → (a : Alarm) (blamed : List Block) → blamed ≡ a.blamed.items → (evidence : Evidence)
     → IsAlarm log a → IsEvidence events a.position blamed evidence
     → (¬ HasCycle (take a.position events) → HaveReasons events a.position blamed evidence)
-    → ExplainsAlarm names sites log (explained [] names sites events a.position evidence) (drawing_text names sites events a.position evidence)
-of_evidence names sites events log is a blamed same evidence is_alarm is_evidence reasons =
+    → ExplainsAlarm manner log (explained manner events a.position evidence) (drawing_text manner.names manner.sites events a.position evidence)
+of_evidence manner events log is a blamed same evidence is_alarm is_evidence reasons =
     record {
       alarm = a;
       is_alarm = is_alarm;
@@ -147,21 +149,25 @@ of_evidence names sites events log is a blamed same evidence is_alarm is_evidenc
       reasons = subst (λ (l : List Event). HaveReasons l a.position a.blamed.items evidence) is
           (subst (λ (b : List Block). HaveReasons events a.position b evidence) same
           (reasons (subst (λ (l : List Event). ¬ HasCycle (take a.position l)) (sym is) (no_cycle_before log a.position is_alarm.closing))));
-      said = ap (λ (l : List Event). explained [] names sites l a.position evidence) is;
-      drawn = ap (λ (l : List Event). drawing_text names sites l a.position evidence) is;
+      said = ap (λ (l : List Event). explained manner l a.position evidence) is;
+      drawn = ap (λ (l : List Event). drawing_text manner.names manner.sites l a.position evidence) is;
     }
 
 -- the first alarm of what is left is explained by its evidence, whichever list of the log's events this is
-pub of_first : (before : List ℕ) (names : NameLists) (sites : Option Table) (left : Left) (events log : List Event) → events ≡ log → (position : ℕ) (evidence : Evidence) → IsWitness events left position evidence
-    → ExplainsFirst before names sites left log (explained before names sites events position evidence) (drawing_text names sites events position evidence)
-of_first before names sites left events log is position evidence witness =
+pub of_first : (manner : Manner) (left : Left) (events log : List Event) → events ≡ log → (position : ℕ) (evidence : Evidence) → IsWitness events left position evidence
+    → ExplainsFirst manner left log (explained manner events position evidence) (drawing_text manner.names manner.sites events position evidence)
+of_first manner left events log is position evidence witness =
     record {
       position = position;
       evidence = evidence;
       is_witness = subst (λ (l : List Event). IsWitness l left position evidence) is witness;
-      said = ap (λ (l : List Event). explained before names sites l position evidence) is;
-      drawn = ap (λ (l : List Event). drawing_text names sites l position evidence) is;
+      said = ap (λ (l : List Event). explained manner l position evidence) is;
+      drawn = ap (λ (l : List Event). drawing_text manner.names manner.sites l position evidence) is;
     }
+
+-- a log that came about can, whichever list of its events this is
+pub can_come : (w : WorldState) (events : List Event) → events ≡ w.log → IsWellFormed w.config.bounds w.log → CanComeAbout events
+can_come w events is well = record { bounds = w.config.bounds; well_formed = subst (IsWellFormed w.config.bounds) (sym is) well }
 
 -- with as many nodes as there may be at most, the graph of no log is full
 pub never_full : (config : Config) (log : List Event) (left : Left) (place : ℕ) → config.nodes ≡ MAX_NODES → ¬ IsFullAt config log left place

@@ -63,7 +63,7 @@ DoesCheck options store stdout f =
 
 -- ---- velodrome explain LOG [--names FILE] [--sites FILE] [--not-atomic FILE]
 -- ---- [--ignore-label WORD].. [--ignore-lock WORD].. [--ignore-locks] [--ignore-variable WORD]..
--- ---- [--dot OUT] [--svg SVG]
+-- ---- [--dot OUT] [--svg SVG] [--format FORM]
 
 -- the drawing, beside the picture
 abbrev pub drawing_of : ExplainOptions → Beside
@@ -71,14 +71,14 @@ drawing_of options = record { operand = Svg; path = options.drawing }
 
 -- LOG is read whole, and explained without what `asked` leaves out. If that has a cycle, its picture is
 -- saved at OUT, if that is given, and then its drawing at SVG, if that is given; and then the
--- explanation goes to standard output, all by these names; or nothing, for a reason (`Explaining`). If
--- it has no cycle, OUT and SVG are not opened.
+-- explanation goes to standard output, in the form that was asked for, all by these names; or nothing,
+-- for a reason (`Explaining`). If it has no cycle, OUT and SVG are not opened.
 abbrev pub ExplainsLog : NameLists → Option Table → Asked → ExplainOptions → Store → Writing → Fate → Type 0
 ExplainsLog names sites asked options store stdout f =
     DoesNotReadApart store Log options.input.now options.target (drawing_of options) stdout f
     ⊎ ((read : Reading) × (answer : CommandAnswer) × (drawing : List ℕ)
     × store.disk.gives options.input.now read × FailuresAsTold read f
-    × IsExplainAnswer names sites asked read.bytes answer drawing
+    × IsExplainAnswer names sites asked options read.bytes answer drawing
     × IsDeliveredInTurn store options.target options.drawing drawing stdout answer f)
 
 -- what it knows before is in `Context` of `velo_inputs`

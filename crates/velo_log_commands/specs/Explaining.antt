@@ -18,7 +18,13 @@ use Rattle.velo_explain.specs.Evidence.{IsEvidence, HaveReasons}
 use Rattle.velo_explain.specs.Picture.{named_picture_text}
 use Rattle.velo_explain.specs.Places.{sited_explanation_text}
 use Rattle.velo_explain.specs.Text.{clean_text, named_explanation_text}
+use Rattle.velo_audit_forms.specs.Answer.{line_text}
+use Rattle.velo_explain_forms.specs.Answer.{Verdict, explanation_json}
+use Rattle.velo_explain_forms.specs.Answer.Verdict.{Cyclic, Serial}
 use Rattle.velo_picture.specs.Drawing.{drawing_text}
+use Rattle.velo_request.specs.declared.request.ExplainOptions.{ExplainOptions}
+use Rattle.velo_request.specs.declared.request.TextOrJson.{TextOrJson}
+use Rattle.velo_request.specs.declared.request.TextOrJson.TheVariants.{Json, Text}
 use Rattle.velo_worker.specs.declared.ending.Ending.TheVariants.{Done}
 use Rattle.velo_fate.specs.declared.fate.Fate.TheVariants.{Finished, OtherSites}
 use Rattle.velo_inputs.specs.Input.{ComesAbout, IsUnchecked}
@@ -38,87 +44,133 @@ is_whole asked =
 abbrev pub opening : NameLists → Asked → List ℕ
 opening names asked = asked_text names asked ++ codes "What is left of the log:\n"
 
--- ---- the words of a verdict
+-- ---- the page of a verdict
 
--- the words, with the places of what they mention where sites are given
+-- In what manner a log at a path is explained: in this form, without what; in words after this text;
+-- by these names, and with these sites
+pub record Manner : Type 0 where
+  pub format : TextOrJson
+  pub path : List ℕ
+  pub asked : Asked
+  pub before : List ℕ
+  pub names : NameLists
+  pub sites : Option Table
+
+-- after this text, by what was asked for
+abbrev pub manner_after : List ℕ → NameLists → Option Table → Asked → ExplainOptions → Manner
+manner_after before names sites asked options = record {
+  format = options.format;
+  path = options.input.now;
+  asked = asked;
+  before = before;
+  names = names;
+  sites = sites;
+}
+
+-- the words of an alarm, with the places of what they mention where sites are given
 abbrev pub words_of : NameLists → Option Table → List Event → ℕ → Evidence → List ℕ
 words_of names None log p evidence = named_explanation_text names log p evidence
 words_of names (Some sites) log p evidence = sited_explanation_text names sites log p evidence
 
--- a text to be saved, and words of an alarm to be printed
+-- a verdict as one JSON object on a line
+abbrev pub json_page : Manner → List Event → Verdict → List ℕ
+json_page manner log verdict =
+    line_text (explanation_json (record { log = log; names = manner.names; sites = manner.sites })
+    manner.path manner.asked verdict)
+
+-- an alarm at position p, by its evidence
+abbrev pub alarm_page_in : TextOrJson → Manner → List Event → ℕ → Evidence → List ℕ
+alarm_page_in Text manner log p evidence =
+    manner.before ++ words_of manner.names manner.sites log p evidence
+alarm_page_in Json manner log p evidence = json_page manner log (Cyclic p evidence)
+
+abbrev pub alarm_page : Manner → List Event → ℕ → Evidence → List ℕ
+alarm_page manner log p evidence = alarm_page_in manner.format manner log p evidence
+
+-- what is left of the log has no cycle: how many events there are, and how many transactions
+abbrev pub serial_page_in : TextOrJson → Manner → List Event → List Event → List ℕ
+serial_page_in Text manner log rest =
+    manner.before ++ clean_text (length rest) (transactions_of rest)
+serial_page_in Json manner log rest = json_page manner log (Serial rest)
+
+abbrev pub serial_page : Manner → List Event → List Event → List ℕ
+serial_page manner log rest = serial_page_in manner.format manner log rest
+
+-- a text to be saved, and a page of an alarm to be printed
 abbrev pub saying : List ℕ → List ℕ → CommandAnswer
-saying text words = record { saved = Some text; printed = Some words; fate = Finished Done true }
+saying text page = record { saved = Some text; printed = Some page; fate = Finished Done true }
 
 -- what is said of an alarm at position p by its evidence: the picture of its cycle is to be saved, and
--- its words are to be printed after some text, both by these names
-abbrev pub explained : List ℕ → NameLists → Option Table → List Event → ℕ → Evidence → CommandAnswer
-explained before names sites log p evidence =
-    saying (named_picture_text names log evidence) (before ++ words_of names sites log p evidence)
+-- its page is to be printed
+abbrev pub explained : Manner → List Event → ℕ → Evidence → CommandAnswer
+explained manner log p evidence =
+    saying (named_picture_text manner.names log evidence) (alarm_page manner log p evidence)
 
--- what is said of events without a cycle: how many there are, and how many transactions; there is
--- nothing to be saved
-abbrev pub counted : List ℕ → List Event → CommandAnswer
-counted before log =
-    printing (before ++ clean_text (length log) (transactions_of log)) (Finished Done false)
+-- what is said where what is left of the log has no cycle: there is nothing to be saved
+abbrev pub counted : Manner → List Event → List Event → CommandAnswer
+counted manner log rest = printing (serial_page manner log rest) (Finished Done false)
 
 -- ---- the whole log
 
 -- The answer, and the drawing beside it, explain an alarm of the log, which is at the first event
 -- that closes a cycle and blames exactly the blocks to blame: by a shortest cycle there, and by a
 -- reason for each of these blocks.
-pub record ExplainsAlarm (names : NameLists) (sites : Option Table) (log : List Event)
-    (answer : CommandAnswer) (drawing : List ℕ) : Type 0 where
+pub record ExplainsAlarm (manner : Manner) (log : List Event) (answer : CommandAnswer)
+    (drawing : List ℕ) : Type 0 where
   pub alarm : Alarm
   pub is_alarm : IsAlarm log alarm
   pub evidence : Evidence
   pub is_evidence : IsEvidence log alarm.position alarm.blamed.items evidence
   pub reasons : HaveReasons log alarm.position alarm.blamed.items evidence
-  pub said : answer ≡ explained [] names sites log alarm.position evidence
-  pub drawn : drawing ≡ drawing_text names sites log alarm.position evidence
+  pub said : answer ≡ explained manner log alarm.position evidence
+  pub drawn : drawing ≡ drawing_text manner.names manner.sites log alarm.position evidence
 
 -- a log without a cycle has no drawing
-abbrev pub ExplainsWhole : NameLists → Option Table → List Event → CommandAnswer → List ℕ → Type 0
-ExplainsWhole names sites log answer drawing =
-    ExplainsAlarm names sites log answer drawing ⊎ ((¬ HasCycle log) × (answer ≡ counted [] log))
+abbrev pub ExplainsWhole : Manner → List Event → CommandAnswer → List ℕ → Type 0
+ExplainsWhole manner log answer drawing =
+    ExplainsAlarm manner log answer drawing
+    ⊎ ((¬ HasCycle log) × (answer ≡ counted manner log log))
 
 -- ---- what is left of it
 
 -- The same of the first alarm of what is left. Each position is that of its event in the whole log.
-pub record ExplainsFirst (before : List ℕ) (names : NameLists) (sites : Option Table) (left : Left)
-    (log : List Event) (answer : CommandAnswer) (drawing : List ℕ) : Type 0 where
+pub record ExplainsFirst (manner : Manner) (left : Left) (log : List Event)
+    (answer : CommandAnswer) (drawing : List ℕ) : Type 0 where
   pub position : ℕ
   pub evidence : Evidence
   pub is_witness : IsWitness log left position evidence
-  pub said : answer ≡ explained before names sites log position evidence
-  pub drawn : drawing ≡ drawing_text names sites log position evidence
+  pub said : answer ≡ explained manner log position evidence
+  pub drawn : drawing ≡ drawing_text manner.names manner.sites log position evidence
 
 -- where what is left has no cycle, its events and its transactions are counted
-abbrev pub ExplainsRest : List ℕ → NameLists → Option Table → Left → List Event → CommandAnswer
-    → List ℕ → Type 0
-ExplainsRest before names sites left log answer drawing =
-    ExplainsFirst before names sites left log answer drawing
-    ⊎ ((¬ HasCycle (rest_of left log)) × (answer ≡ counted before (rest_of left log)))
+abbrev pub ExplainsRest : Manner → Left → List Event → CommandAnswer → List ℕ → Type 0
+ExplainsRest manner left log answer drawing =
+    ExplainsFirst manner left log answer drawing
+    ⊎ ((¬ HasCycle (rest_of left log)) × (answer ≡ counted manner log (rest_of left log)))
 
 -- ---- either, by what was asked for
 
-abbrev pub ExplainsVerdict : NameLists → Option Table → Asked → List Event → CommandAnswer
-    → List ℕ → Type 0
-ExplainsVerdict names sites asked log answer drawing =
-    ((is_whole asked ≡ true) × ExplainsWhole names sites log answer drawing)
+abbrev pub ExplainsVerdict : NameLists → Option Table → Asked → ExplainOptions → List Event
+    → CommandAnswer → List ℕ → Type 0
+ExplainsVerdict names sites asked options log answer drawing =
+    ((is_whole asked ≡ true)
+    × ExplainsWhole (manner_after [] names sites asked options) log answer drawing)
     ⊎ ((is_whole asked ≡ false)
-    × ExplainsRest (opening names asked) names sites (left_out_at_first asked) log answer drawing)
+    × ExplainsRest (manner_after (opening names asked) names sites asked options)
+    (left_out_at_first asked) log answer drawing)
 
 -- ---- the answer
 
 -- the verdict of the log of the input, which the sites are of; the limits are the greatest that a
 -- check can have
 pub record IsExplained (names : NameLists) (sites : Option Table) (asked : Asked)
-    (read : Option (List ℕ)) (answer : CommandAnswer) (drawing : List ℕ) : Type 0 where
+    (options : ExplainOptions) (read : Option (List ℕ)) (answer : CommandAnswer)
+    (drawing : List ℕ) : Type 0 where
   pub bounds : Bounds
   pub log : List Event
   pub comes_about : ComesAbout MAX_EVENTS read bounds log
   pub of_log : HaveLengthOf sites log
-  pub verdict : ExplainsVerdict names sites asked log answer drawing
+  pub verdict : ExplainsVerdict names sites asked options log answer drawing
 
 -- nothing is said of the log of the input: the sites are of another number of events
 pub record IsOfOtherLog (sites : Option Table) (read : Option (List ℕ)) (answer : CommandAnswer)
@@ -129,11 +181,11 @@ pub record IsOfOtherLog (sites : Option Table) (read : Option (List ℕ)) (answe
   pub of_other : ¬ HaveLengthOf sites log
   pub said : answer ≡ silent OtherSites
 
--- What an explanation has to say: the verdict in words, the cycle of an alarm, and its drawing; or
--- nothing, for a reason.
-abbrev pub IsExplainAnswer : NameLists → Option Table → Asked → Option (List ℕ) → CommandAnswer
-    → List ℕ → Type 0
-IsExplainAnswer names sites asked read answer drawing =
-    IsExplained names sites asked read answer drawing
+-- What an explanation has to say: the verdict in the form that was asked for, the cycle of an alarm,
+-- and its drawing; or nothing, for a reason.
+abbrev pub IsExplainAnswer : NameLists → Option Table → Asked → ExplainOptions → Option (List ℕ)
+    → CommandAnswer → List ℕ → Type 0
+IsExplainAnswer names sites asked options read answer drawing =
+    IsExplained names sites asked options read answer drawing
     ⊎ (IsOfOtherLog sites read answer
     ⊎ (IsUnchecked MAX_EVENTS MAX_NODES read answer ⊎ LacksMemory answer))

@@ -18,7 +18,8 @@ use Rattle.velo_fate.specs.Verdict.{IsOutput, IsVerdict}
 use Rattle.velo_fate.specs.Delivery.{CommandAnswer, IsDeliveredInTurn, LacksMemory}
 use Rattle.velo_request.specs.declared.request.ExplainOptions.{ExplainOptions}
 use Rattle.velo_delivery.specs.Disk.{IsWritten, Store}
-use Rattle.velo_log_commands.specs.Explaining.{ExplainsVerdict, IsExplainAnswer}
+use Rattle.velo_log_commands.specs.Explaining.{ExplainsVerdict, IsExplainAnswer, Manner, manner_after}
+use Rattle.velo_log_commands.specs.declared.explaining_words.Legend.{Legend}
 use Rattle.velo_inputs.specs.Siting.{HaveLengthOf}
 use Rattle.velo_fate.specs.Failures.{FailuresAsTold}
 use Rattle.velo_delivery.specs.Reading.{Reading}
@@ -45,6 +46,12 @@ Shows names certificate w stdout result =
 
 -- ---- an explanation
 
+-- what the code has of its manner
+abbrev pub manner_of : Legend → Manner
+manner_of legend =
+    manner_after legend.before.now legend.inquiry.now.names.now legend.sites.now
+    legend.inquiry.now.asked.now legend.inquiry.now.options.now
+
 -- this answer was delivered, and this drawing after what it saves and before what it prints; or an
 -- allocation failed, and nothing was written
 abbrev pub DrawsOrLacks : CommandAnswer → List ℕ → Store → ExplainOptions → Writing → Fate → Type 0
@@ -64,7 +71,8 @@ Explains explains store options stdout f =
 abbrev pub ExplainsIfOf : NameLists → Option Table → Asked → List Event → Store → ExplainOptions
     → Writing → Fate → Type 0
 ExplainsIfOf names sites asked log store options stdout f =
-    (HaveLengthOf sites log × Explains (ExplainsVerdict names sites asked log) store options stdout f)
+    (HaveLengthOf sites log
+    × Explains (ExplainsVerdict names sites asked options log) store options stdout f)
     ⊎ ((¬ HaveLengthOf sites log) × (f ≡ OtherSites) × store.is_kept × WritesNothing stdout)
 
 -- what was made of an input was delivered
@@ -73,7 +81,7 @@ abbrev pub ExplainsInput : NameLists → Option Table → Asked → Store → Ex
 ExplainsInput names sites asked store options read stdout f =
     FailuresAsTold read f
     × ((answer : CommandAnswer) × (drawing : List ℕ)
-    × IsExplainAnswer names sites asked read.bytes answer drawing
+    × IsExplainAnswer names sites asked options read.bytes answer drawing
     × IsDeliveredInTurn store options.target options.drawing drawing stdout answer f)
 
 -- ---- carrying over

@@ -9,8 +9,9 @@ ghost use Rattle.velo_delivery.specs.Writing.{writing};
 ghost use Rattle.velo_log_commands.specs.Steps.{Explains, ExplainsIfOf, ExplainsInput};
 
 use crate::command::Command;
-use crate::explaining_rest::{Inquiry, explain_rest, is_whole};
+use crate::explaining_rest::{explain_rest, is_whole};
 use crate::explaining_whole::explain_whole;
+use crate::explaining_words::Inquiry;
 use std::alloc::Global;
 use velo_audit_text::Asked;
 use velo_bytes::{Sink, Source};
@@ -34,19 +35,11 @@ fn explain_closed<F: Files, O: Sink>(
 ) -> Fate
     requires { length closed.now.log ≤ MAX_EVENTS }
     ensures { Explains (ExplainsVerdict inquiry.now.names.now sites.now inquiry.now.asked.now
-        closed.now.log) (store F.disk files.old files.new) inquiry.now.options.now
+        inquiry.now.options.now closed.now.log) (store F.disk files.old files.new) inquiry.now.options.now
         (writing O.contents O.failures out.old out.new) result }
 {
     if is_whole(inquiry.asked) {
-        return explain_whole(
-            alloc,
-            closed,
-            inquiry.names,
-            sites,
-            inquiry.options,
-            files,
-            out,
-        );
+        return explain_whole(alloc, closed, inquiry, sites, files, out);
     }
     explain_rest(alloc, closed, inquiry, sites, files, out)
 }

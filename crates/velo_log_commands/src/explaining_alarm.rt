@@ -1,17 +1,18 @@
-//! The explanation of an alarm: its picture and its drawing are saved, and its words are printed.
+//! The explanation of an alarm: its picture and its drawing are saved, and its page is printed.
 ghost use Rattle.std.specs.Prelude.{◌≤◌, Some, length};
 ghost use Rattle.velo_events.specs.declared.limits.TheConstants.{MAX_EVENTS};
 ghost use Rattle.velo_explain.specs.Evidence.{IsWithin};
 ghost use Rattle.velo_explain.specs.Picture.{named_picture_text};
+ghost use Rattle.velo_filter.specs.Thinned.{CanComeAbout};
 ghost use Rattle.velo_log_commands.specs.Explaining.{explained, saying};
 ghost use Rattle.velo_picture.specs.Drawing.{drawing_text};
 ghost use Rattle.velo_fate.specs.Delivery.{IsDelivered, IsDeliveredInTurn};
 ghost use Rattle.velo_delivery.specs.Disk.{store};
 ghost use Rattle.velo_delivery.specs.Writing.{writing};
 ghost use Rattle.velo_inputs.specs.Sending.{DeliversOrLacks};
-ghost use Rattle.velo_log_commands.specs.Steps.{DrawsOrLacks};
+ghost use Rattle.velo_log_commands.specs.Steps.{DrawsOrLacks, manner_of};
 
-use crate::explaining_words::{Legend, all_words};
+use crate::explaining_words::{Legend, page_of_alarm};
 use std::alloc::Global;
 use velo_bytes::Sink;
 use velo_delivery::Files;
@@ -21,7 +22,6 @@ use velo_fate::Fate;
 use velo_inputs::{print, save_text};
 use velo_names::Names;
 use velo_picture::drawing;
-use velo_request::ExplainOptions;
 use velo_traces::Trace;
 
 /// Saves a text at a path, and then prints words.
@@ -85,32 +85,32 @@ fn put_both<F: Files, O: Sink>(
 }
 
 /// Explains an alarm by its evidence and the legend: the picture and the drawing are saved, where
-/// they are asked for, and then the words are printed. All are made before.
+/// they are asked for, and then the page is printed. All are made before.
 pub fn explain_by<F: Files, O: Sink>(
     alloc: Global,
     log: &Trace,
     position: usize,
     evidence: &Evidence,
     legend: &Legend,
-    options: &ExplainOptions,
     files: &mut F,
     out: &mut O,
 ) -> Fate
     requires few { length log.now.events ≤ MAX_EVENTS }
+    requires can_come_about { CanComeAbout log.now.events }
     requires within { IsWithin (length log.now.events) position evidence.now }
     ensures { DrawsOrLacks
-        (explained legend.now.before.now legend.now.names.now legend.now.sites.now log.now.events
-        position evidence.now)
-        (drawing_text legend.now.names.now legend.now.sites.now log.now.events position
+        (explained (manner_of legend.now) log.now.events position evidence.now)
+        (drawing_text legend.now.inquiry.now.names.now legend.now.sites.now log.now.events position
         evidence.now)
-        (store F.disk files.old files.new) options.now
+        (store F.disk files.old files.new) legend.now.inquiry.now.options.now
         (writing O.contents O.failures out.old out.new) result }
 {
-    let words = match all_words(alloc, log, position, evidence, legend) {
+    let words = match page_of_alarm(alloc, log, position, evidence, legend) {
         Ok(words) => words,
         Err(Memory) => return Fate::Memory,
     };
-    let names = legend.names;
+    let names = legend.inquiry.names;
+    let options = legend.inquiry.options;
     let words = words.as_slice();
     let Some(path) = options.drawing else {
         let target = options.target;

@@ -5,16 +5,16 @@ ghost use Rattle.velo_events.specs.WellFormed.{IsWellFormed};
 ghost use Rattle.velo_events.specs.declared.limits.TheConstants.{MAX_EVENTS};
 ghost use Rattle.velo_filter.specs.Left.{rest_of};
 ghost use Rattle.velo_filter.specs.Tables.{left_of};
-ghost use Rattle.velo_log_commands.specs.Explaining.{ExplainsRest, counted, is_whole, opening};
+ghost use Rattle.velo_log_commands.specs.Explaining.{ExplainsRest, counted, is_whole, manner_after, opening};
 ghost use Rattle.velo_inputs.specs.Leaving.{left_out_at_first};
 ghost use Rattle.velo_delivery.specs.Disk.{store};
 ghost use Rattle.velo_delivery.specs.Writing.{writing};
 ghost use Rattle.velo_inputs.specs.Sending.{PrintsOrLacks};
-ghost use Rattle.velo_log_commands.specs.Steps.{Explains};
+ghost use Rattle.velo_log_commands.specs.Steps.{Explains, manner_of};
 
 use crate::explaining_alarm::explain_by;
 use crate::explaining_whole::explain_without;
-use crate::explaining_words::Legend;
+use crate::explaining_words::{Inquiry, Legend};
 use std::alloc::Global;
 use velo_audit::{AuditFault, first_alarm};
 use velo_audit_text::{Asked, add_asked};
@@ -26,21 +26,10 @@ use velo_fate::Fate;
 use velo_filter::{LeftOut, thin};
 use velo_inputs::{config_of_rounds, left_out};
 use velo_names::Names;
-use velo_request::{ExplainOptions, Limits};
+use velo_request::Limits;
 use velo_sites::Sites;
 use velo_traces::Trace;
 use velo_world::Closed;
-
-/// What is explained by which names, without what.
-#[derive(Clone, Copy)]
-pub struct Inquiry<'i, 'n, 'a, 'o> {
-    /// The names.
-    pub names: &'i Names<'n>,
-    /// What is left out.
-    pub asked: &'i Asked<'a>,
-    /// What was asked for.
-    pub options: &'i ExplainOptions<'o>,
-}
 
 /// Whether nothing was asked to be left out.
 pub fn is_whole(asked: &Asked) -> bool
@@ -68,18 +57,19 @@ fn explain_clean_rest<O: Sink>(
     bounds: Bounds,
     log: &Trace,
     left: &LeftOut,
-    before: &[u8],
+    legend: &Legend,
     out: &mut O,
 ) -> Fate
     requires few { length log.now.events ≤ MAX_EVENTS }
     requires well_formed { IsWellFormed bounds log.now.events }
     requires clean { ¬ HasCycle (rest_of (left_of left.now) log.now.events) }
-    ensures { PrintsOrLacks (counted before.now (rest_of (left_of left.now) log.now.events))
+    ensures { PrintsOrLacks (counted (manner_of legend.now) log.now.events
+        (rest_of (left_of left.now) log.now.events))
         (writing O.contents O.failures out.old out.new) result }
 {
     match thin(alloc, log, left) {
         Ok(rest) => {
-            let fate = explain_without(alloc, &rest.trace, before, out);
+            let fate = explain_without(alloc, log, &rest.trace, legend, out);
             drop(rest);
             fate
         }
@@ -93,14 +83,12 @@ fn explain_left<F: Files, O: Sink>(
     closed: &Closed,
     left: &LeftOut,
     legend: &Legend,
-    options: &ExplainOptions,
     files: &mut F,
     out: &mut O,
 ) -> Fate
     requires { length closed.now.log ≤ MAX_EVENTS }
-    ensures { Explains (ExplainsRest legend.now.before.now legend.now.names.now
-        legend.now.sites.now (left_of left.now) closed.now.log)
-        (store F.disk files.old files.new) options.now
+    ensures { Explains (ExplainsRest (manner_of legend.now) (left_of left.now) closed.now.log)
+        (store F.disk files.old files.new) legend.now.inquiry.now.options.now
         (writing O.contents O.failures out.old out.new) result }
 {
     let greatest = Limits {
@@ -110,19 +98,11 @@ fn explain_left<F: Files, O: Sink>(
     let config = config_of_rounds(closed, greatest);
     let log = closed.log();
     match first_alarm(alloc, &config, log, left) {
-        Ok(None) => explain_clean_rest(alloc, config.bounds, log, left, legend.before, out),
+        Ok(None) => explain_clean_rest(alloc, config.bounds, log, left, legend, out),
         Ok(Some(first)) => {
             let position = first.position;
-            let fate = explain_by(
-                alloc,
-                log,
-                position,
-                &first.evidence,
-                legend,
-                options,
-                files,
-                out,
-            );
+            let evidence = &first.evidence;
+            let fate = explain_by(alloc, log, position, evidence, legend, files, out);
             drop(first);
             fate
         }
@@ -142,13 +122,14 @@ pub fn explain_rest<F: Files, O: Sink>(
     out: &mut O,
 ) -> Fate
     requires { length closed.now.log ≤ MAX_EVENTS }
-    ensures { Explains (ExplainsRest (opening inquiry.now.names.now inquiry.now.asked.now)
-        inquiry.now.names.now sites.now (left_out_at_first inquiry.now.asked.now) closed.now.log)
+    ensures { Explains (ExplainsRest (manner_after
+        (opening inquiry.now.names.now inquiry.now.asked.now) inquiry.now.names.now sites.now
+        inquiry.now.asked.now inquiry.now.options.now)
+        (left_out_at_first inquiry.now.asked.now) closed.now.log)
         (store F.disk files.old files.new) inquiry.now.options.now
         (writing O.contents O.failures out.old out.new) result }
 {
-    let names = inquiry.names;
-    let before = match opening(alloc, names, inquiry.asked) {
+    let before = match opening(alloc, inquiry.names, inquiry.asked) {
         Ok(before) => before,
         Err(Memory) => return Fate::Memory,
     };
@@ -157,9 +138,9 @@ pub fn explain_rest<F: Files, O: Sink>(
         Err(Memory) => return Fate::Memory,
     };
     let legend = Legend {
-        names,
+        inquiry,
         sites,
         before: before.as_slice(),
     };
-    explain_left(alloc, closed, &left, &legend, inquiry.options, files, out)
+    explain_left(alloc, closed, &left, &legend, files, out)
 }

@@ -1,28 +1,45 @@
-//! The words of an explanation, and the legend that they are made by.
+//! The page of an explanation, and the legend that it is made by.
 ghost use Rattle.std.specs.Prelude.{◌≡◌, ◌≤◌, ◌++◌, IfOk, length};
 ghost use Rattle.velo_events.specs.Graph.{HasCycle};
 ghost use Rattle.velo_events.specs.declared.limits.TheConstants.{MAX_EVENTS};
 ghost use Rattle.velo_explain.specs.Count.{transactions_of};
 ghost use Rattle.velo_explain.specs.Evidence.{IsWithin};
 ghost use Rattle.velo_explain.specs.Text.{clean_text};
-ghost use Rattle.velo_log_commands.specs.Explaining.{words_of};
+ghost use Rattle.velo_explain_forms.specs.Answer.{verdict_of};
+ghost use Rattle.velo_filter.specs.Thinned.{CanComeAbout};
+ghost use Rattle.velo_log_commands.specs.Explaining.{alarm_page, json_page, serial_page, words_of};
+ghost use Rattle.velo_log_commands.specs.Steps.{manner_of};
 
 use std::alloc::Global;
+use velo_audit_text::Asked;
 use velo_events::Memory;
 use velo_explain::{Evidence, Page, explain_clean, explain_named, explain_sited};
+use velo_explain_forms::{Shown, explanation_json};
 use velo_names::Names;
+use velo_request::{ExplainOptions, TextOrJson};
 use velo_sites::Sites;
 use velo_traces::Trace;
 
-/// What an explanation calls things by, where the events happened, and what comes before its words.
+/// What is explained by which names, without what.
 #[derive(Clone, Copy)]
-pub struct Legend<'n, 'a, 's, 'b, 'p> {
-    /// What things are called.
-    pub names: &'n Names<'a>,
+pub struct Inquiry<'i> {
+    /// The names.
+    pub names: &'i Names<'i>,
+    /// What is left out.
+    pub asked: &'i Asked<'i>,
+    /// What was asked for.
+    pub options: &'i ExplainOptions<'i>,
+}
+
+/// What is explained, where its events happened, and what comes before the words.
+#[derive(Clone, Copy)]
+pub struct Legend<'l> {
+    /// What is explained.
+    pub inquiry: &'l Inquiry<'l>,
     /// Where the events happened, if it is known.
-    pub sites: &'s Option<Sites<'b>>,
+    pub sites: &'l Option<Sites<'l>>,
     /// What comes before the words.
-    pub before: &'p [u8],
+    pub before: &'l [u8],
 }
 
 /// The words behind some text.
@@ -45,17 +62,37 @@ fn words_of(
 ) -> Result<Page, Memory>
     requires few { length log.now.events ≤ MAX_EVENTS }
     requires within { IsWithin (length log.now.events) position evidence.now }
-    ensures { IfOk result (λ words. words ≡ words_of legend.now.names.now legend.now.sites.now
-        log.now.events position evidence.now) }
+    ensures { IfOk result (λ words. words ≡ words_of legend.now.inquiry.now.names.now
+        legend.now.sites.now log.now.events position evidence.now) }
 {
+    let names = legend.inquiry.names;
     match legend.sites {
-        Some(sites) => explain_sited(alloc, log, position, evidence, legend.names, sites),
-        None => explain_named(alloc, log, position, evidence, legend.names),
+        Some(sites) => explain_sited(alloc, log, position, evidence, names, sites),
+        None => explain_named(alloc, log, position, evidence, names),
     }
 }
 
-/// The same behind what comes before them.
-pub fn all_words(
+/// What the log, or what is left of it, shows as one JSON object.
+fn json_of(alloc: Global, log: &Trace, shown: &Shown, legend: &Legend) -> Result<Page, Memory>
+    requires few { length log.now.events ≤ MAX_EVENTS }
+    requires can_come_about { CanComeAbout log.now.events }
+    ensures { IfOk result (λ page. page
+        ≡ json_page (manner_of legend.now) log.now.events (verdict_of shown.now)) }
+{
+    let inquiry = legend.inquiry;
+    explanation_json(
+        alloc,
+        inquiry.names,
+        legend.sites,
+        log,
+        inquiry.options.input,
+        inquiry.asked,
+        shown,
+    )
+}
+
+/// The words of an alarm behind what comes before them.
+fn all_words(
     alloc: Global,
     log: &Trace,
     position: usize,
@@ -65,19 +102,61 @@ pub fn all_words(
     requires few { length log.now.events ≤ MAX_EVENTS }
     requires within { IsWithin (length log.now.events) position evidence.now }
     ensures { IfOk result (λ words. words ≡ legend.now.before.now
-        ++ words_of legend.now.names.now legend.now.sites.now log.now.events position
-        evidence.now) }
+        ++ words_of legend.now.inquiry.now.names.now legend.now.sites.now log.now.events
+        position evidence.now) }
 {
     let words = words_of(alloc, log, position, evidence, legend)?;
     words_behind(alloc, legend.before, words.as_slice())
 }
 
-/// The words of events without a cycle, behind some text.
-pub fn words_without(alloc: Global, log: &Trace, before: &[u8]) -> Result<Page, Memory>
-    requires { ¬ HasCycle log.now.events }
-    ensures { IfOk result (λ words. words ≡ before.now
-        ++ clean_text (length log.now.events) (transactions_of log.now.events)) }
+/// The page of an alarm by its evidence.
+pub fn page_of_alarm(
+    alloc: Global,
+    log: &Trace,
+    position: usize,
+    evidence: &Evidence,
+    legend: &Legend,
+) -> Result<Page, Memory>
+    requires few { length log.now.events ≤ MAX_EVENTS }
+    requires can_come_about { CanComeAbout log.now.events }
+    requires within { IsWithin (length log.now.events) position evidence.now }
+    ensures { IfOk result (λ page. page
+        ≡ alarm_page (manner_of legend.now) log.now.events position evidence.now) }
 {
-    let words = explain_clean(alloc, log)?;
+    match legend.inquiry.options.format {
+        TextOrJson::Text => all_words(alloc, log, position, evidence, legend),
+        TextOrJson::Json => {
+            let shown = Shown::Cyclic { position, evidence };
+            json_of(alloc, log, &shown, legend)
+        }
+    }
+}
+
+/// The words of events without a cycle, behind some text.
+fn words_without(alloc: Global, rest: &Trace, before: &[u8]) -> Result<Page, Memory>
+    requires { ¬ HasCycle rest.now.events }
+    ensures { IfOk result (λ words. words ≡ before.now
+        ++ clean_text (length rest.now.events) (transactions_of rest.now.events)) }
+{
+    let words = explain_clean(alloc, rest)?;
     words_behind(alloc, before, words.as_slice())
+}
+
+/// The page of a log of which this is left, without a cycle.
+pub fn page_without(
+    alloc: Global,
+    log: &Trace,
+    rest: &Trace,
+    legend: &Legend,
+) -> Result<Page, Memory>
+    requires few { length log.now.events ≤ MAX_EVENTS }
+    requires can_come_about { CanComeAbout log.now.events }
+    requires clean { ¬ HasCycle rest.now.events }
+    ensures { IfOk result (λ page. page
+        ≡ serial_page (manner_of legend.now) log.now.events rest.now.events) }
+{
+    match legend.inquiry.options.format {
+        TextOrJson::Text => words_without(alloc, rest, legend.before),
+        TextOrJson::Json => json_of(alloc, log, &Shown::Serial(rest), legend),
+    }
 }

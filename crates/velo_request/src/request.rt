@@ -86,6 +86,15 @@ pub struct Ignored<'a> {
     pub all_locks: bool,
 }
 
+/// In which form an explanation or predictions are printed.
+#[derive(Clone, Copy, Debug, PartialEq, Eq)]
+pub enum TextOrJson {
+    /// As text, for a person.
+    Text,
+    /// As one JSON object.
+    Json,
+}
+
 /// What `velodrome explain` was asked for.
 #[derive(Clone, Copy, Debug)]
 pub struct ExplainOptions<'a> {
@@ -95,7 +104,9 @@ pub struct ExplainOptions<'a> {
     pub target: Option<&'a str>,
     /// The path where the drawing is saved.
     pub drawing: Option<&'a str>,
-    /// The path of the names that the words print, or `-`.
+    /// The form in which the explanation is printed.
+    pub format: TextOrJson,
+    /// The path of the names that are printed, or `-`.
     pub names: Option<&'a str>,
     /// The path of the sites of the log's events, or `-`.
     pub sites: Option<&'a str>,
@@ -218,15 +229,6 @@ pub const MAX_TRIES: u32 = 1_000_000;
 /// So many delays a search for predictions tries for each label in a round where no number is given.
 pub const DEFAULT_TRIES: u32 = 200;
 
-/// In which form predictions are printed.
-#[derive(Clone, Copy, Debug, PartialEq, Eq)]
-pub enum PredictFormat {
-    /// As text, for a person.
-    Text,
-    /// As one JSON object.
-    Json,
-}
-
 /// What `velodrome predict` was asked for.
 #[derive(Clone, Copy, Debug)]
 pub struct PredictOptions<'a> {
@@ -248,7 +250,7 @@ pub struct PredictOptions<'a> {
     /// The path where the trace of the first prediction is saved as a log.
     pub target: Option<&'a str>,
     /// The form in which they are printed.
-    pub format: PredictFormat,
+    pub format: TextOrJson,
     /// The limits within which the log is checked.
     pub limits: Limits,
     ghost some_try: { 1 ≤ tries },

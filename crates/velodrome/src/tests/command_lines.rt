@@ -142,7 +142,7 @@ const WRONG_WORDS: [&[&str]; 49] = [
 ];
 
 /// Right words that do not go together, with the line that says so.
-const WORDS_APART: [(&[&str], &str); 28] = [
+const WORDS_APART: [(&[&str], &str); 29] = [
     (
         &["velodrome", "check", "-", "--names", "-"],
         "error: standard input can be read once\n",
@@ -284,6 +284,10 @@ const WORDS_APART: [(&[&str], &str); 28] = [
     (
         &["velodrome", "audit", "a.log", "--format", "xml"],
         "error: --format takes text, json, sarif or junit\n",
+    ),
+    (
+        &["velodrome", "explain", "a.log", "--format", "junit"],
+        "error: --format takes text or json\n",
     ),
     (
         &["velodrome", "predict", "a.log", "--format", "sarif"],

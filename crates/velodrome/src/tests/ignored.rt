@@ -337,7 +337,7 @@ static ALL_LOCKS: [Listed; 4] = [
 const LOCKED_UPDATE: &str =
     "vlog 2 2 1 1\n0 fork 1\n0 begin 7\n0 acq 0\n0 rd 0 0\n0 rel 0\n1 acq 0\n1 wr 0 5\n1 rel 0\n0 acq 0\n0 wr 0 1\n0 rel 0\n0 end\n";
 
-static EXPLAINED: [Listed; 5] = [
+static EXPLAINED: [Listed; 7] = [
     // the lines are those of the whole log; the events on the lock have no rows
     Listed {
         words: &["velodrome", "explain", "a", "--ignore-lock", "0"],
@@ -367,6 +367,39 @@ To blame in thread 0:
 ",
         err: "",
         status: 3,
+    },
+    // for other programs
+    Listed {
+        words: &[
+            "velodrome",
+            "explain",
+            "a",
+            "--ignore-locks",
+            "--format",
+            "json",
+        ],
+        log: LOCKED_UPDATE,
+        names: BAD,
+        list: "",
+        out: "{\"schema\":1,\"log\":\"a\",\"verdict\":\"not serializable\",\"left_out\":{\"labels\":[],\"all_locks\":true,\"locks\":[],\"variables\":[]},\"events\":12,\"alarm\":{\"closing\":{\"position\":9,\"line\":11,\"thread\":{\"number\":0,\"name\":null},\"text\":\"0 wr 0 1\",\"name\":null,\"site\":null},\"witness\":{\"transactions\":[{\"first\":{\"position\":1,\"line\":3,\"thread\":{\"number\":0,\"name\":null},\"text\":\"0 begin 7\",\"name\":null,\"site\":null},\"last\":{\"position\":9,\"line\":11,\"thread\":{\"number\":0,\"name\":null},\"text\":\"0 wr 0 1\",\"name\":null,\"site\":null}},{\"first\":{\"position\":6,\"line\":8,\"thread\":{\"number\":1,\"name\":null},\"text\":\"1 wr 0 5\",\"name\":null,\"site\":null},\"last\":{\"position\":6,\"line\":8,\"thread\":{\"number\":1,\"name\":null},\"text\":\"1 wr 0 5\",\"name\":null,\"site\":null}}],\"edges\":[{\"from\":{\"event\":{\"position\":3,\"line\":5,\"thread\":{\"number\":0,\"name\":null},\"text\":\"0 rd 0 0\",\"name\":null,\"site\":null},\"inside\":[{\"label\":{\"number\":7,\"name\":null},\"begin\":{\"position\":1,\"line\":3,\"thread\":{\"number\":0,\"name\":null},\"text\":\"0 begin 7\",\"name\":null,\"site\":null}}]},\"to\":{\"event\":{\"position\":6,\"line\":8,\"thread\":{\"number\":1,\"name\":null},\"text\":\"1 wr 0 5\",\"name\":null,\"site\":null},\"inside\":[]}},{\"from\":{\"event\":{\"position\":6,\"line\":8,\"thread\":{\"number\":1,\"name\":null},\"text\":\"1 wr 0 5\",\"name\":null,\"site\":null},\"inside\":[]},\"to\":{\"event\":{\"position\":9,\"line\":11,\"thread\":{\"number\":0,\"name\":null},\"text\":\"0 wr 0 1\",\"name\":null,\"site\":null},\"inside\":[{\"label\":{\"number\":7,\"name\":null},\"begin\":{\"position\":1,\"line\":3,\"thread\":{\"number\":0,\"name\":null},\"text\":\"0 begin 7\",\"name\":null,\"site\":null}}]}}],\"reasons\":[{\"block\":{\"label\":{\"number\":7,\"name\":null},\"begin\":{\"position\":1,\"line\":3,\"thread\":{\"number\":0,\"name\":null},\"text\":\"0 begin 7\",\"name\":null,\"site\":null}},\"event\":{\"position\":6,\"line\":8,\"thread\":{\"number\":1,\"name\":null},\"text\":\"1 wr 0 5\",\"name\":null,\"site\":null}}]}},\"serial\":null}\n",
+        err: "",
+        status: 3,
+    },
+    Listed {
+        words: &[
+            "velodrome",
+            "explain",
+            "a",
+            "--format=json",
+            "--ignore-label",
+            "7",
+        ],
+        log: LOST_UPDATE,
+        names: BAD,
+        list: "",
+        out: "{\"schema\":1,\"log\":\"a\",\"verdict\":\"serializable\",\"left_out\":{\"labels\":[{\"number\":7,\"name\":null}],\"all_locks\":false,\"locks\":[],\"variables\":[]},\"events\":5,\"alarm\":null,\"serial\":{\"events\":4,\"transactions\":4}}\n",
+        err: "",
+        status: 0,
     },
     // nothing else collides
     Listed {

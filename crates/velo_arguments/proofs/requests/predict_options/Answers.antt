@@ -1,7 +1,7 @@
 use Rattle.std.proofs.Common.{codes}
 use Rattle.clap.specs.Words.{found_of, rows_of}
 use Rattle.velo_arguments.specs.Asked.{AsksPredict}
-use Rattle.velo_arguments.proofs.OnAsked.{flag_read, no_word, on_none, option_read, predict_form_read, word_read}
+use Rattle.velo_arguments.proofs.OnAsked.{flag_read, no_word, on_none, option_read, text_or_json_read, word_read}
 use Rattle.velo_arguments.proofs.requests.predict_options.Goals as goal
 
 pub returns-clause-some : goal.returns-clause-some
@@ -15,7 +15,7 @@ returns-clause-some c =
       c.in_ok-number_of.ensures.some.2,
       c.in_ok-seed_of.ensures.some,
       option_read f (codes "log") c.get_str-4.result c.get_str-4.ensures,
-      predict_form_read f (codes "format") c.get_str-5.result c.predict_form_of.result c.get_str-5.ensures c.predict_form_of.ensures,
+      text_or_json_read f (codes "format") c.get_str-5.result c.text_or_json_of.result c.get_str-5.ensures c.text_or_json_of.ensures,
       c.in_ok-limits_of.ensures.some,
     )
 

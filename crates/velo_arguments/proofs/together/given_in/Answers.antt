@@ -1,6 +1,6 @@
 use Rattle.std.proofs.Common.{◌≡◌, ◌∙◌, ap, codes, refl, sym}
 use Rattle.clap.specs.Words.{first_of, found_of, rows_of}
-use Rattle.velo_arguments.specs.Together.{is_other_form, is_other_predict_form}
+use Rattle.velo_arguments.specs.Together.{is_other_form, is_neither_text_nor_json}
 use Rattle.velo_arguments.proofs.OnAsked.{option_read}
 use Rattle.velo_arguments.proofs.together.given_in.Goals as goal
 
@@ -9,6 +9,6 @@ returns c =
     let f = found_of c.args.found.now in
     let other : c.is_other_form.result ≡ is_other_form (first_of (codes "format") (rows_of f)) =
     c.is_other_form.ensures ∙ ap is_other_form (sym (option_read f (codes "format") c.get_str.result c.get_str.ensures)) in
-    let other_predict : c.is_other_predict_form.result ≡ is_other_predict_form (first_of (codes "format") (rows_of f)) =
-    c.is_other_predict_form.ensures ∙ ap is_other_predict_form (sym (option_read f (codes "format") c.get_str-2.result c.get_str-2.ensures)) in
-    rw (c.is_given.ensures, c.is_given-2.ensures, c.is_given-3.ensures, c.is_given-4.ensures, other, other_predict) refl
+    let neither : c.is_neither_text_nor_json.result ≡ is_neither_text_nor_json (first_of (codes "format") (rows_of f)) =
+    c.is_neither_text_nor_json.ensures ∙ ap is_neither_text_nor_json (sym (option_read f (codes "format") c.get_str-2.result c.get_str-2.ensures)) in
+    rw (c.is_given.ensures, c.is_given-2.ensures, c.is_given-3.ensures, c.is_given-4.ensures, other, neither) refl
