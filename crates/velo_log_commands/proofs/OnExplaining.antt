@@ -14,7 +14,7 @@ use Rattle.velo_world.specs.declared.analysis.Alarm.{Alarm}
 use Rattle.velo_world.specs.World.{IsAlarm, WorldState}
 use Rattle.velo_names.specs.Names.{NameLists}
 use Rattle.velo_sites.specs.Sites.{Table}
-use Rattle.velo_filter.specs.Left.{Left}
+use Rattle.velo_filter.specs.Left.{Omitted}
 use Rattle.velo_filter.specs.Thinned.{CanComeAbout}
 use Rattle.velo_audit.specs.Audit.{IsFullAt}
 use Rattle.velo_audit.specs.Witness.{IsWitness}
@@ -154,7 +154,7 @@ of_evidence manner events log is a blamed same evidence is_alarm is_evidence rea
     }
 
 -- the first alarm of what is left is explained by its evidence, whichever list of the log's events this is
-pub of_first : (manner : Manner) (left : Left) (events log : List Event) → events ≡ log → (position : ℕ) (evidence : Evidence) → IsWitness events left position evidence
+pub of_first : (manner : Manner) (left : Omitted) (events log : List Event) → events ≡ log → (position : ℕ) (evidence : Evidence) → IsWitness events left position evidence
     → ExplainsFirst manner left log (explained manner events position evidence) (drawing_text manner.names manner.sites events position evidence)
 of_first manner left events log is position evidence witness =
     record {
@@ -170,7 +170,7 @@ pub can_come : (w : WorldState) (events : List Event) → events ≡ w.log → I
 can_come w events is well = record { bounds = w.config.bounds; well_formed = subst (IsWellFormed w.config.bounds) (sym is) well }
 
 -- with as many nodes as there may be at most, the graph of no log is full
-pub never_full : (config : Config) (log : List Event) (left : Left) (place : ℕ) → config.nodes ≡ MAX_NODES → ¬ IsFullAt config log left place
+pub never_full : (config : Config) (log : List Event) (left : Omitted) (place : ℕ) → config.nodes ≡ MAX_NODES → ¬ IsFullAt config log left place
 never_full config log left place greatest full =
     let threads = config.bounds.threads in
     let squared : threads * threads ≤ 4096 = mul-le threads threads 64 64 config.few_threads config.few_threads in

@@ -8,7 +8,7 @@ use Rattle.velo_world.specs.declared.analysis.Alarm.{Alarm}
 use Rattle.velo_world.specs.World.{IsAlarm}
 use Rattle.velo_names.specs.Names.{NameLists}
 use Rattle.velo_sites.specs.Sites.{Table}
-use Rattle.velo_filter.specs.Left.{Left, rest_of}
+use Rattle.velo_filter.specs.Left.{Omitted, rest_of}
 use Rattle.velo_audit.specs.Witness.{IsWitness}
 use Rattle.velo_audit_text.specs.declared.words.Asked.{Asked}
 use Rattle.velo_audit_text.specs.Words.{asked_text}
@@ -42,7 +42,7 @@ is_whole asked =
 
 -- what comes before the words where something was: what an audit begins with, and a title
 abbrev pub opening : NameLists → Asked → List ℕ
-opening names asked = asked_text names asked ++ codes "What is left of the log:\n"
+opening names asked = asked_text names asked ++ codes "What is omitted of the log:\n"
 
 -- ---- the page of a verdict
 
@@ -134,19 +134,19 @@ ExplainsWhole manner log answer drawing =
 -- ---- what is left of it
 
 -- The same of the first alarm of what is left. Each position is that of its event in the whole log.
-pub record ExplainsFirst (manner : Manner) (left : Left) (log : List Event)
+pub record ExplainsFirst (manner : Manner) (omitted : Omitted) (log : List Event)
     (answer : CommandAnswer) (drawing : List ℕ) : Type 0 where
   pub position : ℕ
   pub evidence : Evidence
-  pub is_witness : IsWitness log left position evidence
+  pub is_witness : IsWitness log omitted position evidence
   pub said : answer ≡ explained manner log position evidence
   pub drawn : drawing ≡ drawing_text manner.names manner.sites log position evidence
 
 -- where what is left has no cycle, its events and its transactions are counted
-abbrev pub ExplainsRest : Manner → Left → List Event → CommandAnswer → List ℕ → Type 0
-ExplainsRest manner left log answer drawing =
-    ExplainsFirst manner left log answer drawing
-    ⊎ ((¬ HasCycle (rest_of left log)) × (answer ≡ counted manner log (rest_of left log)))
+abbrev pub ExplainsRest : Manner → Omitted → List Event → CommandAnswer → List ℕ → Type 0
+ExplainsRest manner omitted log answer drawing =
+    ExplainsFirst manner omitted log answer drawing
+    ⊎ ((¬ HasCycle (rest_of omitted log)) × (answer ≡ counted manner log (rest_of omitted log)))
 
 -- ---- either, by what was asked for
 
@@ -173,7 +173,7 @@ pub record IsExplained (names : NameLists) (sites : Option Table) (asked : Asked
   pub verdict : ExplainsVerdict names sites asked options log answer drawing
 
 -- nothing is said of the log of the input: the sites are of another number of events
-pub record IsOfOtherLog (sites : Option Table) (read : Option (List ℕ)) (answer : CommandAnswer)
+pub record IsOfOtherInput (sites : Option Table) (read : Option (List ℕ)) (answer : CommandAnswer)
     : Type 0 where
   pub bounds : Bounds
   pub log : List Event
@@ -187,5 +187,5 @@ abbrev pub IsExplainAnswer : NameLists → Option Table → Asked → ExplainOpt
     → CommandAnswer → List ℕ → Type 0
 IsExplainAnswer names sites asked options read answer drawing =
     IsExplained names sites asked options read answer drawing
-    ⊎ (IsOfOtherLog sites read answer
+    ⊎ (IsOfOtherInput sites read answer
     ⊎ (IsUnchecked MAX_EVENTS MAX_NODES read answer ⊎ LacksMemory answer))
