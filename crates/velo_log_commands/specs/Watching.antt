@@ -18,7 +18,7 @@ use Rattle.velo_watch.specs.declared.fault.WatchFault.{WatchFault}
 use Rattle.velo_watch.specs.declared.fault.WatchFault.TheVariants as watch_fault
 use Rattle.velo_watch.specs.declared.state.Watch.{Watch}
 use Rattle.velo_worker.specs.declared.ending.Ending.TheVariants.{Done}
-use Rattle.velo_world.specs.Faults.{IsRefusedAt, IsWrongValueAt}
+use Rattle.velo_world.specs.Faults.{IsFaultAtEvent}
 use Rattle.velo_world.specs.World.{AlarmOf, IsAlarm}
 use Rattle.velo_world.specs.declared.analysis.Alarm.{Alarm}
 use Rattle.velo_world.specs.declared.log_replay.LogReplayFault.{LogReplayFault}
@@ -99,7 +99,7 @@ EndsAfter terms read bounds log (WrongValue p) =
     × terms.IsFaultAt bounds log e (replay.WrongValue p)
 EndsAfter terms read bounds log _ = ⊥
 
--- why there are no events at all
+-- why the header was not read
 abbrev pub IsFaultOfHeader : Option (List ℕ) → CheckFault → Type 0
 IsFaultOfHeader read (Log fault) = IsFaultOfLogText read fault × IsMetInHeader fault
 IsFaultOfHeader read Memory = GrowthRefused
@@ -167,17 +167,15 @@ Watches names terms read stdout f =
 -- ---- a log that is kept whole
 
 -- the limits of a configuration are those that were asked for
-pub record KeepsTo (limits : Limits) (config : Config) : Type 0 where
+pub record HasLimits (limits : Limits) (config : Config) : Type 0 where
   pub events : config.events ≡ limits.events
   pub nodes : config.nodes ≡ limits.nodes
 
--- the event is refused, or reads a wrong value, within these limits
+-- the event is refused, or reads a wrong value, at its position in the log, or meets one of these limits
 abbrev pub IsFaultWithin : Limits → Bounds → List Event → Event → LogReplayFault → Type 0
-IsFaultWithin limits bounds log e (replay.Refused p refusal) =
-    IsRefusedAt limits.events limits.nodes bounds (log ++ e ∷ []) p refusal
-IsFaultWithin limits bounds log e (replay.WrongValue p) =
-    IsWrongValueAt limits.events bounds (log ++ e ∷ []) p
-IsFaultWithin limits bounds log e replay.Memory = GrowthRefused
+IsFaultWithin limits bounds log e fault =
+    (config : Config) × (config.bounds ≡ bounds) × HasLimits limits config
+    × IsFaultAtEvent config log e fault
 
 abbrev pub terms_of_watch : WatchOptions → Terms
 terms_of_watch options =
@@ -245,7 +243,7 @@ Follows terms read old new (Err fault) bounds HasSeen =
 -- a watch within the limits can go on
 pub record CanWatch (options : WatchOptions) (watch : Watch) : Type 0 where
   pub goes_on : CanGoOn watch
-  pub limits : KeepsTo options.limits watch.world.config
+  pub limits : HasLimits options.limits watch.world.config
 
 -- these events were read, and the line of their alarm went out
 pub record HasWatched (terms : Terms) (read : Option (List ℕ)) (stdout : Writing)

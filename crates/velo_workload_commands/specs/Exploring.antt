@@ -58,6 +58,7 @@ pub record IsSearchOf (program : Program) (config : Config) (options : ExploreOp
   pub left_open : (fault : Fault) → OnOpen (finding_of search.findings fault)
       (IsLeftOpen program config options.states options.first over search.states search.findings fault)
   pub untried : config.events < sum_by body_events program.bodies → IsUntried search.states search.findings
+      (map (λ schedule. schedule.items) search.alarms.items)
   pub alarms : AreAlarms program config options.first search.findings.alarm
       (map (λ schedule. schedule.items) search.alarms.items)
 

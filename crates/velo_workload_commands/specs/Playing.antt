@@ -36,7 +36,8 @@ use Rattle.velo_fate.specs.Saving.{text_of_log}
 -- the bytes are the text of this program; where they are not known nothing is said
 abbrev pub IsWorkload : Option (List ℕ) → Program → Type 0
 IsWorkload read program =
-    IfSome read (λ bytes. (length bytes ≤ MAX_WORKLOAD_BYTES) × (meaning_of bytes ≡ Ok program))
+    IfSome read (λ bytes. (length bytes ≤ MAX_WORKLOAD_BYTES) × IsUtf8 bytes
+    × (meaning_of bytes ≡ Ok program))
 
 -- there are more bytes than a workload may have
 abbrev pub IsTooLong : List ℕ → WorkFault → Type 0
@@ -46,7 +47,8 @@ IsTooLong bytes fault =
 -- they are not UTF-8; or this is the fault of the text that they are
 abbrev pub HasFault : List ℕ → WorkFault → Type 0
 HasFault bytes fault =
-    ((¬ IsUtf8 bytes) × (fault ≡ work_fault.BadLine 0)) ⊎ ParsesAs (meaning_of bytes) (Err fault)
+    ((¬ IsUtf8 bytes) × (fault ≡ work_fault.BadLine 0)) 
+    ⊎ (IsUtf8 bytes × ParsesAs (meaning_of bytes) (Err fault))
 
 -- why bytes are the text of no workload: there are too many; else by what they are
 abbrev pub IsFaultOfText : List ℕ → WorkFault → Type 0
