@@ -327,7 +327,7 @@ played needs play options store stdout f so (inr h) =
 
 -- of a log that was watched
 abbrev RefusesByGrowth : Terms → Type 0
-RefusesByGrowth terms = (bounds : Bounds) (log : List Event) (e : Event) (p : ℕ) (r : Refusal) → terms.IsFaultAt bounds log e (replay.Refused p r) → RefusedByGrowth r
+RefusesByGrowth terms = (bounds : Bounds) (log : List Event) (e : Event) (p : ℕ) (r : Refusal) → terms.IsFaultOfNext bounds log e (replay.Refused p r) → RefusedByGrowth r
 
 of_fault_within : (limits : Limits) → (bounds : Bounds) (log : List Event) (e : Event) (p : ℕ) (r : Refusal) → IsFaultWithin limits bounds log e (replay.Refused p r) → RefusedByGrowth r
 of_fault_within limits bounds log e p r (config, same, keeps, (there, why)) =

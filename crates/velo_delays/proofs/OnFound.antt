@@ -7,10 +7,10 @@ use Rattle.std.proofs.lemmas.List.Elements.{All-nil, All-cons, All-head, All-app
 use Rattle.std.proofs.lemmas.Option.{none-some, same_Some, slice_get_within}
 use Rattle.velo_events.specs.declared.config.Bounds.{Bounds}
 use Rattle.velo_events.specs.declared.event.Event.{Event}
-use Rattle.velo_filter.specs.Left.{Left, is_listed, rest_of, with_labels}
+use Rattle.velo_filter.specs.Left.{Omitted, is_listed, rest_of, with_labels}
 use Rattle.velo_audit.specs.Audit.{AreWitnessed}
 use Rattle.velo_audit.specs.Rounds.{IsRound, Rounds}
-use Rattle.velo_audit.specs.Tells.{told_as}
+use Rattle.velo_audit.specs.Tells.{numbers_of}
 use Rattle.velo_audit.specs.Witness.{HasWitness}
 use Rattle.velo_audit.specs.declared.told.Told.{Told}
 use Rattle.velo_predict.specs.declared.difference.Difference.{Difference}
@@ -49,30 +49,30 @@ on_ok (Err e) f h = tt
 
 -- ---- labels that are left out
 
-pub LeavesOutMore-refl : (left : Left) → LeavesOutMore left left
+pub LeavesOutMore-refl : (left : Omitted) → LeavesOutMore left left
 LeavesOutMore-refl left = record { locks = refl; variables = refl; labels = λ l out. out }
 
-pub LeavesOutMore-same : (one two : Left) → two ≡ one → LeavesOutMore one two
+pub LeavesOutMore-same : (one two : Omitted) → two ≡ one → LeavesOutMore one two
 LeavesOutMore-same one two same = subst (LeavesOutMore one) (sym same) (LeavesOutMore-refl one)
 
-pub LeavesOutMore-labels : (one two : Left) (labels : List ℕ) → two ≡ with_labels one labels → LeavesOutMore one two
+pub LeavesOutMore-labels : (one two : Omitted) (labels : List ℕ) → two ≡ with_labels one labels → LeavesOutMore one two
 LeavesOutMore-labels one two labels is = subst (LeavesOutMore one) (sym is) (record { locks = refl; variables = refl; labels = λ l out. or_left (one.labels l) (is_listed labels l) out })
 
-pub LeavesOutMore-more : (one two three : Left) → LeavesOutMore one two → LeavesOutMore two three → LeavesOutMore one three
+pub LeavesOutMore-more : (one two three : Omitted) → LeavesOutMore one two → LeavesOutMore two three → LeavesOutMore one three
 LeavesOutMore-more one two three first then = record {
   locks = then.locks ∙ first.locks;
   variables = then.variables ∙ first.variables;
   labels = λ l out. then.labels l (first.labels l out);
 }
 
-pub IsFoundIn-rest : (bounds : Bounds) (log : List Event) (left : Left) (found : PredictedCycle) → IsFound bounds (rest_of left log) found → IsFoundIn bounds log left found
+pub IsFoundIn-rest : (bounds : Bounds) (log : List Event) (left : Omitted) (found : PredictedCycle) → IsFound bounds (rest_of left log) found → IsFoundIn bounds log left found
 IsFoundIn-rest bounds log left found is = record { labels = left.labels; more = λ l out. out; is_found = is }
 
-pub IsFoundIn-before : (bounds : Bounds) (log : List Event) (old new : Left) → LeavesOutMore old new → (found : PredictedCycle) → IsFoundIn bounds log new found → IsFoundIn bounds log old found
+pub IsFoundIn-before : (bounds : Bounds) (log : List Event) (old new : Omitted) → LeavesOutMore old new → (found : PredictedCycle) → IsFoundIn bounds log new found → IsFoundIn bounds log old found
 IsFoundIn-before bounds log old new adds found is = record {
   labels = is.labels;
   more = λ l out. is.more l (adds.labels l out);
-  is_found = subst (λ (left : Left). IsFound bounds (rest_of left log) found) equal is.is_found;
+  is_found = subst (λ (left : Omitted). IsFound bounds (rest_of left log) found) equal is.is_found;
 }
   where
     equal : record new { labels = is.labels } ≡ record old { labels = is.labels }
@@ -80,12 +80,12 @@ IsFoundIn-before bounds log old new adds found is = record {
 
 -- ---- the first round of an audit
 
-pub first-round : (log : List Event) (left : Left) (rounds : List Told) (told : Told) → slice_get rounds 0 ≡ Some told → Rounds log left (map told_as rounds) → IsRound log left (told_as told)
+pub first-round : (log : List Event) (left : Omitted) (rounds : List Told) (told : Told) → slice_get rounds 0 ≡ Some told → Rounds log left (map numbers_of rounds) → IsRound log left (numbers_of told)
 unfolding Rounds
 first-round log left [] told first are = absurd (none-some told first)
-first-round log left (t ∷ rest) told first are = subst (λ x. IsRound log left (told_as x)) (same_Some t told first) are.0
+first-round log left (t ∷ rest) told first are = subst (λ x. IsRound log left (numbers_of x)) (same_Some t told first) are.0
 
-pub first-witness : (log : List Event) (left : Left) (rounds : List Told) (told : Told) → slice_get rounds 0 ≡ Some told → AreWitnessed true log left rounds → HasWitness true log left told.closing told.witness
+pub first-witness : (log : List Event) (left : Omitted) (rounds : List Told) (told : Told) → slice_get rounds 0 ≡ Some told → AreWitnessed true log left rounds → HasWitness true log left told.closing told.witness
 unfolding AreWitnessed
 first-witness log left [] told first are = absurd (none-some told first)
 first-witness log left (t ∷ rest) told first are = subst (λ (x : Told). HasWitness true log left x.closing x.witness) (same_Some t told first) are.0

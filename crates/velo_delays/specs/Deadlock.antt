@@ -4,7 +4,7 @@ use Rattle.velo_events.specs.declared.config.Bounds.{Bounds}
 use Rattle.velo_events.specs.declared.event.Event.{Event}
 use Rattle.velo_events.specs.declared.limits.TheConstants.{MAX_EVENTS}
 use Rattle.velo_certify.specs.Owners.{event_at}
-use Rattle.velo_filter.specs.Left.{Left, rest_of}
+use Rattle.velo_filter.specs.Left.{Omitted, rest_of}
 use Rattle.velo_predict.specs.declared.waits.Waiting.{Waiting}
 use Rattle.velo_predict.specs.Deadlocks.{PredictsDeadlock}
 use Rattle.velo_predict.specs.Waits.{IsCircle}
@@ -27,5 +27,5 @@ pub record IsDeadlock (bounds : Bounds) (log : List Event) (deadlock : Deadlock)
   pub differing : AreDiffering log deadlock.trace.events deadlock.differing.items
 
 -- the same of what is left of a log
-abbrev pub IsDeadlockIn : Bounds → List Event → Left → Deadlock → Type 0
-IsDeadlockIn bounds log left deadlock = IsDeadlock bounds (rest_of left log) deadlock
+abbrev pub IsDeadlockIn : Bounds → List Event → Omitted → Deadlock → Type 0
+IsDeadlockIn bounds log omitted deadlock = IsDeadlock bounds (rest_of omitted log) deadlock

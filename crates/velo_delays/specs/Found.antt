@@ -3,10 +3,10 @@ use Rattle.std.specs.Prelude.{◌≡◌, ◌⊎◌, ◌≤◌, ℕ, Bool, true, 
 use Rattle.velo_events.specs.declared.config.Bounds.{Bounds}
 use Rattle.velo_events.specs.declared.limits.TheConstants.{MAX_EVENTS}
 use Rattle.velo_events.specs.declared.event.Event.{Event}
-use Rattle.velo_filter.specs.Left.{Left, nothing, rest_of}
+use Rattle.velo_filter.specs.Left.{Omitted, nothing, rest_of}
 use Rattle.velo_audit.specs.Audit.{TellsTruly}
 use Rattle.velo_audit.specs.Rounds.{IsRound}
-use Rattle.velo_audit.specs.Tells.{told_as}
+use Rattle.velo_audit.specs.Tells.{numbers_of}
 use Rattle.velo_audit.specs.Witness.{HasWitness}
 use Rattle.velo_predict.specs.Predictions.{PredictsCycle}
 use Rattle.velo_delays.specs.declared.judged.PredictedCycle.{PredictedCycle}
@@ -17,7 +17,7 @@ pub record IsFound (bounds : Bounds) (log : List Event) (found : PredictedCycle)
   pub foretold : PredictsCycle bounds log found.trace.events
   pub short : length found.trace.events ≤ MAX_EVENTS
   -- this an audit of the trace tells first: its closing event, and the blocks that are to blame there
-  pub first : IsRound found.trace.events nothing (told_as found.told)
+  pub first : IsRound found.trace.events nothing (numbers_of found.told)
   pub to_blame : IsTrue found.told.to_blame
   pub truly : TellsTruly found.trace.events found.told
   pub witness : HasWitness true found.trace.events nothing found.told.closing found.told.witness
@@ -25,14 +25,14 @@ pub record IsFound (bounds : Bounds) (log : List Event) (found : PredictedCycle)
   pub differing : AreDiffering log found.trace.events found.differing.items
 
 -- the same of what is left of the log where the blocks of these labels, and maybe of some more, are dissolved
-pub record IsFoundIn (bounds : Bounds) (log : List Event) (left : Left) (found : PredictedCycle) : Type 0 where
+pub record IsFoundIn (bounds : Bounds) (log : List Event) (omitted : Omitted) (found : PredictedCycle) : Type 0 where
   pub labels : ℕ → Bool
   -- what was left out is still left out
-  pub more : (l : ℕ) → IsTrue (left.labels l) → IsTrue (labels l)
-  pub is_found : IsFound bounds (rest_of (record left { labels = labels }) log) found
+  pub more : (l : ℕ) → IsTrue (omitted.labels l) → IsTrue (labels l)
+  pub is_found : IsFound bounds (rest_of (record omitted { labels = labels }) log) found
 
 -- the same is left out, and maybe some labels more. Private contracts cite this word
-pub record LeavesOutMore (old new : Left) : Type 0 where
+pub record LeavesOutMore (old new : Omitted) : Type 0 where
   pub locks : new.locks ≡ old.locks
   pub variables : new.variables ≡ old.variables
   pub labels : (l : ℕ) → IsTrue (old.labels l) → IsTrue (new.labels l)

@@ -6,7 +6,7 @@ use Rattle.velo_events.specs.declared.config.Config.{Config}
 use Rattle.velo_events.specs.declared.event.Event.{Event}
 use Rattle.velo_endless.specs.Endless.{CanGoOn}
 use Rattle.velo_endless.specs.Kept.{IsFaultBehind}
-use Rattle.velo_endless.specs.Reading.{IsMetAfter}
+use Rattle.velo_endless.specs.Reading.{IsMetEndless}
 use Rattle.velo_endless.specs.declared.reading.TheConstants.{MAX_WATCHED}
 use Rattle.velo_endless.specs.declared.watch.EndlessWatch.{EndlessWatch}
 use Rattle.velo_request.specs.declared.request.EndlessOptions.{EndlessOptions}
@@ -31,13 +31,13 @@ terms_of_endless options =
       names = options.names;
       stop = options.stop;
       certificate = false;
-      longest = MAX_WATCHED;
-      most = MAX_WATCHED;
-      IsMet = IsMetAfter;
-      IsFaultAt = IsFaultOfWhole options.limits;
+      text_limit = MAX_WATCHED;
+      event_limit = MAX_WATCHED;
+      IsMetInText = IsMetEndless;
+      IsFaultOfNext = IsFaultOfWhole options.limits;
     }
 
--- ---- a word of the contracts within the crate
+-- ---- on the way. Contracts within the crate cite this word
 
 -- a watch that keeps to the limits can go on
 pub record CanWatchOn (options : EndlessOptions) (watch : EndlessWatch) : Type 0 where

@@ -36,7 +36,8 @@ use Rattle.velo_fate.specs.Delivery.{CommandAnswer, IsPrinted, printing, silent}
 use Rattle.velo_inputs.specs.Faults.{check_fault_of}
 use Rattle.velo_delivery.specs.Writing.{BreaksOff, Writes, Writing}
 
--- ---- what is asked of a watch, and what bounds it
+-- ---- what is asked of a watch, and what bounds it. `watch` and `watch --endless` differ in the two
+-- limits and the two reasons alone (`terms_of_watch`, `terms_of_endless`)
 
 pub record Terms : Type 1 where
   -- the path of the log
@@ -47,14 +48,13 @@ pub record Terms : Type 1 where
   pub stop : Bool
   -- the certificate is asked for
   pub certificate : Bool
-  -- the most events that the text may have
-  pub longest : ℕ
-  -- the most events that may happen
-  pub most : ℕ
+  -- the most events that the text may have, and that may happen
+  pub text_limit : ℕ
+  pub event_limit : ℕ
   -- after so many events the reader meets this fault of the text
-  pub IsMet : ℕ → LogFault → Type 0
+  pub IsMetInText : ℕ → LogFault → Type 0
   -- after these events the next one cannot happen, for this reason
-  pub IsFaultAt : Bounds → List Event → Event → LogReplayFault → Type 0
+  pub IsFaultOfNext : Bounds → List Event → Event → LogReplayFault → Type 0
 
 -- ---- the events so far
 
@@ -90,13 +90,13 @@ IsReadTo stop read bounds log =
 -- part in it.
 abbrev pub EndsAfter : Terms → Option (List ℕ) → Bounds → List Event → CheckFault → Type 0
 EndsAfter terms read bounds log (Log fault) =
-    IsFaultOfTextUpTo terms.longest read fault × terms.IsMet (length log) fault
+    IsFaultOfTextUpTo terms.text_limit read fault × terms.IsMetInText (length log) fault
 EndsAfter terms read bounds log (Refused p refusal) =
     (e : Event) × IsFront read bounds (log ++ e ∷ [])
-    × terms.IsFaultAt bounds log e (replay.Refused p refusal)
+    × terms.IsFaultOfNext bounds log e (replay.Refused p refusal)
 EndsAfter terms read bounds log (WrongValue p) =
     (e : Event) × IsFront read bounds (log ++ e ∷ [])
-    × terms.IsFaultAt bounds log e (replay.WrongValue p)
+    × terms.IsFaultOfNext bounds log e (replay.WrongValue p)
 EndsAfter terms read bounds log _ = ⊥
 
 -- why the header was not read
@@ -114,7 +114,7 @@ pub record IsWatched (names : Names) (terms : Terms) (read : Option (List ℕ))
     : Type 0 where
   pub bounds : Bounds
   pub log : List Event
-  pub so_far : IsSoFar terms.most read bounds log
+  pub so_far : IsSoFar terms.event_limit read bounds log
   pub read_to : IsReadTo terms.stop read bounds log
   pub alarm : Option Alarm
   pub exact : AlarmOf log alarm
@@ -130,7 +130,7 @@ pub record EndsUnreported (terms : Terms) (read : Option (List ℕ))
     (answer : CommandAnswer) : Type 0 where
   pub bounds : Bounds
   pub log : List Event
-  pub so_far : IsSoFar terms.most read bounds log
+  pub so_far : IsSoFar terms.event_limit read bounds log
   pub alarm : Option Alarm
   pub exact : AlarmOf log alarm
   pub fault : CheckFault
@@ -139,20 +139,20 @@ pub record EndsUnreported (terms : Terms) (read : Option (List ℕ))
   pub said : answer ≡ printing (told_text alarm) (Check fault)
 
 -- nothing is printed of an input without a header
-abbrev pub IsUnopened : Option (List ℕ) → CommandAnswer → Type 0
-IsUnopened read answer =
+abbrev pub LacksHeader : Option (List ℕ) → CommandAnswer → Type 0
+LacksHeader read answer =
     (fault : CheckFault) × IsFaultOfHeader read fault × (answer ≡ silent (Check fault))
 
 -- What a watch has to say.
 abbrev pub IsWatchAnswer : Names → Terms → Option (List ℕ) → CommandAnswer → Type 0
 IsWatchAnswer names terms read answer =
-    IsWatched names terms read answer ⊎ EndsUnreported terms read answer ⊎ IsUnopened read answer
+    IsWatched names terms read answer ⊎ EndsUnreported terms read answer ⊎ LacksHeader read answer
 
 -- the sink failed within the line of the alarm, which the last of the events so far raised
 pub record FailsAtAlarm (terms : Terms) (read : Option (List ℕ)) (stdout : Writing) : Type 0 where
   pub bounds : Bounds
   pub log : List Event
-  pub so_far : IsSoFar terms.most read bounds log
+  pub so_far : IsSoFar terms.event_limit read bounds log
   pub ends : EndsAtAlarm log
   pub alarm : Alarm
   pub exact : IsAlarm log alarm
@@ -184,24 +184,24 @@ terms_of_watch options =
       names = options.names;
       stop = options.stop;
       certificate = options.certificate;
-      longest = MAX_EVENTS;
-      most = options.limits.events;
-      IsMet = IsMetBehind;
-      IsFaultAt = IsFaultWithin options.limits;
+      text_limit = MAX_EVENTS;
+      event_limit = options.limits.events;
+      IsMetInText = IsMetBehind;
+      IsFaultOfNext = IsFaultWithin options.limits;
     }
 
--- ---- how far each step has come: words of the contracts within the crate
+-- ---- on the way. Contracts within the crate cite these words: how far each step has come
 
 -- these events of the input happened, and the line of their alarm went out, if they have one
 pub record HasCome (terms : Terms) (read old new : Option (List ℕ)) (bounds : Bounds)
     (log : List Event) : Type 0 where
-  pub so_far : IsSoFar terms.most read bounds log
+  pub so_far : IsSoFar terms.event_limit read bounds log
   pub told : Tells old new log
 
 -- the line of the alarm broke off, which the last of these events raised
 pub record BreaksAtAlarm (terms : Terms) (read old new : Option (List ℕ)) (bounds : Bounds)
     (log : List Event) : Type 0 where
-  pub so_far : IsSoFar terms.most read bounds log
+  pub so_far : IsSoFar terms.event_limit read bounds log
   pub ends : EndsAtAlarm log
   pub part : TellsPart old new log
 
@@ -218,7 +218,8 @@ FailsAfter terms read old new bounds log (watch_fault.Replay fault) =
 FailsAfter terms read old new bounds log watch_fault.Write =
     (e : Event) × BreaksAtAlarm terms read old new bounds (log ++ e ∷ [])
 
--- one event more happened; or the input is at its end, and is these events; or neither
+-- one event more happened; or the input is at its end, and is these events; or neither. `HasSeen` and
+-- `IsAt` are what the watch at hand says of the events so far.
 abbrev pub StepsOn : Terms → Option (List ℕ) → Option (List ℕ) → Option (List ℕ) → Bounds
     → List Event → Result Bool WatchFault → Bounds → (List Event → Type 0) → (List Event → Type 0)
     → Type 0
@@ -249,7 +250,7 @@ pub record CanWatch (options : WatchOptions) (watch : Watch) : Type 0 where
 pub record HasWatched (terms : Terms) (read : Option (List ℕ)) (stdout : Writing)
     (bounds : Bounds) (HasSeen : List Event → Type 0) : Type 0 where
   pub log : List Event
-  pub so_far : IsSoFar terms.most read bounds log
+  pub so_far : IsSoFar terms.event_limit read bounds log
   pub read_to : IsReadTo terms.stop read bounds log
   pub alarm : Option Alarm
   pub exact : AlarmOf log alarm

@@ -5,7 +5,7 @@ use Rattle.std.proofs.lemmas.List.Elements.{All-same, All-map, All-weaker, All-c
 use Rattle.std.proofs.lemmas.Option.{slice_get_within}
 use Rattle.velo_events.specs.declared.config.Bounds.{Bounds}
 use Rattle.velo_events.specs.declared.event.Event.{Event}
-use Rattle.velo_filter.specs.Left.{Left}
+use Rattle.velo_filter.specs.Left.{Omitted}
 use Rattle.velo_predict.specs.declared.difference.Difference.{Difference}
 use Rattle.velo_delays.specs.declared.judged.Differing.{Differing}
 use Rattle.velo_delays.specs.declared.judged.PredictedCycle.{PredictedCycle}
@@ -25,7 +25,7 @@ within_trace log trace differing are =
 pub CanTellDeadlock-from : (bounds : Bounds) (log : List Event) (deadlock : Deadlock) → IsDeadlock bounds log deadlock → CanTellDeadlock deadlock
 CanTellDeadlock-from bounds log deadlock is = record { few = is.short; differing = within_trace _ deadlock.trace.events deadlock.differing.items is.differing }
 
-pub CanBeTold-from : (bounds : Bounds) (log : List Event) (left : Left) (found : PredictedCycle) → IsFoundIn bounds log left found → CanBeTold found
+pub CanBeTold-from : (bounds : Bounds) (log : List Event) (left : Omitted) (found : PredictedCycle) → IsFoundIn bounds log left found → CanBeTold found
 CanBeTold-from bounds log left found is = record {
   few = is.is_found.short;
   can_come_about = record { bounds = bounds; well_formed = is.is_found.foretold.prediction.well_formed };

@@ -47,7 +47,7 @@ IsTooLong bytes fault =
 -- they are not UTF-8; or this is the fault of the text that they are
 abbrev pub HasFault : List ℕ → WorkFault → Type 0
 HasFault bytes fault =
-    ((¬ IsUtf8 bytes) × (fault ≡ work_fault.BadLine 0)) 
+    ((¬ IsUtf8 bytes) × (fault ≡ work_fault.BadLine 0))
     ⊎ (IsUtf8 bytes × ParsesAs (meaning_of bytes) (Err fault))
 
 -- why bytes are the text of no workload: there are too many; else by what they are
@@ -152,13 +152,6 @@ listed program =
 abbrev pub text_of_names : Program → List ℕ
 text_of_names program = names_text (listed program)
 
--- The program's names fit into one file of names: it has no more lines, and no more bytes, than
--- such a file may have.
-pub record FitsNames (program : Program) : Type 0 where
-  pub few_lines : length program.thread_names + (length program.variable_names
-      + (length program.lock_names + length program.label_names)) ≤ MAX_NAME_LINES
-  pub few_bytes : length (text_of_names program) ≤ MAX_NAMES_BYTES
-
 -- The text of the log is to be saved. The report of the log by the program's names, with its
 -- certificate if that is asked for, is printed between these texts; and it comes to this end.
 pub record IsReported (program : Program) (certificate : Bool) (before : List ℕ) (w : WorldState)
@@ -214,3 +207,12 @@ IsPlayAnswer play options read answer names =
     ((program : Program) × IsWorkload read program × (names ≡ text_of_names program)
     × IsRunAnswer play options program answer)
     ⊎ ((f : Fate) × IsUnread read f × (answer ≡ silent f))
+
+-- ---- a law of names (`laws.rt`)
+
+-- The program's names fit into one file of names: it has no more lines, and no more bytes, than
+-- such a file may have.
+pub record FitsNames (program : Program) : Type 0 where
+  pub few_lines : length program.thread_names + (length program.variable_names
+      + (length program.lock_names + length program.label_names)) ≤ MAX_NAME_LINES
+  pub few_bytes : length (text_of_names program) ≤ MAX_NAMES_BYTES

@@ -1,4 +1,4 @@
--- How a run is reported: what is saved, and what is printed.
+-- Words of the contracts within the crate: how a run is reported. What the commands do is said without them.
 use Rattle.std.specs.Borrow.{Bor}
 use Rattle.std.specs.Prelude.{◌≡◌, ◌≢◌, ◌⊎◌, ◌++◌, ⊤, ℕ, Bool, true, false, List, Option, Some, None, is_some}
 use Rattle.velo_events.specs.declared.event.Event.{Event}
@@ -18,8 +18,8 @@ use Rattle.velo_workload_commands.specs.declared.page.Page.{Page}
 use Rattle.velo_workload_commands.specs.declared.reporting.RunReport.{RunReport}
 
 -- the text of a page: the output of its world between the two texts
-abbrev pub is_page : Page → List ℕ → Type 0
-is_page page text =
+abbrev pub IsPageText : Page → List ℕ → Type 0
+IsPageText page text =
     (report : List ℕ) × IsOutputOf page.names (is_some page.list) page.closed.now report
     × (text ≡ page.before.now ++ (report ++ page.after.now))
 
