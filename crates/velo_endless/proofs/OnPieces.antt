@@ -234,7 +234,7 @@ module _ (config : Config) (whole kept : List Event) (so_many so_long : ℕ) (e 
     none,
     ⊎_elim
         (λ full. inl (full.0, record { kept = kept; is_kept = kept_in_time; full = full.1; no_cut = full_now full.1 }))
-        (λ full. inr (full.0, record { kept = kept; is_kept = kept_in_time; no_node = full.1.1 }))
+        (λ full. inr (full.0, record { kept = kept; is_kept = kept_in_time; no_node = full.2 }))
         h,
   )
 
