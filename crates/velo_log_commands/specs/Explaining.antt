@@ -125,7 +125,7 @@ pub record ExplainsAlarm (manner : Manner) (log : List Event) (answer : CommandA
   pub said : answer ≡ explained manner log alarm.position evidence
   pub drawn : drawing ≡ drawing_text manner.names manner.sites log alarm.position evidence
 
--- a log without a cycle has no drawing
+-- without a cycle there is no text to save, and so no drawing is saved (`DeliversBy`), whatever it is
 abbrev pub ExplainsWhole : Manner → List Event → CommandAnswer → List ℕ → Type 0
 ExplainsWhole manner log answer drawing =
     ExplainsAlarm manner log answer drawing

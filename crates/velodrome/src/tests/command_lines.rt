@@ -142,7 +142,7 @@ const WRONG_WORDS: [&[&str]; 49] = [
 ];
 
 /// Right words that do not go together, with the line that says so.
-const WORDS_APART: [(&[&str], &str); 29] = [
+static WORDS_APART: [(&[&str], &str); 29] = [
     (
         &["velodrome", "check", "-", "--names", "-"],
         "error: standard input can be read once\n",
