@@ -16,9 +16,9 @@ use Rattle.velo_traces.specs.Blocks.{block_at, label_of}
 use Rattle.velo_blame.specs.Blamed.{begins_of}
 use Rattle.velo_world.specs.Faults.{FindsNoNodeAt}
 use Rattle.velo_events.specs.Graph.{HasCycle}
-use Rattle.velo_filter.specs.Left.{Left, rest_of, places_of, place_of}
+use Rattle.velo_filter.specs.Left.{Omitted, rest_of, places_of, place_of}
 use Rattle.velo_audit.specs.Rounds.{told_of, IsRound, labels_told}
-use Rattle.velo_audit.specs.Tells.{told_as}
+use Rattle.velo_audit.specs.Tells.{numbers_of}
 use Rattle.velo_audit.specs.Witness.{block_as_read}
 use Rattle.velo_audit.specs.Audit.{HasItsLabels, RoundTells, IsRoundFault, IsToldOf, CheckTells, IsCheckFault}
 use Rattle.velo_audit.specs.declared.told.Told.{Told}
@@ -30,7 +30,7 @@ use Rattle.velo_audit.proofs.OnWitness.{HasWitness-told}
 use Rattle.velo_audit.proofs.OnRounds.{closing-begins, blamed-begins}
 
 -- as many places as events
-pub length-places : (left : Left) (log : List Event) → length (places_of left log) ≡ length (rest_of left log)
+pub length-places : (left : Omitted) (log : List Event) → length (places_of left log) ≡ length (rest_of left log)
 unfolding places_of
 length-places left log =
     let a = length-staying (stays left log) (length log) in
@@ -39,7 +39,7 @@ length-places left log =
     omega (arith, a, b, c)
 
 -- and no more than in the log
-pub length-rest : (left : Left) (log : List Event) → length (rest_of left log) ≤ length log
+pub length-rest : (left : Omitted) (log : List Event) → length (rest_of left log) ≤ length log
 unfolding places_of
 length-rest left log =
     let a = length-filter (stays left log) (range_with_len 0 (length log)) in
@@ -52,7 +52,7 @@ pub map_same : {Y : Type 0} (f g : ℕ → Y) (xs : List ℕ) → ((x : ℕ) →
 map_same f g [] h = refl
 map_same f g (x ∷ xs) h = ap (λ y. y ∷ map f xs) (h x (0, omega arith, refl)) ∙ ap (λ ys. g x ∷ ys) (map_same f g xs (λ z w. h z (suc w.0, let l = w.1 in omega (arith, l), w.2)))
 
-module _ (asked : Bool) (log : List Event) (left : Left) (told : Told) (w : IsToldOf asked (rest_of left log) (places_of left log) told) where
+module _ (with_witness : Bool) (log : List Event) (left : Omitted) (told : Told) (w : IsToldOf with_witness (rest_of left log) (places_of left log) told) where
   abbrev what : List Event
   what = rest_of left log
 
@@ -69,7 +69,7 @@ module _ (asked : Bool) (log : List Event) (left : Left) (told : Told) (w : IsTo
   unfolding place_of
   firsts = ap begins_of items ∙ map-map (λ (b : Block). b.first) (λ b. block_as_read (slice_index (places_of left log)) (block_at what b)) bs
 
-  IsRound-told : IsRound log left (told_as told)
+  IsRound-told : IsRound log left (numbers_of told)
   unfolding place_of
   IsRound-told = record {
     position = w.alarm.position;
@@ -105,13 +105,13 @@ module _ (asked : Bool) (log : List Event) (left : Left) (told : Told) (w : IsTo
       ∙ (sym (map-map (block_at log) (place_of left log) bs) ∙ ap (map (block_at log)) (sym firsts)))
 
 -- so of a check of what is left
-pub RoundTells-check : (asked : Bool) (log : List Event) (left : Left) (es : List Event) (ps : List ℕ) → es ≡ rest_of left log → ps ≡ places_of left log → (told : Option Told) → CheckTells asked es ps told → RoundTells asked log left told
-RoundTells-check asked log left es ps events places None h = subst (λ xs. ¬ HasCycle xs) events h
-RoundTells-check asked log left es ps events places (Some told) h =
-    let w = subst (λ xs. IsToldOf asked xs (places_of left log) told) events (subst (λ xs. IsToldOf asked es xs told) places h) in
-    (IsRound-told asked log left told w, labels asked log left told w, HasWitness-told asked log left told w.alarm w.is_alarm w.tells)
+pub RoundTells-check : (with_witness : Bool) (log : List Event) (left : Omitted) (es : List Event) (ps : List ℕ) → es ≡ rest_of left log → ps ≡ places_of left log → (told : Option Told) → CheckTells with_witness es ps told → RoundTells with_witness log left told
+RoundTells-check with_witness log left es ps events places None h = subst (λ xs. ¬ HasCycle xs) events h
+RoundTells-check with_witness log left es ps events places (Some told) h =
+    let w = subst (λ xs. IsToldOf with_witness xs (places_of left log) told) events (subst (λ xs. IsToldOf with_witness es xs told) places h) in
+    (IsRound-told with_witness log left told w, labels with_witness log left told w, HasWitness-told with_witness log left told w.alarm w.is_alarm w.tells)
 
-pub IsRoundFault-check : (config : Config) (log : List Event) (left : Left) (es : List Event) (ps : List ℕ) → es ≡ rest_of left log → ps ≡ places_of left log → (fault : AuditFault) → IsCheckFault config es ps fault → IsRoundFault config log left fault
+pub IsRoundFault-check : (config : Config) (log : List Event) (left : Omitted) (es : List Event) (ps : List ℕ) → es ≡ rest_of left log → ps ≡ places_of left log → (fault : AuditFault) → IsCheckFault config es ps fault → IsRoundFault config log left fault
 unfolding place_of
 IsRoundFault-check config log left es ps events places Memory h = h
 IsRoundFault-check config log left es ps events places (GraphFull place) h = record {
@@ -121,7 +121,7 @@ IsRoundFault-check config log left es ps events places (GraphFull place) h = rec
 }
 
 -- the labels of the blocks are those that are told
-pub labels-told : (log : List Event) (told : Told) → HasItsLabels log told → map (λ (b : Block). b.label.0) told.blocks.items ≡ labels_told log (told_as told)
+pub labels-told : (log : List Event) (told : Told) → HasItsLabels log told → map (λ (b : Block). b.label.0) told.blocks.items ≡ labels_told log (numbers_of told)
 labels-told log told h = ap (map (λ (b : Block). b.label.0)) h ∙ map-map (λ (b : Block). b.label.0) (block_at log) (begins_of told.blocks.items)
 
 pub if_ok : {T E : Type 0} {P Q : T → Type 0} (r : Result T E) → ((x : T) → P x → Q x) → IfOk r P → IfOk r Q

@@ -12,7 +12,7 @@ use Rattle.velo_events.specs.declared.event.Kind.TheVariants.{Begin}
 use Rattle.velo_events.specs.declared.event.Label.{Label}
 use Rattle.velo_events.proofs.OnScans.{take-next}
 use Rattle.velo_traces.proofs.Past.{past}
-use Rattle.velo_filter.specs.Left.{Left, nothing, label_begun, is_listed, with_number}
+use Rattle.velo_filter.specs.Left.{Omitted, nothing, label_begun, is_listed, with_number}
 use Rattle.velo_filter.proofs.OnTables.{is_listed-nil, is_listed-append, is_listed-one}
 use Rattle.velo_audit.specs.Rounds.{each_once}
 use Rattle.velo_audit.specs.Count.{labels_begun, IsCountedTo}
@@ -50,13 +50,13 @@ count-push p xs x =
 
 -- ---- no event yet
 
-pub IsCountedTo-start : (left : Left) (log : List Event) → IsCountedTo left log 0 nothing.labels 0
+pub IsCountedTo-start : (left : Omitted) (log : List Event) → IsCountedTo left log 0 nothing.labels 0
 unfolding is_listed each_once
 IsCountedTo-start left log = record { few = omega arith; are_seen = λ l. refl; is_count = refl }
 
 -- ---- one event more
 
-module _ (left : Left) (log : List Event) (k : ℕ) (within : k < length log) (seen : ℕ → Bool) (count : ℕ) (w : IsCountedTo left log k seen count) where
+module _ (left : Omitted) (log : List Event) (k : ℕ) (within : k < length log) (seen : ℕ → Bool) (count : ℕ) (w : IsCountedTo left log k seen count) where
   abbrev event : Event
   event = get_or log k past
 

@@ -15,7 +15,7 @@ use Rattle.velo_events.proofs.OnOwners.{passes_at-within}
 use Rattle.velo_events.proofs.OnScans.{event_at, passes_at-is}
 use Rattle.velo_traces.proofs.Past.{past}
 use Rattle.velo_traces.specs.declared.block.Block.{Block}
-use Rattle.velo_filter.specs.Left.{Left, is_among, label_begun, begins_such, is_on_such, is_dissolved, ends_at, is_left_out, is_listed, with_labels, with_number, rest_of, places_of}
+use Rattle.velo_filter.specs.Left.{Omitted, is_among, label_begun, begins_such, is_on_such, is_dissolved, ends_at, is_left_out, is_listed, with_labels, with_number, rest_of, places_of}
 use Rattle.velo_filter.specs.Marks.{AreMarks, number_of}
 use Rattle.velo_filter.specs.Stacks.{stack}
 use Rattle.velo_filter.specs.Tables.{members}
@@ -41,7 +41,7 @@ use Rattle.velo_audit.proofs.OnRounds.{is_listed-cases}
 no_begin-nil : HasNoBegin []
 no_begin-nil i = false_from_ne_true _ (λ h. absurd (let l = passes_at-within [] (λ e. is_begin e.kind) i h in omega (arith, l)))
 
-pub IsCut-start : (left : Left) (log : List Event) (cut : Cut) → cut.place ≡ 0 → cut.marks.items ≡ replicate 256 0 → cut.prologue.events ≡ [] → IsCut left log cut
+pub IsCut-start : (left : Omitted) (log : List Event) (cut : Cut) → cut.place ≡ 0 → cut.marks.items ≡ replicate 256 0 → cut.prologue.events ≡ [] → IsCut left log cut
 IsCut-start left log cut place marks prologue =
     let law = prologue_law [] no_begin-nil in
     record {
@@ -67,8 +67,8 @@ or_false : (a b : Bool) → IsFalse b → (a || b) ≡ a
 or_false true b h = refl
 or_false false b h = h
 
-module _ (left : Left) (labels : List ℕ) (log : List Event) (n : ℕ) (most : n ≤ length log) (same : (b : ℕ) → b < n → is_dissolved (with_labels left labels) log b ≡ is_dissolved left log b) where
-  abbrev left' : Left
+module _ (left : Omitted) (labels : List ℕ) (log : List Event) (n : ℕ) (most : n ≤ length log) (same : (b : ℕ) → b < n → is_dissolved (with_labels left labels) log b ≡ is_dissolved left log b) where
+  abbrev left' : Omitted
   left' = with_labels left labels
 
   left_out-same : (i : ℕ) → i < n → is_left_out left' log i ≡ is_left_out left log i
@@ -100,7 +100,7 @@ module _ (left : Left) (labels : List ℕ) (log : List Event) (n : ℕ) (most : 
         (λ b c. same b ((IsStack-stack log t n most).below c.0 b (slice_get-get_or (stack log t n) c.0 b c.1 ∙ ap Some c.2)))));
   }
 
-module _ (left : Left) (log : List Event) (cut : Cut) (w : IsCut left log cut) (blocks : List Block) (new : All (λ (b : Block). IsFalse (members cut.begun b.label.0)) blocks) where
+module _ (left : Omitted) (log : List Event) (cut : Cut) (w : IsCut left log cut) (blocks : List Block) (new : All (λ (b : Block). IsFalse (members cut.begun b.label.0)) blocks) where
   abbrev labels : List ℕ
   labels = map (λ (b : Block). b.label.0) blocks
 
@@ -153,7 +153,7 @@ AreBegun-label begun begun' log n within w l is more = AreBegun-more begun begun
 
 -- ---- pieces
 
-pub GoesTo-none : (left : Left) (log : List Event) (place n : ℕ) (prologue trace : List Event) (places : List ℕ) → n ≡ place → trace ≡ prologue → length places ≡ length prologue → GoesTo left log place n prologue trace places
+pub GoesTo-none : (left : Omitted) (log : List Event) (place n : ℕ) (prologue trace : List Event) (places : List ℕ) → n ≡ place → trace ≡ prologue → length places ≡ length prologue → GoesTo left log place n prologue trace places
 GoesTo-none left log place n prologue trace places at is many = record {
   blanks = places;
   events = [];
@@ -165,7 +165,7 @@ GoesTo-none left log place n prologue trace places at is many = record {
   own_are = ap (first_places left log) at ∙ sym (append-nil (first_places left log place));
 }
 
-module _ (left : Left) (log : List Event) (place n : ℕ) (prologue trace : List Event) (places : List ℕ) (within : n < length log) (w : GoesTo left log place n prologue trace places) where
+module _ (left : Omitted) (log : List Event) (place n : ℕ) (prologue trace : List Event) (places : List ℕ) (within : n < length log) (w : GoesTo left log place n prologue trace places) where
   pub GoesTo-stays : IsTrue (not (is_left_out left log n)) → (trace' : List Event) (places' : List ℕ) → trace' ≡ trace ++ get_or log n past ∷ [] → places' ≡ places ++ n ∷ [] → GoesTo left log place (n + 1) prologue trace' places'
   GoesTo-stays h trace' places' is are = record {
     blanks = w.blanks;
@@ -190,7 +190,7 @@ module _ (left : Left) (log : List Event) (place n : ℕ) (prologue trace : List
     own_are = sym (first_places-goes left log n within h) ∙ w.own_are;
   }
 
-pub GoesTo-as_many : (left : Left) (log : List Event) (place n : ℕ) (prologue trace : List Event) (places : List ℕ) → place ≤ length log → n ≤ length log → GoesTo left log place n prologue trace places → length places ≡ length trace
+pub GoesTo-as_many : (left : Omitted) (log : List Event) (place n : ℕ) (prologue trace : List Event) (places : List ℕ) → place ≤ length log → n ≤ length log → GoesTo left log place n prologue trace places → length places ≡ length trace
 GoesTo-as_many left log place n prologue trace places most most' w =
     let a = ap length w.trace_is in
     let b = ap length w.places_are in
@@ -214,7 +214,7 @@ GoesTo-as_many left log place n prologue trace places most most' w =
 
 -- ---- behind a piece
 
-module _ (left : Left) (log : List Event) (cut : Cut) (w : IsCut left log cut) (end : ℕ) (marks : List ℕ) (trace : List Event) (places : List ℕ) (v : EndsAt left log cut end marks trace places) where
+module _ (left : Omitted) (log : List Event) (cut : Cut) (w : IsCut left log cut) (end : ℕ) (marks : List ℕ) (trace : List Event) (places : List ℕ) (v : EndsAt left log cut end marks trace places) where
   abbrev prologue : List Event
   prologue = cut.prologue.events
 
@@ -234,8 +234,8 @@ module _ (left : Left) (log : List Event) (cut : Cut) (w : IsCut left log cut) (
   no_cycle h = subst (λ es. ¬ HasCycle es) (sym v.goes.events_are) (no_cycle-behind prologue before events quiet w.quiet w.no_cycle (subst (λ es. ¬ HasCycle es) v.goes.trace_is h))
 
   -- the last one has no cycle
-  pub RoundTells-none : (asked : Bool) → end ≡ length log → ¬ HasCycle trace → RoundTells asked log left None
-  RoundTells-none asked last h = subst (λ es. ¬ HasCycle es) (ap (first_of_rest left log) last ∙ first_of_rest-all left log) (no_cycle h)
+  pub RoundTells-none : (with_witness : Bool) → end ≡ length log → ¬ HasCycle trace → RoundTells with_witness log left None
+  RoundTells-none with_witness last h = subst (λ es. ¬ HasCycle es) (ap (first_of_rest left log) last ∙ first_of_rest-all left log) (no_cycle h)
 
   -- another has none, and leaves no block open
   pub IsCut-moved : ¬ HasCycle trace → IsQuiet trace → (cut' : Cut) → cut'.place ≡ end → cut'.marks.items ≡ marks → HasNoBegin cut'.prologue.events → AreBegun (members cut'.begun) log end → IsCut left log cut'
@@ -286,9 +286,9 @@ module _ (left : Left) (log : List Event) (cut : Cut) (w : IsCut left log cut) (
           omega (arith, a, b, c, g, h, l)
 
   -- an alarm of it is that of the round
-  pub RoundTells-some : (asked : Bool) (told : Told) → CheckTells asked trace places (Some told) → RoundTells asked log left (Some told)
-  RoundTells-some asked told h = RoundTells-check asked log left (rest_of left log) (places_of left log) refl refl (Some told)
-      (subst (λ es. CheckTells asked es (places_of left log) (Some told)) rest
-      (IsToldOf-piece asked prologue before events (drop (rank (stays left log) end) (rest_of left log)) quiet none w.quiet w.no_cycle v.goes.blanks v.goes.own (places_of left log) same_place told
-      (subst (λ es. CheckTells asked es (v.goes.blanks ++ v.goes.own) (Some told)) v.goes.trace_is
-      (subst (λ xs. CheckTells asked trace xs (Some told)) v.goes.places_are h))))
+  pub RoundTells-some : (with_witness : Bool) (told : Told) → CheckTells with_witness trace places (Some told) → RoundTells with_witness log left (Some told)
+  RoundTells-some with_witness told h = RoundTells-check with_witness log left (rest_of left log) (places_of left log) refl refl (Some told)
+      (subst (λ es. CheckTells with_witness es (places_of left log) (Some told)) rest
+      (IsToldOf-piece with_witness prologue before events (drop (rank (stays left log) end) (rest_of left log)) quiet none w.quiet w.no_cycle v.goes.blanks v.goes.own (places_of left log) same_place told
+      (subst (λ es. CheckTells with_witness es (v.goes.blanks ++ v.goes.own) (Some told)) v.goes.trace_is
+      (subst (λ xs. CheckTells with_witness trace xs (Some told)) v.goes.places_are h))))

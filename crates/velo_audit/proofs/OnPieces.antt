@@ -22,7 +22,7 @@ use Rattle.velo_blame.specs.Blamed.{AreBlamedAt, begins_of, thread_at}
 use Rattle.velo_explain.specs.declared.evidence.Evidence.{Evidence}
 use Rattle.velo_world.specs.declared.analysis.Alarm.{Alarm}
 use Rattle.velo_world.specs.World.{IsAlarm}
-use Rattle.velo_filter.specs.Left.{Left, rest_of, places_of, place_of}
+use Rattle.velo_filter.specs.Left.{Omitted, rest_of, places_of, place_of}
 use Rattle.velo_laws.specs.Cut.{IsQuiet, later_by}
 use Rattle.velo_laws.proofs.OnCut.{IsJudgedApart-quiet, blame_own, IsQuiet-chain, chain_law}
 use Rattle.velo_laws.proofs.OnCutCycles.{HasCycle-behind, HasCycle-apart, IsClosing-before_cut, IsClosing-behind_cut}
@@ -169,7 +169,7 @@ module _ (prologue before events more : List Event) (quiet : IsQuiet prologue) (
       blocks = ap (map (block_at rest)) (sym begins');
     }
 
-    module _ (asked : Bool) (blanks own_places all : List ℕ) (same_place : (k : ℕ) → k < length events → slice_index (blanks ++ own_places) (length prologue + k) ≡ slice_index all (length before + k)) (told : Told) (tells : Tells asked piece (blanks ++ own_places) alarm told) where
+    module _ (with_witness : Bool) (blanks own_places all : List ℕ) (same_place : (k : ℕ) → k < length events → slice_index (blanks ++ own_places) (length prologue + k) ≡ slice_index all (length before + k)) (told : Told) (tells : Tells with_witness piece (blanks ++ own_places) alarm told) where
       block-piece : ℕ → Block
       block-piece b = block_as_read (slice_index (blanks ++ own_places)) (block_at piece b)
 
@@ -247,11 +247,11 @@ module _ (prologue before events more : List Event) (quiet : IsQuiet prologue) (
             };
           }
 
-      witness' : (witness : Option Evidence) → WitnessTells asked piece (blanks ++ own_places) alarm witness → WitnessTells asked rest all alarm' witness
+      witness' : (witness : Option Evidence) → WitnessTells with_witness piece (blanks ++ own_places) alarm witness → WitnessTells with_witness rest all alarm' witness
       witness' None h = h
       witness' (Some evidence) h = (h.0, evidence' evidence h.1)
 
-      tells' : Tells asked rest all alarm' told
+      tells' : Tells with_witness rest all alarm' told
       unfolding block-rest own
       tells' = record {
         closing = tells.closing ∙ (ap (slice_index (blanks ++ own_places)) (sym there) ∙ same_place q closing.in_trace);
@@ -262,11 +262,11 @@ module _ (prologue before events more : List Event) (quiet : IsQuiet prologue) (
       }
 
 -- What is told of a piece is told of what is left
-pub IsToldOf-piece : (asked : Bool) (prologue before events more : List Event) → IsQuiet prologue → ¬ HasCycle prologue → IsQuiet before → ¬ HasCycle before
+pub IsToldOf-piece : (with_witness : Bool) (prologue before events more : List Event) → IsQuiet prologue → ¬ HasCycle prologue → IsQuiet before → ¬ HasCycle before
     → (blanks own all : List ℕ) → ((k : ℕ) → k < length events → slice_index (blanks ++ own) (length prologue + k) ≡ slice_index all (length before + k))
-    → (told : Told) → IsToldOf asked (prologue ++ events) (blanks ++ own) told → IsToldOf asked ((before ++ events) ++ more) all told
-IsToldOf-piece asked prologue before events more quiet none quiet' none' blanks own all same_place told w = record {
+    → (told : Told) → IsToldOf with_witness (prologue ++ events) (blanks ++ own) told → IsToldOf with_witness ((before ++ events) ++ more) all told
+IsToldOf-piece with_witness prologue before events more quiet none quiet' none' blanks own all same_place told w = record {
   alarm = alarm' prologue before events more quiet none quiet' none' w.alarm w.is_alarm;
   is_alarm = is_alarm' prologue before events more quiet none quiet' none' w.alarm w.is_alarm;
-  tells = tells' prologue before events more quiet none quiet' none' w.alarm w.is_alarm asked blanks own all same_place told w.tells;
+  tells = tells' prologue before events more quiet none quiet' none' w.alarm w.is_alarm with_witness blanks own all same_place told w.tells;
 }

@@ -26,8 +26,8 @@ use Rattle.velo_events.proofs.OnTraces.{passes_at-append}
 use Rattle.velo_events.proofs.OnUnfinished.{Contains-open_blocks}
 use Rattle.velo_traces.specs.Blocks.{label_of}
 use Rattle.velo_blame.specs.Blamed.{AreBlamedAt, thread_at}
-use Rattle.velo_filter.specs.Left.{Left, is_among, label_begun, is_dissolved, rest_of, place_of, is_listed, with_labels}
-use Rattle.velo_audit.specs.Rounds.{label_at, each_once, labels_in, atomic_labels, Told, labels_told, told_of, is_some_blamed, IsRound, left_after, Rounds, labels_found, AreFound}
+use Rattle.velo_filter.specs.Left.{Omitted, is_among, label_begun, is_dissolved, rest_of, place_of, is_listed, with_labels}
+use Rattle.velo_audit.specs.Rounds.{label_at, each_once, labels_in, atomic_labels, RoundNumbers, labels_told, told_of, is_some_blamed, IsRound, left_after, Rounds, labels_found, AreFound}
 use Rattle.velo_certify.proofs.OnClosing.{no_cycle_before}
 use Rattle.velo_filter.proofs.OnRanks.{events_staying}
 use Rattle.velo_filter.proofs.OnLeft.{stays, rest_of-is, sub-passes, stands_for, is_left_out-begin, is_dissolved-is}
@@ -168,7 +168,7 @@ labels-listed (f ∷ log) (suc b) e l here label = deeper (label_begun f.kind) (
 
 -- ---- what a round tells
 
-module _ (log : List Event) (left : Left) (told : Told) (r : IsRound log left told) where
+module _ (log : List Event) (left : Omitted) (told : RoundNumbers) (r : IsRound log left told) where
   abbrev what : List Event
   what = rest_of left log
 
@@ -274,14 +274,14 @@ count-less a b up n old new (l ∷ ls) w =
     (is_listed-cases l ls n w)
 
 -- a round leaves out at least one more label of the log
-pub round-fewer : (log : List Event) (left : Left) (told : Told) → IsRound log left told → atomic_labels (with_labels left (labels_told log told)) log + 1 ≤ atomic_labels left log
+pub round-fewer : (log : List Event) (left : Omitted) (told : RoundNumbers) → IsRound log left told → atomic_labels (with_labels left (labels_told log told)) log + 1 ≤ atomic_labels left log
 round-fewer log left told r =
     let some = told-some log left told r in
     let block = told-block log left told r some.0 some.1 in
     count-less left.labels (with_labels left (labels_told log told)).labels (λ l h. or_left _ _ h) (label_at log some.0) block.new (told-left_out log left told r some.0 some.1) (labels_in log) block.is_label
 
 -- The rounds with an alarm are at most the labels that were not left out; with those that stay to the end they are at most all
-pub rounds-few : (log : List Event) (left : Left) (rounds : List Told) → Rounds log left rounds → length rounds + atomic_labels (left_after log left rounds) log ≤ atomic_labels left log
+pub rounds-few : (log : List Event) (left : Omitted) (rounds : List RoundNumbers) → Rounds log left rounds → length rounds + atomic_labels (left_after log left rounds) log ≤ atomic_labels left log
 unfolding Rounds left_after
 rounds-few log left [] h = omega arith
 rounds-few log left (told ∷ rest) h =
@@ -290,7 +290,7 @@ rounds-few log left (told ∷ rest) h =
     omega (arith, more, one)
 
 -- and what is left after them is serializable
-pub rounds-serializable : (log : List Event) (left : Left) (rounds : List Told) → Rounds log left rounds → IsSerializable (rest_of (left_after log left rounds) log)
+pub rounds-serializable : (log : List Event) (left : Omitted) (rounds : List RoundNumbers) → Rounds log left rounds → IsSerializable (rest_of (left_after log left rounds) log)
 unfolding Rounds left_after
 rounds-serializable log left [] h = (serializable_law-none (rest_of left log)).0 h
 rounds-serializable log left (told ∷ rest) h = rounds-serializable log (with_labels left (labels_told log told)) rest h.1
@@ -333,7 +333,7 @@ is_listed-append : (xs ys : List ℕ) (n : ℕ) → is_listed (xs ++ ys) n ≡ (
 unfolding is_listed
 is_listed-append xs ys n = list_any-append (λ x. n == x) xs ys
 
-all-found : (log : List Event) (left : Left) (rounds : List Told) → Rounds log left rounds → (l : ℕ) → IsTrue (is_listed (flat_map (labels_told log) rounds) l) → IsTrue (is_listed (labels_in log) l) × IsFalse (left.labels l)
+all-found : (log : List Event) (left : Omitted) (rounds : List RoundNumbers) → Rounds log left rounds → (l : ℕ) → IsTrue (is_listed (flat_map (labels_told log) rounds) l) → IsTrue (is_listed (labels_in log) l) × IsFalse (left.labels l)
 unfolding Rounds
 all-found log left [] h l w = absurd (false≢true (sym (is_listed-nil l) ∙ w))
 all-found log left (told ∷ rest) h l w = ⊎_elim
@@ -347,10 +347,10 @@ all-found log left (told ∷ rest) h l w = ⊎_elim
     (or_cases _ _ (sym (is_listed-append (labels_told log told) (flat_map (labels_told log) rest) l) ∙ w))
 
 -- Each label that is found is one of the log's blocks, and was not left out
-pub rounds-found : (log : List Event) (left : Left) (rounds : List Told) → Rounds log left rounds → AreFound log left (labels_found log rounds)
+pub rounds-found : (log : List Event) (left : Omitted) (rounds : List RoundNumbers) → Rounds log left rounds → AreFound log left (labels_found log rounds)
 rounds-found log left rounds h = record { each = λ l w. all-found log left rounds h l (each_once-from (flat_map (labels_told log) rounds) l w) }
 
-left-all : (log : List Event) (left : Left) (rounds : List Told) (l : ℕ) → (left_after log left rounds).labels l ≡ (left.labels l || is_listed (flat_map (labels_told log) rounds) l)
+left-all : (log : List Event) (left : Omitted) (rounds : List RoundNumbers) (l : ℕ) → (left_after log left rounds).labels l ≡ (left.labels l || is_listed (flat_map (labels_told log) rounds) l)
 unfolding left_after
 left-all log left [] l = sym (ap (λ b. left.labels l || b) (is_listed-nil l) ∙ elim (left.labels l) as (λ b. (b || false) ≡ b) [ true ↦ refl | false ↦ refl ])
 left-all log left (told ∷ rest) l =
@@ -358,18 +358,18 @@ left-all log left (told ∷ rest) l =
     ∙ (elim (left.labels l) as (λ b. ((b || is_listed (labels_told log told) l) || is_listed (flat_map (labels_told log) rest) l) ≡ (b || (is_listed (labels_told log told) l || is_listed (flat_map (labels_told log) rest) l))) [ true ↦ refl | false ↦ refl ]
     ∙ ap (λ b. left.labels l || b) (sym (is_listed-append (labels_told log told) (flat_map (labels_told log) rest) l)))
 
-left-locks : (log : List Event) (left : Left) (rounds : List Told) → (left_after log left rounds).locks ≡ left.locks
+left-locks : (log : List Event) (left : Omitted) (rounds : List RoundNumbers) → (left_after log left rounds).locks ≡ left.locks
 unfolding left_after
 left-locks log left [] = refl
 left-locks log left (told ∷ rest) = left-locks log (with_labels left (labels_told log told)) rest
 
-left-variables : (log : List Event) (left : Left) (rounds : List Told) → (left_after log left rounds).variables ≡ left.variables
+left-variables : (log : List Event) (left : Omitted) (rounds : List RoundNumbers) → (left_after log left rounds).variables ≡ left.variables
 unfolding left_after
 left-variables log left [] = refl
 left-variables log left (told ∷ rest) = left-variables log (with_labels left (labels_told log told)) rest
 
 -- Behind the rounds the labels that are found are left out, and what was before
-pub rounds-left : (log : List Event) (left : Left) (rounds : List Told) → left_after log left rounds ≡ with_labels left (labels_found log rounds)
+pub rounds-left : (log : List Event) (left : Omitted) (rounds : List RoundNumbers) → left_after log left rounds ≡ with_labels left (labels_found log rounds)
 rounds-left log left rounds = λ i. record {
   labels = λ l. (left-all log left rounds l ∙ ap (λ b. left.labels l || b) (sym (each_once-same (flat_map (labels_told log) rounds) l))) i;
   locks = left-locks log left rounds i;

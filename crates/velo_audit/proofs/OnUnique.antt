@@ -7,8 +7,8 @@ use Rattle.velo_events.specs.Reordering.{AreBlamed}
 use Rattle.velo_events.proofs.OnGraphs.{IsClosing-unique, HasCycle-from_closing}
 use Rattle.velo_certify.proofs.OnReordered.{same_rising}
 use Rattle.velo_blame.specs.Blamed.{AreBlamedAt, thread_at}
-use Rattle.velo_filter.specs.Left.{Left, rest_of, place_of, with_labels}
-use Rattle.velo_audit.specs.Rounds.{Told, IsRound, Rounds, labels_told, told_of, is_some_blamed}
+use Rattle.velo_filter.specs.Left.{Omitted, rest_of, place_of, with_labels}
+use Rattle.velo_audit.specs.Rounds.{RoundNumbers, IsRound, Rounds, labels_told, told_of, is_some_blamed}
 
 -- the blocks to blame are determined
 AreBlamed-unique : (trace : List Event) (t : ℕ) (xs ys : List ℕ) → AreBlamed trace t xs → AreBlamed trace t ys → xs ≡ ys
@@ -16,7 +16,7 @@ AreBlamed-unique trace t xs ys v w = same_rising xs ys (AllPairs-from_increasing
     (λ b h. (w.which b).1 ((v.which b).0 h)) (λ b h. (v.which b).1 ((w.which b).0 h))
 
 -- so is what a round tells
-pub IsRound-unique : (log : List Event) (left : Left) (a b : Told) → IsRound log left a → IsRound log left b → a ≡ b
+pub IsRound-unique : (log : List Event) (left : Omitted) (a b : RoundNumbers) → IsRound log left a → IsRound log left b → a ≡ b
 IsRound-unique log left a b v w = λ i. record { closing = closing i; transaction = transaction i; blocks = blocks i; to_blame = to_blame i }
   where
     what : List Event
@@ -42,7 +42,7 @@ IsRound-unique log left a b v w = λ i. record { closing = closing i; transactio
     to_blame = v.to_blame ∙ (ap is_some_blamed blamed ∙ sym w.to_blame)
 
 -- and so are all rounds
-pub Rounds-unique : (log : List Event) (left : Left) (xs ys : List Told) → Rounds log left xs → Rounds log left ys → xs ≡ ys
+pub Rounds-unique : (log : List Event) (left : Omitted) (xs ys : List RoundNumbers) → Rounds log left xs → Rounds log left ys → xs ≡ ys
 unfolding Rounds
 Rounds-unique log left [] [] v w = refl
 Rounds-unique log left [] (y ∷ ys) v w = absurd (v (HasCycle-from_closing (rest_of left log) w.0.position w.0.closes))

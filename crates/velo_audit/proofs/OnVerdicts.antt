@@ -4,7 +4,7 @@ use Rattle.std.specs.Prelude.{not}
 use Rattle.std.proofs.lemmas.Option.{none-some, same_Some}
 use Rattle.velo_events.specs.declared.event.Event.{Event}
 use Rattle.velo_events.specs.Graph.{HasCycle}
-use Rattle.velo_filter.specs.Left.{Left}
+use Rattle.velo_filter.specs.Left.{Omitted}
 use Rattle.velo_filter.specs.Marks.{AreMarks}
 use Rattle.velo_filter.specs.Tables.{members}
 use Rattle.velo_filter.specs.Thinned.{first_of_rest}
@@ -20,40 +20,40 @@ use Rattle.velo_audit.specs.declared.pieces.Verdict.TheVariants as verdict
 use Rattle.velo_audit.specs.declared.told.Told.{Told}
 use Rattle.velo_audit.proofs.OnCuts.{RoundTells-none, RoundTells-some, IsCut-moved}
 
-pub EndsAt-from : (left : Left) (log events : List Event) → events ≡ log → (cut : Cut) (end n : ℕ) → end ≡ n → (marks : List ℕ) (trace : List Event) (places : List ℕ)
+pub EndsAt-from : (left : Omitted) (log events : List Event) → events ≡ log → (cut : Cut) (end n : ℕ) → end ≡ n → (marks : List ℕ) (trace : List Event) (places : List ℕ)
     → GoesTo left events cut.place n cut.prologue.events trace places → length marks ≡ 256 → AreMarks left events n marks → cut.place < n → n ≤ length events → EndsAt left log cut end marks trace places
 EndsAt-from left log events same cut end n at marks trace places goes many are later within =
     subst (λ es. EndsAt left es cut end marks trace places) same (subst (λ k. EndsAt left events cut k marks trace places) (sym at)
     (record { goes = goes; as_many = many; marks_are = are; later = later; within = within }))
 
-pub Judges-verdict : (asked : Bool) (log : List Event) (left : Left) (place : ℕ) (cut : Cut) (v : Verdict) → IsCut left log cut → IsRoundVerdict asked log left v → Judges asked log left place cut (Some v)
-Judges-verdict asked log left place cut v is said = record {
+pub Judges-verdict : (with_witness : Bool) (log : List Event) (left : Omitted) (place : ℕ) (cut : Cut) (v : Verdict) → IsCut left log cut → IsRoundVerdict with_witness log left v → Judges with_witness log left place cut (Some v)
+Judges-verdict with_witness log left place cut v is said = record {
   is_cut = is;
-  verdict = λ w same. subst (IsRoundVerdict asked log left) (same_Some v w same) said;
+  verdict = λ w same. subst (IsRoundVerdict with_witness log left) (same_Some v w same) said;
   moved = λ none. absurd (none-some v (sym none));
 }
 
-module _ (asked : Bool) (log : List Event) (left : Left) (cut : Cut) (end : ℕ) (marks : List ℕ) (trace : List Event) (places : List ℕ) (is : IsCut left log cut) (ends : EndsAt left log cut end marks trace places) where
-  pub Judges-told : (o : Option Told) (told : Told) → o ≡ Some told → CheckTells asked trace places o → Judges asked log left cut.place cut (Some (verdict.Told told))
-  Judges-told o told some h = Judges-verdict asked log left cut.place cut (verdict.Told told) is
-      (RoundTells-some left log cut is end marks trace places ends asked told (subst (CheckTells asked trace places) some h))
+module _ (with_witness : Bool) (log : List Event) (left : Omitted) (cut : Cut) (end : ℕ) (marks : List ℕ) (trace : List Event) (places : List ℕ) (is : IsCut left log cut) (ends : EndsAt left log cut end marks trace places) where
+  pub Judges-told : (o : Option Told) (told : Told) → o ≡ Some told → CheckTells with_witness trace places o → Judges with_witness log left cut.place cut (Some (verdict.Told told))
+  Judges-told o told some h = Judges-verdict with_witness log left cut.place cut (verdict.Told told) is
+      (RoundTells-some left log cut is end marks trace places ends with_witness told (subst (CheckTells with_witness trace places) some h))
 
-  pub Judges-none : (o : Option Told) → o ≡ None → end ≡ length log → CheckTells asked trace places o → Judges asked log left cut.place cut (Some verdict.NoCycle)
-  Judges-none o none last h = Judges-verdict asked log left cut.place cut verdict.NoCycle is
-      (RoundTells-none left log cut is end marks trace places ends asked last (subst (CheckTells asked trace places) none h))
+  pub Judges-none : (o : Option Told) → o ≡ None → end ≡ length log → CheckTells with_witness trace places o → Judges with_witness log left cut.place cut (Some verdict.NoCycle)
+  Judges-none o none last h = Judges-verdict with_witness log left cut.place cut verdict.NoCycle is
+      (RoundTells-none left log cut is end marks trace places ends with_witness last (subst (CheckTells with_witness trace places) none h))
 
-  pub Judges-unknown : Judges asked log left cut.place cut (Some verdict.Unknown)
-  Judges-unknown = Judges-verdict asked log left cut.place cut verdict.Unknown is tt
+  pub Judges-unknown : Judges with_witness log left cut.place cut (Some verdict.Unknown)
+  Judges-unknown = Judges-verdict with_witness log left cut.place cut verdict.Unknown is tt
 
-  pub Judges-moved : (o : Option Told) → o ≡ None → CheckTells asked trace places o → IsQuiet trace → (cut' : Cut) → cut'.place ≡ end → cut'.marks.items ≡ marks → HasNoBegin cut'.prologue.events → AreBegun (members cut'.begun) log end → Judges asked log left cut.place cut' None
+  pub Judges-moved : (o : Option Told) → o ≡ None → CheckTells with_witness trace places o → IsQuiet trace → (cut' : Cut) → cut'.place ≡ end → cut'.marks.items ≡ marks → HasNoBegin cut'.prologue.events → AreBegun (members cut'.begun) log end → Judges with_witness log left cut.place cut' None
   Judges-moved o none h quiet cut' at same no_begin begun = record {
-    is_cut = IsCut-moved left log cut is end marks trace places ends (subst (CheckTells asked trace places) none h) quiet cut' at same no_begin begun;
+    is_cut = IsCut-moved left log cut is end marks trace places ends (subst (CheckTells with_witness trace places) none h) quiet cut' at same no_begin begun;
     verdict = λ v some. absurd (none-some v some);
     moved = λ here. let l = ends.later in omega (arith, l, at);
   }
 
 -- at a cut behind all events
-pub NoCycle-at_end : (asked : Bool) (log : List Event) (left : Left) (cut : Cut) → IsCut left log cut → length log ≤ cut.place → IsRoundVerdict asked log left verdict.NoCycle
-NoCycle-at_end asked log left cut is past =
+pub NoCycle-at_end : (with_witness : Bool) (log : List Event) (left : Omitted) (cut : Cut) → IsCut left log cut → length log ≤ cut.place → IsRoundVerdict with_witness log left verdict.NoCycle
+NoCycle-at_end with_witness log left cut is past =
     let at : cut.place ≡ length log = let l = is.within in omega (arith, l, past) in
     subst (λ es. ¬ HasCycle es) (ap (first_of_rest left log) at ∙ first_of_rest-all left log) is.no_cycle

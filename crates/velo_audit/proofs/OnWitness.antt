@@ -13,21 +13,21 @@ use Rattle.velo_explain.specs.Evidence.{no_block, IsEvidence, HaveReasons, AreBl
 use Rattle.velo_explain.proofs.OnEvidence.{IsWithin-of}
 use Rattle.velo_world.specs.declared.analysis.Alarm.{Alarm}
 use Rattle.velo_world.specs.World.{IsAlarm}
-use Rattle.velo_filter.specs.Left.{Left, rest_of, places_of, place_of}
+use Rattle.velo_filter.specs.Left.{Omitted, rest_of, places_of, place_of}
 use Rattle.velo_filter.proofs.OnLeft.{rest_of-is, stands_for}
 use Rattle.velo_audit.specs.Audit.{RoundTells}
 use Rattle.velo_audit.specs.Tells.{Tells}
-use Rattle.velo_audit.specs.Witness.{span_as_read, edge_as_read, blame_as_read, ReadsAs, IsWitness, IsFirstAlarm, HasWitness, IsWitnessWithin, IsEvidenceOf, WitnessTells}
+use Rattle.velo_audit.specs.Witness.{span_as_read, edge_as_read, blame_as_read, IsAsRead, IsWitness, IsFirstAlarm, HasWitness, IsWitnessWithin, IsEvidenceOf, WitnessTells}
 use Rattle.velo_audit.specs.declared.told.Told.{Told}
 use Rattle.velo_certify.proofs.OnClosing.{no_cycle_before}
 
 -- ---- what is told of the alarm of the rest is the round's witness
 
-pub HasWitness-told : (asked : Bool) (log : List Event) (left : Left) (told : Told) (alarm : Alarm) → IsAlarm (rest_of left log) alarm → Tells asked (rest_of left log) (places_of left log) alarm told → HasWitness asked log left told.closing told.witness
+pub HasWitness-told : (with_witness : Bool) (log : List Event) (left : Omitted) (told : Told) (alarm : Alarm) → IsAlarm (rest_of left log) alarm → Tells with_witness (rest_of left log) (places_of left log) alarm told → HasWitness with_witness log left told.closing told.witness
 unfolding place_of
-HasWitness-told asked log left told alarm is tells = by told.witness tells.witness
+HasWitness-told with_witness log left told alarm is tells = by told.witness tells.witness
   where
-    by : (o : Option Evidence) → WitnessTells asked (rest_of left log) (places_of left log) alarm o → HasWitness asked log left told.closing o
+    by : (o : Option Evidence) → WitnessTells with_witness (rest_of left log) (places_of left log) alarm o → HasWitness with_witness log left told.closing o
     by None h = h
     by (Some evidence) h = (
       h.0,
@@ -46,7 +46,7 @@ HasWitness-told asked log left told alarm is tells = by told.witness tells.witne
 
 -- ---- its positions are there
 
-place-within : (left : Left) (log : List Event) (k : ℕ) → k < length (rest_of left log) → place_of left log k < length log
+place-within : (left : Omitted) (log : List Event) (k : ℕ) → k < length (rest_of left log) → place_of left log k < length log
 place-within left log k l = (stands_for left log k (let long = ap length (rest_of-is left log) in omega (arith, l, long))).within
 
 abbrev no_span : Span
@@ -58,7 +58,7 @@ no_edge = record { from = 0; to = 0 }
 abbrev no_blame : Blame
 no_blame = record { block = no_block; witness = 0 }
 
-module _ (log : List Event) (left : Left) (closing : ℕ) (evidence : Evidence) (w : IsWitness log left closing evidence) where
+module _ (log : List Event) (left : Omitted) (closing : ℕ) (evidence : Evidence) (w : IsWitness log left closing evidence) where
   abbrev place : ℕ → ℕ
   place = place_of left log
 
@@ -100,13 +100,13 @@ module _ (log : List Event) (left : Left) (closing : ℕ) (evidence : Evidence) 
       blame : (i : ℕ) → i < length w.inside.blames.items → slice_index_or evidence.blames.items i no_blame ≡ blame_as_read place (slice_index_or w.inside.blames.items i no_blame)
       blame i l = ap (λ xs. slice_index_or xs i no_blame) w.reads.blames ∙ get_or-map (blame_as_read place) w.inside.blames.items i no_blame no_blame l
 
-pub witness-within : (asked : Bool) (log : List Event) (left : Left) (closing : ℕ) (o : Option Evidence) → HasWitness asked log left closing o → IsWitnessWithin (length log) closing o
-witness-within asked log left closing None h = tt
-witness-within asked log left closing (Some evidence) h = IsWithin-read log left closing evidence h.1
+pub witness-within : (with_witness : Bool) (log : List Event) (left : Omitted) (closing : ℕ) (o : Option Evidence) → HasWitness with_witness log left closing o → IsWitnessWithin (length log) closing o
+witness-within with_witness log left closing None h = tt
+witness-within with_witness log left closing (Some evidence) h = IsWithin-read log left closing evidence h.1
 
 -- ---- the evidence of an alarm, by its places
 
-pub IsEvidenceOf-read : (what : List Event) (places : List ℕ) (alarm : Alarm) → IsAlarm what alarm → (blamed : List Block) → blamed ≡ alarm.blamed.items → (inside evidence : Evidence) → IsEvidence what alarm.position blamed inside → (¬ HasCycle (take alarm.position what) → HaveReasons what alarm.position blamed inside) → ReadsAs (slice_index places) inside evidence → IsEvidenceOf what places alarm evidence
+pub IsEvidenceOf-read : (what : List Event) (places : List ℕ) (alarm : Alarm) → IsAlarm what alarm → (blamed : List Block) → blamed ≡ alarm.blamed.items → (inside evidence : Evidence) → IsEvidence what alarm.position blamed inside → (¬ HasCycle (take alarm.position what) → HaveReasons what alarm.position blamed inside) → IsAsRead (slice_index places) inside evidence → IsEvidenceOf what places alarm evidence
 IsEvidenceOf-read what places alarm is blamed same inside evidence e reasons reads = record {
   inside = inside;
   is_evidence = subst (λ bs. IsEvidence what alarm.position bs inside) same e;
@@ -120,7 +120,7 @@ blames-within what places p blamed inside long e = subst (λ n. AreBlamesWithin 
 -- ---- the first alarm
 
 -- it is what a round tells with a witness
-pub first-alarm-told : (log : List Event) (left : Left) (answer : Option Told) (told : Told) (evidence : Evidence) → RoundTells true log left answer → answer ≡ Some told → told.witness ≡ Some evidence
+pub first-alarm-told : (log : List Event) (left : Omitted) (answer : Option Told) (told : Told) (evidence : Evidence) → RoundTells true log left answer → answer ≡ Some told → told.witness ≡ Some evidence
     → IsFirstAlarm log left (Some (record { position = told.closing; evidence = evidence }))
 first-alarm-told log left answer told evidence tells is has =
     let told-so = subst (RoundTells true log left) is tells in

@@ -9,10 +9,10 @@ use Rattle.velo_blame.specs.Blamed.{begins_of}
 use Rattle.velo_world.specs.Faults.{FindsNoNodeAt}
 use Rattle.velo_world.specs.World.{IsAlarm}
 use Rattle.velo_world.specs.declared.analysis.Alarm.{Alarm}
-use Rattle.velo_filter.specs.Left.{Left, rest_of, place_of, with_labels}
+use Rattle.velo_filter.specs.Left.{Omitted, rest_of, place_of, with_labels}
 use Rattle.velo_audit.specs.Rounds.{IsRound, BlamesAsRead, FirstRounds, labels_told, left_after}
 use Rattle.velo_audit.specs.Rounds as round
-use Rattle.velo_audit.specs.Tells.{told_as, Tells}
+use Rattle.velo_audit.specs.Tells.{numbers_of, Tells}
 use Rattle.velo_audit.specs.Witness.{HasWitness, IsWitnessWithin}
 use Rattle.velo_audit.specs.declared.told.Told.{Told}
 use Rattle.velo_audit.specs.declared.round.AuditFault.{AuditFault}
@@ -26,68 +26,68 @@ abbrev pub HasItsLabels : List Event → Told → Type 0
 HasItsLabels log told = told.blocks.items ≡ map (block_at log) (begins_of told.blocks.items)
 
 -- the rest has no cycle, or this is told of its first alarm
-abbrev pub RoundTells : Bool → List Event → Left → Option Told → Type 0
-RoundTells asked log left None = ¬ HasCycle (rest_of left log)
-RoundTells asked log left (Some told) =
-    IsRound log left (told_as told) × HasItsLabels log told × HasWitness asked log left told.closing told.witness
+abbrev pub RoundTells : Bool → List Event → Omitted → Option Told → Type 0
+RoundTells with_witness log omitted None = ¬ HasCycle (rest_of omitted log)
+RoundTells with_witness log omitted (Some told) =
+    IsRound log omitted (numbers_of told) × HasItsLabels log told × HasWitness with_witness log omitted told.closing told.witness
 
 -- the event of the rest that stands at this position of the log as read finds no node
-pub record IsFullAt (config : Config) (log : List Event) (left : Left) (place : ℕ) : Type 0 where
+pub record IsFullAt (config : Config) (log : List Event) (omitted : Omitted) (place : ℕ) : Type 0 where
   pub position : ℕ
-  pub there : place ≡ place_of left log position
-  pub finds_none : FindsNoNodeAt config.bounds.threads config.nodes (rest_of left log) position
+  pub there : place ≡ place_of omitted log position
+  pub finds_none : FindsNoNodeAt config.bounds.threads config.nodes (rest_of omitted log) position
 
 -- why a round could not be checked to its end
-abbrev pub IsRoundFault : Config → List Event → Left → AuditFault → Type 0
-IsRoundFault config log left Memory = GrowthRefused
-IsRoundFault config log left (GraphFull place) = IsFullAt config log left place
+abbrev pub IsRoundFault : Config → List Event → Omitted → AuditFault → Type 0
+IsRoundFault config log omitted Memory = GrowthRefused
+IsRoundFault config log omitted (GraphFull place) = IsFullAt config log omitted place
 
 -- what is told of a round as blamed is so in the log as read, and its witness stands there
 abbrev pub TellsTruly : List Event → Told → Type 0
 TellsTruly log told =
-    HasItsLabels log told × BlamesAsRead log (told_as told) × IsWitnessWithin (length log) told.closing told.witness
+    HasItsLabels log told × BlamesAsRead log (numbers_of told) × IsWitnessWithin (length log) told.closing told.witness
 
 -- where witnesses were asked for, each round has its own
-unfoldable pub AreWitnessed : Bool → List Event → Left → List Told → Type 0
-AreWitnessed asked log left [] = ⊤
-AreWitnessed asked log left (told ∷ rest) =
-    HasWitness asked log left told.closing told.witness × AreWitnessed asked log (with_labels left (labels_told log (told_as told))) rest
+unfoldable pub AreWitnessed : Bool → List Event → Omitted → List Told → Type 0
+AreWitnessed with_witness log omitted [] = ⊤
+AreWitnessed with_witness log omitted (told ∷ rest) =
+    HasWitness with_witness log omitted told.closing told.witness × AreWitnessed with_witness log (with_labels omitted (labels_told log (numbers_of told))) rest
 
 -- what is left out behind the round
-abbrev pub left_behind : List Event → Left → Option Told → Left
-left_behind log left None = left
-left_behind log left (Some told) = with_labels left (labels_told log (told_as told))
+abbrev pub left_behind : List Event → Omitted → Option Told → Omitted
+left_behind log omitted None = omitted
+left_behind log omitted (Some told) = with_labels omitted (labels_told log (numbers_of told))
 
 -- some first rounds came to their end, and in the next one the graph is full
-pub record IsFullAfter (config : Config) (log : List Event) (left : Left) (place : ℕ) : Type 0 where
-  pub rounds : List round.Told
-  pub are_first : FirstRounds log left rounds
-  pub is_full : IsFullAt config log (left_after log left rounds) place
+pub record IsFullAfter (config : Config) (log : List Event) (omitted : Omitted) (place : ℕ) : Type 0 where
+  pub rounds : List round.RoundNumbers
+  pub are_first : FirstRounds log omitted rounds
+  pub is_full : IsFullAt config log (left_after log omitted rounds) place
 
 -- why the audit could not come to its end
-abbrev pub IsAuditFault : Config → List Event → Left → AuditFault → Type 0
-IsAuditFault config log left Memory = GrowthRefused
-IsAuditFault config log left (GraphFull place) = IsFullAfter config log left place
+abbrev pub IsAuditFault : Config → List Event → Omitted → AuditFault → Type 0
+IsAuditFault config log omitted Memory = GrowthRefused
+IsAuditFault config log omitted (GraphFull place) = IsFullAfter config log omitted place
 
 -- ---- on the way. Private contracts cite these words
 
 -- these are the first rounds, and behind them this is left out
-pub record StandsAt (asked : Bool) (log : List Event) (start : Left) (rounds : List Told) (left : Left) : Type 0 where
-  pub first : FirstRounds log start (map told_as rounds)
-  pub behind : left ≡ left_after log start (map told_as rounds)
+pub record StandsAt (with_witness : Bool) (log : List Event) (start : Omitted) (rounds : List Told) (omitted : Omitted) : Type 0 where
+  pub first : FirstRounds log start (map numbers_of rounds)
+  pub behind : omitted ≡ left_after log start (map numbers_of rounds)
   pub truly : All (TellsTruly log) rounds
-  pub witnessed : AreWitnessed asked log start rounds
+  pub witnessed : AreWitnessed with_witness log start rounds
 
 -- ---- the same for a trace whose positions stand for these places. Private contracts cite these words
 
-pub record IsToldOf (asked : Bool) (what : List Event) (places : List ℕ) (told : Told) : Type 0 where
+pub record IsToldOf (with_witness : Bool) (what : List Event) (places : List ℕ) (told : Told) : Type 0 where
   pub alarm : Alarm
   pub is_alarm : IsAlarm what alarm
-  pub tells : Tells asked what places alarm told
+  pub tells : Tells with_witness what places alarm told
 
 abbrev pub CheckTells : Bool → List Event → List ℕ → Option Told → Type 0
-CheckTells asked what places None = ¬ HasCycle what
-CheckTells asked what places (Some told) = IsToldOf asked what places told
+CheckTells with_witness what places None = ¬ HasCycle what
+CheckTells with_witness what places (Some told) = IsToldOf with_witness what places told
 
 pub record IsFullIn (config : Config) (what : List Event) (places : List ℕ) (place : ℕ) : Type 0 where
   pub position : ℕ

@@ -10,13 +10,13 @@ use Rattle.velo_audit.specs.Rounds as rounds
 use Rattle.velo_audit.specs.declared.told.Told.{Told}
 
 -- what a round tells, without the labels
-abbrev pub told_as : Told → rounds.Told
-told_as told = record { closing = told.closing; transaction = told.transaction; blocks = begins_of told.blocks.items; to_blame = told.to_blame }
+abbrev pub numbers_of : Told → rounds.RoundNumbers
+numbers_of told = record { closing = told.closing; transaction = told.transaction; blocks = begins_of told.blocks.items; to_blame = told.to_blame }
 
 -- this is told of the alarm of the rest, whose positions stand for these places
-pub record Tells (asked : Bool) (what : List Event) (places : List ℕ) (alarm : Alarm) (told : Told) : Type 0 where
+pub record Tells (with_witness : Bool) (what : List Event) (places : List ℕ) (alarm : Alarm) (told : Told) : Type 0 where
   pub closing : told.closing ≡ slice_index places alarm.position
   pub transaction : told.transaction ≡ slice_index places alarm.transaction
   pub blocks : told.blocks.items ≡ map (λ b. block_as_read (slice_index places) (block_at what b)) (told_of (begins_of alarm.blamed.items) alarm.transaction)
   pub to_blame : told.to_blame ≡ is_some_blamed (begins_of alarm.blamed.items)
-  pub witness : WitnessTells asked what places alarm told.witness
+  pub witness : WitnessTells with_witness what places alarm told.witness

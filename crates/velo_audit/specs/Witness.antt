@@ -10,7 +10,7 @@ use Rattle.velo_explain.specs.declared.evidence.Blame.{Blame}
 use Rattle.velo_explain.specs.declared.evidence.Evidence.{Evidence}
 use Rattle.velo_explain.specs.Evidence.{IsEvidence, HaveReasons, IsWithin}
 use Rattle.velo_world.specs.declared.analysis.Alarm.{Alarm}
-use Rattle.velo_filter.specs.Left.{Left, rest_of, place_of}
+use Rattle.velo_filter.specs.Left.{Omitted, rest_of, place_of}
 use Rattle.velo_audit.specs.declared.first.FirstAlarm.{FirstAlarm}
 
 -- ---- each position as that for which it stands
@@ -28,7 +28,7 @@ abbrev pub blame_as_read : (ℕ → ℕ) → Blame → Blame
 blame_as_read place blame = record { block = block_as_read place blame.block; witness = place blame.witness }
 
 -- the same evidence, by the positions for which its own stand
-pub record ReadsAs (place : ℕ → ℕ) (inside evidence : Evidence) : Type 0 where
+pub record IsAsRead (place : ℕ → ℕ) (inside evidence : Evidence) : Type 0 where
   pub spans : evidence.spans.items ≡ map (span_as_read place) inside.spans.items
   pub edges : evidence.edges.items ≡ map (edge_as_read place) inside.edges.items
   pub blames : evidence.blames.items ≡ map (blame_as_read place) inside.blames.items
@@ -37,29 +37,29 @@ pub record ReadsAs (place : ℕ → ℕ) (inside evidence : Evidence) : Type 0 w
 
 -- The event at place `closing` of the log as read closes the first cycle of the rest. The evidence is what explains this there: a
 -- shortest cycle through its transaction, the events behind its edges, and for each block to blame an event that parts it.
-pub record IsWitness (log : List Event) (left : Left) (closing : ℕ) (evidence : Evidence) : Type 0 where
+pub record IsWitness (log : List Event) (omitted : Omitted) (closing : ℕ) (evidence : Evidence) : Type 0 where
   -- in the rest
   pub position : ℕ
   pub blamed : List Block
   pub inside : Evidence
-  pub closes : IsClosing (rest_of left log) position
-  pub are_blamed : AreBlamedAt (rest_of left log) position (begins_of blamed)
-  pub is_evidence : IsEvidence (rest_of left log) position blamed inside
-  pub reasons : HaveReasons (rest_of left log) position blamed inside
+  pub closes : IsClosing (rest_of omitted log) position
+  pub are_blamed : AreBlamedAt (rest_of omitted log) position (begins_of blamed)
+  pub is_evidence : IsEvidence (rest_of omitted log) position blamed inside
+  pub reasons : HaveReasons (rest_of omitted log) position blamed inside
   -- and in the log as read
-  pub there : closing ≡ place_of left log position
-  pub reads : ReadsAs (place_of left log) inside evidence
+  pub there : closing ≡ place_of omitted log position
+  pub reads : IsAsRead (place_of omitted log) inside evidence
 
 -- the rest has no cycle; or this is its first alarm, whose positions are those of the log as read
-abbrev pub IsFirstAlarm : List Event → Left → Option FirstAlarm → Type 0
-IsFirstAlarm log left None = ¬ HasCycle (rest_of left log)
-IsFirstAlarm log left (Some first) =
-    IsWitness log left first.position first.evidence × IsWithin (length log) first.position first.evidence
+abbrev pub IsFirstAlarm : List Event → Omitted → Option FirstAlarm → Type 0
+IsFirstAlarm log omitted None = ¬ HasCycle (rest_of omitted log)
+IsFirstAlarm log omitted (Some first) =
+    IsWitness log omitted first.position first.evidence × IsWithin (length log) first.position first.evidence
 
 -- one is there exactly where it was asked for
-abbrev pub HasWitness : Bool → List Event → Left → ℕ → Option Evidence → Type 0
-HasWitness asked log left closing None = asked ≡ false
-HasWitness asked log left closing (Some evidence) = (asked ≡ true) × IsWitness log left closing evidence
+abbrev pub HasWitness : Bool → List Event → Omitted → ℕ → Option Evidence → Type 0
+HasWitness with_witness log omitted closing None = with_witness ≡ false
+HasWitness with_witness log omitted closing (Some evidence) = (with_witness ≡ true) × IsWitness log omitted closing evidence
 
 -- the closing position and those of the evidence, if there is one, are below n
 abbrev pub IsWitnessWithin : ℕ → ℕ → Option Evidence → Type 0
@@ -72,9 +72,9 @@ pub record IsEvidenceOf (what : List Event) (places : List ℕ) (alarm : Alarm) 
   pub inside : Evidence
   pub is_evidence : IsEvidence what alarm.position alarm.blamed.items inside
   pub reasons : HaveReasons what alarm.position alarm.blamed.items inside
-  pub reads : ReadsAs (slice_index places) inside evidence
+  pub reads : IsAsRead (slice_index places) inside evidence
 
 -- where one was asked for, the evidence is there
 abbrev pub WitnessTells : Bool → List Event → List ℕ → Alarm → Option Evidence → Type 0
-WitnessTells asked what places alarm None = asked ≡ false
-WitnessTells asked what places alarm (Some evidence) = (asked ≡ true) × IsEvidenceOf what places alarm evidence
+WitnessTells with_witness what places alarm None = with_witness ≡ false
+WitnessTells with_witness what places alarm (Some evidence) = (with_witness ≡ true) × IsEvidenceOf what places alarm evidence

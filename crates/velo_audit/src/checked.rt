@@ -7,7 +7,7 @@ ghost use Rattle.velo_audit.specs.Audit.{TellsTruly, AreWitnessed, IsAuditFault}
 ghost use Rattle.velo_filter.specs.Left.{rest_of, with_labels};
 ghost use Rattle.velo_audit.specs.Rounds.{Rounds, AreTheOnlyRounds, AreFound, labels_found, atomic_labels};
 ghost use Rattle.velo_filter.specs.Tables.{left_of};
-ghost use Rattle.velo_audit.specs.Tells.{told_as};
+ghost use Rattle.velo_audit.specs.Tells.{numbers_of};
 
 use crate::round::AuditFault;
 use crate::rounds::audit;
@@ -28,26 +28,26 @@ pub fn audit_checked(
     log: &Trace,
     clean: bool,
     left: &mut LeftOut,
-    asked: bool,
+    with_witness: bool,
 ) -> Result<Vec<Told>, AuditFault>
     requires goes_on { config.now.stop ≡ false }
     requires short { length log.now.events ≤ config.now.events }
     requires well_formed { IsWellFormed config.now.bounds log.now.events }
     requires clean { IsTrue clean → ¬ HasCycle log.now.events }
     ensures rounds { IfOk result (λ rounds.
-        Rounds log.now.events (left_of left.old) (map told_as rounds.items)) }
+        Rounds log.now.events (left_of left.old) (map numbers_of rounds.items)) }
     ensures only { IfOk result (λ rounds.
-        AreTheOnlyRounds log.now.events (left_of left.old) (map told_as rounds.items)) }
+        AreTheOnlyRounds log.now.events (left_of left.old) (map numbers_of rounds.items)) }
     ensures truly { IfOk result (λ rounds. All (TellsTruly log.now.events) rounds.items) }
     ensures witnessed { IfOk result (λ rounds.
-        AreWitnessed asked log.now.events (left_of left.old) rounds.items) }
+        AreWitnessed with_witness log.now.events (left_of left.old) rounds.items) }
     ensures found { IfOk result (λ rounds.
         AreFound log.now.events (left_of left.old) (labels_found log.now.events
-        (map told_as rounds.items))) }
+        (map numbers_of rounds.items))) }
     ensures left { IfOk result (λ rounds.
         left_of left.new
         ≡ with_labels (left_of left.old) (labels_found log.now.events
-        (map told_as rounds.items))) }
+        (map numbers_of rounds.items))) }
     ensures few { IfOk result (λ rounds.
         length rounds.items + atomic_labels (left_of left.new) log.now.events
         ≤ atomic_labels (left_of left.old) log.now.events) }
@@ -58,5 +58,5 @@ pub fn audit_checked(
     if clean {
         return Ok(Vec::new(alloc));
     }
-    audit(alloc, config, log, left, asked)
+    audit(alloc, config, log, left, with_witness)
 }

@@ -2,7 +2,7 @@
 ghost use Rattle.std.specs.Prelude.{◌≡◌, ◌<◌, ◌≤◌, ◌+◌, List, All, IfOk, OnOk, IsFalse, length, map};
 ghost use Rattle.velo_events.specs.declared.event.Event.{Event as EventOf};
 ghost use Rattle.velo_traces.specs.declared.block.Block.{Block as BlockOf};
-ghost use Rattle.velo_filter.specs.Left.{Left, with_labels};
+ghost use Rattle.velo_filter.specs.Left.{Omitted, with_labels};
 ghost use Rattle.velo_filter.specs.Tables.{members};
 ghost use Rattle.velo_audit.specs.Cut.{AreBegun, IsCut};
 
@@ -27,7 +27,7 @@ pub struct Cut {
 impl Cut {
     /// The cut before all events.
     pub fn at_start(alloc: Global) -> Result<Cut, Memory>
-        ensures { IfOk result (λ cut. (left : Left) (log : List EventOf) → IsCut left log cut) }
+        ensures { IfOk result (λ cut. (left : Omitted) (log : List EventOf) → IsCut left log cut) }
     {
         let marks = no_marks(alloc)?;
         Ok(Cut {
@@ -41,7 +41,7 @@ impl Cut {
     /// Follows a round in which the labels of these blocks were left out: if one of them is begun before
     /// the cut, there is another rest before it, and the cut goes back to the start.
     pub fn follow(&mut self, alloc: Global, blocks: &[Block]) -> Result<(), Memory>
-        ensures { OnOk result ((left : Left) (log : List EventOf) → IsCut left log self.old
+        ensures { OnOk result ((left : Omitted) (log : List EventOf) → IsCut left log self.old
             → IsCut (with_labels left (map (λ (b : BlockOf). b.label.0) blocks.now)) log self.new) }
     {
         if self.has_begun(blocks) {

@@ -4,7 +4,7 @@ ghost use Rattle.velo_events.specs.Refusals.{GrowthRefused};
 ghost use Rattle.velo_events.specs.WellFormed.{IsWellFormed};
 ghost use Rattle.velo_filter.specs.Tables.{left_of, members};
 ghost use Rattle.velo_laws.specs.Cut.{IsQuiet};
-ghost use Rattle.velo_filter.specs.Left.{Left};
+ghost use Rattle.velo_filter.specs.Left.{Omitted};
 ghost use Rattle.velo_laws.specs.Restart.{HasNoBegin};
 ghost use Rattle.velo_audit.specs.Audit.{out_of_memory};
 ghost use Rattle.velo_audit.specs.Cut.{AreBegun, EndsAt, IsCut, IsPiece};
@@ -43,13 +43,13 @@ pub fn by_pieces(
     log: &Trace,
     left: &LeftOut,
     cut: &mut Cut,
-    asked: bool,
+    with_witness: bool,
 ) -> Result<Verdict, AuditFault>
     requires goes_on { config.now.stop ≡ false }
     requires short { length log.now.events ≤ config.now.events }
     requires well_formed { IsWellFormed config.now.bounds log.now.events }
     requires cut { IsCut (left_of left.now) log.now.events cut.old }
-    ensures verdict { IfOk result (IsRoundVerdict asked log.now.events (left_of left.now)) }
+    ensures verdict { IfOk result (IsRoundVerdict with_witness log.now.events (left_of left.now)) }
     ensures cut { OnOk result (IsCut (left_of left.now) log.now.events cut.new) }
     ensures fault { IfErr result (λ fault. fault ≡ out_of_memory) }
     ensures memory { OnErr result GrowthRefused }
@@ -57,7 +57,7 @@ pub fn by_pieces(
     let mut count = first_count(config);
     while cut.place < log.len() {
         let piece = next_piece(alloc, log, left, cut, count)?;
-        if let Some(verdict) = judged(alloc, config, log, left, cut, asked, piece)? {
+        if let Some(verdict) = judged(alloc, config, log, left, cut, with_witness, piece)? {
             return Ok(verdict);
         }
         count = count.saturating_mul(2);
@@ -81,14 +81,14 @@ fn judged(
     log: &Trace,
     left: &LeftOut,
     cut: &mut Cut,
-    asked: bool,
+    with_witness: bool,
     piece: Piece,
 ) -> Result<Option<Verdict>, AuditFault>
     requires goes_on { config.now.stop ≡ false }
     requires cut { IsCut (left_of left.now) log.now.events cut.old }
     requires piece { IsPiece (left_of left.now) log.now.events cut.old piece }
     ensures judges { IfOk result (
-        Judges asked log.now.events (left_of left.now) cut.old.place cut.new) }
+        Judges with_witness log.now.events (left_of left.now) cut.old.place cut.new) }
     ensures fault { IfErr result (λ fault. fault ≡ out_of_memory) }
     ensures memory { OnErr result GrowthRefused }
 {
@@ -100,7 +100,7 @@ fn judged(
     } = piece;
     match replayed(alloc, config, trace) {
         Ok(closed) => {
-            let judged = judged_by(alloc, log, cut, asked, &closed, &places, marks, end);
+            let judged = judged_by(alloc, log, cut, with_witness, &closed, &places, marks, end);
             drop(closed);
             judged
         }
@@ -114,21 +114,21 @@ fn judged_by(
     alloc: Global,
     log: &Trace,
     cut: &mut Cut,
-    asked: bool,
+    with_witness: bool,
     closed: &Closed,
     places: &[u32],
     marks: Vec<u64>,
     end: usize,
 ) -> Result<Option<Verdict>, AuditFault>
-    requires { (left : Left) × IsCut left log.now.events cut.old
+    requires { (left : Omitted) × IsCut left log.now.events cut.old
         × EndsAt left log.now.events cut.old end marks.items closed.now.log places.now }
-    ensures judges { IfOk result (λ judged. (left : Left) → IsCut left log.now.events cut.old
+    ensures judges { IfOk result (λ judged. (left : Omitted) → IsCut left log.now.events cut.old
         → EndsAt left log.now.events cut.old end marks.items closed.now.log places.now
-        → Judges asked log.now.events left cut.old.place cut.new judged) }
+        → Judges with_witness log.now.events left cut.old.place cut.new judged) }
     ensures fault { IfErr result (λ fault. fault ≡ out_of_memory) }
     ensures memory { OnErr result GrowthRefused }
 {
-    if let Some(told) = told_in(alloc, asked, closed, places)? {
+    if let Some(told) = told_in(alloc, with_witness, closed, places)? {
         return Ok(Some(Verdict::Told(told)));
     }
     if end == log.len() {

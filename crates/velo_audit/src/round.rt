@@ -57,20 +57,20 @@ pub fn round(
     log: &Trace,
     left: &LeftOut,
     cut: &mut Cut,
-    asked: bool,
+    with_witness: bool,
 ) -> Result<Option<Told>, AuditFault>
     requires goes_on { config.now.stop ≡ false }
     requires short { length log.now.events ≤ config.now.events }
     requires well_formed { IsWellFormed config.now.bounds log.now.events }
     requires cut { IsCut (left_of left.now) log.now.events cut.old }
-    ensures tells { IfOk result (RoundTells asked log.now.events (left_of left.now)) }
+    ensures tells { IfOk result (RoundTells with_witness log.now.events (left_of left.now)) }
     ensures cut { OnOk result (IsCut (left_of left.now) log.now.events cut.new) }
     ensures fault { IfErr result (IsRoundFault config.now log.now.events (left_of left.now)) }
 {
-    match by_pieces(alloc, config, log, left, cut, asked)? {
+    match by_pieces(alloc, config, log, left, cut, with_witness)? {
         Verdict::Told(told) => Ok(Some(told)),
         Verdict::NoCycle => Ok(None),
-        Verdict::Unknown => whole_round(alloc, config, log, left, asked),
+        Verdict::Unknown => whole_round(alloc, config, log, left, with_witness),
     }
 }
 
@@ -80,16 +80,16 @@ fn whole_round(
     config: &Config,
     log: &Trace,
     left: &LeftOut,
-    asked: bool,
+    with_witness: bool,
 ) -> Result<Option<Told>, AuditFault>
     requires goes_on { config.now.stop ≡ false }
     requires short { length log.now.events ≤ config.now.events }
     requires well_formed { IsWellFormed config.now.bounds log.now.events }
-    ensures tells { IfOk result (RoundTells asked log.now.events (left_of left.now)) }
+    ensures tells { IfOk result (RoundTells with_witness log.now.events (left_of left.now)) }
     ensures fault { IfErr result (IsRoundFault config.now log.now.events (left_of left.now)) }
 {
     match thin(alloc, log, left) {
-        Ok(thinned) => check(alloc, config, thinned, asked),
+        Ok(thinned) => check(alloc, config, thinned, with_witness),
         Err(Memory) => Err(AuditFault::Memory),
     }
 }
@@ -99,18 +99,18 @@ fn check(
     alloc: Global,
     config: &Config,
     thinned: Thinned,
-    asked: bool,
+    with_witness: bool,
 ) -> Result<Option<Told>, AuditFault>
     requires goes_on { config.now.stop ≡ false }
     requires short { length thinned.trace.events ≤ config.now.events }
     requires well_formed { IsWellFormed config.now.bounds thinned.trace.events }
     requires as_many { length thinned.places.items ≡ length thinned.trace.events }
-    ensures tells { IfOk result (CheckTells asked thinned.trace.events thinned.places.items) }
+    ensures tells { IfOk result (CheckTells with_witness thinned.trace.events thinned.places.items) }
     ensures fault { IfErr result (IsCheckFault config.now thinned.trace.events thinned.places.items) }
 {
     let Thinned { trace, places } = thinned;
     match replayed(alloc, config, trace) {
-        Ok(closed) => tell(alloc, asked, closed, &places),
+        Ok(closed) => tell(alloc, with_witness, closed, &places),
         Err(
             LogReplayFault::Refused {
                 position,
@@ -156,16 +156,16 @@ fn with_few_nodes(config: &Config) -> Config
 /// What is reported of a world's alarm, if it has one. The world is dropped.
 fn tell(
     alloc: Global,
-    asked: bool,
+    with_witness: bool,
     closed: Closed,
     places: &[u32],
 ) -> Result<Option<Told>, AuditFault>
     requires { length places.now ≡ length closed.log }
-    ensures tells { IfOk result (CheckTells asked closed.log places.now) }
+    ensures tells { IfOk result (CheckTells with_witness closed.log places.now) }
     ensures fault { OnErr result GrowthRefused }
     ensures memory { IfErr result (λ fault. fault ≡ out_of_memory) }
 {
-    let told = told_in(alloc, asked, &closed, places);
+    let told = told_in(alloc, with_witness, &closed, places);
     drop(closed);
     told
 }
@@ -173,19 +173,19 @@ fn tell(
 /// What is reported of a world's alarm, if it has one.
 pub fn told_in(
     alloc: Global,
-    asked: bool,
+    with_witness: bool,
     closed: &Closed,
     places: &[u32],
 ) -> Result<Option<Told>, AuditFault>
     requires { length places.now ≡ length closed.now.log }
-    ensures tells { IfOk result (CheckTells asked closed.now.log places.now) }
+    ensures tells { IfOk result (CheckTells with_witness closed.now.log places.now) }
     ensures fault { OnErr result GrowthRefused }
     ensures memory { IfErr result (λ fault. fault ≡ out_of_memory) }
 {
     let Some(alarm) = closed.alarm() else {
         return Ok(None);
     };
-    match told_of(alloc, asked, closed.log(), places, alarm) {
+    match told_of(alloc, with_witness, closed.log(), places, alarm) {
         Ok(told) => Ok(Some(told)),
         Err(Memory) => Err(AuditFault::Memory),
     }

@@ -10,7 +10,7 @@ ghost use Rattle.velo_audit.specs.Rounds.{Rounds, AreTheOnlyRounds, AreFound, la
 ghost use Rattle.velo_audit.specs.Cut.{IsCut};
 ghost use Rattle.velo_events.specs.declared.event.Event.{Event as EventOf};
 ghost use Rattle.velo_filter.specs.Tables.{left_of};
-ghost use Rattle.velo_audit.specs.Tells.{told_as};
+ghost use Rattle.velo_audit.specs.Tells.{numbers_of};
 
 use crate::cut::Cut;
 use crate::round::{AuditFault, round};
@@ -33,24 +33,24 @@ pub fn audit(
     config: &Config,
     log: &Trace,
     left: &mut LeftOut,
-    asked: bool,
+    with_witness: bool,
 ) -> Result<Vec<Told>, AuditFault>
     requires goes_on { config.now.stop ≡ false }
     requires short { length log.now.events ≤ config.now.events }
     requires well_formed { IsWellFormed config.now.bounds log.now.events }
-    ensures rounds { IfOk result (λ rounds. Rounds log.now.events (left_of left.old) (map told_as rounds.items)) }
-    ensures only { IfOk result (λ rounds. AreTheOnlyRounds log.now.events (left_of left.old) (map told_as rounds.items)) }
+    ensures rounds { IfOk result (λ rounds. Rounds log.now.events (left_of left.old) (map numbers_of rounds.items)) }
+    ensures only { IfOk result (λ rounds. AreTheOnlyRounds log.now.events (left_of left.old) (map numbers_of rounds.items)) }
     ensures truly { IfOk result (λ rounds. All (TellsTruly log.now.events) rounds.items) }
-    ensures witnessed { IfOk result (λ rounds. AreWitnessed asked log.now.events (left_of left.old) rounds.items) }
-    ensures found { IfOk result (λ rounds. AreFound log.now.events (left_of left.old) (labels_found log.now.events (map told_as rounds.items))) }
-    ensures left { IfOk result (λ rounds. left_of left.new ≡ with_labels (left_of left.old) (labels_found log.now.events (map told_as rounds.items))) }
+    ensures witnessed { IfOk result (λ rounds. AreWitnessed with_witness log.now.events (left_of left.old) rounds.items) }
+    ensures found { IfOk result (λ rounds. AreFound log.now.events (left_of left.old) (labels_found log.now.events (map numbers_of rounds.items))) }
+    ensures left { IfOk result (λ rounds. left_of left.new ≡ with_labels (left_of left.old) (labels_found log.now.events (map numbers_of rounds.items))) }
     ensures few { IfOk result (λ rounds. length rounds.items + atomic_labels (left_of left.new) log.now.events ≤ atomic_labels (left_of left.old) log.now.events) }
     ensures serializable { OnOk result (IsSerializable (rest_of (left_of left.new) log.now.events)) }
     ensures fault { IfErr result (IsAuditFault config.now log.now.events (left_of left.old)) }
 {
     let mut rounds = Vec::new(alloc);
     let mut cut = Cut::at_start(alloc)?;
-    while let Some(told) = next_round(alloc, config, log, left, &mut cut, asked)? {
+    while let Some(told) = next_round(alloc, config, log, left, &mut cut, with_witness)? {
         keep(&mut rounds, told)?;
     }
     Ok(rounds)
@@ -78,18 +78,18 @@ fn next_round(
     log: &Trace,
     left: &mut LeftOut,
     cut: &mut Cut,
-    asked: bool,
+    with_witness: bool,
 ) -> Result<Option<Told>, AuditFault>
     requires goes_on { config.now.stop ≡ false }
     requires short { length log.now.events ≤ config.now.events }
     requires well_formed { IsWellFormed config.now.bounds log.now.events }
     requires cut { IsCut (left_of left.old) log.now.events cut.old }
     ensures cut { OnOk result (IsCut (left_of left.new) log.now.events cut.new) }
-    ensures tells { IfOk result (RoundTells asked log.now.events (left_of left.old)) }
+    ensures tells { IfOk result (RoundTells with_witness log.now.events (left_of left.old)) }
     ensures left { IfOk result (λ told. left_of left.new ≡ left_behind log.now.events (left_of left.old) told) }
     ensures fault { IfErr result (IsRoundFault config.now log.now.events (left_of left.old)) }
 {
-    match round(alloc, config, log, left, cut, asked)? {
+    match round(alloc, config, log, left, cut, with_witness)? {
         None => Ok(None),
         Some(told) => match leave_out_all(alloc, left, cut, &told.blocks) {
             Ok(()) => Ok(Some(told)),

@@ -33,17 +33,17 @@ pub struct Told {
 /// What is reported of the alarm of the rest, with a witness if this is asked for.
 pub(crate) fn told_of(
     alloc: Global,
-    asked: bool,
+    with_witness: bool,
     what: &Trace,
     places: &[u32],
     alarm: &Alarm,
 ) -> Result<Told, Memory>
     requires alarm { IsAlarm what.now.events alarm.now }
     requires as_many { length places.now ≡ length what.now.events }
-    ensures { IfOk result (λ told. Tells asked what.now.events places.now alarm.now told) }
+    ensures { IfOk result (λ told. Tells with_witness what.now.events places.now alarm.now told) }
 {
     let blocks = blocks_told(alloc, what.as_slice(), places, alarm)?;
-    let witness = witness_if_asked(alloc, asked, what, places, alarm)?;
+    let witness = witness_if_asked(alloc, with_witness, what, places, alarm)?;
     Ok(Told {
         closing: place_at(places, alarm.position),
         transaction: place_at(places, alarm.transaction),
@@ -56,16 +56,16 @@ pub(crate) fn told_of(
 /// What explains the alarm, if it is asked for.
 fn witness_if_asked(
     alloc: Global,
-    asked: bool,
+    with_witness: bool,
     what: &Trace,
     places: &[u32],
     alarm: &Alarm,
 ) -> Result<Option<Evidence>, Memory>
     requires alarm { IsAlarm what.now.events alarm.now }
     requires as_many { length places.now ≡ length what.now.events }
-    ensures { IfOk result (λ witness. WitnessTells asked what.now.events places.now alarm.now witness) }
+    ensures { IfOk result (λ witness. WitnessTells with_witness what.now.events places.now alarm.now witness) }
 {
-    if !asked {
+    if !with_witness {
         return Ok(None);
     }
     let evidence = witness_of(alloc, what, places, alarm)?;

@@ -2,7 +2,7 @@
 ghost use Rattle.std.specs.Prelude.{◌≡◌, ◌≤◌, ◌<◌, length, map, slice_index, IfOk};
 ghost use Rattle.velo_explain.specs.Evidence.{AreSpansWithin, AreEdgesWithin, AreBlamesWithin, IsWithin};
 ghost use Rattle.velo_world.specs.World.{IsAlarm};
-ghost use Rattle.velo_audit.specs.Witness.{span_as_read, edge_as_read, block_as_read, blame_as_read, ReadsAs, IsEvidenceOf};
+ghost use Rattle.velo_audit.specs.Witness.{span_as_read, edge_as_read, block_as_read, blame_as_read, IsAsRead, IsEvidenceOf};
 
 use std::alloc::Global;
 use velo_certify::{CertFault, EdgeEvents};
@@ -39,7 +39,7 @@ fn evidence_as_read(alloc: Global, places: &[u32], inside: &Evidence) -> Result<
     requires spans { AreSpansWithin (length places.now) inside.now.spans.items }
     requires edges { AreEdgesWithin (length places.now) inside.now.edges.items }
     requires blames { AreBlamesWithin (length places.now) inside.now.blames.items }
-    ensures { IfOk result (λ evidence. ReadsAs (slice_index places.now) inside.now evidence) }
+    ensures { IfOk result (λ evidence. IsAsRead (slice_index places.now) inside.now evidence) }
 {
     let spans = spans_as_read(alloc, places, &inside.spans)?;
     let edges = edges_as_read(alloc, places, &inside.edges)?;

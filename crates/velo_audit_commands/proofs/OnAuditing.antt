@@ -8,10 +8,10 @@ use Rattle.velo_events.specs.declared.refusal.Refusal.TheVariants.{GraphFull}
 use Rattle.velo_events.specs.Reordering.{IsSerializable}
 use Rattle.velo_names.specs.Names.{NameLists}
 use Rattle.velo_sites.specs.Sites.{Table}
-use Rattle.velo_filter.specs.Left.{Left, rest_of, with_labels}
+use Rattle.velo_filter.specs.Left.{Omitted, rest_of, with_labels}
 use Rattle.velo_audit.specs.Audit.{AreWitnessed, IsFullAfter, TellsTruly}
 use Rattle.velo_audit.specs.Rounds.{AreFound, AreTheOnlyRounds, Rounds, atomic_labels, labels_found}
-use Rattle.velo_audit.specs.Tells.{told_as}
+use Rattle.velo_audit.specs.Tells.{numbers_of}
 use Rattle.velo_audit.specs.declared.told.Told.{Told}
 use Rattle.velo_audit_text.specs.declared.words.Asked.{Asked}
 use Rattle.velo_worker.specs.declared.ending.Ending.TheVariants.{Done}
@@ -30,25 +30,25 @@ use Rattle.velo_fate.proofs.OnDelivery.{put_of, same_fate}
 
 -- ---- the text
 
-pub told_put : (names : NameLists) (sites : Option Table) (log : List Event) (asked : Asked) (options : AuditOptions) (rounds : List Told) (left : Left) (words page : List ℕ) (atomic : ℕ) (alarm : Bool)
+pub told_put : (names : NameLists) (sites : Option Table) (log : List Event) (asked : Asked) (options : AuditOptions) (rounds : List Told) (left : Omitted) (words page : List ℕ) (atomic : ℕ) (alarm : Bool)
     → words ≡ page → IsAuditPage names sites log asked options rounds atomic page → atomic ≡ atomic_labels left log → left ≡ left_out_at_last log (left_out_at_first asked) rounds → alarm ≡ is_found rounds
     → (stdout : Writing) (f : Fate) → IsPrinted stdout (printing words (fate.Finished Done alarm)) f → PrintsRounds names sites log asked options rounds stdout f
 told_put names sites log asked options rounds left words page atomic alarm same is count behind found stdout f told = inl (
   words,
   subst (IsAuditPage names sites log asked options rounds (atomic_of log asked rounds)) (sym same)
-      (subst (λ (n : ℕ). IsAuditPage names sites log asked options rounds n page) (count ∙ ap (λ (l : Left). atomic_labels l log) behind) is),
+      (subst (λ (n : ℕ). IsAuditPage names sites log asked options rounds n page) (count ∙ ap (λ (l : Omitted). atomic_labels l log) behind) is),
   subst (λ (b : Bool). IsPrinted stdout (printing words (fate.Finished Done b)) f) found told,
 )
 
 -- ---- the rounds
 
 -- what an audit of the log from this start answers
-pub are_rounds_of : (witness : Bool) (log : List Event) (first start behind : Left) (rounds : List Told) → start ≡ first
-    → Rounds log start (map told_as rounds) → AreTheOnlyRounds log start (map told_as rounds) → All (TellsTruly log) rounds → AreWitnessed witness log start rounds
-    → AreFound log start (labels_found log (map told_as rounds)) → behind ≡ with_labels start (labels_found log (map told_as rounds)) → length rounds + atomic_labels behind log ≤ atomic_labels start log
+pub are_rounds_of : (witness : Bool) (log : List Event) (first start behind : Omitted) (rounds : List Told) → start ≡ first
+    → Rounds log start (map numbers_of rounds) → AreTheOnlyRounds log start (map numbers_of rounds) → All (TellsTruly log) rounds → AreWitnessed witness log start rounds
+    → AreFound log start (labels_found log (map numbers_of rounds)) → behind ≡ with_labels start (labels_found log (map numbers_of rounds)) → length rounds + atomic_labels behind log ≤ atomic_labels start log
     → IsSerializable (rest_of behind log) → AreRoundsOf witness log first rounds
 are_rounds_of witness log first start behind rounds begins each only truly witnessed found left few serializable =
-    subst (λ (x : Left). AreRoundsOf witness log x rounds) begins made
+    subst (λ (x : Omitted). AreRoundsOf witness log x rounds) begins made
   where
     made : AreRoundsOf witness log start rounds
     made =
@@ -58,12 +58,12 @@ are_rounds_of witness log first start behind rounds begins each only truly witne
           truly = truly;
           witnessed = witnessed;
           found = found;
-          few = subst (λ (x : Left). length rounds + atomic_labels x log ≤ atomic_labels start log) left few;
-          serializable = subst (λ (x : Left). IsSerializable (rest_of x log)) left serializable;
+          few = subst (λ (x : Omitted). length rounds + atomic_labels x log ≤ atomic_labels start log) left few;
+          serializable = subst (λ (x : Omitted). IsSerializable (rest_of x log)) left serializable;
         }
 
-pub left_from : (log : List Event) (first start behind : Left) (rounds : List Told) → start ≡ first → behind ≡ with_labels start (labels_found log (map told_as rounds)) → behind ≡ left_out_at_last log first rounds
-left_from log first start behind rounds begins left = left ∙ ap (λ (x : Left). with_labels x (labels_found log (map told_as rounds))) begins
+pub left_from : (log : List Event) (first start behind : Omitted) (rounds : List Told) → start ≡ first → behind ≡ with_labels start (labels_found log (map numbers_of rounds)) → behind ≡ left_out_at_last log first rounds
+left_from log first start behind rounds begins left = left ∙ ap (λ (x : Omitted). with_labels x (labels_found log (map numbers_of rounds))) begins
 
 -- they are printed, or memory was wanting
 pub rounds_printed : (names : NameLists) (sites : Option Table) (asked : Asked) (options : AuditOptions) (bounds : Bounds) (log events : List Event) (rounds told : List Told) → events ≡ log → told ≡ rounds
@@ -85,7 +85,7 @@ rounds_printed names sites asked options bounds log events rounds told same as_t
     (silent fate.Memory, inr (lacks.0, refl), subst (λ (g : Fate). IsPrinted stdout (silent fate.Memory) g) (sym lacks.1) (refl, lacks.2))
 
 -- the graph is full in a round
-pub full_said : (asked : Asked) (config : Config) (log : List Event) (start : Left) (position : ℕ) → start ≡ left_out_at_first asked → IsFullAfter config log start position
+pub full_said : (asked : Asked) (config : Config) (log : List Event) (start : Omitted) (position : ℕ) → start ≡ left_out_at_first asked → IsFullAfter config log start position
     → HasFullGraph asked config.nodes config.bounds log (silent (fate.Check (check_fault.Refused position GraphFull)))
 full_said asked config log start position begins full =
     record {
@@ -93,7 +93,7 @@ full_said asked config log start position begins full =
       its_bounds = refl;
       its_nodes = refl;
       position = position;
-      is_full = subst (λ (x : Left). IsFullAfter config log x position) begins full;
+      is_full = subst (λ (x : Omitted). IsFullAfter config log x position) begins full;
       said = refl;
     }
 

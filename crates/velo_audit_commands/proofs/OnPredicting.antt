@@ -6,7 +6,7 @@ use Rattle.velo_events.specs.declared.config.Bounds.{Bounds}
 use Rattle.velo_events.specs.declared.event.Event.{Event}
 use Rattle.velo_names.specs.Names.{NameLists}
 use Rattle.velo_sites.specs.Sites.{Table}
-use Rattle.velo_filter.specs.Left.{Left, rest_of}
+use Rattle.velo_filter.specs.Left.{Omitted, rest_of}
 use Rattle.velo_audit.specs.declared.told.Told.{Told}
 use Rattle.velo_audit_text.specs.declared.words.Asked.{Asked}
 use Rattle.velo_delays.specs.Deadlock.{AreDeadlocksIn}
@@ -29,13 +29,13 @@ use Rattle.velo_inputs.specs.Sending.{DeliversOrLacks}
 use Rattle.velo_inputs.specs.Siting.{HaveLengthOf}
 
 -- what a search of this log answers
-pub foretold_of : {E : Type 0} (values : Bool) (bounds : Bounds) (log searched : List Event) (left : Left) (result : Result PredictedFindings E) → IsSearched values log searched
+pub foretold_of : {E : Type 0} (values : Bool) (bounds : Bounds) (log searched : List Event) (left : Omitted) (result : Result PredictedFindings E) → IsSearched values log searched
     → IfOk result (λ (f : PredictedFindings). AreFoundIn bounds searched left f.labels.items) → IfOk result (λ (f : PredictedFindings). AreDeadlocksIn bounds searched left f.deadlocks.items)
     → IfOk result (λ (f : PredictedFindings). ArePredictionsOf values bounds log left f)
 foretold_of values bounds log searched left (Ok f) is labels deadlocks = record { searched = searched; is_searched = is; labels = labels; deadlocks = deadlocks }
 foretold_of values bounds log searched left (Err e) is labels deadlocks = tt
 
-module _ (values : Bool) (bounds : Bounds) (log : List Event) (left : Left) (findings : PredictedFindings) (are : ArePredictionsOf values bounds log left findings) where
+module _ (values : Bool) (bounds : Bounds) (log : List Event) (left : Omitted) (findings : PredictedFindings) (are : ArePredictionsOf values bounds log left findings) where
   pub can_be_told : All CanBeTold findings.labels.items
   can_be_told = CanBeTold-from bounds are.searched left findings.labels.items are.labels
 

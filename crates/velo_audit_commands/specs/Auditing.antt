@@ -8,11 +8,11 @@ use Rattle.velo_events.specs.Refusals.{GrowthRefused}
 use Rattle.velo_events.specs.Reordering.{IsSerializable}
 use Rattle.velo_names.specs.Names.{NameLists}
 use Rattle.velo_sites.specs.Sites.{Table}
-use Rattle.velo_filter.specs.Left.{Left, rest_of, with_labels}
+use Rattle.velo_filter.specs.Left.{Omitted, rest_of, with_labels}
 use Rattle.velo_audit.specs.declared.told.Told.{Told}
 use Rattle.velo_audit.specs.Audit.{AreWitnessed, IsFullAfter, TellsTruly}
 use Rattle.velo_audit.specs.Rounds.{AreFound, AreTheOnlyRounds, Rounds, atomic_labels, labels_found}
-use Rattle.velo_audit.specs.Tells.{told_as}
+use Rattle.velo_audit.specs.Tells.{numbers_of}
 use Rattle.velo_audit_text.specs.declared.words.Asked.{Asked}
 use Rattle.velo_audit_text.specs.declared.entries.Listing.{Listing}
 use Rattle.velo_audit_text.specs.Listing.{IsListingText}
@@ -38,8 +38,8 @@ use Rattle.velo_delivery.specs.Writing.{Writing, WritesNothing}
 -- ---- what is left out
 
 -- after the rounds: the labels that they found, too
-abbrev pub left_out_at_last : List Event → Left → List Told → Left
-left_out_at_last log left rounds = with_labels left (labels_found log (map told_as rounds))
+abbrev pub left_out_at_last : List Event → Omitted → List Told → Omitted
+left_out_at_last log omitted rounds = with_labels omitted (labels_found log (map numbers_of rounds))
 
 -- ---- the rounds
 
@@ -47,16 +47,16 @@ left_out_at_last log left rounds = with_labels left (labels_found log (map told_
 -- no others; what each reports as blamed is so in the log as read; each label found begins a block
 -- of it and was not left out; each round uses up a label, so there are at most as many as labels; and
 -- what is left at last is serializable.
-pub record AreRoundsOf (witness : Bool) (log : List Event) (left : Left) (rounds : List Told)
+pub record AreRoundsOf (witness : Bool) (log : List Event) (omitted : Omitted) (rounds : List Told)
     : Type 0 where
-  pub each : Rounds log left (map told_as rounds)
-  pub only : AreTheOnlyRounds log left (map told_as rounds)
+  pub each : Rounds log omitted (map numbers_of rounds)
+  pub only : AreTheOnlyRounds log omitted (map numbers_of rounds)
   pub truly : All (TellsTruly log) rounds
-  pub witnessed : AreWitnessed witness log left rounds
-  pub found : AreFound log left (labels_found log (map told_as rounds))
-  pub few : length rounds + atomic_labels (left_out_at_last log left rounds) log
-      ≤ atomic_labels left log
-  pub serializable : IsSerializable (rest_of (left_out_at_last log left rounds) log)
+  pub witnessed : AreWitnessed witness log omitted rounds
+  pub found : AreFound log omitted (labels_found log (map numbers_of rounds))
+  pub few : length rounds + atomic_labels (left_out_at_last log omitted rounds) log
+      ≤ atomic_labels omitted log
+  pub serializable : IsSerializable (rest_of (left_out_at_last log omitted rounds) log)
 
 -- ---- what is said of them
 

@@ -6,7 +6,7 @@ use Rattle.velo_events.specs.declared.event.Event.{Event}
 use Rattle.velo_logtext.specs.Text.{log_text}
 use Rattle.velo_names.specs.Names.{NameLists}
 use Rattle.velo_sites.specs.Sites.{Table}
-use Rattle.velo_filter.specs.Left.{Left}
+use Rattle.velo_filter.specs.Left.{Omitted}
 use Rattle.velo_audit.specs.declared.told.Told.{Told}
 use Rattle.velo_audit_text.specs.declared.words.Asked.{Asked}
 use Rattle.velo_delays.specs.declared.judged.PredictedCycle.{PredictedCycle}
@@ -45,17 +45,17 @@ IsSearched false log searched = IsAnew log searched
 -- What the search found are predictions of this log without what is left out. It predicts the trace of
 -- each (`PredictsCycle` of `velo_predict`), and the reads told are those that have another value than
 -- in the log. That there are no others is not claimed.
-pub record ArePredictionsOf (values : Bool) (bounds : Bounds) (log : List Event) (left : Left)
+pub record ArePredictionsOf (values : Bool) (bounds : Bounds) (log : List Event) (omitted : Omitted)
     (findings : PredictedFindings) : Type 0 where
   pub searched : List Event
   pub is_searched : IsSearched values log searched
   -- The trace has a cycle, and the blocks told are those to blame at its first alarm. What is left out
   -- stays so, and maybe the begins and ends of labels that those before it blame. Each blames a label
   -- that is not left out and that none before it blames.
-  pub labels : AreFoundIn bounds searched left findings.labels.items
+  pub labels : AreFoundIn bounds searched omitted findings.labels.items
   -- After the trace threads wait in a circle (`IsDeadlock`), to do the events that are told. Each has a
   -- lock that is waited for in none before it.
-  pub deadlocks : AreDeadlocksIn bounds searched left findings.deadlocks.items
+  pub deadlocks : AreDeadlocksIn bounds searched omitted findings.deadlocks.items
 
 -- ---- what is said of it
 

@@ -8,10 +8,10 @@ use Rattle.std.proofs.lemmas.Option.{none-some, same_Some, slice_get-get_or, sli
 use Rattle.velo_events.specs.declared.config.Bounds.{Bounds}
 use Rattle.velo_events.specs.declared.event.Event.{Event}
 use Rattle.velo_traces.specs.declared.block.Block.{Block}
-use Rattle.velo_filter.specs.Left.{Left, is_listed, rest_of, with_labels}
+use Rattle.velo_filter.specs.Left.{Omitted, is_listed, rest_of, with_labels}
 use Rattle.velo_audit.specs.Audit.{AreWitnessed}
 use Rattle.velo_audit.specs.Rounds.{IsRound, Rounds}
-use Rattle.velo_audit.specs.Tells.{told_as}
+use Rattle.velo_audit.specs.Tells.{numbers_of}
 use Rattle.velo_audit.specs.Witness.{HasWitness}
 use Rattle.velo_audit.specs.declared.told.Told.{Told}
 use Rattle.velo_predict.specs.declared.difference.Difference.{Difference}
@@ -54,7 +54,7 @@ label-listed (b ∷ rest) (suc i) block there = listed-later b.label.0 (labels_o
 pub has_new-label : (test : ℕ → Bool) (blocks : List Block) (i : ℕ) (block : Block) → slice_get blocks i ≡ Some block → IsFalse (test block.label.0) → HasNew test (labels_of blocks)
 has_new-label test blocks i block there new = record { number = block.label.0; listed = label-listed blocks i block there; new = new }
 
-pub left_out_behind-push : (left : Left) (founds : List PredictedCycle) (found : PredictedCycle) → left_out_behind left (founds ++ found ∷ []) ≡ with_labels (left_out_behind left founds) (labels_blamed found)
+pub left_out_behind-push : (left : Omitted) (founds : List PredictedCycle) (found : PredictedCycle) → left_out_behind left (founds ++ found ∷ []) ≡ with_labels (left_out_behind left founds) (labels_blamed found)
 unfolding left_out_behind
 left_out_behind-push left [] found = refl
 left_out_behind-push left (f ∷ rest) found = left_out_behind-push (with_labels left (labels_blamed f)) rest found
@@ -62,30 +62,30 @@ left_out_behind-push left (f ∷ rest) found = left_out_behind-push (with_labels
 -- ---- what is found one after another
 
 module _ (bounds : Bounds) (log : List Event) where
-  in_turn-push : (left : Left) (founds : List PredictedCycle) (found : PredictedCycle) → AreFoundInTurn bounds log left founds → IsFound bounds log found → HasNew (left_out_behind left founds).labels (labels_blamed found)
+  in_turn-push : (left : Omitted) (founds : List PredictedCycle) (found : PredictedCycle) → AreFoundInTurn bounds log left founds → IsFound bounds log found → HasNew (left_out_behind left founds).labels (labels_blamed found)
       → AreFoundInTurn bounds log left (founds ++ found ∷ [])
   unfolding AreFoundInTurn left_out_behind
   in_turn-push left [] found are is new = ((is, new), tt)
   in_turn-push left (f ∷ rest) found are is new = (are.0, in_turn-push (with_labels left (labels_blamed f)) rest found are.1 is new)
 
-  pub GoesOn-none : (left : Left) (founds : List PredictedCycle) → GoesOn bounds log left left founds founds
+  pub GoesOn-none : (left : Omitted) (founds : List PredictedCycle) → GoesOn bounds log left left founds founds
   unfolding AreFoundInTurn left_out_behind
   GoesOn-none left founds = record { more = []; is_longer = sym (append-nil founds); are_found = tt; behind = refl }
 
-  GoesOn-same : (one two three : Left) (xs ys zs : List PredictedCycle) → GoesOn bounds log one two xs ys → three ≡ two → zs ≡ ys → GoesOn bounds log one three xs zs
+  GoesOn-same : (one two three : Omitted) (xs ys zs : List PredictedCycle) → GoesOn bounds log one two xs ys → three ≡ two → zs ≡ ys → GoesOn bounds log one three xs zs
   GoesOn-same one two three xs ys zs on left same = record { more = on.more; is_longer = same ∙ on.is_longer; are_found = on.are_found; behind = left ∙ on.behind }
 
-  GoesOn-push : (one two three : Left) (xs ys zs : List PredictedCycle) → GoesOn bounds log one two xs ys → (found : PredictedCycle) → IsFound bounds log found → HasNew two.labels (labels_blamed found)
+  GoesOn-push : (one two three : Omitted) (xs ys zs : List PredictedCycle) → GoesOn bounds log one two xs ys → (found : PredictedCycle) → IsFound bounds log found → HasNew two.labels (labels_blamed found)
       → three ≡ with_labels two (labels_blamed found) → zs ≡ ys ++ found ∷ [] → GoesOn bounds log one three xs zs
   GoesOn-push one two three xs ys zs on found is new left more = record {
     more = on.more ++ found ∷ [];
     is_longer = more ∙ (ap (λ (ws : List PredictedCycle). ws ++ found ∷ []) on.is_longer ∙ append_assoc xs on.more (found ∷ []));
-    are_found = in_turn-push one on.more found on.are_found is (subst (λ (l : Left). HasNew l.labels (labels_blamed found)) on.behind new);
-    behind = left ∙ (ap (λ (l : Left). with_labels l (labels_blamed found)) on.behind ∙ sym (left_out_behind-push one on.more found));
+    are_found = in_turn-push one on.more found on.are_found is (subst (λ (l : Omitted). HasNew l.labels (labels_blamed found)) on.behind new);
+    behind = left ∙ (ap (λ (l : Omitted). with_labels l (labels_blamed found)) on.behind ∙ sym (left_out_behind-push one on.more found));
   }
 
   -- what was found is taken in
-  pub GoesOn-takes : (one two three : Left) (xs ys zs : List PredictedCycle) → GoesOn bounds log one two xs ys → (found : Option PredictedCycle) → IfSome found (λ (f : PredictedCycle). IsFound bounds log f) → TakesIn two three ys zs found
+  pub GoesOn-takes : (one two three : Omitted) (xs ys zs : List PredictedCycle) → GoesOn bounds log one two xs ys → (found : Option PredictedCycle) → IfSome found (λ (f : PredictedCycle). IsFound bounds log f) → TakesIn two three ys zs found
       → GoesOn bounds log one three xs zs
   GoesOn-takes one two three xs ys zs on None is takes = GoesOn-same one two three xs ys zs on takes.0 takes.1
   GoesOn-takes one two three xs ys zs on (Some found) is takes = ⊎_elim
@@ -95,16 +95,16 @@ module _ (bounds : Bounds) (log : List Event) where
 
 -- ---- round after round
 
-pub behind-none : (first : Left) (founds : List PredictedCycle) → founds ≡ [] → first ≡ left_out_behind first founds
+pub behind-none : (first : Omitted) (founds : List PredictedCycle) → founds ≡ [] → first ≡ left_out_behind first founds
 unfolding left_out_behind
 behind-none first founds none = ap (left_out_behind first) (sym none)
 
-module _ (bounds : Bounds) (log : List Event) (first : Left) where
+module _ (bounds : Bounds) (log : List Event) (first : Omitted) where
   pub AreFoundIn-none : (founds : List PredictedCycle) → founds ≡ [] → AreFoundIn bounds log first founds
   AreFoundIn-none founds none = record { each = λ i found there. absurd (none-some found (sym (ap (λ (fs : List PredictedCycle). slice_get fs i) none) ∙ there)) }
 
   -- the first of them are known, and without what they blame the others are found, one after another
-  grown : (k : ℕ) (left : Left) (founds more : List PredictedCycle) → k ≤ length founds → left ≡ left_out_behind first founds → AreFoundIn bounds log first founds
+  grown : (k : ℕ) (left : Omitted) (founds more : List PredictedCycle) → k ≤ length founds → left ≡ left_out_behind first founds → AreFoundIn bounds log first founds
       → AreFoundInTurn bounds (rest_of (left_out_behind first (take k founds)) log) left more → AreFoundIn bounds log first (founds ++ more) × (left_out_behind left more ≡ left_out_behind first (founds ++ more))
   unfolding AreFoundInTurn left_out_behind
   grown k left founds [] few behind are more = (
@@ -117,20 +117,20 @@ module _ (bounds : Bounds) (log : List Event) (first : Left) where
       let after : IsFoundAfter bounds log first founds f = record {
         known = k;
         is_found = more.0.0;
-        blames_new = subst (λ (l : Left). HasNew l.labels (labels_blamed f)) behind more.0.1;
+        blames_new = subst (λ (l : Omitted). HasNew l.labels (labels_blamed f)) behind more.0.1;
       } in
       let w = grown k (with_labels left (labels_blamed f)) longer rest (omega (arith, length-append founds (f ∷ [])))
-      (ap (λ (l : Left). with_labels l (labels_blamed f)) behind ∙ sym (left_out_behind-push first founds f))
+      (ap (λ (l : Omitted). with_labels l (labels_blamed f)) behind ∙ sym (left_out_behind-push first founds f))
       (record { each = each-push (IsFoundAfter bounds log first) founds f are.each after })
       (subst (λ (fs : List PredictedCycle). AreFoundInTurn bounds (rest_of (left_out_behind first fs) log) (with_labels left (labels_blamed f)) rest) (sym known) more.1) in
       let same : longer ++ rest ≡ founds ++ f ∷ rest = append_assoc founds (f ∷ []) rest in
       (subst (AreFoundIn bounds log first) same w.0, w.1 ∙ ap (left_out_behind first) same)
 
   -- a round finds some more
-  module _ (left new : Left) (before after : List PredictedCycle) (behind : left ≡ left_out_behind first before) (are : AreFoundIn bounds log first before) (on : GoesOn bounds (rest_of left log) left new before after) where
+  module _ (left new : Omitted) (before after : List PredictedCycle) (behind : left ≡ left_out_behind first before) (are : AreFoundIn bounds log first before) (on : GoesOn bounds (rest_of left log) left new before after) where
     both : AreFoundIn bounds log first (before ++ on.more) × (left_out_behind left on.more ≡ left_out_behind first (before ++ on.more))
     both = grown (length before) left before on.more (omega arith) behind are
-        (subst (λ (l : Left). AreFoundInTurn bounds (rest_of l log) left on.more) (behind ∙ ap (left_out_behind first) (sym (take_all (length before) before (omega arith)))) on.are_found)
+        (subst (λ (l : Omitted). AreFoundInTurn bounds (rest_of l log) left on.more) (behind ∙ ap (left_out_behind first) (sym (take_all (length before) before (omega arith)))) on.are_found)
 
     pub AreFoundIn-more : AreFoundIn bounds log first after
     AreFoundIn-more = subst (AreFoundIn bounds log first) (sym on.is_longer) both.0
@@ -140,12 +140,12 @@ module _ (bounds : Bounds) (log : List Event) (first : Left) where
 
 -- ---- the first round of an audit
 
-pub first-round : (log : List Event) (left : Left) (rounds : List Told) (told : Told) → slice_get rounds 0 ≡ Some told → Rounds log left (map told_as rounds) → IsRound log left (told_as told)
+pub first-round : (log : List Event) (left : Omitted) (rounds : List Told) (told : Told) → slice_get rounds 0 ≡ Some told → Rounds log left (map numbers_of rounds) → IsRound log left (numbers_of told)
 unfolding Rounds
 first-round log left [] told first are = absurd (none-some told first)
-first-round log left (t ∷ rest) told first are = subst (λ x. IsRound log left (told_as x)) (same_Some t told first) are.0
+first-round log left (t ∷ rest) told first are = subst (λ x. IsRound log left (numbers_of x)) (same_Some t told first) are.0
 
-pub first-witness : (log : List Event) (left : Left) (rounds : List Told) (told : Told) → slice_get rounds 0 ≡ Some told → AreWitnessed true log left rounds → HasWitness true log left told.closing told.witness
+pub first-witness : (log : List Event) (left : Omitted) (rounds : List Told) (told : Told) → slice_get rounds 0 ≡ Some told → AreWitnessed true log left rounds → HasWitness true log left told.closing told.witness
 unfolding AreWitnessed
 first-witness log left [] told first are = absurd (none-some told first)
 first-witness log left (t ∷ rest) told first are = subst (λ (x : Told). HasWitness true log left x.closing x.witness) (same_Some t told first) are.0

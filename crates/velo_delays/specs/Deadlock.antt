@@ -7,7 +7,7 @@ use Rattle.velo_events.specs.declared.event.Kind.{Kind}
 use Rattle.velo_events.specs.declared.event.Kind.TheVariants.{Acquire, AcquireShared}
 use Rattle.velo_events.specs.declared.limits.TheConstants.{MAX_EVENTS}
 use Rattle.velo_certify.specs.Owners.{event_at}
-use Rattle.velo_filter.specs.Left.{Left, is_listed, rest_of}
+use Rattle.velo_filter.specs.Left.{Omitted, is_listed, rest_of}
 use Rattle.velo_predict.specs.declared.waits.Waiting.{Waiting}
 use Rattle.velo_predict.specs.Deadlocks.{PredictsDeadlock}
 use Rattle.velo_predict.specs.Waits.{IsCircle}
@@ -55,8 +55,8 @@ pub record AreDeadlocks (bounds : Bounds) (log : List Event) (deadlocks : List D
   pub each : (i : ℕ) (deadlock : Deadlock) → slice_get deadlocks i ≡ Some deadlock → IsDeadlockAfter bounds log (take i deadlocks) deadlock
 
 -- the same of what is left of a log
-abbrev pub AreDeadlocksIn : Bounds → List Event → Left → List Deadlock → Type 0
-AreDeadlocksIn bounds log left deadlocks = AreDeadlocks bounds (rest_of left log) deadlocks
+abbrev pub AreDeadlocksIn : Bounds → List Event → Omitted → List Deadlock → Type 0
+AreDeadlocksIn bounds log omitted deadlocks = AreDeadlocks bounds (rest_of omitted log) deadlocks
 
 -- ---- on the way. Private contracts cite these words
 

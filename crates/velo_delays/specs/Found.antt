@@ -4,10 +4,10 @@ use Rattle.velo_events.specs.declared.config.Bounds.{Bounds}
 use Rattle.velo_events.specs.declared.limits.TheConstants.{MAX_EVENTS}
 use Rattle.velo_events.specs.declared.event.Event.{Event}
 use Rattle.velo_traces.specs.declared.block.Block.{Block}
-use Rattle.velo_filter.specs.Left.{Left, is_listed, nothing, rest_of, with_labels}
+use Rattle.velo_filter.specs.Left.{Omitted, is_listed, nothing, rest_of, with_labels}
 use Rattle.velo_audit.specs.Audit.{TellsTruly}
 use Rattle.velo_audit.specs.Rounds.{IsRound}
-use Rattle.velo_audit.specs.Tells.{told_as}
+use Rattle.velo_audit.specs.Tells.{numbers_of}
 use Rattle.velo_audit.specs.Witness.{HasWitness}
 use Rattle.velo_predict.specs.Predictions.{PredictsCycle}
 use Rattle.velo_delays.specs.declared.judged.PredictedCycle.{PredictedCycle}
@@ -18,7 +18,7 @@ pub record IsFound (bounds : Bounds) (log : List Event) (found : PredictedCycle)
   pub foretold : PredictsCycle bounds log found.trace.events
   pub short : length found.trace.events ≤ MAX_EVENTS
   -- this an audit of the trace tells first: its closing event, and the blocks that are to blame there
-  pub first : IsRound found.trace.events nothing (told_as found.told)
+  pub first : IsRound found.trace.events nothing (numbers_of found.told)
   pub to_blame : IsTrue found.told.to_blame
   pub truly : TellsTruly found.trace.events found.told
   pub witness : HasWitness true found.trace.events nothing found.told.closing found.told.witness
@@ -35,9 +35,9 @@ abbrev pub labels_blamed : PredictedCycle → List ℕ
 labels_blamed found = labels_of found.told.blocks.items
 
 -- what is left out behind these: the labels that they blame as well
-unfoldable pub left_out_behind : Left → List PredictedCycle → Left
-left_out_behind left [] = left
-left_out_behind left (found ∷ rest) = left_out_behind (with_labels left (labels_blamed found)) rest
+unfoldable pub left_out_behind : Omitted → List PredictedCycle → Omitted
+left_out_behind omitted [] = omitted
+left_out_behind omitted (found ∷ rest) = left_out_behind (with_labels omitted (labels_blamed found)) rest
 
 -- one of the numbers does not pass the test
 pub record HasNew (is_old : ℕ → Bool) (numbers : List ℕ) : Type 0 where
@@ -47,32 +47,32 @@ pub record HasNew (is_old : ℕ → Bool) (numbers : List ℕ) : Type 0 where
 
 -- It is found in what is left of the log where the labels are left out, too, that so many of the first of those before it blame; and it
 -- blames a label that was not left out and that none of those before it blames
-pub record IsFoundAfter (bounds : Bounds) (log : List Event) (left : Left) (before : List PredictedCycle) (found : PredictedCycle) : Type 0 where
+pub record IsFoundAfter (bounds : Bounds) (log : List Event) (omitted : Omitted) (before : List PredictedCycle) (found : PredictedCycle) : Type 0 where
   pub known : ℕ
-  pub is_found : IsFound bounds (rest_of (left_out_behind left (take known before)) log) found
-  pub blames_new : HasNew (left_out_behind left before).labels (labels_blamed found)
+  pub is_found : IsFound bounds (rest_of (left_out_behind omitted (take known before)) log) found
+  pub blames_new : HasNew (left_out_behind omitted before).labels (labels_blamed found)
 
 -- each of these is found after those before it, so none is told twice
-pub record AreFoundIn (bounds : Bounds) (log : List Event) (left : Left) (founds : List PredictedCycle) : Type 0 where
-  pub each : (i : ℕ) (found : PredictedCycle) → slice_get founds i ≡ Some found → IsFoundAfter bounds log left (take i founds) found
+pub record AreFoundIn (bounds : Bounds) (log : List Event) (omitted : Omitted) (founds : List PredictedCycle) : Type 0 where
+  pub each : (i : ℕ) (found : PredictedCycle) → slice_get founds i ≡ Some found → IsFoundAfter bounds log omitted (take i founds) found
 
 -- ---- on the way. Private contracts cite these words
 
 -- each of these is found in the log, and blames a label that is not left out behind those before it
-unfoldable pub AreFoundInTurn : Bounds → List Event → Left → List PredictedCycle → Type 0
-AreFoundInTurn bounds log left [] = ⊤
-AreFoundInTurn bounds log left (found ∷ rest) =
-    (IsFound bounds log found × HasNew left.labels (labels_blamed found)) × AreFoundInTurn bounds log (with_labels left (labels_blamed found)) rest
+unfoldable pub AreFoundInTurn : Bounds → List Event → Omitted → List PredictedCycle → Type 0
+AreFoundInTurn bounds log omitted [] = ⊤
+AreFoundInTurn bounds log omitted (found ∷ rest) =
+    (IsFound bounds log found × HasNew omitted.labels (labels_blamed found)) × AreFoundInTurn bounds log (with_labels omitted (labels_blamed found)) rest
 
 -- some more are found in the log, and what they blame is left out
-pub record GoesOn (bounds : Bounds) (log : List Event) (old new : Left) (before after : List PredictedCycle) : Type 0 where
+pub record GoesOn (bounds : Bounds) (log : List Event) (old new : Omitted) (before after : List PredictedCycle) : Type 0 where
   pub more : List PredictedCycle
   pub is_longer : after ≡ before ++ more
   pub are_found : AreFoundInTurn bounds log old more
   pub behind : new ≡ left_out_behind old more
 
 -- nothing is taken in, or what was found, if it blames a label that is not left out
-abbrev pub TakesIn : Left → Left → List PredictedCycle → List PredictedCycle → Option PredictedCycle → Type 0
+abbrev pub TakesIn : Omitted → Omitted → List PredictedCycle → List PredictedCycle → Option PredictedCycle → Type 0
 TakesIn old new before after None = (new ≡ old) × (after ≡ before)
 TakesIn old new before after (Some found) =
     ((new ≡ old) × (after ≡ before))

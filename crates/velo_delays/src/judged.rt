@@ -5,7 +5,7 @@ ghost use Rattle.velo_events.specs.WellFormed.{IsWellFormed};
 ghost use Rattle.velo_filter.specs.Left.{nothing};
 ghost use Rattle.velo_audit.specs.Audit.{TellsTruly};
 ghost use Rattle.velo_audit.specs.Rounds.{IsRound};
-ghost use Rattle.velo_audit.specs.Tells.{told_as};
+ghost use Rattle.velo_audit.specs.Tells.{numbers_of};
 ghost use Rattle.velo_audit.specs.Witness.{HasWitness};
 ghost use Rattle.velo_delays.specs.Differing.{differing_of, AreDiffering};
 ghost use Rattle.velo_delays.specs.Found.{IsFound};
@@ -43,7 +43,7 @@ fn told_of(alloc: Global, config: &Config, trace: &Trace) -> Result<Option<Told>
     requires goes_on { config.now.stop ≡ false }
     requires short { length trace.now.events ≤ config.now.events }
     requires well_formed { IsWellFormed config.now.bounds trace.now.events }
-    ensures first { IfOk result (λ told. IfSome told (λ told. IsRound trace.now.events nothing (told_as told))) }
+    ensures first { IfOk result (λ told. IfSome told (λ told. IsRound trace.now.events nothing (numbers_of told))) }
     ensures to_blame { IfOk result (λ told. IfSome told (λ told. IsTrue told.to_blame)) }
     ensures truly { IfOk result (λ told. IfSome told (λ told. TellsTruly trace.now.events told)) }
     ensures witness { IfOk result (λ told. IfSome told (λ told. HasWitness true trace.now.events nothing told.closing told.witness)) }

@@ -18,7 +18,7 @@ use Rattle.velo_logtext.specs.Reading.{header_at}
 use Rattle.velo_logtext.proofs.OnLines.{header_again, event_short}
 use Rattle.velo_logtext.proofs.OnStreams.{fit_more}
 use Rattle.velo_endless.specs.declared.reading.TheConstants.{MAX_WATCHED}
-use Rattle.velo_endless.specs.Reading.{HasRead, Gives, IsMetAfter, fault_after}
+use Rattle.velo_endless.specs.Reading.{HasRead, Gives, IsMetEndless, fault_after}
 
 -- ---- what the reader has still to give, behind a header
 
@@ -190,16 +190,16 @@ fault_read (Some all) events r (Some more) TooLong h few met found = absurd (ome
 fault_read (Some all) events r (Some more) BadHeader h few met found = absurd met
 fault_read (Some all) events r (Some more) Memory h few met found = absurd met
 
-pub fault_met : (given : ℕ) (fault : LogFault) → IsMetBehind 0 fault → IsMetAfter given (fault_after given fault)
+pub fault_met : (given : ℕ) (fault : LogFault) → IsMetBehind 0 fault → IsMetEndless given (fault_after given fault)
 fault_met given (BadLine n) met =
     elim (cases_eq given MAX_WATCHED) [
-      | inl full ↦ subst (λ (b : Bool). IsMetAfter given (if b then TooLong else BadLine (given + 2))) (sym (eq-eqb given MAX_WATCHED full)) full
-      | inr other ↦ subst (λ (b : Bool). IsMetAfter given (if b then TooLong else BadLine (given + 2))) (sym (ne_eqb given MAX_WATCHED other)) refl
+      | inl full ↦ subst (λ (b : Bool). IsMetEndless given (if b then TooLong else BadLine (given + 2))) (sym (eq-eqb given MAX_WATCHED full)) full
+      | inr other ↦ subst (λ (b : Bool). IsMetEndless given (if b then TooLong else BadLine (given + 2))) (sym (ne_eqb given MAX_WATCHED other)) refl
     ]
 fault_met given (Truncated n) met =
     elim (cases_eq given MAX_WATCHED) [
-      | inl full ↦ subst (λ (b : Bool). IsMetAfter given (if b then TooLong else Truncated (given + 2))) (sym (eq-eqb given MAX_WATCHED full)) full
-      | inr other ↦ subst (λ (b : Bool). IsMetAfter given (if b then TooLong else Truncated (given + 2))) (sym (ne_eqb given MAX_WATCHED other)) refl
+      | inl full ↦ subst (λ (b : Bool). IsMetEndless given (if b then TooLong else Truncated (given + 2))) (sym (eq-eqb given MAX_WATCHED full)) full
+      | inr other ↦ subst (λ (b : Bool). IsMetEndless given (if b then TooLong else Truncated (given + 2))) (sym (ne_eqb given MAX_WATCHED other)) refl
     ]
 fault_met given TooLong met = absurd (omega (arith, met))
 fault_met given Read met = tt

@@ -23,7 +23,7 @@ use Rattle.velo_endless.specs.declared.reading.TheConstants.{MAX_WATCHED}
 use Rattle.velo_endless.specs.declared.watch.EndlessWatch.{EndlessWatch}
 use Rattle.velo_endless.specs.Kept.{IsFaultBehind}
 use Rattle.velo_endless.specs.Piece.{CanFollow, IsCutInTime, IsJudged}
-use Rattle.velo_endless.specs.Reading.{HasRead, IsMetAfter}
+use Rattle.velo_endless.specs.Reading.{HasRead, IsMetEndless}
 use Rattle.velo_endless.specs.Whole.{IsWholeOf}
 
 -- the watch is that of some log, and its piece can be followed
@@ -65,7 +65,7 @@ pub record FailsToTell (read old new : Option (List ℕ)) (bounds : Bounds) (log
 abbrev pub FailsAfter : Option (List ℕ) → Option (List ℕ) → Option (List ℕ) → Config → List Event → WatchFault → Type 0
 FailsAfter read old new config log (Log fault) =
     IsWellFormed config.bounds log × Tells old new log
-    × IsMetAfter (length log) fault × IfSome read (λ bytes. ReadsAs MAX_WATCHED bytes (Err fault))
+    × IsMetEndless (length log) fault × IfSome read (λ bytes. ReadsAs MAX_WATCHED bytes (Err fault))
 FailsAfter read old new config log (Replay fault) =
     IsWellFormed config.bounds log × Tells old new log
     × ((e : Event) × IsFront read config.bounds (log ++ e ∷ []) × IsFaultBehind config log e fault)

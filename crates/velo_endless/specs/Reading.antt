@@ -33,12 +33,12 @@ given_after (Ok None) given = given
 given_after (Err fault) given = given
 
 -- where a fault is met: behind so many events, in the line that comes next
-abbrev pub IsMetAfter : ℕ → LogFault → Type 0
-IsMetAfter given (BadLine n) = n ≡ given + 2
-IsMetAfter given (Truncated n) = n ≡ given + 2
-IsMetAfter given TooLong = given ≡ MAX_WATCHED
-IsMetAfter given Read = Unit {0}
-IsMetAfter given _ = ⊥
+abbrev pub IsMetEndless : ℕ → LogFault → Type 0
+IsMetEndless given (BadLine n) = n ≡ given + 2
+IsMetEndless given (Truncated n) = n ≡ given + 2
+IsMetEndless given TooLong = given ≡ MAX_WATCHED
+IsMetEndless given Read = Unit {0}
+IsMetEndless given _ = ⊥
 
 -- a fault at its line in the whole log
 abbrev pub fault_after : ℕ → LogFault → LogFault

@@ -4,7 +4,7 @@ ghost use Rattle.velo_events.specs.declared.event.Event.{Event as EventOf};
 ghost use Rattle.velo_logtext.specs.Finding.{ReadsAs, failures_after};
 ghost use Rattle.velo_logtext.specs.Reader.{HasWholeLine, IsMetInHeader};
 ghost use Rattle.velo_endless.specs.declared.reading.TheConstants.{MAX_WATCHED};
-ghost use Rattle.velo_endless.specs.Reading.{HasRead, Gives, IsMetAfter, fault_after, given_after};
+ghost use Rattle.velo_endless.specs.Reading.{HasRead, Gives, IsMetEndless, fault_after, given_after};
 
 use std::alloc::Global;
 use std::marker::Model;
@@ -105,7 +105,7 @@ impl LongReader {
         ensures few { self.new.given ≤ MAX_WATCHED }
         ensures unread { HasWholeLine self.old.held → source.new ≡ source.old }
         ensures failures { S.failures source.new ≡ failures_after result (S.failures source.old) }
-        ensures place { IfErr result (IsMetAfter self.old.given) }
+        ensures place { IfErr result (IsMetEndless self.old.given) }
     {
         self.reader.count_anew();
         match self.reader.next(source) {

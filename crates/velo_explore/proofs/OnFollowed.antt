@@ -41,7 +41,7 @@ use Rattle.velo_movers.specs.Scripts.{plain}
 use Rattle.velo_movers.proofs.OnWants.{refusal-same}
 use Rattle.velo_explore.specs.Logs.{is_for_room, ends_refused}
 use Rattle.velo_explore.specs.Bodies.{all_scripts}
-use Rattle.velo_explore.specs.Told.{IsCut}
+use Rattle.velo_explore.specs.Told.{EndsTooSoon}
 use Rattle.velo_explore.proofs.OnBodyScripts.{HaveScripts-bodies, scripts-done}
 use Rattle.velo_explore.proofs.OnReplays.{IsAlong, wants-going, going, along-turn, along-turns, along-start}
 use Rattle.velo_explore.proofs.OnEndings.{err_is, refused-because, wait-not_halted, wait-not_full, idle-passes}
@@ -139,12 +139,12 @@ plain_by t k = record { thread = t; kind = k }
 -- what becomes of a turn that the next event of a run is due in
 abbrev Taken : Option Ending → ReplayState → ReplayState → Event → Type 0
 Taken None c c' e = plain_log c'.world.log ≡ plain_log c.world.log ++ e ∷ []
-Taken (Some ending) c c' e = IsCut ending c'.world
+Taken (Some ending) c c' e = EndsTooSoon ending c'.world
 
 -- and of the turns of several
 abbrev Followed : Option Ending → ReplayState → ReplayState → List Event → Type 0
 Followed None c c' es = (plain_log c'.world.log ≡ plain_log c.world.log ++ es) × IsHaltedByCycle c'.world
-Followed (Some ending) c c' es = IsCut ending c'.world
+Followed (Some ending) c c' es = EndsTooSoon ending c'.world
 
 abbrev turns_in : List Event → List ThreadId
 turns_in es = map (λ (e : Event). e.thread) es
@@ -299,7 +299,7 @@ module _ (program : Program) where
   module _ (log : List Event) (stuck : searched.IsStuck program.bounds (all_scripts program) log) (count : length program.bodies ≡ program.bounds.threads) where
     abbrev Still : Option Ending → ReplayState → ReplayState → Type 0
     Still None c c' = c'.world ≡ c.world
-    Still (Some ending) c c' = IsCut ending c'.world
+    Still (Some ending) c c' = EndsTooSoon ending c'.world
 
     still-tries : (c : ReplayState) (t : ThreadId) (p : Progress) (r : Refusal) → IsHaltedByCycle c.world → IsTrue (searched.is_wait r) → refusal_of c.world.config.bounds c.world.log t.0 (kind_for c.world.log (wanted (settled p))) ≡ Some r →
         (stop : Option Ending) (c' : ReplayState) (q : Progress) → Tries c.world t p stop c'.world q → Still stop c c'
@@ -359,7 +359,7 @@ module _ (program : Program) where
         same_world None m same still = still ∙ same
         same_world (Some ending) m same cut = cut
 
-    still-rounds : (c : ReplayState) (ending : Ending) (c' : ReplayState) → IsAlong program c → plain_log c.world.log ≡ log → IsHaltedByCycle c.world → RoundsOf c ending c' → (ending ≡ Stuck) ⊎ IsCut ending c'.world
+    still-rounds : (c : ReplayState) (ending : Ending) (c' : ReplayState) → IsAlong program c → plain_log c.world.log ≡ log → IsHaltedByCycle c.world → RoundsOf c ending c' → (ending ≡ Stuck) ⊎ EndsTooSoon ending c'.world
     still-rounds _ _ _ w here h (RoundsOf.all_idle c idle) = absurd (some_waits c w here idle)
     still-rounds _ _ _ w here h (RoundsOf.no_event c c' round same) = inl refl
     still-rounds _ _ _ w here h (RoundsOf.ended c c' ending round) = inr (still-turns (all_threads c) c (Some ending) c' w here h round.turns)
@@ -371,7 +371,7 @@ module _ (program : Program) where
   module _ (c : ReplayState) (w : IsAlong program c) (log : List Event) (here : plain_log c.world.log ≡ log) (t : ThreadId) (r : searched.IsRefused program.bounds (all_scripts program) log t.0) where
     abbrev Ended : Option Ending → ReplayState → Type 0
     Ended None c' = ⊥
-    Ended (Some ending) c' = IsTrue (ends_refused ending) ⊎ IsCut ending c'.world
+    Ended (Some ending) c' = IsTrue (ends_refused ending) ⊎ EndsTooSoon ending c'.world
 
     module _ (p : Progress) (refused : refusal_of c.world.config.bounds c.world.log t.0 (kind_for c.world.log (wanted (settled p))) ≡ Some r.refusal) where
       refused-tries : (stop : Option Ending) (c' : ReplayState) (q : Progress) → IsHaltedByCycle c.world → Tries c.world t p stop c'.world q → Ended stop c'
@@ -419,31 +419,31 @@ module _ (program : Program) where
     from_start stop c' turns = followed log (start program config) stop c' (along-start program config same) (λ halted. absurd (false≢true halted)) run turns
 
     -- has the run's cycle
-    pub follows-cycle : (ending : Ending) (closed : WorldState) → HasCycle log → Replays program (turns_in log) config ending closed → HasCycle closed.log ⊎ IsCut ending closed
+    pub follows-cycle : (ending : Ending) (closed : WorldState) → HasCycle log → Replays program (turns_in log) config ending closed → HasCycle closed.log ⊎ EndsTooSoon ending closed
     follows-cycle ending closed cycle r = at r.runs
       where
-        at : ReplaysTo (start program config) (turns_in log) ending r.last → HasCycle closed.log ⊎ IsCut ending closed
-        at (inl turns) = inr (subst (IsCut ending) (sym r.world) (from_start (Some ending) r.last turns))
+        at : ReplaysTo (start program config) (turns_in log) ending r.last → HasCycle closed.log ⊎ EndsTooSoon ending closed
+        at (inl turns) = inr (subst (EndsTooSoon ending) (sym r.world) (from_start (Some ending) r.last turns))
         at (inr (mid, turns, rounds)) =
             let there = from_start None mid turns in
             inl (subst (λ (v : WorldState). HasCycle v.log) (sym r.world) (cycle-rounds mid ending r.last rounds (HasCycle-from_plain mid.world.log (subst HasCycle (sym there.0) cycle))))
 
     -- ends stuck as it does
-    pub follows-stuck : length program.bodies ≡ program.bounds.threads → searched.IsStuck program.bounds (all_scripts program) log → (ending : Ending) (closed : WorldState) → Replays program (turns_in log) config ending closed → (ending ≡ Stuck) ⊎ IsCut ending closed
+    pub follows-stuck : length program.bodies ≡ program.bounds.threads → searched.IsStuck program.bounds (all_scripts program) log → (ending : Ending) (closed : WorldState) → Replays program (turns_in log) config ending closed → (ending ≡ Stuck) ⊎ EndsTooSoon ending closed
     follows-stuck count stuck ending closed r = at r.runs
       where
-        at : ReplaysTo (start program config) (turns_in log) ending r.last → (ending ≡ Stuck) ⊎ IsCut ending closed
-        at (inl turns) = inr (subst (IsCut ending) (sym r.world) (from_start (Some ending) r.last turns))
+        at : ReplaysTo (start program config) (turns_in log) ending r.last → (ending ≡ Stuck) ⊎ EndsTooSoon ending closed
+        at (inl turns) = inr (subst (EndsTooSoon ending) (sym r.world) (from_start (Some ending) r.last turns))
         at (inr (mid, turns, rounds)) =
             let there = from_start None mid turns in
-            subst (λ v. (ending ≡ Stuck) ⊎ IsCut ending v) (sym r.world)
+            subst (λ v. (ending ≡ Stuck) ⊎ EndsTooSoon ending v) (sym r.world)
             (still-rounds log stuck count mid ending r.last (along-turns program (turns_in log) (start program config) None mid (along-start program config same) turns) there.0 there.1 rounds)
 
     -- and with one turn more of a thread that is refused then ends so
-    pub follows-refused : (t : ThreadId) → searched.IsRefused program.bounds (all_scripts program) log t.0 → (ending : Ending) (closed : WorldState) → Replays program (turns_in log ++ t ∷ []) config ending closed → IsTrue (ends_refused ending) ⊎ IsCut ending closed
-    follows-refused t refused ending closed r = subst (λ v. IsTrue (ends_refused ending) ⊎ IsCut ending v) (sym r.world) (at r.runs)
+    pub follows-refused : (t : ThreadId) → searched.IsRefused program.bounds (all_scripts program) log t.0 → (ending : Ending) (closed : WorldState) → Replays program (turns_in log ++ t ∷ []) config ending closed → IsTrue (ends_refused ending) ⊎ EndsTooSoon ending closed
+    follows-refused t refused ending closed r = subst (λ v. IsTrue (ends_refused ending) ⊎ EndsTooSoon ending v) (sym r.world) (at r.runs)
       where
-        last : (stop : Option Ending) (c' : ReplayState) → TurnsOf (start program config) (turns_in log ++ t ∷ []) stop c' → ((ended : Ending) × (stop ≡ Some ended) × (IsTrue (ends_refused ended) ⊎ IsCut ended c'.world))
+        last : (stop : Option Ending) (c' : ReplayState) → TurnsOf (start program config) (turns_in log ++ t ∷ []) stop c' → ((ended : Ending) × (stop ≡ Some ended) × (IsTrue (ends_refused ended) ⊎ EndsTooSoon ended c'.world))
         last stop c' turns = ⊎_elim
             (λ cut. (cut.0, cut.1, inr (from_start (Some cut.0) c' cut.2)))
             (λ on.
@@ -456,10 +456,10 @@ module _ (program : Program) where
             (one_turn mid t stop c' on.2))
             (turns-split (turns_in log) (t ∷ []) (start program config) stop c' turns)
 
-        at : ReplaysTo (start program config) (turns_in log ++ t ∷ []) ending r.last → IsTrue (ends_refused ending) ⊎ IsCut ending r.last.world
+        at : ReplaysTo (start program config) (turns_in log ++ t ∷ []) ending r.last → IsTrue (ends_refused ending) ⊎ EndsTooSoon ending r.last.world
         at (inl turns) =
             let ends = last (Some ending) r.last turns in
-            subst (λ (e : Ending). IsTrue (ends_refused e) ⊎ IsCut e r.last.world) (sym (same_Some ending ends.0 ends.1)) ends.2
+            subst (λ (e : Ending). IsTrue (ends_refused e) ⊎ EndsTooSoon e r.last.world) (sym (same_Some ending ends.0 ends.1)) ends.2
         at (inr (mid, turns, rounds)) =
             let ends = last None mid turns in
             absurd (none-some ends.0 ends.1)

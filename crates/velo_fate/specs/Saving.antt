@@ -14,9 +14,9 @@ abbrev pub text_of_log : WorldState → List ℕ
 text_of_log w = log_text w.config.bounds w.log
 
 -- the bytes of a text that is saved
-abbrev pub is_text_saved : Saved → List ℕ → Type 0
-is_text_saved (saved.Log closed) text = text ≡ text_of_log closed.now
-is_text_saved (saved.Bytes bytes) text = text ≡ bytes.now
+abbrev pub IsSavedText : Saved → List ℕ → Type 0
+IsSavedText (saved.Log closed) text = text ≡ text_of_log closed.now
+IsSavedText (saved.Bytes bytes) text = text ≡ bytes.now
 
 -- the result of writing the file
 abbrev pub IsSavedAt : {X : Type 0} → Store → Option (Bor (List ℕ)) → List ℕ → Result X Fate

@@ -1,5 +1,5 @@
 //! A text that is saved.
-ghost use Rattle.velo_fate.specs.Saving.{is_text_saved};
+ghost use Rattle.velo_fate.specs.Saving.{IsSavedText};
 
 use velo_bytes::{Sink, WriteFault, write_all};
 use velo_delivery::StreamedText;
@@ -16,7 +16,7 @@ pub enum Saved<'c, 't> {
 }
 
 impl<'c, 't> StreamedText for Saved<'c, 't> {
-    ghost is_text = { is_text_saved };
+    ghost is_text = { IsSavedText };
 
     fn write_to<S: Sink>(&self, sink: &mut S) -> Result<(), WriteFault> {
         match self {

@@ -13,7 +13,7 @@ use Rattle.velo_events.proofs.OnOwners.{owner-between, passes_at-within}
 use Rattle.velo_events.proofs.OnScans.{event_at, passes_at-is, owner-owner, owner-thread}
 use Rattle.velo_events.proofs.OnHappening.{ConflictsInOrder-same_thread}
 use Rattle.velo_events.proofs.OnSerializing.{serializable_law, cases_serial_order}
-use Rattle.velo_filter.specs.Left.{Left, rest_of, place_of}
+use Rattle.velo_filter.specs.Left.{Omitted, rest_of, place_of}
 use Rattle.velo_filter.proofs.OnRanks.{rank, rank-stays, rank-le, rank-lt, rank-le_back, events_staying}
 use Rattle.velo_filter.proofs.OnLeft.{stays, rest_of-is, sub-passes, sub-within, StandsFor, stands_for, in_block-rest}
 use Rattle.velo_filter.proofs.OnRestricted.{restricted, position_within, one_place, IsReordering-restricted, AreThree, three, together}
@@ -21,7 +21,7 @@ use Rattle.velo_filter.proofs.OnPrefixesLeft.{stays-take, rank-take, rest_of-tak
 
 -- ---- blame
 
-module _ (left : Left) (log : List Event) where
+module _ (left : Omitted) (log : List Event) where
   abbrev sub : List Event
   sub = events_staying log (stays left log) (length log)
 
@@ -38,7 +38,7 @@ module _ (left : Left) (log : List Event) where
   pub self_serializable-rest : (b : ℕ) → b < length log → IsTrue (stays left log b) → IsSelfSerializable log b → IsSelfSerializable (rest_of left log) (rank (stays left log) b)
   self_serializable-rest b l h s = subst (λ es. IsSelfSerializable es (rank (stays left log) b)) (sym (rest_of-is left log)) (self_serializable-sub b l h s)
 
-module _ (left : Left) (log : List Event) where
+module _ (left : Omitted) (log : List Event) where
   -- Blame stays blame: where what is left, up to one of its positions, has no reordering that brings a block together, the log as
   -- read, up to the position for which this one stands, has none either
   pub blame-rest : (p b : ℕ) → p < length (rest_of left log) → b ≤ p → ¬ IsSelfSerializable (take (p + 1) (rest_of left log)) b → ¬ IsSelfSerializable (take (place_of left log p + 1) log) (place_of left log b)
@@ -100,7 +100,7 @@ in_order_of trace order r t a b l within own_a own_b = ⊎_elim
     (⊎_elim (λ less. less) (λ moved. absurd (both_ways _ (r.keeps_order a b l within moved) (ConflictsInOrder-same_thread trace t (slice_index order b) (slice_index order a) moved own_b own_a).1)))
     (cases_order (slice_index order a) (slice_index order b))
 
-module _ (left : Left) (log : List Event) (order : List ℕ) (r : IsReordering log order) (serial : IsSerial log order) where
+module _ (left : Omitted) (log : List Event) (order : List ℕ) (r : IsReordering log order) (serial : IsSerial log order) where
   abbrev what : List Event
   what = events_staying log (stays left log) (length log)
 
@@ -201,7 +201,7 @@ module _ (left : Left) (log : List Event) (order : List ℕ) (r : IsReordering l
       y_z = in_order_of log order r t w.middle w.last w.rise_more w.within own_y own_z
 
 -- What is left of a serializable log is serializable
-pub IsSerializable-rest : (left : Left) (log : List Event) → IsSerializable log → IsSerializable (rest_of left log)
+pub IsSerializable-rest : (left : Omitted) (log : List Event) → IsSerializable log → IsSerializable (rest_of left log)
 IsSerializable-rest left log s = subst IsSerializable (sym (rest_of-is left log)) (record {
   order = restricted (stays left log) s.order;
   reorders = IsReordering-restricted log (stays left log) s.order s.reorders;
@@ -209,7 +209,7 @@ IsSerializable-rest left log s = subst IsSerializable (sym (rest_of-is left log)
 })
 
 -- so where what is left has a cycle, whatever was left out, the log has one
-pub HasCycle-rest : (left : Left) (log : List Event) → HasCycle (rest_of left log) → HasCycle log
+pub HasCycle-rest : (left : Omitted) (log : List Event) → HasCycle (rest_of left log) → HasCycle log
 HasCycle-rest left log cyclic = ⊎_elim
     (λ c. c)
     (λ w. absurd ((serializable_law (rest_of left log)).0 cyclic (IsSerializable-rest left log (record { order = w.0; reorders = w.1.reorders; serial = w.1.serial }))))

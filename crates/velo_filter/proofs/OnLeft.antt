@@ -13,14 +13,14 @@ use Rattle.velo_events.proofs.OnBlocks.{any_below-at}
 use Rattle.velo_events.proofs.OnOwners.{is_open_at-begins, is_in_block-parts, is_in_block-open}
 use Rattle.velo_events.proofs.OnScans.{event_at, passes_at-is, passes_at-event, begin-no_end, end-no_begin, IsOpenAt-from, IsOpenAt-to}
 use Rattle.velo_events.proofs.OnWellFormed.{any_below-never}
-use Rattle.velo_filter.specs.Left.{Left, is_among, label_begun, begins_such, is_on_such, is_dissolved, ends_at, is_left_out, places_of, rest_of, place_of}
+use Rattle.velo_filter.specs.Left.{Omitted, is_among, label_begun, begins_such, is_on_such, is_dissolved, ends_at, is_left_out, places_of, rest_of, place_of}
 use Rattle.velo_filter.specs.Stacks.{popped, stack}
 use Rattle.velo_filter.proofs.OnRanks.{rank, rank-zero, rank-stays, rank-goes, rank-le, rank-lt, rank-le_back, rank-one, rank-from, staying, staying-at, events_staying, events_staying-at, length-events_staying}
 use Rattle.velo_filter.proofs.OnStacks.{Stands, stack-begin, stack-end, stack-other, is_open-stack, stack-closes, stack-closed}
 
 -- ---- by kinds
 
-begin-label_only : (left : Left) (e : Event) → IsFalse (is_begin e.kind) → IsFalse (begins_such left e)
+begin-label_only : (left : Omitted) (e : Event) → IsFalse (is_begin e.kind) → IsFalse (begins_such left e)
 begin-label_only left e h = by_kind e.kind h
   where
     by_kind : (k : Kind) → IsFalse (is_begin k) → IsFalse (is_among left.labels (label_begun k))
@@ -36,7 +36,7 @@ begin-label_only left e h = by_kind e.kind h
     by_kind (Join u) h = refl
     by_kind Exit h = refl
 
-block-on_none : (left : Left) (e : Event) → IsTrue (is_begin e.kind || is_end e.kind) → IsFalse (is_on_such left e)
+block-on_none : (left : Omitted) (e : Event) → IsTrue (is_begin e.kind || is_end e.kind) → IsFalse (is_on_such left e)
 block-on_none left e h = by_kind e.kind h
   where
     by_kind : (k : Kind) → IsTrue (is_begin k || is_end k) → IsFalse (is_among left.locks (lock_of k) || is_among left.variables (variable_of k))
@@ -57,7 +57,7 @@ own_by t e k h = and_from _ _ (eq-eqb (thread_of e) (thread_of e) refl) h
 
 -- ---- which positions stay
 
-module _ (left : Left) (log : List Event) where
+module _ (left : Omitted) (log : List Event) where
   ends_at-is : (b n : ℕ) (e : Event) → slice_get log n ≡ Some e → ends_at log b n ≡ (is_open_at log (thread_of e) b n && not (is_open_at log (thread_of e) b (n + 1)))
   unfolding ends_at
   ends_at-is b n e here = passes_at-is log (λ f. is_open_at log (thread_of f) b n && not (is_open_at log (thread_of f) b (n + 1))) n e here

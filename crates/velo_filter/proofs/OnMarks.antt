@@ -12,7 +12,7 @@ use Rattle.velo_events.specs.declared.event.Kind.TheVariants.{Begin, End}
 use Rattle.velo_events.specs.Event.{thread_of, is_begin, is_end, lock_of, variable_of}
 use Rattle.velo_events.proofs.OnLists.{get_or-set}
 use Rattle.velo_traces.proofs.Past.{past}
-use Rattle.velo_filter.specs.Left.{Left, is_among, label_begun, is_dissolved, is_left_out}
+use Rattle.velo_filter.specs.Left.{Omitted, is_among, label_begun, is_dissolved, is_left_out}
 use Rattle.velo_filter.specs.Marks.{number_of, AreMarks, IsShallow}
 use Rattle.velo_filter.specs.Stacks.{popped, stack}
 use Rattle.velo_filter.proofs.OnLeft.{is_dissolved-is, is_left_out-begin, is_left_out-end, is_left_out-end_alone, is_left_out-other}
@@ -60,7 +60,7 @@ pub number_of-small : (bs : List Bool) → length bs ≤ 32 → number_of bs < 4
 unfolding doubled
 number_of-small bs l = let low = number_of-below bs in let high = doubled-le (length bs) 32 l in let top : doubled 32 ≡ 4294967296 = refl in omega (arith, low, high, top)
 
-module _ (left : Left) (log : List Event) (n : ℕ) (within : n < length log) (rows : List ℕ) (w : AreMarks left log n rows) where
+module _ (left : Omitted) (log : List Event) (n : ℕ) (within : n < length log) (rows : List ℕ) (w : AreMarks left log n rows) where
   abbrev event : Event
   event = get_or log n past
 

@@ -11,13 +11,13 @@ use Rattle.velo_events.proofs.OnBlocks.{any_below-same, is_open_at-append}
 use Rattle.velo_events.proofs.OnTraces.{slice_get-append, slice_get-take, passes_at-append}
 use Rattle.velo_events.proofs.OnScans.{event_at}
 use Rattle.velo_events.proofs.OnWellFormed.{count_below-same}
-use Rattle.velo_filter.specs.Left.{Left, begins_such, is_on_such, is_dissolved, ends_at, is_left_out, rest_of}
+use Rattle.velo_filter.specs.Left.{Omitted, begins_such, is_on_such, is_dissolved, ends_at, is_left_out, rest_of}
 use Rattle.velo_filter.proofs.OnRanks.{rank, events_staying, events_staying-stays, events_staying-goes, take-events_staying}
 use Rattle.velo_filter.proofs.OnLeft.{stays, rest_of-is}
 
 -- ---- more events behind it do not change whether a position stays
 
-module _ (left : Left) (log more : List Event) where
+module _ (left : Omitted) (log more : List Event) where
   dissolved-append : (b : ℕ) → b < length log → is_dissolved left (log ++ more) b ≡ is_dissolved left log b
   unfolding is_dissolved
   dissolved-append b l = passes_at-append log more (begins_such left) b l
@@ -38,7 +38,7 @@ module _ (left : Left) (log more : List Event) where
       (any_below-same i _ _ (λ b l. ap (λ x. x && ends_at (log ++ more) b i) (dissolved-append b (omega (arith, l, h))) ∙ ap (λ x. is_dissolved left log b && x) (ends_at-append b i l h)))
       ∙ ap (λ x. is_dissolved left log i || any_below i (λ b. is_dissolved left log b && ends_at log b i) || x) (passes_at-append log more (is_on_such left) i h))
 
-module _ (left : Left) (log : List Event) (n : ℕ) (most : n ≤ length log) where
+module _ (left : Omitted) (log : List Event) (n : ℕ) (most : n ≤ length log) where
   short : length (take n log) ≡ n
   short = length-take-le n log most
 

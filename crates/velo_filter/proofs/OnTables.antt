@@ -7,11 +7,11 @@ use Rattle.indexmap.specs.IndexSet.{insert_key}
 use Rattle.velo_events.specs.Growth.{filled_up}
 use Rattle.velo_events.proofs.OnFilling.{get_or-filled_up, length-filled_up}
 use Rattle.velo_events.proofs.OnLists.{get_or-set}
-use Rattle.velo_filter.specs.Left.{Left, is_listed, with_labels, with_number}
+use Rattle.velo_filter.specs.Left.{Omitted, is_listed, with_labels, with_number}
 use Rattle.velo_filter.specs.Tables.{marked}
 
 -- two leave out the same where their tests agree
-pub left_same : (a b : Left) → ((l : ℕ) → a.labels l ≡ b.labels l) → ((m : ℕ) → a.locks m ≡ b.locks m) → ((x : ℕ) → a.variables x ≡ b.variables x) → a ≡ b
+pub left_same : (a b : Omitted) → ((l : ℕ) → a.labels l ≡ b.labels l) → ((m : ℕ) → a.locks m ≡ b.locks m) → ((x : ℕ) → a.variables x ≡ b.variables x) → a ≡ b
 left_same a b p q r = λ i. record { labels = λ l. p l i; locks = λ m. q m i; variables = λ x. r x i }
 
 pub is_listed-nil : (n : ℕ) → is_listed [] n ≡ false
@@ -41,19 +41,19 @@ is_listed-insert xs x n = ⊎_elim
         (cases_eq n x)
 
 -- a set of labels with one more
-pub with_labels-one : (left : Left) (test : ℕ → Bool) (n : ℕ) → test ≡ with_number left.labels n → record left { labels = test } ≡ with_labels left (n ∷ [])
+pub with_labels-one : (left : Omitted) (test : ℕ → Bool) (n : ℕ) → test ≡ with_number left.labels n → record left { labels = test } ≡ with_labels left (n ∷ [])
 with_labels-one left test n is = left_same (record left { labels = test }) (with_labels left (n ∷ []))
     (λ l. ap (λ (f : ℕ → Bool). f l) is ∙ ap (λ b. left.labels l || b) (sym (is_listed-one n l)))
     (λ m. refl) (λ x. refl)
 
 -- ---- labels one after another
 
-pub with_labels-nil : (left : Left) → left ≡ with_labels left []
+pub with_labels-nil : (left : Omitted) → left ≡ with_labels left []
 with_labels-nil left = left_same left (with_labels left [])
     (λ l. sym (ap (λ b. left.labels l || b) (is_listed-nil l) ∙ elim (left.labels l) as (λ b. (b || false) ≡ b) [ true ↦ refl | false ↦ refl ]))
     (λ m. refl) (λ x. refl)
 
-pub with_labels-push : (left : Left) (xs : List ℕ) (n : ℕ) → with_labels (with_labels left xs) (n ∷ []) ≡ with_labels left (xs ++ n ∷ [])
+pub with_labels-push : (left : Omitted) (xs : List ℕ) (n : ℕ) → with_labels (with_labels left xs) (n ∷ []) ≡ with_labels left (xs ++ n ∷ [])
 with_labels-push left xs n = left_same (with_labels (with_labels left xs) (n ∷ [])) (with_labels left (xs ++ n ∷ []))
     (λ l. elim (left.labels l) as (λ b. ((b || is_listed xs l) || is_listed (n ∷ []) l) ≡ (b || (is_listed xs l || is_listed (n ∷ []) l))) [ true ↦ refl | false ↦ refl ]
     ∙ ap (λ b. left.labels l || b) (sym (is_listed-append xs (n ∷ []) l)))

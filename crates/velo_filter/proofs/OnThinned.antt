@@ -6,7 +6,7 @@ use Rattle.std.proofs.lemmas.List.{get_or-replicate, length-replicate}
 use Rattle.velo_events.specs.declared.event.Event.{Event}
 use Rattle.velo_events.proofs.OnWellFormed.{Facts-from, IsWellFormed-take}
 use Rattle.velo_traces.proofs.Past.{past}
-use Rattle.velo_filter.specs.Left.{Left, is_left_out, rest_of, places_of}
+use Rattle.velo_filter.specs.Left.{Omitted, is_left_out, rest_of, places_of}
 use Rattle.velo_filter.specs.Marks.{number_of, AreMarks, IsShallow}
 use Rattle.velo_filter.specs.Stacks.{stack}
 use Rattle.velo_filter.specs.Thinned.{CanComeAbout, first_places, first_of_rest}
@@ -23,11 +23,11 @@ IsShallow-from log can = record {
 }
 
 -- no block is open at the start
-pub AreMarks-start : (left : Left) (log : List Event) (k : ℕ) → AreMarks left log 0 (replicate k 0)
+pub AreMarks-start : (left : Omitted) (log : List Event) (k : ℕ) → AreMarks left log 0 (replicate k 0)
 unfolding stack number_of
 AreMarks-start left log k = record { each = λ t l. get_or-replicate {A = ℕ} k t 0 0 (omega (arith, l, length-replicate {A = ℕ} k 0)) }
 
-module _ (left : Left) (log : List Event) (n : ℕ) (within : n < length log) where
+module _ (left : Omitted) (log : List Event) (n : ℕ) (within : n < length log) where
   one : n + 1 ≡ suc n
   one = omega arith
 
@@ -43,10 +43,10 @@ module _ (left : Left) (log : List Event) (n : ℕ) (within : n < length log) wh
   pub first_of_rest-goes : IsFalse (not (is_left_out left log n)) → first_of_rest left log n ≡ first_of_rest left log (n + 1)
   first_of_rest-goes h = sym (ap (first_of_rest left log) one ∙ events_staying-goes log (stays left log) n h)
 
-pub first_of_rest-all : (left : Left) (log : List Event) → first_of_rest left log (length log) ≡ rest_of left log
+pub first_of_rest-all : (left : Omitted) (log : List Event) → first_of_rest left log (length log) ≡ rest_of left log
 unfolding rest_of places_of
 first_of_rest-all left log = refl
 
-pub first_places-all : (left : Left) (log : List Event) → first_places left log (length log) ≡ places_of left log
+pub first_places-all : (left : Omitted) (log : List Event) → first_places left log (length log) ≡ places_of left log
 unfolding places_of
 first_places-all left log = refl

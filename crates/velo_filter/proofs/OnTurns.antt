@@ -19,7 +19,7 @@ use Rattle.velo_events.proofs.OnBlocks.{any_below-at}
 use Rattle.velo_events.proofs.OnTraces.{slice_get-take, latest-push, happened-push, happened-no, latest-nil, times-nil}
 use Rattle.velo_events.proofs.OnScans.{take-next, event_at, begins-more, begins-other, ends-more, ends-other, begin_by-no_end_by}
 use Rattle.velo_events.proofs.OnWellFormed.{IsWellFormed-nil, IsWellFormed-push, IsWellFormed-take, Facts-from, count_below-none, count_below-zero, any_below-never, is_held_by, held_by, shares_of}
-use Rattle.velo_filter.specs.Left.{Left, is_among, rest_of}
+use Rattle.velo_filter.specs.Left.{Omitted, is_among, rest_of}
 use Rattle.velo_filter.specs.Stacks.{popped, stack}
 use Rattle.velo_filter.proofs.OnRanks.{rank, events_staying, events_staying-stays, events_staying-goes, length-events_staying, take-events_staying}
 use Rattle.velo_filter.proofs.OnStacks.{stack-begin, stack-end, stack-other}
@@ -92,7 +92,7 @@ module _ (bounds : Bounds) (trace : List Event) (well : IsWellFormed bounds trac
 
 -- ---- what the events that stay tell
 
-module _ (left : Left) (log : List Event) where
+module _ (left : Omitted) (log : List Event) where
   abbrev ev : ℕ → List Event
   ev n = events_staying log (stays left log) n
 
@@ -399,5 +399,5 @@ module _ (left : Left) (log : List Event) where
       (cases_Bool (stays left log n))
 
 -- What is left is well-formed again
-pub IsWellFormed-rest : (left : Left) (bounds : Bounds) (log : List Event) → IsWellFormed bounds log → IsWellFormed bounds (rest_of left log)
+pub IsWellFormed-rest : (left : Omitted) (bounds : Bounds) (log : List Event) → IsWellFormed bounds log → IsWellFormed bounds (rest_of left log)
 IsWellFormed-rest left bounds log well = subst (IsWellFormed bounds) (sym (rest_of-is left log)) (well-rest left log bounds well (length log) (omega arith))

@@ -6,7 +6,7 @@ use Rattle.velo_events.specs.declared.event.Kind.{Kind}
 use Rattle.velo_events.specs.declared.event.Kind.TheVariants.{Write, Acquire, Release, AcquireShared, ReleaseShared, Begin, End, Fork}
 use Rattle.velo_events.specs.Heap.{times}
 use Rattle.velo_events.specs.Block.{any_below, least_below, passes_at, is_balanced, is_open_at, is_in_block, owner}
-use Rattle.velo_filter.specs.Left.{Left, nothing, is_listed, with_labels, is_dissolved, ends_at, is_left_out, places_of, rest_of, place_of}
+use Rattle.velo_filter.specs.Left.{Omitted, nothing, is_listed, with_labels, is_dissolved, ends_at, is_left_out, places_of, rest_of, place_of}
 
 computed : Unit {0}
 unfolding times any_below least_below passes_at is_balanced is_open_at is_in_block owner is_listed is_dissolved ends_at is_left_out places_of rest_of place_of
@@ -44,7 +44,7 @@ fork t u = by t (Fork (record { 0 = u }))
 abbrev nested : List Event
 nested = fork 0 1 ∷ begin 0 7 ∷ begin 1 7 ∷ begin 0 8 ∷ write 0 0 1 ∷ close 0 ∷ close 1 ∷ write 0 0 2 ∷ close 0 ∷ []
 
-abbrev outer : Left
+abbrev outer : Omitted
 outer = record { labels = λ l. l == 7; locks = λ m. false; variables = λ x. false }
 
 nested-places : places_of outer nested ≡ 0 ∷ 3 ∷ 4 ∷ 5 ∷ 7 ∷ []
@@ -68,7 +68,7 @@ unfolding computed
 nested-place = refl
 
 -- the inner one's label is left out
-abbrev inner : Left
+abbrev inner : Omitted
 inner = record { labels = λ l. l == 8; locks = λ m. false; variables = λ x. false }
 
 inner-rest : rest_of inner nested ≡ fork 0 1 ∷ begin 0 7 ∷ begin 1 7 ∷ write 0 0 1 ∷ close 1 ∷ write 0 0 2 ∷ close 0 ∷ []
@@ -80,7 +80,7 @@ inner-rest = refl
 abbrev guarded : List Event
 guarded = begin 0 7 ∷ acquire 0 0 ∷ write 0 0 1 ∷ write 0 1 1 ∷ release 0 0 ∷ acquire 0 1 ∷ release 0 1 ∷ close 0 ∷ []
 
-abbrev quiet : Left
+abbrev quiet : Omitted
 quiet = record { labels = λ l. false; locks = λ m. m == 0; variables = λ x. x == 1 }
 
 guarded-rest : rest_of quiet guarded ≡ begin 0 7 ∷ write 0 0 1 ∷ acquire 0 1 ∷ release 0 1 ∷ close 0 ∷ []

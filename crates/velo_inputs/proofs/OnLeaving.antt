@@ -7,7 +7,7 @@ use Rattle.velo_events.specs.declared.event.Label.{Label}
 use Rattle.velo_events.specs.declared.event.LockId.{LockId}
 use Rattle.velo_events.specs.declared.event.VarId.{VarId}
 use Rattle.velo_events.specs.declared.limits.TheConstants.{MAX_LOCKS}
-use Rattle.velo_filter.specs.Left.{Left, is_listed, nothing, with_labels, with_lock, with_variable}
+use Rattle.velo_filter.specs.Left.{Omitted, is_listed, nothing, with_labels, with_lock, with_variable}
 use Rattle.velo_filter.proofs.OnTables.{is_listed-append, is_listed-nil, left_same}
 use Rattle.velo_audit_text.specs.declared.words.Asked.{Asked}
 use Rattle.velo_inputs.specs.Leaving.{left_out_at_first, with_locks, with_locks_below, with_variables}
@@ -59,34 +59,34 @@ one_below : (b : Bool) (m n : ℕ) → ((b || nat_lt m n) || (m == n)) ≡ (b ||
 one_below true m n = refl
 one_below false m n = next_below m n
 
-pub with_locks-nil : (left : Left) → left ≡ with_locks left []
+pub with_locks-nil : (left : Omitted) → left ≡ with_locks left []
 with_locks-nil left = left_same left (with_locks left []) (λ l. refl) (λ m. none_more (left.locks m) m) (λ x. refl)
 
-pub with_locks-push : (left : Left) (xs : List ℕ) (n : ℕ) → with_lock (with_locks left xs) n ≡ with_locks left (xs ++ n ∷ [])
+pub with_locks-push : (left : Omitted) (xs : List ℕ) (n : ℕ) → with_lock (with_locks left xs) n ≡ with_locks left (xs ++ n ∷ [])
 with_locks-push left xs n = left_same (with_lock (with_locks left xs) n) (with_locks left (xs ++ n ∷ [])) (λ l. refl) (λ m. one_more (left.locks m) xs n m) (λ x. refl)
 
 -- all locks, one after another
-pub with_locks_below-none : (left : Left) → left ≡ with_locks_below left true 0
+pub with_locks_below-none : (left : Omitted) → left ≡ with_locks_below left true 0
 with_locks_below-none left = left_same left (with_locks_below left true 0) (λ l. refl) (λ m. none_below (left.locks m) m) (λ x. refl)
 
-pub with_locks_below-more : (left : Left) (n : ℕ) → with_lock (with_locks_below left true n) n ≡ with_locks_below left true (n + 1)
+pub with_locks_below-more : (left : Omitted) (n : ℕ) → with_lock (with_locks_below left true n) n ≡ with_locks_below left true (n + 1)
 with_locks_below-more left n = left_same (with_lock (with_locks_below left true n) n) (with_locks_below left true (n + 1)) (λ l. refl) (λ m. one_below (left.locks m) m n) (λ x. refl)
 
-pub with_locks_below-no : (left : Left) (n : ℕ) → left ≡ with_locks_below left false n
+pub with_locks_below-no : (left : Omitted) (n : ℕ) → left ≡ with_locks_below left false n
 with_locks_below-no left n = left_same left (with_locks_below left false n) (λ l. refl) (λ m. or_false (left.locks m)) (λ x. refl)
 
-pub with_variables-nil : (left : Left) → left ≡ with_variables left []
+pub with_variables-nil : (left : Omitted) → left ≡ with_variables left []
 with_variables-nil left = left_same left (with_variables left []) (λ l. refl) (λ m. refl) (λ x. none_more (left.variables x) x)
 
-pub with_variables-push : (left : Left) (xs : List ℕ) (n : ℕ) → with_variable (with_variables left xs) n ≡ with_variables left (xs ++ n ∷ [])
+pub with_variables-push : (left : Omitted) (xs : List ℕ) (n : ℕ) → with_variable (with_variables left xs) n ≡ with_variables left (xs ++ n ∷ [])
 with_variables-push left xs n = left_same (with_variable (with_variables left xs) n) (with_variables left (xs ++ n ∷ [])) (λ l. refl) (λ m. refl) (λ x. one_more (left.variables x) xs n x)
 
 -- all that was asked for
-pub asked_left : (asked : Asked) (a b c d e : Left) → a ≡ nothing → b ≡ with_labels a (map (λ (l : Label). l.0) asked.labels.now) → c ≡ with_locks b (map (λ (m : LockId). m.0) asked.locks.now)
+pub asked_left : (asked : Asked) (a b c d e : Omitted) → a ≡ nothing → b ≡ with_labels a (map (λ (l : Label). l.0) asked.labels.now) → c ≡ with_locks b (map (λ (m : LockId). m.0) asked.locks.now)
     → d ≡ with_locks_below c asked.all_locks MAX_LOCKS → e ≡ with_variables d (map (λ (x : VarId). x.0) asked.variables.now) → e ≡ left_out_at_first asked
 asked_left asked a b c d e start labels locks all variables =
     variables
-    ∙ ap (λ (x : Left). with_variables x (map (λ (x : VarId). x.0) asked.variables.now)) (all
-    ∙ ap (λ (x : Left). with_locks_below x asked.all_locks MAX_LOCKS) (locks
-    ∙ ap (λ (x : Left). with_locks x (map (λ (m : LockId). m.0) asked.locks.now)) (labels
-    ∙ ap (λ (x : Left). with_labels x (map (λ (l : Label). l.0) asked.labels.now)) start)))
+    ∙ ap (λ (x : Omitted). with_variables x (map (λ (x : VarId). x.0) asked.variables.now)) (all
+    ∙ ap (λ (x : Omitted). with_locks_below x asked.all_locks MAX_LOCKS) (locks
+    ∙ ap (λ (x : Omitted). with_locks x (map (λ (m : LockId). m.0) asked.locks.now)) (labels
+    ∙ ap (λ (x : Omitted). with_labels x (map (λ (l : Label). l.0) asked.labels.now)) start)))

@@ -4,12 +4,12 @@ use Rattle.velo_events.specs.declared.event.Label.{Label}
 use Rattle.velo_events.specs.declared.event.LockId.{LockId}
 use Rattle.velo_events.specs.declared.event.VarId.{VarId}
 use Rattle.velo_events.specs.declared.limits.TheConstants.{MAX_LOCKS}
-use Rattle.velo_filter.specs.Left.{Left, is_listed}
+use Rattle.velo_filter.specs.Left.{Omitted, is_listed}
 use Rattle.velo_audit_text.specs.declared.words.Asked.{Asked}
 
 -- Left out are the labels, the locks and the variables that were asked for. If all locks were, so is
 -- each that a log can have: its number is below the most.
-abbrev pub left_out_at_first : Asked → Left
+abbrev pub left_out_at_first : Asked → Omitted
 left_out_at_first asked =
     record {
       labels = is_listed (map (λ (l : Label). l.0) asked.labels.now);
@@ -21,12 +21,12 @@ left_out_at_first asked =
 -- ---- on the way. Contracts within the crate cite these words
 
 -- these locks, all locks below n, these variables are left out as well
-abbrev pub with_locks : Left → List ℕ → Left
-with_locks left locks = record left { locks = λ m. left.locks m || is_listed locks m }
+abbrev pub with_locks : Omitted → List ℕ → Omitted
+with_locks omitted locks = record omitted { locks = λ m. omitted.locks m || is_listed locks m }
 
-abbrev pub with_locks_below : Left → Bool → ℕ → Left
-with_locks_below left all n = record left { locks = λ m. left.locks m || (all && nat_lt m n) }
+abbrev pub with_locks_below : Omitted → Bool → ℕ → Omitted
+with_locks_below omitted all n = record omitted { locks = λ m. omitted.locks m || (all && nat_lt m n) }
 
-abbrev pub with_variables : Left → List ℕ → Left
-with_variables left variables =
-    record left { variables = λ x. left.variables x || is_listed variables x }
+abbrev pub with_variables : Omitted → List ℕ → Omitted
+with_variables omitted variables =
+    record omitted { variables = λ x. omitted.variables x || is_listed variables x }

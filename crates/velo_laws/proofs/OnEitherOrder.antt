@@ -8,7 +8,7 @@ use Rattle.velo_events.specs.declared.event.Kind.TheVariants.{Begin, End}
 use Rattle.velo_events.specs.Event.{thread_of, is_by, is_begin, is_end, is_begin_by, is_end_by}
 use Rattle.velo_events.proofs.OnScans.{event_at, passes_at-event}
 use Rattle.velo_events.proofs.OnOwners.{is_open_at-begins, is_open_at-within}
-use Rattle.velo_filter.specs.Left.{Left, begins_such, is_dissolved, is_left_out, rest_of, place_of}
+use Rattle.velo_filter.specs.Left.{Omitted, begins_such, is_dissolved, is_left_out, rest_of, place_of}
 use Rattle.velo_filter.specs.Stacks.{popped, stack}
 use Rattle.velo_filter.proofs.OnRanks.{rank, rank-zero, rank-stays, rank-goes, rank-le, events_staying, events_staying-stays, events_staying-goes, events_staying-at, length-events_staying}
 use Rattle.velo_filter.proofs.OnStacks.{stack-begin, stack-end, stack-other, stack-closes}
@@ -75,7 +75,7 @@ module _ (log : List Event) (keeps : ℕ → Bool) (blocks : (i : ℕ) (e : Even
 
   -- ---- so a position is left out of what is kept where it is left out of the log
 
-  module _ (left : Left) where
+  module _ (left : Omitted) where
     dissolved-kept : (b : ℕ) → b < length log → IsTrue (keeps b) → is_dissolved left kept (at b) ≡ is_dissolved left log b
     unfolding is_dissolved
     dissolved-kept b l h = sub-passes log keeps blocks (begins_such left) b l h

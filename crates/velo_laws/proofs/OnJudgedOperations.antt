@@ -16,7 +16,7 @@ use Rattle.velo_events.proofs.OnScans.{event_at}
 use Rattle.velo_events.proofs.OnWellFormed.{count_below-same}
 use Rattle.velo_events.proofs.OnOwners.{passes_at-within, is_open_at-within}
 use Rattle.velo_events.proofs.OnUnfinished.{Contains-open_blocks}
-use Rattle.velo_filter.specs.Left.{Left, is_left_out, is_on_such, rest_of, place_of}
+use Rattle.velo_filter.specs.Left.{Omitted, is_left_out, is_on_such, rest_of, place_of}
 use Rattle.velo_filter.proofs.OnRanks.{rank, events_staying}
 use Rattle.velo_filter.proofs.OnLeft.{stays, sub, rest_of-is, length-sub, sub-passes, place-rank, StandsFor, stands_for}
 use Rattle.velo_filter.proofs.OnTurns.{IsWellFormed-rest}
@@ -43,13 +43,13 @@ neither false true = refl
 neither false false = refl
 
 module _ (labels locks variables : ℕ → Bool) (log : List Event) where
-  abbrev B : Left
+  abbrev B : Omitted
   B = dissolving labels
 
-  abbrev M : Left
+  abbrev M : Omitted
   M = only locks variables
 
-  abbrev A : Left
+  abbrev A : Omitted
   A = leaving_out labels locks variables
 
   abbrev keeps : ℕ → Bool

@@ -15,7 +15,7 @@ use Rattle.velo_events.proofs.OnGraphs.{IsClosing-push}
 use Rattle.velo_events.proofs.OnOwners.{is_open_at-thread, is_open_at-within}
 use Rattle.velo_events.proofs.OnReorderings.{conflict_at-within}
 use Rattle.velo_events.proofs.OnScans.{passes_at-event, passes_at-is}
-use Rattle.velo_filter.specs.Left.{Left, is_dissolved, ends_at, is_left_out, places_of, rest_of}
+use Rattle.velo_filter.specs.Left.{Omitted, is_dissolved, ends_at, is_left_out, places_of, rest_of}
 use Rattle.velo_laws.specs.Cut.{IsQuiet, IsJudgedApart}
 use Rattle.velo_laws.specs.Ordered.{only, AreOfOneThread, IsStep, IsOrdered}
 use Rattle.velo_laws.specs.Repeats.{IsAlike, Repeats, AreRepeats, without}
@@ -44,11 +44,11 @@ one_thread_by log i j h =
     let here = passes_at-event log _ i h in
     (thread_of here.0, passes_at-is log _ i here.0 here.1 ∙ eq-eqb (thread_of here.0) (thread_of here.0) refl, here.2)
 
-unfoldable is_step : Left → List Event → ℕ → ℕ → Bool
+unfoldable is_step : Omitted → List Event → ℕ → ℕ → Bool
 is_step left log i j =
     (nat_lt i j && conflict_at log i j) && (not (is_left_out left log i) || (not (is_left_out left log j) || of_one_thread log i j))
 
-step_by : (left : Left) (log : List Event) (i j : ℕ) → IsTrue (is_step left log i j) → IsStep left log i j
+step_by : (left : Omitted) (log : List Event) (i j : ℕ) → IsTrue (is_step left log i j) → IsStep left log i j
 unfolding is_step
 step_by left log i j h =
     let p = and_parts _ _ h in
@@ -60,11 +60,11 @@ step_by left log i j h =
     }
 
 -- a path of at most so many steps over others leads from i to j
-unfoldable is_joined : Left → List Event → ℕ → ℕ → ℕ → Bool
+unfoldable is_joined : Omitted → List Event → ℕ → ℕ → ℕ → Bool
 is_joined left log zero i j = is_step left log i j
 is_joined left log (suc n) i j = is_step left log i j || any_below j (λ k. is_step left log i k && is_joined left log n k j)
 
-thread_joined : (left : Left) (log : List Event) (n i j : ℕ) → IsTrue (is_joined left log n i j) → Leads (IsStep left log) i j
+thread_joined : (left : Omitted) (log : List Event) (n i j : ℕ) → IsTrue (is_joined left log n i j) → Leads (IsStep left log) i j
 unfolding is_joined
 thread_joined left log zero i j h = ([], step_by left log i j h)
 thread_joined left log (suc n) i j h =
@@ -76,22 +76,22 @@ thread_joined left log (suc n) i j h =
     (w.0 ∷ rest.0, (step_by left log i w.0 p.0, rest.1)))
     (or_cases _ _ h)
 
-unfoldable all_joined : Left → List Event → ℕ → Bool
+unfoldable all_joined : Omitted → List Event → ℕ → Bool
 all_joined left log n =
     all_below (length log) (λ j. all_below j (λ i. not (conflict_at log i j) || is_joined left log n i j))
 
-ordered_by : (left : Left) (log : List Event) (n : ℕ) → IsTrue (all_joined left log n) → IsOrdered left log
+ordered_by : (left : Omitted) (log : List Event) (n : ℕ) → IsTrue (all_joined left log n) → IsOrdered left log
 unfolding all_joined
 ordered_by left log n h i j c =
     let cell = all_below-at j _ (all_below-at (length log) _ h j (conflict_at-within log i j c.1).1) i c.0 in
     ⊎_elim (λ none. absurd (false≢true (sym (not-true _ none) ∙ c.1))) (λ joined. thread_joined left log n i j joined) (or_cases _ _ cell)
 
 -- of two conflicting positions the first has no step to a later one
-unfoldable is_cut_off : Left → List Event → ℕ → Bool
+unfoldable is_cut_off : Omitted → List Event → ℕ → Bool
 is_cut_off left log i =
     all_below (length log) (λ k. not (nat_lt i k && conflict_at log i k) || (is_left_out left log i && (is_left_out left log k && not (of_one_thread log i k))))
 
-not_ordered : (left : Left) (log : List Event) (i j : ℕ) → IsTrue (is_cut_off left log i) → IsTrue (nat_lt i j && conflict_at log i j) → ¬ IsOrdered left log
+not_ordered : (left : Omitted) (log : List Event) (i j : ℕ) → IsTrue (is_cut_off left log i) → IsTrue (nat_lt i j && conflict_at log i j) → ¬ IsOrdered left log
 unfolding is_cut_off of_one_thread
 not_ordered left log i j h c ordered =
     let p = and_parts _ _ c in
@@ -212,7 +212,7 @@ inside-not_apart apart = ⊎_elim inside-first inside-second (apart.cycles.0 ins
 
 -- ---- a variable that a lock keeps in order is left out: the cycle through the lock stays
 
-abbrev first_variable : Left
+abbrev first_variable : Omitted
 first_variable = only (λ m. false) (λ x. x == 0)
 
 abbrev guarded : List Event

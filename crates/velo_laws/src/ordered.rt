@@ -4,7 +4,7 @@ ghost use Rattle.velo_events.specs.declared.config.Bounds.{Bounds};
 ghost use Rattle.velo_events.specs.declared.event.Event.{Event};
 ghost use Rattle.velo_events.specs.Graph.{HasCycle};
 ghost use Rattle.velo_events.specs.WellFormed.{IsWellFormed};
-ghost use Rattle.velo_filter.specs.Left.{Left, rest_of};
+ghost use Rattle.velo_filter.specs.Left.{Omitted, rest_of};
 ghost use Rattle.velo_laws.specs.Ordered.{only, dissolving, leaving_out, IsOrdered, IsOrderedWithin, IsOrderedAtLast, IsChained, BlamesSame, ClosesAtSame, ClosesAtSameWithout, HasSameTransactions};
 
 /// What is left of a log that can happen can happen.

@@ -23,7 +23,7 @@ use Rattle.velo_world.specs.declared.analysis.Alarm.{Alarm}
 use Rattle.velo_world.specs.declared.log_replay.LogReplayFault.TheVariants as replay
 use Rattle.velo_endless.specs.Endless.{HasSeen, IsUnderWay, Steps}
 use Rattle.velo_endless.specs.Piece.{IsJudged}
-use Rattle.velo_endless.specs.Reading.{IsMetAfter}
+use Rattle.velo_endless.specs.Reading.{IsMetEndless}
 use Rattle.velo_endless.specs.declared.piece.LogPiece.{LogPiece}
 use Rattle.velo_endless.specs.declared.reading.TheConstants.{MAX_WATCHED}
 use Rattle.velo_endless.specs.declared.watch.EndlessWatch.{EndlessWatch}
@@ -64,8 +64,8 @@ verdict_clean log watch off seen = judged_clean log watch.piece watch.alarm off 
 
 -- ---- one step
 
-no_memory : (n : ℕ) (fault : LogFault) → IsMetAfter n fault → fault ≡ log_fault.Memory → GrowthRefused
-no_memory n fault met is = absurd (subst (IsMetAfter n) is met)
+no_memory : (n : ℕ) (fault : LogFault) → IsMetEndless n fault → fault ≡ log_fault.Memory → GrowthRefused
+no_memory n fault met is = absurd (subst (IsMetEndless n) is met)
 
 module _ (options : EndlessOptions) (read old : Option (List ℕ)) where
   abbrev own : Terms

@@ -13,7 +13,7 @@ use Rattle.velo_world.specs.declared.analysis.Alarm.{Alarm}
 use Rattle.velo_world.specs.World.{IsAlarm}
 use Rattle.velo_names.specs.Names.{NameLists}
 use Rattle.velo_sites.specs.Sites.{Table}
-use Rattle.velo_filter.specs.Left.{Left}
+use Rattle.velo_filter.specs.Left.{Omitted}
 use Rattle.velo_audit.specs.Audit.{IsFullAt}
 use Rattle.velo_audit.specs.Witness.{IsWitness}
 use Rattle.velo_audit_text.specs.declared.words.Asked.{Asked}
@@ -152,7 +152,7 @@ of_evidence names sites events log is a blamed same evidence is_alarm is_evidenc
     }
 
 -- the first alarm of what is left is explained by its evidence, whichever list of the log's events this is
-pub of_first : (before : List ℕ) (names : NameLists) (sites : Option Table) (left : Left) (events log : List Event) → events ≡ log → (position : ℕ) (evidence : Evidence) → IsWitness events left position evidence
+pub of_first : (before : List ℕ) (names : NameLists) (sites : Option Table) (left : Omitted) (events log : List Event) → events ≡ log → (position : ℕ) (evidence : Evidence) → IsWitness events left position evidence
     → ExplainsFirst before names sites left log (explained before names sites events position evidence) (drawing_text names sites events position evidence)
 of_first before names sites left events log is position evidence witness =
     record {
@@ -164,7 +164,7 @@ of_first before names sites left events log is position evidence witness =
     }
 
 -- with as many nodes as there may be at most, the graph of no log is full
-pub never_full : (config : Config) (log : List Event) (left : Left) (place : ℕ) → config.nodes ≡ MAX_NODES → ¬ IsFullAt config log left place
+pub never_full : (config : Config) (log : List Event) (left : Omitted) (place : ℕ) → config.nodes ≡ MAX_NODES → ¬ IsFullAt config log left place
 never_full config log left place greatest full =
     let threads = config.bounds.threads in
     let squared : threads * threads ≤ 4096 = mul-le threads threads 64 64 config.few_threads config.few_threads in

@@ -6,7 +6,7 @@ use Rattle.velo_events.specs.declared.config.Config.{Config}
 use Rattle.velo_events.specs.declared.event.Event.{Event}
 use Rattle.velo_endless.specs.Endless.{CanGoOn}
 use Rattle.velo_endless.specs.Kept.{IsFaultBehind}
-use Rattle.velo_endless.specs.Reading.{IsMetAfter}
+use Rattle.velo_endless.specs.Reading.{IsMetEndless}
 use Rattle.velo_endless.specs.declared.reading.TheConstants.{MAX_WATCHED}
 use Rattle.velo_endless.specs.declared.watch.EndlessWatch.{EndlessWatch}
 use Rattle.velo_request.specs.declared.request.EndlessOptions.{EndlessOptions}
@@ -33,7 +33,7 @@ terms_of_endless options =
       certificate = false;
       longest = MAX_WATCHED;
       most = MAX_WATCHED;
-      IsMet = IsMetAfter;
+      IsMet = IsMetEndless;
       IsFaultAt = IsFaultOfWhole options.limits;
     }
 

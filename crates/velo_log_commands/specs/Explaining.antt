@@ -8,7 +8,7 @@ use Rattle.velo_world.specs.declared.analysis.Alarm.{Alarm}
 use Rattle.velo_world.specs.World.{IsAlarm}
 use Rattle.velo_names.specs.Names.{NameLists}
 use Rattle.velo_sites.specs.Sites.{Table}
-use Rattle.velo_filter.specs.Left.{Left, rest_of}
+use Rattle.velo_filter.specs.Left.{Omitted, rest_of}
 use Rattle.velo_audit.specs.Witness.{IsWitness}
 use Rattle.velo_audit_text.specs.declared.words.Asked.{Asked}
 use Rattle.velo_audit_text.specs.Words.{asked_text}
@@ -36,7 +36,7 @@ is_whole asked =
 
 -- what comes before the words where something was: what an audit begins with, and a title
 abbrev pub opening : NameLists → Asked → List ℕ
-opening names asked = asked_text names asked ++ codes "What is left of the log:\n"
+opening names asked = asked_text names asked ++ codes "What is omitted of the log:\n"
 
 -- ---- the words of a verdict
 
@@ -84,20 +84,20 @@ ExplainsWhole names sites log answer drawing =
 -- ---- what is left of it
 
 -- The same of the first alarm of what is left. Each position is that of its event in the whole log.
-pub record ExplainsFirst (before : List ℕ) (names : NameLists) (sites : Option Table) (left : Left)
+pub record ExplainsFirst (before : List ℕ) (names : NameLists) (sites : Option Table) (omitted : Omitted)
     (log : List Event) (answer : CommandAnswer) (drawing : List ℕ) : Type 0 where
   pub position : ℕ
   pub evidence : Evidence
-  pub is_witness : IsWitness log left position evidence
+  pub is_witness : IsWitness log omitted position evidence
   pub said : answer ≡ explained before names sites log position evidence
   pub drawn : drawing ≡ drawing_text names sites log position evidence
 
 -- where what is left has no cycle, its events and its transactions are counted
-abbrev pub ExplainsRest : List ℕ → NameLists → Option Table → Left → List Event → CommandAnswer
+abbrev pub ExplainsRest : List ℕ → NameLists → Option Table → Omitted → List Event → CommandAnswer
     → List ℕ → Type 0
-ExplainsRest before names sites left log answer drawing =
-    ExplainsFirst before names sites left log answer drawing
-    ⊎ ((¬ HasCycle (rest_of left log)) × (answer ≡ counted before (rest_of left log)))
+ExplainsRest before names sites omitted log answer drawing =
+    ExplainsFirst before names sites omitted log answer drawing
+    ⊎ ((¬ HasCycle (rest_of omitted log)) × (answer ≡ counted before (rest_of omitted log)))
 
 -- ---- either, by what was asked for
 
@@ -121,7 +121,7 @@ pub record IsExplained (names : NameLists) (sites : Option Table) (asked : Asked
   pub verdict : ExplainsVerdict names sites asked log answer drawing
 
 -- nothing is said of the log of the input: the sites are of another number of events
-pub record IsOfOtherLog (sites : Option Table) (read : Option (List ℕ)) (answer : CommandAnswer)
+pub record IsOfOtherInput (sites : Option Table) (read : Option (List ℕ)) (answer : CommandAnswer)
     : Type 0 where
   pub bounds : Bounds
   pub log : List Event
@@ -135,5 +135,5 @@ abbrev pub IsExplainAnswer : NameLists → Option Table → Asked → Option (Li
     → List ℕ → Type 0
 IsExplainAnswer names sites asked read answer drawing =
     IsExplained names sites asked read answer drawing
-    ⊎ (IsOfOtherLog sites read answer
+    ⊎ (IsOfOtherInput sites read answer
     ⊎ (IsUnchecked MAX_EVENTS MAX_NODES read answer ⊎ LacksMemory answer))

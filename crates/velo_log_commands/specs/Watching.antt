@@ -139,14 +139,14 @@ pub record EndsUnreported (terms : Terms) (read : Option (List ℕ))
   pub said : answer ≡ printing (told_text alarm) (Check fault)
 
 -- nothing is printed of an input without a header
-abbrev pub IsUnopened : Option (List ℕ) → CommandAnswer → Type 0
-IsUnopened read answer =
+abbrev pub LacksHeader : Option (List ℕ) → CommandAnswer → Type 0
+LacksHeader read answer =
     (fault : CheckFault) × IsFaultOfHeader read fault × (answer ≡ silent (Check fault))
 
 -- What a watch has to say.
 abbrev pub IsWatchAnswer : Names → Terms → Option (List ℕ) → CommandAnswer → Type 0
 IsWatchAnswer names terms read answer =
-    IsWatched names terms read answer ⊎ EndsUnreported terms read answer ⊎ IsUnopened read answer
+    IsWatched names terms read answer ⊎ EndsUnreported terms read answer ⊎ LacksHeader read answer
 
 -- the sink failed within the line of the alarm, which the last of the events so far raised
 pub record FailsAtAlarm (terms : Terms) (read : Option (List ℕ)) (stdout : Writing) : Type 0 where

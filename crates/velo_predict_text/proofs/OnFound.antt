@@ -5,7 +5,7 @@ use Rattle.std.proofs.lemmas.List.Elements.{All-same, All-map, All-weaker, All-c
 use Rattle.std.proofs.lemmas.Option.{slice_get_within}
 use Rattle.velo_events.specs.declared.config.Bounds.{Bounds}
 use Rattle.velo_events.specs.declared.event.Event.{Event}
-use Rattle.velo_filter.specs.Left.{Left}
+use Rattle.velo_filter.specs.Left.{Omitted}
 use Rattle.velo_predict.specs.declared.difference.Difference.{Difference}
 use Rattle.velo_delays.specs.declared.judged.Differing.{Differing}
 use Rattle.velo_delays.specs.declared.judged.PredictedCycle.{PredictedCycle}
@@ -37,5 +37,5 @@ cycle_told bounds log found is = record {
   differing = within_trace _ found.trace.events found.differing.items is.differing;
 }
 
-pub CanBeTold-from : (bounds : Bounds) (log : List Event) (left : Left) (founds : List PredictedCycle) → AreFoundIn bounds log left founds → All CanBeTold founds
+pub CanBeTold-from : (bounds : Bounds) (log : List Event) (left : Omitted) (founds : List PredictedCycle) → AreFoundIn bounds log left founds → All CanBeTold founds
 CanBeTold-from bounds log left founds are = All-from_each CanBeTold founds (λ i found there. cycle_told bounds _ found (are.each i found there).is_found)

@@ -3,7 +3,7 @@ use Rattle.std.proofs.Common.{◌≡◌, ℕ, ◌+◌, ◌≤◌, Bool, true, fa
 use Rattle.std.specs.Prelude.{◌⊎◌, ◌&&◌, ◌||◌, ◌==◌, nat_lt, if◌then◌else◌, IfOk, IsTrue, IsFalse}
 use Rattle.std.proofs.lemmas.Bool.{cases_Bool, cases_eq, cases_lt, and_from, and_left, and_right, or_right, eq-eqb, ne_eqb, lt-ltb, le-ltb}
 use Rattle.std.proofs.lemmas.List.{get_or_past}
-use Rattle.velo_filter.specs.Left.{Left, nothing, with_variable}
+use Rattle.velo_filter.specs.Left.{Omitted, nothing, with_variable}
 use Rattle.velo_filter.specs.Tables.{marked}
 use Rattle.velo_filter.proofs.OnTables.{left_same}
 use Rattle.velo_laws.specs.Ordered.{only}
@@ -11,16 +11,16 @@ use Rattle.velo_races.specs.Races.{no_lock}
 use Rattle.velo_races.specs.Sweep.{with_marked}
 
 -- those below n that are marked are left out, and nothing else
-pub record IsMarkedOut (marks : List Bool) (n : ℕ) (left : Left) : Type 0 where
+pub record IsMarkedOut (marks : List Bool) (n : ℕ) (left : Omitted) : Type 0 where
   pub labels : (k : ℕ) → left.labels k ≡ false
   pub locks : (k : ℕ) → left.locks k ≡ false
   pub variables : (k : ℕ) → left.variables k ≡ (nat_lt k n && marked marks k)
 
-pub marked-start : (marks : List Bool) (left : Left) → left ≡ nothing → IsMarkedOut marks 0 left
+pub marked-start : (marks : List Bool) (left : Omitted) → left ≡ nothing → IsMarkedOut marks 0 left
 marked-start marks left is = record {
-  labels = λ k. ap (λ (l : Left). l.labels k) is;
-  locks = λ k. ap (λ (l : Left). l.locks k) is;
-  variables = λ k. ap (λ (l : Left). l.variables k) is ∙ sym (and_left (nat_lt k 0) (marked marks k) (le-ltb k 0 (omega arith)));
+  labels = λ k. ap (λ (l : Omitted). l.labels k) is;
+  locks = λ k. ap (λ (l : Omitted). l.locks k) is;
+  variables = λ k. ap (λ (l : Omitted). l.variables k) is ∙ sym (and_left (nat_lt k 0) (marked marks k) (le-ltb k 0 (omega arith)));
 }
 
 -- a number below n + 1 is below n, or it is n
@@ -36,14 +36,14 @@ below-next marks n k other = ap (λ b. b && marked marks k) (⊎_elim
         at_or_above : n ≤ k → (k ≡ n) ⊎ (n + 1 ≤ k)
         at_or_above h = ⊎_elim (λ e. inl e) (λ d. inr (omega (arith, h, d))) (cases_eq k n)
 
-module _ (marks : List Bool) (n : ℕ) (old new : Left) (is : new ≡ with_marked marks n old) (before : IsMarkedOut marks n old) where
+module _ (marks : List Bool) (n : ℕ) (old new : Omitted) (is : new ≡ with_marked marks n old) (before : IsMarkedOut marks n old) where
   marked-here : IsTrue (marked marks n) → IsMarkedOut marks (n + 1) new
   marked-here h =
       let now : new ≡ with_variable old n = is ∙ ap (λ b. if b then with_variable old n else old) h in
       record {
-        labels = λ k. ap (λ (l : Left). l.labels k) now ∙ before.labels k;
-        locks = λ k. ap (λ (l : Left). l.locks k) now ∙ before.locks k;
-        variables = λ k. ap (λ (l : Left). l.variables k) now ∙ (ap (λ b. b || (k == n)) (before.variables k) ∙ ⊎_elim
+        labels = λ k. ap (λ (l : Omitted). l.labels k) now ∙ before.labels k;
+        locks = λ k. ap (λ (l : Omitted). l.locks k) now ∙ before.locks k;
+        variables = λ k. ap (λ (l : Omitted). l.variables k) now ∙ (ap (λ b. b || (k == n)) (before.variables k) ∙ ⊎_elim
             (λ e. or_right (nat_lt k n && marked marks k) (k == n) (eq-eqb k n e) ∙ sym (and_from (nat_lt k (n + 1)) (marked marks k) (lt-ltb k (n + 1) (omega (arith, e))) (ap (marked marks) e ∙ h)))
             (λ d. ap (λ b. (nat_lt k n && marked marks k) || b) (ne_eqb k n d) ∙ (or_false (nat_lt k n && marked marks k) ∙ below-next marks n k d))
             (cases_eq k n));
@@ -57,9 +57,9 @@ module _ (marks : List Bool) (n : ℕ) (old new : Left) (is : new ≡ with_marke
   marked-not h =
       let now : new ≡ old = is ∙ ap (λ b. if b then with_variable old n else old) h in
       record {
-        labels = λ k. ap (λ (l : Left). l.labels k) now ∙ before.labels k;
-        locks = λ k. ap (λ (l : Left). l.locks k) now ∙ before.locks k;
-        variables = λ k. ap (λ (l : Left). l.variables k) now ∙ (before.variables k ∙ ⊎_elim
+        labels = λ k. ap (λ (l : Omitted). l.labels k) now ∙ before.labels k;
+        locks = λ k. ap (λ (l : Omitted). l.locks k) now ∙ before.locks k;
+        variables = λ k. ap (λ (l : Omitted). l.variables k) now ∙ (before.variables k ∙ ⊎_elim
             (λ e. and_right (nat_lt k n) (marked marks k) (ap (marked marks) e ∙ h) ∙ sym (and_right (nat_lt k (n + 1)) (marked marks k) (ap (marked marks) e ∙ h)))
             (λ d. below-next marks n k d)
             (cases_eq k n));
@@ -68,7 +68,7 @@ module _ (marks : List Bool) (n : ℕ) (old new : Left) (is : new ≡ with_marke
   pub marked-next : IsMarkedOut marks (n + 1) new
   marked-next = ⊎_elim marked-here marked-not (cases_Bool (marked marks n))
 
-pub marked-all : (marks : List Bool) (n : ℕ) (left : Left) → length marks ≤ n → IsMarkedOut marks n left → left ≡ only no_lock (marked marks)
+pub marked-all : (marks : List Bool) (n : ℕ) (left : Omitted) → length marks ≤ n → IsMarkedOut marks n left → left ≡ only no_lock (marked marks)
 marked-all marks n left all w = left_same left (only no_lock (marked marks)) w.labels w.locks (λ x. w.variables x ∙ ⊎_elim
     (λ l. ap (λ b. b && marked marks x) (lt-ltb x n (omega (arith, l, all))))
     (λ g. let none = get_or_past marks x false g in and_right (nat_lt x n) (marked marks x) none ∙ sym none)

@@ -7,7 +7,7 @@ use Rattle.velo_events.specs.Graph.{Leads}
 use Rattle.velo_events.specs.Place.{LastWrite, LastRead, last_at}
 use Rattle.velo_clocks.specs.Clocks.{ClockState, OfLast, known_at, AreClocksOf, IsNoted, KnowsTheSame}
 use Rattle.velo_laws.specs.Ordered.{only, IsInnerStep}
-use Rattle.velo_filter.specs.Left.{Left, with_variable}
+use Rattle.velo_filter.specs.Left.{Omitted, with_variable}
 use Rattle.velo_filter.specs.Tables.{marked}
 use Rattle.velo_races.specs.Races.{synchronizes, is_access_to, IsFreeOfRaces, no_lock}
 use Rattle.velo_races.specs.declared.sweep.Sweep.{Sweep}
@@ -94,5 +94,5 @@ pub record IsNotedAfterRoom (old : ClockState) (position : ℕ) (e : Event) (new
 -- ---- what is left out
 
 -- the variable is left out too, if it is marked
-abbrev pub with_marked : List Bool → ℕ → Left → Left
-with_marked marks x left = if marked marks x then with_variable left x else left
+abbrev pub with_marked : List Bool → ℕ → Omitted → Omitted
+with_marked marks x left = if marked marks x then with_variable omitted x else omitted

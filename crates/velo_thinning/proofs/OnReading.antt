@@ -8,9 +8,9 @@ use Rattle.velo_logtext.specs.declared.fault.LogFault.TheVariants as log_fault
 use Rattle.velo_logtext.specs.Finding.{ReadsAs, failures_after}
 use Rattle.velo_thinning.specs.declared.reading.ThinFault.{ThinFault}
 use Rattle.velo_thinning.specs.declared.reading.ThinFault.TheVariants.{Log, Refused, WrongValue, Memory}
-use Rattle.velo_thinning.specs.Reading.{IsInput, IsFaultOfEvents, IsFaultOf, failures_by}
+use Rattle.velo_thinning.specs.Reading.{IsThinInput, IsFaultOfEvents, IsFaultOf, failures_by}
 
-pub text_found : (read : Option (List ℕ)) (limit : ℕ) (bounds : Bounds) (log : List Event) → IfSome read (λ bytes. ReadsAs limit bytes (Ok (bounds, log))) → IsInput read bounds log
+pub text_found : (read : Option (List ℕ)) (limit : ℕ) (bounds : Bounds) (log : List Event) → IfSome read (λ bytes. ReadsAs limit bytes (Ok (bounds, log))) → IsThinInput read bounds log
 text_found (Some bytes) limit bounds log found = found.0
 text_found None limit bounds log found = tt
 
@@ -24,7 +24,7 @@ not_failed bounds log (WrongValue p) count w = refl
 not_failed bounds log Memory count w = refl
 not_failed bounds log (Log fault) count w = absurd w
 
-pub fault_found : (read : Option (List ℕ)) (bounds : Bounds) (log : List Event) (fault : ThinFault) → IsInput read bounds log → IsFaultOfEvents bounds log fault → IsFaultOf read fault
+pub fault_found : (read : Option (List ℕ)) (bounds : Bounds) (log : List Event) (fault : ThinFault) → IsThinInput read bounds log → IsFaultOfEvents bounds log fault → IsFaultOf read fault
 fault_found read bounds log (Refused p refusal) text w = record { bounds = bounds; log = log; text = text; reason = w }
 fault_found read bounds log (WrongValue p) text w = record { bounds = bounds; log = log; text = text; reason = w }
 fault_found read bounds log Memory text w = record { bounds = bounds; log = log; text = text; reason = w }

@@ -13,7 +13,7 @@ use Rattle.velo_delivery.specs.Disk.{Store}
 use Rattle.velo_delivery.specs.Writing.{Writing, Writes, BreaksOff, Delivers}
 use Rattle.velo_thinning.specs.declared.delivering.CountsText.{CountsText}
 use Rattle.velo_thinning.specs.declared.delivering.Outgoing.{Outgoing}
-use Rattle.velo_thinning.specs.Texts.{is_text_of, is_counts_of, IsSent}
+use Rattle.velo_thinning.specs.Texts.{IsOutgoingText, IsCountsText, IsSent}
 
 pub delivers : {X F : Type 0} (out : Writing) (text : List ℕ) (result : Result X F) → OnOk result (Appends out.old out.new text) → OnErr result (AppendsBeginning out.old out.new text)
     → OnOk result (out.failures_after ≡ out.failures_before) → OnErr result (out.failures_after ≡ with_failure out.failures_before) → Delivers out text result
@@ -23,12 +23,12 @@ delivers out text (Err f) went broke none failed = (broke, failed)
 abbrev answer_of : Bor (List (Save Outgoing)) → Bor (List ℕ) → Answer Outgoing CountsText ⊤
 answer_of saves counts = record { saves = saves; printed = Some (record { bytes = counts }); end = tt }
 
-broken : (stdout : Writing) (counts : Bor (List ℕ)) (failure : Failure) → PrintsText {X = ⊤} is_counts_of stdout (Some (record { bytes = counts })) (Err failure) → (failure ≡ PrintFailed) × BreaksOff stdout counts.now
+broken : (stdout : Writing) (counts : Bor (List ℕ)) (failure : Failure) → PrintsText {X = ⊤} IsCountsText stdout (Some (record { bytes = counts })) (Err failure) → (failure ≡ PrintFailed) × BreaksOff stdout counts.now
 broken stdout counts PrintFailed (text, is, w) = (refl, subst (BreaksOff stdout) is w)
 broken stdout counts failure w = absurd w
 
 pub sent : (store : Store) (stdout : Writing) (saves : Bor (List (Save Outgoing))) (counts : Bor (List ℕ)) (result : Result ⊤ Failure)
-    → IsAnswered is_text_of is_counts_of store stdout (answer_of saves counts) result → IsSent saves.now counts.now store stdout result
+    → IsAnswered IsOutgoingText IsCountsText store stdout (answer_of saves counts) result → IsSent saves.now counts.now store stdout result
 sent store stdout saves counts (Ok end) (same, all, (text, is, w)) = (all, subst (Writes stdout) is w)
 sent store stdout saves counts (Err failure) (inl h) = inl h
 sent store stdout saves counts (Err failure) (inr (all, w)) = let b = broken stdout counts failure w in inr (all, b.0, b.1)

@@ -36,27 +36,27 @@ IsFaultOfEvents bounds log (Log fault) = ⊥
 -- ---- by the bytes of an input; where they are not known nothing is said of them
 
 -- the bytes are the text of these bounds and events
-abbrev pub IsInput : Option (List ℕ) → Bounds → List Event → Type 0
-IsInput read bounds log = IfSome read (λ bytes. IsLogText bytes bounds log)
+abbrev pub IsThinInput : Option (List ℕ) → Bounds → List Event → Type 0
+IsThinInput read bounds log = IfSome read (λ bytes. IsLogText bytes bounds log)
 
 -- the log of the input, thinned
 pub record IsThinningOf (read : Option (List ℕ)) (thinned : ThinnedLog) : Type 0 where
   pub log : List Event
-  pub text : IsInput read thinned.config.bounds log
+  pub text : IsThinInput read thinned.config.bounds log
   pub thins : IsThinning thinned.config.bounds log thinned
 
 -- the events of the input can not come about
-pub record IsFaultOfInput (read : Option (List ℕ)) (fault : ThinFault) : Type 0 where
+pub record IsFaultOfThinInput (read : Option (List ℕ)) (fault : ThinFault) : Type 0 where
   pub bounds : Bounds
   pub log : List Event
-  pub text : IsInput read bounds log
+  pub text : IsThinInput read bounds log
   pub reason : IsFaultOfEvents bounds log fault
 
 -- the input is no log, for this reason, or its events can not come about
 abbrev pub IsFaultOf : Option (List ℕ) → ThinFault → Type 0
 IsFaultOf read (Log fault) =
     IfSome read (λ bytes. ReadsAs MAX_EVENTS bytes (Err fault)) × (fault ≡ log_fault.Memory → GrowthRefused)
-IsFaultOf read fault = IsFaultOfInput read fault
+IsFaultOf read fault = IsFaultOfThinInput read fault
 
 -- how often the source has failed then
 abbrev pub failures_by : {X : Type 0} → Result X ThinFault → ℕ → ℕ

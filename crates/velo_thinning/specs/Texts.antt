@@ -37,27 +37,27 @@ IsMapFor None places text = ⊤
 IsMapFor (Some path) places text = text ≡ map_text places
 
 -- what a text that is saved is, and the text of the counts
-abbrev pub is_text_of : Outgoing → List ℕ → Type 0
-is_text_of (Log thinned) text = text ≡ log_text thinned.now.config.bounds thinned.now.left.trace.events
-is_text_of (Map bytes) text = text ≡ bytes.now
+abbrev pub IsOutgoingText : Outgoing → List ℕ → Type 0
+IsOutgoingText (Log thinned) text = text ≡ log_text thinned.now.config.bounds thinned.now.left.trace.events
+IsOutgoingText (Map bytes) text = text ≡ bytes.now
 
-abbrev pub is_counts_of : CountsText → List ℕ → Type 0
-is_counts_of counts text = text ≡ counts.bytes.now
+abbrev pub IsCountsText : CountsText → List ℕ → Type 0
+IsCountsText counts text = text ≡ counts.bytes.now
 
 -- ---- what goes out
 
 -- The texts were saved, one after another, and then the counts were printed; or a text was not saved, and nothing was printed;
 -- or printing broke off
 abbrev pub IsSent : List (Save Outgoing) → List ℕ → Store → Writing → Result ⊤ Failure → Type 0
-IsSent saves counts store stdout (Ok end) = AreAllSaved is_text_of store saves × Writes stdout counts
+IsSent saves counts store stdout (Ok end) = AreAllSaved IsOutgoingText store saves × Writes stdout counts
 IsSent saves counts store stdout (Err failure) =
-    (IsOneUnsaved is_text_of store saves failure × WritesNothing stdout)
-    ⊎ (AreAllSaved is_text_of store saves × (failure ≡ failure_of.PrintFailed) × BreaksOff stdout counts)
+    (IsOneUnsaved IsOutgoingText store saves failure × WritesNothing stdout)
+    ⊎ (AreAllSaved IsOutgoingText store saves × (failure ≡ failure_of.PrintFailed) × BreaksOff stdout counts)
 
 -- a growth was refused
-abbrev pub LacksMemory : Result ⊤ Failure → Type 0
-LacksMemory (Err (failure_of.Memory memory)) = GrowthRefused
-LacksMemory result = ⊥
+abbrev pub IsMemoryFailure : Result ⊤ Failure → Type 0
+IsMemoryFailure (Err (failure_of.Memory memory)) = GrowthRefused
+IsMemoryFailure result = ⊥
 
 -- what is left of the log at its path, and then the map at its own
 abbrev pub saves_of : Bor ThinnedLog → Targets → Bor (List ℕ) → List (Save Outgoing)
@@ -68,6 +68,6 @@ saves_of thinned targets map =
 -- A growth was refused, and nothing was done; or these texts went out
 abbrev pub GoesOut : Bor ThinnedLog → Targets → Store → Writing → Result ⊤ Failure → Type 0
 GoesOut thinned targets store stdout result =
-    (LacksMemory result × store.is_kept × WritesNothing stdout)
+    (IsMemoryFailure result × store.is_kept × WritesNothing stdout)
     ⊎ ((map : Bor (List ℕ)) × IsMapFor targets.map thinned.now.left.places.items map.now
     × IsSent (saves_of thinned targets map) (counts_text thinned.now) store stdout result)

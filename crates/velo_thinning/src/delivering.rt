@@ -2,7 +2,7 @@
 ghost use Rattle.std.specs.Prelude.{◌≡◌, ◌++◌, IfOk, OnOk};
 ghost use Rattle.velo_delivery.specs.Disk.{store};
 ghost use Rattle.velo_delivery.specs.Writing.{writing};
-ghost use Rattle.velo_thinning.specs.Texts.{count_line, counts_text, map_text, IsMapFor, is_text_of, is_counts_of, IsSent, GoesOut};
+ghost use Rattle.velo_thinning.specs.Texts.{count_line, counts_text, map_text, IsMapFor, IsOutgoingText, IsCountsText, IsSent, GoesOut};
 
 use crate::outcome::ThinnedLog;
 use std::alloc::Global;
@@ -30,7 +30,7 @@ pub enum Outgoing<'t, 'm> {
 }
 
 impl<'t, 'm> StreamedText for Outgoing<'t, 'm> {
-    ghost is_text = { is_text_of };
+    ghost is_text = { IsOutgoingText };
 
     fn write_to<S: Sink>(&self, sink: &mut S) -> Result<(), WriteFault> {
         match self {
@@ -48,7 +48,7 @@ pub struct CountsText<'c> {
 }
 
 impl<'c> StreamedText for CountsText<'c> {
-    ghost is_text = { is_counts_of };
+    ghost is_text = { IsCountsText };
 
     fn write_to<S: Sink>(&self, sink: &mut S) -> Result<(), WriteFault> {
         write_all(sink, self.bytes)

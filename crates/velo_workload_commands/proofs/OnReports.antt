@@ -16,13 +16,13 @@ use Rattle.velo_fate.specs.declared.fate.Fate.TheVariants as fate
 use Rattle.velo_fate.specs.declared.saved.Saved.{Saved}
 use Rattle.velo_fate.specs.Delivery.{CommandAnswer, IsDeliveredInTurn, IsTaken, LacksMemory}
 use Rattle.velo_fate.specs.Fate.{fate_of_failure}
-use Rattle.velo_fate.specs.Saving.{is_text_saved, text_of_log}
+use Rattle.velo_fate.specs.Saving.{IsSavedText, text_of_log}
 use Rattle.velo_fate.specs.Verdict.{KnowsAlarm, IsOrderOrCycle, IsOutputOf}
 use Rattle.velo_fate.proofs.OnVerdicts.{output_exists}
 use Rattle.velo_workload.specs.Program.{Program}
 use Rattle.velo_workload_commands.specs.declared.page.Page.{Page}
 use Rattle.velo_workload_commands.specs.Playing.{AreNamesOfProgram, IsReported, text_of_names}
-use Rattle.velo_workload_commands.specs.Reporting.{AreNamesFor, IsListFor, IsNoFileFailure, is_page}
+use Rattle.velo_workload_commands.specs.Reporting.{AreNamesFor, IsListFor, IsNoFileFailure, IsPageText}
 use Rattle.velo_workload_commands.proofs.OnSaving.{both, run_saved, run_unsaved}
 use Rattle.velo_workload_commands.proofs.OnTurns.{in_turn_named, saved_in_turn, unsaved_in_turn}
 
@@ -50,7 +50,7 @@ module _ {S : Type 0} (contents : S → Option (List ℕ)) (failures : S → ℕ
 -- ---- a page
 
 -- it has a text
-pub page-exists : (page : Page) → IfSome page.list (λ list. IsOrderOrCycle page.closed.now.log list.now) → KnowsAlarm page.closed.now.log → (text : List ℕ) × is_page page text
+pub page-exists : (page : Page) → IfSome page.list (λ list. IsOrderOrCycle page.closed.now.log list.now) → KnowsAlarm page.closed.now.log → (text : List ℕ) × IsPageText page text
 page-exists page certifies judged =
     let w = page.closed.now in
     let output = output_exists page.names w.config.bounds.threads w.log page.list certifies judged in
@@ -92,7 +92,7 @@ module _ {F : Type 0} (disk : F → Disk) (first left : F) (names : Bor (List �
       (answer : CommandAnswer) × (IsReported program certificate page.before.now page.closed.now page.after.now end answer ⊎ LacksMemory answer)
       × IsDeliveredInTurn (store disk first left) target path (text_of_names program) stdout answer f
 
-  by_text : (text : List ℕ) (f : Fate) → is_page page text → IsDeliveredInTurn (store disk first left) target path names.now stdout (said text) f → Reported f
+  by_text : (text : List ℕ) (f : Fate) → IsPageText page text → IsDeliveredInTurn (store disk first left) target path names.now stdout (said text) f → Reported f
   by_text text f has out = (
     said text,
     inl (record {
@@ -106,7 +106,7 @@ module _ {F : Type 0} (disk : F → Disk) (first left : F) (names : Bor (List �
   )
 
   pub unsaved-report : IfSome page.list (λ list. IsOrderOrCycle page.closed.now.log list.now) → KnowsAlarm page.closed.now.log → (f : Failure)
-      → IsOneUnsaved is_text_saved (store disk first left) saves f → WritesNothing stdout → Reported (fate_of_failure f)
+      → IsOneUnsaved IsSavedText (store disk first left) saves f → WritesNothing stdout → Reported (fate_of_failure f)
   unsaved-report certifies judged f unsaved nothing =
       let any = page-exists page certifies judged in
       by_text any.0 (fate_of_failure f) any.1
@@ -117,13 +117,13 @@ module _ {F : Type 0} (disk : F → Disk) (first left : F) (names : Bor (List �
   taken text fate.WriteFailed same went = absurd (plain.written (sym same))
   taken text f same went = (same, went)
 
-  pub printed-report : AreAllSaved is_text_saved (store disk first left) saves → (text : List ℕ) → is_page page text → Writes stdout text → Reported end
+  pub printed-report : AreAllSaved IsSavedText (store disk first left) saves → (text : List ℕ) → IsPageText page text → Writes stdout text → Reported end
   printed-report saved text has went =
       by_text text end has
       (saved_in_turn (store disk first left) target names.now log stdout (Some text) end end tt path
       (run_saved disk first left names named page.closed at target ⊤ tt path saved) plain.opened (taken text end refl went))
 
-  pub broken-report : AreAllSaved is_text_saved (store disk first left) saves → (text : List ℕ) → is_page page text → BreaksOff stdout text → Reported fate.WriteFailed
+  pub broken-report : AreAllSaved IsSavedText (store disk first left) saves → (text : List ℕ) → IsPageText page text → BreaksOff stdout text → Reported fate.WriteFailed
   broken-report saved text has broke =
       by_text text fate.WriteFailed has
       (saved_in_turn (store disk first left) target names.now log stdout (Some text) end fate.WriteFailed tt path

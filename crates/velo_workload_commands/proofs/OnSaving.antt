@@ -33,7 +33,7 @@ use Rattle.velo_fate.specs.declared.saved.Saved.TheVariants as saved
 use Rattle.velo_fate.specs.Delivery.{Saves}
 use Rattle.velo_fate.specs.Fate.{fate_of_failure}
 use Rattle.velo_workload_commands.specs.Playing.{FitsNames, listed, text_of_names}
-use Rattle.velo_fate.specs.Saving.{text_of_log, is_text_saved}
+use Rattle.velo_fate.specs.Saving.{text_of_log, IsSavedText}
 use Rattle.velo_workload_commands.specs.Steps.{IsSavedInTurn}
 use Rattle.velo_fate.proofs.OnSaving.{whole_saved, log_unsaved, bytes_unsaved, bytes_at}
 
@@ -48,7 +48,7 @@ module _ {F : Type 0} (disk : F → Disk) (first left : F) (bytes : Bor (List �
     both path = record { operand = at; path = target; text = saved.Log closed } ∷ bytes_at disk first left bytes named path ∷ []
 
     -- a log, and then a text
-    pub run_saved : (X : Type 0) (x : X) (path : Option (Bor (List ℕ))) → AreAllSaved is_text_saved (store disk first left) (both path) → IsSavedInTurn (store disk first left) target path bytes.now log (Ok x)
+    pub run_saved : (X : Type 0) (x : X) (path : Option (Bor (List ℕ))) → AreAllSaved IsSavedText (store disk first left) (both path) → IsSavedInTurn (store disk first left) target path bytes.now log (Ok x)
     run_saved X x None (between, one, (last, same, end)) =
         subst (λ (s : F). Saves (store disk first s) target (Some log)) (sym (end ∙ same)) (whole_saved (store disk first between) target log one)
     run_saved X x (Some path) (between, one, (last, other, end)) = inr (
@@ -57,11 +57,11 @@ module _ {F : Type 0} (disk : F → Disk) (first left : F) (bytes : Bor (List �
       subst (λ (s : F). Saves (store disk between s) (Some path) (Some bytes.now)) (sym end) (whole_saved (store disk between last) (Some path) bytes.now other),
     )
 
-    pub run_unsaved : (X : Type 0) (path : Option (Bor (List ℕ))) (f : Failure) → IsOneUnsaved is_text_saved (store disk first left) (both path) f → IsSavedInTurn {X = X} (store disk first left) target path bytes.now log (Err (fate_of_failure f))
+    pub run_unsaved : (X : Type 0) (path : Option (Bor (List ℕ))) (f : Failure) → IsOneUnsaved IsSavedText (store disk first left) (both path) f → IsSavedInTurn {X = X} (store disk first left) target path bytes.now log (Err (fate_of_failure f))
     run_unsaved X None f (inl h) = log_unsaved (store disk first left) at target closed f h
     run_unsaved X None f (inr (between, one, inl h)) = absurd (none_there f h)
       where
-        none_there : (f : Failure) → IsUnsavedFor is_text_saved (store disk between left) (bytes_at disk first left bytes named None) f → ⊥
+        none_there : (f : Failure) → IsUnsavedFor IsSavedText (store disk between left) (bytes_at disk first left bytes named None) f → ⊥
         none_there (failure.CannotOpen which) h = h.1
         none_there (failure.WriteFailed which) h = h.1
         none_there f h = h

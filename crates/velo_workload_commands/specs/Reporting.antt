@@ -18,8 +18,8 @@ use Rattle.velo_workload_commands.specs.declared.page.Page.{Page}
 use Rattle.velo_workload_commands.specs.declared.reporting.RunReport.{RunReport}
 
 -- the text of a page: the output of its world between the two texts
-abbrev pub is_page : Page → List ℕ → Type 0
-is_page page text =
+abbrev pub IsPageText : Page → List ℕ → Type 0
+IsPageText page text =
     (report : List ℕ) × IsOutputOf page.names (is_some page.list) page.closed.now report
     × (text ≡ page.before.now ++ (report ++ page.after.now))
 

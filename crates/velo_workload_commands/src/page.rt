@@ -3,7 +3,7 @@ ghost use Rattle.std.specs.Prelude.{IfSome};
 ghost use Rattle.velo_delivery.specs.Answers.{WritesText};
 ghost use Rattle.velo_delivery.specs.Writing.{writing};
 ghost use Rattle.velo_fate.specs.Verdict.{KnowsAlarm, IsOrderOrCycle};
-ghost use Rattle.velo_workload_commands.specs.Reporting.{is_page};
+ghost use Rattle.velo_workload_commands.specs.Reporting.{IsPageText};
 
 use velo_bytes::{Sink, WriteFault, write_all};
 use velo_fate::write_output;
@@ -30,7 +30,7 @@ pub fn print_page<O: Sink>(page: &Page, out: &mut O) -> Result<(), WriteFault>
     requires list { IfSome page.now.list
         (λ list. IsOrderOrCycle page.now.closed.now.log list.now) }
     requires judged { KnowsAlarm page.now.closed.now.log }
-    ensures { WritesText (is_page page.now)
+    ensures { WritesText (IsPageText page.now)
         (writing O.contents O.failures out.old out.new) result }
 {
     write_all(out, page.before)?;

@@ -22,4 +22,4 @@ pub returns-in-Some-clause-cut : goal.returns-in-Some-clause-cut
 returns-in-Some-clause-cut c = c.in_ok-verdict.ensures.judges.is_cut
 
 pub returns-clause-verdict : goal.returns-clause-verdict
-returns-clause-verdict c = NoCycle-at_end c.args.asked c.args.log.now.events (left_of c.args.left.now) c.loop-cut.cut c.loop-cut.invariant.is_cut (omega (arith, c.loop-cut-test.false, c.len.ensures))
+returns-clause-verdict c = NoCycle-at_end c.args.with_witness c.args.log.now.events (left_of c.args.left.now) c.loop-cut.cut c.loop-cut.invariant.is_cut (omega (arith, c.loop-cut-test.false, c.len.ensures))

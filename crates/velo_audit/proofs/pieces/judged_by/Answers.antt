@@ -17,17 +17,17 @@ move_to-requires-clause-begun c = c.requires.1.begun
 
 pub returns-in-Some-clause-judges : goal.returns-in-Some-clause-judges
 returns-in-Some-clause-judges c left is ends =
-    Judges-told c.args.asked c.args.log.now.events left c.args.cut.now c.args.end c.args.marks.items c.args.closed.now.log c.args.places.now is ends c.in_ok-told.field-0 c.in-Some.told c.in-Some.is c.in_ok-told.ensures.tells
+    Judges-told c.args.with_witness c.args.log.now.events left c.args.cut.now c.args.end c.args.marks.items c.args.closed.now.log c.args.places.now is ends c.in_ok-told.field-0 c.in-Some.told c.in-Some.is c.in_ok-told.ensures.tells
 
 pub returns-then-end-len-clause-judges : goal.returns-then-end-len-clause-judges
 returns-then-end-len-clause-judges c left is ends =
-    Judges-none c.args.asked c.args.log.now.events left c.args.cut.now c.args.end c.args.marks.items c.args.closed.now.log c.args.places.now is ends c.in_ok-told.field-0 c.in_default.is (c.if-end-len.true ∙ c.len.ensures) c.in_ok-told.ensures.tells
+    Judges-none c.args.with_witness c.args.log.now.events left c.args.cut.now c.args.end c.args.marks.items c.args.closed.now.log c.args.places.now is ends c.in_ok-told.field-0 c.in_default.is (c.if-end-len.true ∙ c.len.ensures) c.in_ok-told.ensures.tells
 
 pub returns-then-not-is_quiet-clause-judges : goal.returns-then-not-is_quiet-clause-judges
 returns-then-not-is_quiet-clause-judges c left is ends =
-    Judges-unknown c.args.asked c.args.log.now.events left c.args.cut.now c.args.end c.args.marks.items c.args.closed.now.log c.args.places.now is ends
+    Judges-unknown c.args.with_witness c.args.log.now.events left c.args.cut.now c.args.end c.args.marks.items c.args.closed.now.log c.args.places.now is ends
 
 pub returns-clause-judges : goal.returns-clause-judges
 returns-clause-judges c left is ends =
-    Judges-moved c.args.asked c.args.log.now.events left c.args.cut.now c.args.end c.args.marks.items c.args.closed.now.log c.args.places.now is ends c.in_ok-told.field-0 c.in_default.is c.in_ok-told.ensures.tells
+    Judges-moved c.args.with_witness c.args.log.now.events left c.args.cut.now c.args.end c.args.marks.items c.args.closed.now.log c.args.places.now is ends c.in_ok-told.field-0 c.in_default.is c.in_ok-told.ensures.tells
     (c.is_quiet.ensures c.if-not-is_quiet.false) c.move_to.new.cut c.in_ok-move_to.ensures.place c.in_ok-move_to.ensures.marks c.in_ok-move_to.ensures.no_begin c.in_ok-move_to.ensures.begun

@@ -19,7 +19,7 @@ check-requires-clause-as_many c = ap length c.in-Ok.ensures.places ∙ (length-p
 
 pub returns-in-Ok-clause-tells : goal.returns-in-Ok-clause-tells
 returns-in-Ok-clause-tells c = if_ok c.check.result
-    (RoundTells-check c.args.asked c.args.log.now.events (left_of c.args.left.now) c.in-Ok.thinned.trace.events c.in-Ok.thinned.places.items c.in-Ok.ensures.events c.in-Ok.ensures.places) c.check.ensures.tells
+    (RoundTells-check c.args.with_witness c.args.log.now.events (left_of c.args.left.now) c.in-Ok.thinned.trace.events c.in-Ok.thinned.places.items c.in-Ok.ensures.events c.in-Ok.ensures.places) c.check.ensures.tells
 
 pub returns-in-Ok-clause-fault : goal.returns-in-Ok-clause-fault
 returns-in-Ok-clause-fault c = if_err c.check.result

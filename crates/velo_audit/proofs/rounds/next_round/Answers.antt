@@ -10,7 +10,7 @@ pub returns-in-Ok-clause-left : goal.returns-in-Ok-clause-left
 returns-in-Ok-clause-left c =
     let log = c.args.log.now.events in
     let left = left_of c.args.left.now in
-    let tells = subst (RoundTells c.args.asked log left) c.in-Some.is c.in_ok-round.ensures.tells in
+    let tells = subst (RoundTells c.args.with_witness log left) c.in-Some.is c.in_ok-round.ensures.tells in
     c.in-Ok.ensures.left ∙ ap (with_labels left) (ap (map (λ (b : Block). b.label.0)) c.deref.ensures.value ∙ labels-told log c.in-Some.told tells.1)
 
 pub returns-in-Ok-clause-cut : goal.returns-in-Ok-clause-cut

@@ -1,7 +1,7 @@
 use Rattle.std.proofs.Common.{List, ap, ◌∙◌, subst}
 use Rattle.std.specs.Prelude.{IfOk}
 use Rattle.velo_events.specs.declared.event.Event.{Event}
-use Rattle.velo_filter.specs.Left.{Left, rest_of}
+use Rattle.velo_filter.specs.Left.{Omitted, rest_of}
 use Rattle.velo_audit_text.specs.Listing.{IsListingText}
 use Rattle.velo_audit_commands.proofs.page.listed.Goals as goal
 
@@ -17,4 +17,4 @@ listing_text-requires-clause-can_come_about c = record { bounds = c.args.bounds;
 pub returns : goal.returns
 returns c =
     subst (λ (es : List Event). IfOk c.listing_text.result (λ page. IsListingText c.args.names.now c.args.sites.now c.args.log.now.events c.args.asked.now c.args.listing es c.args.rounds.now c.args.atomic page))
-    (c.in_ok-first.ensures.events ∙ ap (λ (l : Left). rest_of l c.args.log.now.events) c.in_ok-left.ensures) c.listing_text.ensures
+    (c.in_ok-first.ensures.events ∙ ap (λ (l : Omitted). rest_of l c.args.log.now.events) c.in_ok-left.ensures) c.listing_text.ensures

@@ -3,7 +3,7 @@ use Rattle.std.specs.Prelude.{option_map}
 use Rattle.velo_events.specs.declared.event.Event.{Event}
 use Rattle.velo_events.specs.declared.event.Kind.TheVariants.{Read}
 use Rattle.velo_events.specs.declared.event.LockId.{LockId}
-use Rattle.velo_filter.specs.Left.{Left}
+use Rattle.velo_filter.specs.Left.{Omitted}
 use Rattle.velo_filter.specs.Tables.{left_of}
 use Rattle.velo_delays.proofs.OnDeadlocks.{wanted-none, wanted-some, with_numbers-nil}
 use Rattle.velo_delays.proofs.deadlocks.leave_out_wanted.Goals as goal
@@ -24,7 +24,7 @@ loop-event-preserved c =
     elim c.match-lock_wanted.branch [
       | in-Some+in_ok-leave_out_lock w ↦ rw w.done-is (record {
         locks = wanted-some test old _ c.args.waiting.now c.loop-event.event-index none more was w.in-Some.lock.0
-            (sym c.lock_wanted.ensures ∙ ap (option_map (λ (m : LockId). m.0)) w.in-Some.is) (ap (λ (l : Left). l.locks) w.in_ok-leave_out_lock.ensures.ok);
+            (sym c.lock_wanted.ensures ∙ ap (option_map (λ (m : LockId). m.0)) w.in-Some.is) (ap (λ (l : Omitted). l.locks) w.in_ok-leave_out_lock.ensures.ok);
       })
       | in_default w ↦ rw w.done-is (record { locks = wanted-none test old old c.args.waiting.now c.loop-event.event-index none more was c.lock_wanted.result w.in_default.not-Some c.lock_wanted.ensures refl })
     ]

@@ -1,12 +1,12 @@
 use Rattle.std.proofs.Common.{ap}
-use Rattle.velo_filter.specs.Left.{Left}
+use Rattle.velo_filter.specs.Left.{Omitted}
 use Rattle.velo_delays.proofs.OnDeadlocks.{AreDeadlocks-none, done-none, taken}
 use Rattle.velo_delays.proofs.deadlocks.try_all.Goals as goal
 
 pub loop-at-init : goal.loop-at-init
 loop-at-init c = record {
   stands = c.in_ok-base.ensures;
-  done = done-none _ c.args.deadlocks.now.found.items (ap (λ (l : Left). l.locks) c.new-done.ensures) c.requires.none;
+  done = done-none _ c.args.deadlocks.now.found.items (ap (λ (l : Omitted). l.locks) c.new-done.ensures) c.requires.none;
   found = AreDeadlocks-none c.args.config.now.bounds c.args.log.now.events c.args.deadlocks.now.found.items c.requires.none;
 }
 

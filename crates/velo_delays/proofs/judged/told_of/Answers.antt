@@ -5,7 +5,7 @@ use Rattle.std.proofs.lemmas.Option.{slice_get-get_or}
 use Rattle.velo_filter.specs.Left.{nothing}
 use Rattle.velo_audit.specs.Audit.{TellsTruly, AreWitnessed}
 use Rattle.velo_audit.specs.Rounds.{Rounds}
-use Rattle.velo_audit.specs.Tells.{told_as}
+use Rattle.velo_audit.specs.Tells.{numbers_of}
 use Rattle.velo_delays.proofs.OnFound.{first-round, first-witness, first-each}
 use Rattle.velo_delays.proofs.judged.told_of.Goals as goal
 
@@ -14,7 +14,7 @@ returns-in-Ok-clause-first c =
     let some : 0 < length c.in-Ok.rounds.items = grind (arith, common_steps) in
     let first : slice_get c.in-Ok.rounds.items 0 ≡ Some c.swap_remove.result = slice_get-get_or c.in-Ok.rounds.items 0 c.swap_remove.result some ∙ ap Some (sym c.swap_remove.ensures.value) in
     first-round c.args.trace.now.events nothing c.in-Ok.rounds.items c.swap_remove.result first
-    (subst (λ left. Rounds c.args.trace.now.events left (map told_as c.in-Ok.rounds.items)) c.new.ensures c.in-Ok.ensures.rounds)
+    (subst (λ left. Rounds c.args.trace.now.events left (map numbers_of c.in-Ok.rounds.items)) c.new.ensures c.in-Ok.ensures.rounds)
 
 pub returns-in-Ok-clause-truly : goal.returns-in-Ok-clause-truly
 returns-in-Ok-clause-truly c =

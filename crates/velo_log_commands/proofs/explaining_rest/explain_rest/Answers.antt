@@ -1,6 +1,6 @@
 use Rattle.std.proofs.Common.{◌∙◌, [], List, inr, refl, subst, rules}
 use Rattle.std.specs.Prelude.{ℕ}
-use Rattle.velo_filter.specs.Left.{Left}
+use Rattle.velo_filter.specs.Left.{Omitted}
 use Rattle.velo_fate.specs.declared.fate.Fate.TheVariants.{Memory}
 use Rattle.velo_fate.specs.Delivery.{silent}
 use Rattle.velo_delivery.specs.Disk.{store}
@@ -26,5 +26,5 @@ returns g c =
     let stdout = writing g.O.Sink.contents g.O.Sink.failures c.args.out.now c.explain_left.new.out in
     subst (λ (before : List ℕ). Explains (ExplainsRest before names sites (left_out_at_first inquiry.asked.now) log) files inquiry.options.now stdout c.explain_left.result)
     (c.as_slice.ensures ∙ c.in-Ok.ensures)
-    (subst (λ (left : Left). Explains (ExplainsRest c.as_slice.result.now names sites left log) files inquiry.options.now stdout c.explain_left.result)
+    (subst (λ (left : Omitted). Explains (ExplainsRest c.as_slice.result.now names sites left log) files inquiry.options.now stdout c.explain_left.result)
     c.in-Ok-left_out.ensures c.explain_left.ensures)

@@ -1,6 +1,6 @@
 use Rattle.std.proofs.Common.{Err, ap, sym, subst}
 use Rattle.velo_logtext.specs.declared.fault.LogFault.{LogFault}
-use Rattle.velo_thinning.specs.Reading.{IsInput, IsThinning}
+use Rattle.velo_thinning.specs.Reading.{IsThinInput, IsThinning}
 use Rattle.velo_thinning.proofs.OnReading.{text_found, failed_by, fault_found}
 use Rattle.velo_thinning.proofs.reading.read_thinned.Goals as goal
 
@@ -17,7 +17,7 @@ returns-in-Ok-thinned_log-clause-ok g c =
     let w = c.in-Ok-thinned_log.ensures.ok in
     record {
       log = log;
-      text = subst (λ b. IsInput known b log) (sym w.bounds_stay) (text_found known _ _ _ c.in-Ok.ensures.found);
+      text = subst (λ b. IsThinInput known b log) (sym w.bounds_stay) (text_found known _ _ _ c.in-Ok.ensures.found);
       thins = subst (λ b. IsThinning b log c.in-Ok-thinned_log.thinned) (sym w.bounds_stay) w;
     }
 

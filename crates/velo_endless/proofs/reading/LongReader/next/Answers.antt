@@ -5,7 +5,7 @@ use Rattle.velo_logtext.specs.declared.fault.LogFault.{LogFault}
 use Rattle.velo_logtext.specs.Finding.{ReadsAs}
 use Rattle.velo_logtext.specs.Reader.{ReaderState, HasGiven, Gives, IsMetBehind}
 use Rattle.velo_endless.specs.declared.reading.TheConstants.{MAX_WATCHED}
-use Rattle.velo_endless.specs.Reading.{HasRead, IsMetAfter}
+use Rattle.velo_endless.specs.Reading.{HasRead, IsMetEndless}
 use Rattle.velo_endless.proofs.OnReading.{from_header, anew, given_anew, read_one, long_read, end_read, fault_read, fault_met}
 use Rattle.velo_endless.proofs.reading.LongReader.next.Goals as goal
 
