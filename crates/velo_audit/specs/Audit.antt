@@ -50,8 +50,8 @@ TellsTruly log told =
 -- where witnesses were asked for, each round has its own
 unfoldable pub AreWitnessed : Bool → List Event → Omitted → List Told → Type 0
 AreWitnessed with_witness log omitted [] = ⊤
-AreWitnessed with_witness log omitted (told ∷ rest) =
-    HasWitness with_witness log omitted told.closing told.witness × AreWitnessed with_witness log (with_labels omitted (labels_told log (numbers_of told))) rest
+AreWitnessed with_witness log omitted (told ∷ later) =
+    HasWitness with_witness log omitted told.closing told.witness × AreWitnessed with_witness log (with_labels omitted (labels_told log (numbers_of told))) later
 
 -- what is left out behind the round
 abbrev pub left_behind : List Event → Omitted → Option Told → Omitted

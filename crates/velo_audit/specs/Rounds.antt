@@ -29,7 +29,7 @@ atomic_labels omitted log = count_by (λ l. not (omitted.labels l)) (labels_in l
 
 -- ---- a round
 
--- what a round tells. Its positions are those of the log as read
+-- what a round tells, in positions of the log as read; `Told` of the code has the labels and the witness, too
 pub record RoundNumbers : Type 0 where
   -- of the event that closes the first cycle of the rest
   pub closing : ℕ
@@ -71,12 +71,12 @@ pub record IsRound (log : List Event) (omitted : Omitted) (told : RoundNumbers) 
 -- what is left out after the rounds
 unfoldable pub left_after : List Event → Omitted → List RoundNumbers → Omitted
 left_after log omitted [] = omitted
-left_after log omitted (told ∷ rest) = left_after log (with_labels omitted (labels_told log told)) rest
+left_after log omitted (told ∷ later) = left_after log (with_labels omitted (labels_told log told)) later
 
 -- each round is one of the rest after those before it, and after the last the rest has no cycle
 unfoldable pub Rounds : List Event → Omitted → List RoundNumbers → Type 0
 Rounds log omitted [] = ¬ HasCycle (rest_of omitted log)
-Rounds log omitted (told ∷ rest) = IsRound log omitted told × Rounds log (with_labels omitted (labels_told log told)) rest
+Rounds log omitted (told ∷ later) = IsRound log omitted told × Rounds log (with_labels omitted (labels_told log told)) later
 
 -- no other list has the rounds of the log
 abbrev pub AreTheOnlyRounds : List Event → Omitted → List RoundNumbers → Type 0
@@ -85,7 +85,7 @@ AreTheOnlyRounds log omitted rounds = (others : List RoundNumbers) → Rounds lo
 -- each is a round of the rest after those before it
 unfoldable pub FirstRounds : List Event → Omitted → List RoundNumbers → Type 0
 FirstRounds log omitted [] = ⊤
-FirstRounds log omitted (told ∷ rest) = IsRound log omitted told × FirstRounds log (with_labels omitted (labels_told log told)) rest
+FirstRounds log omitted (told ∷ later) = IsRound log omitted told × FirstRounds log (with_labels omitted (labels_told log told)) later
 
 -- the labels that are told, each in the first round that tells it
 abbrev pub labels_found : List Event → List RoundNumbers → List ℕ

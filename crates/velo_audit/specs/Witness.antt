@@ -36,7 +36,7 @@ pub record IsAsRead (place : ℕ → ℕ) (inside evidence : Evidence) : Type 0 
 -- ---- the witness of a round
 
 -- The event at place `closing` of the log as read closes the first cycle of the rest. The evidence is what explains this there: a
--- shortest cycle through its transaction, the events behind its edges, and for each block to blame an event that parts it.
+-- shortest cycle through its transaction, the events behind its edges, and for each block to blame an event of another thread that must be inside it.
 pub record IsWitness (log : List Event) (omitted : Omitted) (closing : ℕ) (evidence : Evidence) : Type 0 where
   -- in the rest
   pub position : ℕ

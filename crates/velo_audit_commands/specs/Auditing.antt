@@ -35,7 +35,7 @@ use Rattle.velo_fate.specs.Failures.{FailuresAsTold}
 use Rattle.velo_delivery.specs.Reading.{Reading}
 use Rattle.velo_delivery.specs.Writing.{Writing, WritesNothing}
 
--- ---- what is left out
+-- ---- what is left out. `asked` is what the words and the list ask to be left out (`Asked` of `velo_audit_text`)
 
 -- after the rounds: the labels that they found, too
 abbrev pub left_out_at_last : List Event → Omitted → List Told → Omitted

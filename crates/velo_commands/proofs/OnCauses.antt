@@ -327,10 +327,14 @@ played needs play options store stdout f so (inr h) =
 
 -- of a log that was watched
 abbrev RefusesByGrowth : Terms → Type 0
-RefusesByGrowth terms = (bounds : Bounds) (log : List Event) (e : Event) (p : ℕ) (r : Refusal) → terms.IsFaultAt bounds log e (replay.Refused p r) → RefusedByGrowth r
+RefusesByGrowth terms = (bounds : Bounds) (log : List Event) (e : Event) (p : ℕ) (r : Refusal) → terms.IsFaultOfNext bounds log e (replay.Refused p r) → RefusedByGrowth r
 
 of_fault_within : (limits : Limits) → (bounds : Bounds) (log : List Event) (e : Event) (p : ℕ) (r : Refusal) → IsFaultWithin limits bounds log e (replay.Refused p r) → RefusedByGrowth r
-of_fault_within limits bounds log e p r is = of_refused limits.events limits.nodes bounds _ p r is
+of_fault_within limits bounds log e p r (config, same, keeps, (there, why)) =
+    ⊎_elim
+    (λ flawed. of_flaw config.bounds log e r flawed)
+    (λ full. ⊎_elim (λ h. rw h.0 tt) (λ h. rw h.0 tt) full.1)
+    why
 
 of_fault_of_whole : (limits : Limits) → (bounds : Bounds) (log : List Event) (e : Event) (p : ℕ) (r : Refusal) → IsFaultOfWhole limits bounds log e (replay.Refused p r) → RefusedByGrowth r
 of_fault_of_whole limits bounds log e p r (config, same, keeps, (there, why)) =

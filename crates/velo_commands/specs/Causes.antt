@@ -1,4 +1,4 @@
--- Out of memory is reported only after an allocation failed.
+-- Out of memory is reported only after an allocation failed; of a run, or the start of a thread.
 use Rattle.velo_request.specs.declared.request.Request.{Request}
 use Rattle.velo_request.specs.declared.request.Request.TheVariants as request
 use Rattle.velo_fate.specs.declared.fate.Fate.{Fate}

@@ -233,8 +233,8 @@ module _ (config : Config) (whole kept : List Event) (so_many so_long : ℕ) (e 
   at_limit refusal h = (
     none,
     ⊎_elim
-        (λ full. inl (full.1, record { kept = kept; is_kept = kept_in_time; full = full.2; no_cut = full_now full.2 }))
-        (λ full. inr (full.1, record { kept = kept; is_kept = kept_in_time; no_node = full.2.2 }))
+        (λ full. inl (full.0, record { kept = kept; is_kept = kept_in_time; full = full.1; no_cut = full_now full.1 }))
+        (λ full. inr (full.0, record { kept = kept; is_kept = kept_in_time; no_node = full.2 }))
         h,
   )
 

@@ -32,7 +32,8 @@ given_after (Ok (Some e)) given = given + 1
 given_after (Ok None) given = given
 given_after (Err fault) given = given
 
--- where a fault is met: behind so many events, in the line that comes next
+-- where a fault is met: behind so many events, in the line that comes next; as `IsMetBehind` of `velo_logtext`, for MAX_WATCHED
+-- events
 abbrev pub IsMetEndless : ℕ → LogFault → Type 0
 IsMetEndless given (BadLine n) = n ≡ given + 2
 IsMetEndless given (Truncated n) = n ≡ given + 2

@@ -51,7 +51,7 @@ pub fn explore<P: Progress>(
         (IsLeftOpen workload.now config most_states first
         (P.may_end progress.old && P.says_over progress.new) x.states x.findings fault)) }
     ensures untried { IfOk result (λ x. config.events < sum_by body_events workload.now.bodies →
-        IsUntried x.states x.findings) }
+        IsUntried x.states x.findings (map (λ v. v.items) x.alarms.items)) }
     ensures alarms { IfOk result (λ x. AreAlarms workload.now config first x.findings.alarm
         (map (λ v. v.items) x.alarms.items)) }
 {

@@ -92,17 +92,17 @@ FailsSaving store target saved f = ⊥
 
 -- What became of an answer with a text to save, if it has one, and after it a second text at its own
 -- path, if there is one: names after a log, a drawing after a picture. If the first is not saved,
--- nothing else is done. Then it is as if the second were what is to be saved. Without the first, or a
--- path for the second, the second is not saved.
+-- nothing else is done. Then it is as if the second were what is to be saved. Without a first text, or
+-- a path for the second, the second is not saved. A first text without a target counts as saved.
 abbrev pub DeliversBy : Option (List ℕ) → Store → Option (Bor (List ℕ)) → Option (Bor (List ℕ))
     → List ℕ → Writing → CommandAnswer → Fate → Type 0
-DeliversBy (Some log) store target (Some path) names stdout answer f =
-    (FailsSaving store target (Some log) f × WritesNothing stdout)
-    ⊎ ((between : store.State) × Saves (up_to store between) target (Some log)
-    × IsDelivered (behind store between) (Some path) stdout (record answer { saved = Some names }) f)
-DeliversBy log store target path names stdout answer f = IsDelivered store target stdout answer f
+DeliversBy (Some first) store target (Some path) second stdout answer f =
+    (FailsSaving store target (Some first) f × WritesNothing stdout)
+    ⊎ ((between : store.State) × Saves (up_to store between) target (Some first)
+    × IsDelivered (behind store between) (Some path) stdout (record answer { saved = Some second }) f)
+DeliversBy first store target path second stdout answer f = IsDelivered store target stdout answer f
 
 abbrev pub IsDeliveredInTurn : Store → Option (Bor (List ℕ)) → Option (Bor (List ℕ)) → List ℕ
     → Writing → CommandAnswer → Fate → Type 0
-IsDeliveredInTurn store target path names stdout answer f =
-    DeliversBy answer.saved store target path names stdout answer f
+IsDeliveredInTurn store target path second stdout answer f =
+    DeliversBy answer.saved store target path second stdout answer f

@@ -198,7 +198,7 @@ line_of_ignored ignorable.Lock = codes "ignored fault 1\n"
 line_of_ignored ignorable.Variable = codes "ignored fault 2\n"
 line_of_ignored ignorable.Label = codes "ignored fault 3\n"
 
--- the word of the command line
+-- its word in the line of `OneFile`, which has LOG, FILE, OUT, NAMES (of --names-out), MAP or SVG alone
 abbrev pub word_of : Operand → List ℕ
 word_of operand.Log = codes "LOG"
 word_of operand.File = codes "FILE"

@@ -10,7 +10,7 @@ use Rattle.velo_events.specs.Reordering.{IsSelfSerializable}
 
 -- ---- what is to be left out
 
--- labels, locks and variables, each as a test on their numbers
+-- what is left out: labels, locks and variables, each as a test on their numbers
 pub record Omitted : Type 0 where
   pub labels : ℕ → Bool
   pub locks : ℕ → Bool

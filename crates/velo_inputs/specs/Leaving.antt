@@ -1,4 +1,4 @@
--- What is left of a log where a command leaves something out.
+-- What a command leaves out of a log.
 use Rattle.std.specs.Prelude.{◌||◌, ◌&&◌, nat_lt, ℕ, Bool, List, map}
 use Rattle.velo_events.specs.declared.event.Label.{Label}
 use Rattle.velo_events.specs.declared.event.LockId.{LockId}

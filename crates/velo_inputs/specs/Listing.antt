@@ -1,4 +1,4 @@
--- The labels that are known to be not atomic, which audit and predict read (`--not-atomic`).
+-- The labels that are known to be not atomic, which explain, audit and predict read (`--not-atomic`).
 use Rattle.std.specs.Prelude.{◌≡◌, ℕ, List, [], Option, IfSome, Ok, Err}
 use Rattle.std.specs.Borrow.{Bor}
 use Rattle.velo_events.specs.Refusals.{GrowthRefused}

@@ -37,7 +37,7 @@ use Rattle.velo_request.specs.declared.request.EndlessOptions.{EndlessOptions}
 use Rattle.velo_delivery.specs.Writing.{Writing}
 use Rattle.velo_log_commands.specs.Endless.{terms_of_endless}
 use Rattle.velo_log_commands.specs.Steps.{ShowsLog}
-use Rattle.velo_log_commands.specs.Watching.{HasCome, KeepsTo, StepsOn, Terms}
+use Rattle.velo_log_commands.specs.Watching.{HasCome, HasLimits, StepsOn, Terms}
 
 -- ---- what is told is there
 
@@ -78,7 +78,7 @@ module _ (options : EndlessOptions) (read old : Option (List ℕ)) where
   front_of : (remaining new : Option (List ℕ)) (log : List Event) (watch : EndlessWatch) → IsUnderWay read remaining old new log watch → IsFront read watch.piece.world.config.bounds log
   front_of remaining new log watch h = front_read read log watch.reader remaining watch.piece.world.config.bounds h.bounds h.given
 
-  pub steps_on_whole : (before between remaining new : Option (List ℕ)) (log : List Event) (watch watch' : EndlessWatch) (r : Result Bool WatchFault) → KeepsTo options.limits watch.piece.world.config → watch'.piece.world.config ≡ watch.piece.world.config
+  pub steps_on_whole : (before between remaining new : Option (List ℕ)) (log : List Event) (watch watch' : EndlessWatch) (r : Result Bool WatchFault) → HasLimits options.limits watch.piece.world.config → watch'.piece.world.config ≡ watch.piece.world.config
       → IsUnderWay read before old between log watch → Steps read old log watch r watch' remaining new
       → StepsOn own read old new watch.piece.world.config.bounds log r watch'.piece.world.config.bounds (λ log. HasSeen log watch') (λ log. IsUnderWay read remaining old new log watch')
   steps_on_whole before between remaining new log watch watch' (Ok true) within same h (e, under_way) =

@@ -21,7 +21,6 @@ use Rattle.velo_watch.specs.declared.fault.WatchFault.TheVariants as watch_fault
 use Rattle.velo_watch.specs.declared.state.Watch.{Watch}
 use Rattle.velo_watch.proofs.OnWatches.{front_given, tells}
 use Rattle.velo_worker.specs.declared.ending.Ending.TheVariants.{Done}
-use Rattle.velo_world.specs.Faults.{IsRefusedAt, IsWrongValueAt}
 use Rattle.velo_world.specs.World.{WorldState}
 use Rattle.velo_world.specs.declared.log_replay.LogReplayFault.TheVariants as replay
 use Rattle.velo_fate.specs.declared.fault.CheckFault.{CheckFault}
@@ -36,7 +35,7 @@ use Rattle.velo_fate.specs.Verdict.{is_alarm}
 use Rattle.velo_fate.specs.Failures.{failures_told}
 use Rattle.velo_report.specs.declared.names.Names.{Names}
 use Rattle.velo_log_commands.specs.Steps.{ShowsLog}
-use Rattle.velo_log_commands.specs.Watching.{check_fault_of_watching, EndsAfter, FailsAfter, Follows, GoesOn, HasCome, HasWatched, IsSoFar, KeepsTo, StepsOn, Terms, Watches, terms_of_watch}
+use Rattle.velo_log_commands.specs.Watching.{check_fault_of_watching, EndsAfter, FailsAfter, Follows, GoesOn, HasCome, HasWatched, IsSoFar, HasLimits, StepsOn, Terms, Watches, terms_of_watch}
 use Rattle.velo_delivery.specs.Writing.{Writing, WritesNothing}
 
 -- ---- a log that is kept whole
@@ -57,18 +56,18 @@ module _ (options : WatchOptions) (read old : Option (List ℕ)) where
   front_of remaining new watch h =
       subst (λ (b : Bounds). IsFront read b watch.world.log) (sym h.bounds) (front_given read watch.world.log watch.reader remaining h.given)
 
-  come : (new : Option (List ℕ)) (w : WorldState) → KeepsTo options.limits w.config → CameAbout w → IsFront read w.config.bounds w.log → Tells old new w.log → HasCome own read old new w.config.bounds w.log
+  come : (new : Option (List ℕ)) (w : WorldState) → HasLimits options.limits w.config → CameAbout w → IsFront read w.config.bounds w.log → Tells old new w.log → HasCome own read old new w.config.bounds w.log
   come new w within came front told =
       record { so_far = record { front = front; well_formed = came.well_formed; room = subst (λ (n : ℕ). length w.log ≤ n) within.events came.room }; told = told }
 
-  pub steps_on : (before between remaining new : Option (List ℕ)) (watch watch' : Watch) (r : Result Bool WatchFault) → KeepsTo options.limits watch.world.config → IsUnderWay read before old between watch → Steps read old watch r watch' remaining new
+  pub steps_on : (before between remaining new : Option (List ℕ)) (watch watch' : Watch) (r : Result Bool WatchFault) → HasLimits options.limits watch.world.config → IsUnderWay read before old between watch → Steps read old watch r watch' remaining new
       → IfOk r (λ more. Advances watch.world more watch'.world) → OnOk r (watch'.world.config ≡ watch.world.config)
       → StepsOn own read old new watch.world.config.bounds watch.world.log r watch'.world.config.bounds (λ log. (watch'.world.log ≡ log) × (IsTrue watch'.told ↔ HasCycle watch'.world.log))
       (λ log. (watch'.world.log ≡ log) × IsUnderWay read remaining old new watch')
   steps_on before between remaining new watch watch' (Ok true) within h (under_way, (e, is)) (came, next) same = (
     e,
     subst (λ (log : List Event). HasCome own read old new watch'.world.config.bounds log) is
-        (come new watch'.world (subst (λ (c : Config). KeepsTo options.limits c) (sym same) within) came (front_of remaining new watch' under_way) (tells watch'.told old new watch'.world.log under_way.told)),
+        (come new watch'.world (subst (λ (c : Config). HasLimits options.limits c) (sym same) within) came (front_of remaining new watch' under_way) (tells watch'.told old new watch'.world.log under_way.told)),
     (is, cycle_told old new watch'.told watch'.world.log under_way.told),
     (is, under_way),
   )
@@ -76,7 +75,7 @@ module _ (options : WatchOptions) (read old : Option (List ℕ)) where
       let log : watch'.world.log ≡ watch.world.log = ap (λ (w : WorldState). w.log) is in
       let front = subst (λ (w : WorldState). IsFront read w.config.bounds w.log) (sym is) (front_of before between watch h) in (
         subst (λ (l : List Event). HasCome own read old new watch'.world.config.bounds l) log
-            (come new watch'.world (subst (λ (c : Config). KeepsTo options.limits c) (sym same) within) came front (tells watch'.told old new watch'.world.log told)),
+            (come new watch'.world (subst (λ (c : Config). HasLimits options.limits c) (sym same) within) came front (tells watch'.told old new watch'.world.log told)),
         (log, cycle_told old new watch'.told watch'.world.log told),
         subst (λ (l : List Event). IsInput read watch'.world.config.bounds l) log input,
       )
@@ -85,16 +84,9 @@ module _ (options : WatchOptions) (read old : Option (List ℕ)) where
     ((reads, no_memory (length watch.world.log) fault met), met),
   )
   steps_on before between remaining new watch watch' (Err (watch_fault.Replay (replay.Refused p r))) within h (came, told, (e, next, is)) advances same =
-      let log = watch.world.log ++ e ∷ [] in
-      let bounds = watch.world.config.bounds in
-      let by_limit = subst (λ (n : ℕ). IsRefusedAt n watch.world.config.nodes bounds log p r) within.events is in (
-        come new watch.world within came (front_of before between watch h) told,
-        (e, next, subst (λ (n : ℕ). IsRefusedAt options.limits.events n bounds log p r) within.nodes by_limit),
-      )
-  steps_on before between remaining new watch watch' (Err (watch_fault.Replay (replay.WrongValue p))) within h (came, told, (e, next, is)) advances same = (
-    come new watch.world within came (front_of before between watch h) told,
-    (e, next, subst (λ (n : ℕ). IsWrongValueAt n watch.world.config.bounds (watch.world.log ++ e ∷ []) p) within.events is),
-  )
+      (come new watch.world within came (front_of before between watch h) told, (e, next, (watch.world.config, refl, within, is)))
+  steps_on before between remaining new watch watch' (Err (watch_fault.Replay (replay.WrongValue p))) within h (came, told, (e, next, is)) advances same =
+      (come new watch.world within came (front_of before between watch h) told, (e, next, (watch.world.config, refl, within, is)))
   steps_on before between remaining new watch watch' (Err (watch_fault.Replay replay.Memory)) within h (came, told, (e, next, is)) advances same =
       (come new watch.world within came (front_of before between watch h) told, is)
   steps_on before between remaining new watch watch' (Err watch_fault.Write) within h (e, fails) advances same =

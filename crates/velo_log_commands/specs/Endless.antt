@@ -12,16 +12,16 @@ use Rattle.velo_endless.specs.declared.watch.EndlessWatch.{EndlessWatch}
 use Rattle.velo_request.specs.declared.request.EndlessOptions.{EndlessOptions}
 use Rattle.velo_request.specs.declared.request.Limits.{Limits}
 use Rattle.velo_world.specs.declared.log_replay.LogReplayFault.{LogReplayFault}
-use Rattle.velo_log_commands.specs.Watching.{KeepsTo, Terms}
+use Rattle.velo_log_commands.specs.Watching.{HasLimits, Terms}
 
 -- The event is refused, or reads a wrong value, at its position in the whole log; or without an alarm
 -- there is a limit. It is met only if the log was cut in time: since the last cut, whenever half of
 -- the room behind the prologue was used, no cut was possible, as a block was open, or what the events
 -- left took as many events as may be kept. That of events is met where none is possible now; that of
--- nodes where one of the events that are kept, or this one, may find no node.
+-- nodes where this event may find no node after those that are kept.
 abbrev pub IsFaultOfWhole : Limits → Bounds → List Event → Event → LogReplayFault → Type 0
 IsFaultOfWhole limits bounds log e fault =
-    (config : Config) × (config.bounds ≡ bounds) × KeepsTo limits config
+    (config : Config) × (config.bounds ≡ bounds) × HasLimits limits config
     × IsFaultBehind config log e fault
 
 abbrev pub terms_of_endless : EndlessOptions → Terms
@@ -31,15 +31,15 @@ terms_of_endless options =
       names = options.names;
       stop = options.stop;
       certificate = false;
-      longest = MAX_WATCHED;
-      most = MAX_WATCHED;
-      IsMet = IsMetEndless;
-      IsFaultAt = IsFaultOfWhole options.limits;
+      text_limit = MAX_WATCHED;
+      event_limit = MAX_WATCHED;
+      IsMetInText = IsMetEndless;
+      IsFaultOfNext = IsFaultOfWhole options.limits;
     }
 
--- ---- a word of the contracts within the crate
+-- ---- on the way. Contracts within the crate cite this word
 
 -- a watch that keeps to the limits can go on
 pub record CanWatchOn (options : EndlessOptions) (watch : EndlessWatch) : Type 0 where
   pub goes_on : CanGoOn watch
-  pub limits : KeepsTo options.limits watch.piece.world.config
+  pub limits : HasLimits options.limits watch.piece.world.config

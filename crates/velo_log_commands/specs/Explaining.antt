@@ -76,7 +76,7 @@ pub record ExplainsAlarm (names : NameLists) (sites : Option Table) (log : List 
   pub said : answer ≡ explained [] names sites log alarm.position evidence
   pub drawn : drawing ≡ drawing_text names sites log alarm.position evidence
 
--- a log without a cycle has no drawing
+-- without a cycle there is no text to save, and so no drawing is saved (`DeliversBy`), whatever it is
 abbrev pub ExplainsWhole : NameLists → Option Table → List Event → CommandAnswer → List ℕ → Type 0
 ExplainsWhole names sites log answer drawing =
     ExplainsAlarm names sites log answer drawing ⊎ ((¬ HasCycle log) × (answer ≡ counted [] log))

@@ -18,7 +18,7 @@ use Rattle.velo_watch.specs.declared.fault.WatchFault.{WatchFault}
 use Rattle.velo_watch.specs.declared.fault.WatchFault.TheVariants as watch_fault
 use Rattle.velo_watch.specs.declared.state.Watch.{Watch}
 use Rattle.velo_worker.specs.declared.ending.Ending.TheVariants.{Done}
-use Rattle.velo_world.specs.Faults.{IsRefusedAt, IsWrongValueAt}
+use Rattle.velo_world.specs.Faults.{IsFaultAtEvent}
 use Rattle.velo_world.specs.World.{AlarmOf, IsAlarm}
 use Rattle.velo_world.specs.declared.analysis.Alarm.{Alarm}
 use Rattle.velo_world.specs.declared.log_replay.LogReplayFault.{LogReplayFault}
@@ -36,7 +36,8 @@ use Rattle.velo_fate.specs.Delivery.{CommandAnswer, IsPrinted, printing, silent}
 use Rattle.velo_inputs.specs.Faults.{check_fault_of}
 use Rattle.velo_delivery.specs.Writing.{BreaksOff, Writes, Writing}
 
--- ---- what is asked of a watch, and what bounds it
+-- ---- what is asked of a watch, and what bounds it. `watch` and `watch --endless` differ in the two
+-- limits and the two reasons alone (`terms_of_watch`, `terms_of_endless`)
 
 pub record Terms : Type 1 where
   -- the path of the log
@@ -47,14 +48,13 @@ pub record Terms : Type 1 where
   pub stop : Bool
   -- the certificate is asked for
   pub certificate : Bool
-  -- the most events that the text may have
-  pub longest : ℕ
-  -- the most events that may happen
-  pub most : ℕ
+  -- the most events that the text may have, and that may happen
+  pub text_limit : ℕ
+  pub event_limit : ℕ
   -- after so many events the reader meets this fault of the text
-  pub IsMet : ℕ → LogFault → Type 0
+  pub IsMetInText : ℕ → LogFault → Type 0
   -- after these events the next one cannot happen, for this reason
-  pub IsFaultAt : Bounds → List Event → Event → LogReplayFault → Type 0
+  pub IsFaultOfNext : Bounds → List Event → Event → LogReplayFault → Type 0
 
 -- ---- the events so far
 
@@ -90,16 +90,16 @@ IsReadTo stop read bounds log =
 -- part in it.
 abbrev pub EndsAfter : Terms → Option (List ℕ) → Bounds → List Event → CheckFault → Type 0
 EndsAfter terms read bounds log (Log fault) =
-    IsFaultOfTextUpTo terms.longest read fault × terms.IsMet (length log) fault
+    IsFaultOfTextUpTo terms.text_limit read fault × terms.IsMetInText (length log) fault
 EndsAfter terms read bounds log (Refused p refusal) =
     (e : Event) × IsFront read bounds (log ++ e ∷ [])
-    × terms.IsFaultAt bounds log e (replay.Refused p refusal)
+    × terms.IsFaultOfNext bounds log e (replay.Refused p refusal)
 EndsAfter terms read bounds log (WrongValue p) =
     (e : Event) × IsFront read bounds (log ++ e ∷ [])
-    × terms.IsFaultAt bounds log e (replay.WrongValue p)
+    × terms.IsFaultOfNext bounds log e (replay.WrongValue p)
 EndsAfter terms read bounds log _ = ⊥
 
--- why there are no events at all
+-- why the header was not read
 abbrev pub IsFaultOfHeader : Option (List ℕ) → CheckFault → Type 0
 IsFaultOfHeader read (Log fault) = IsFaultOfLogText read fault × IsMetInHeader fault
 IsFaultOfHeader read Memory = GrowthRefused
@@ -114,7 +114,7 @@ pub record IsWatched (names : Names) (terms : Terms) (read : Option (List ℕ))
     : Type 0 where
   pub bounds : Bounds
   pub log : List Event
-  pub so_far : IsSoFar terms.most read bounds log
+  pub so_far : IsSoFar terms.event_limit read bounds log
   pub read_to : IsReadTo terms.stop read bounds log
   pub alarm : Option Alarm
   pub exact : AlarmOf log alarm
@@ -130,7 +130,7 @@ pub record EndsUnreported (terms : Terms) (read : Option (List ℕ))
     (answer : CommandAnswer) : Type 0 where
   pub bounds : Bounds
   pub log : List Event
-  pub so_far : IsSoFar terms.most read bounds log
+  pub so_far : IsSoFar terms.event_limit read bounds log
   pub alarm : Option Alarm
   pub exact : AlarmOf log alarm
   pub fault : CheckFault
@@ -152,7 +152,7 @@ IsWatchAnswer names terms read answer =
 pub record FailsAtAlarm (terms : Terms) (read : Option (List ℕ)) (stdout : Writing) : Type 0 where
   pub bounds : Bounds
   pub log : List Event
-  pub so_far : IsSoFar terms.most read bounds log
+  pub so_far : IsSoFar terms.event_limit read bounds log
   pub ends : EndsAtAlarm log
   pub alarm : Alarm
   pub exact : IsAlarm log alarm
@@ -167,17 +167,15 @@ Watches names terms read stdout f =
 -- ---- a log that is kept whole
 
 -- the limits of a configuration are those that were asked for
-pub record KeepsTo (limits : Limits) (config : Config) : Type 0 where
+pub record HasLimits (limits : Limits) (config : Config) : Type 0 where
   pub events : config.events ≡ limits.events
   pub nodes : config.nodes ≡ limits.nodes
 
--- the event is refused, or reads a wrong value, within these limits
+-- the event is refused, or reads a wrong value, at its position in the log, or meets one of these limits
 abbrev pub IsFaultWithin : Limits → Bounds → List Event → Event → LogReplayFault → Type 0
-IsFaultWithin limits bounds log e (replay.Refused p refusal) =
-    IsRefusedAt limits.events limits.nodes bounds (log ++ e ∷ []) p refusal
-IsFaultWithin limits bounds log e (replay.WrongValue p) =
-    IsWrongValueAt limits.events bounds (log ++ e ∷ []) p
-IsFaultWithin limits bounds log e replay.Memory = GrowthRefused
+IsFaultWithin limits bounds log e fault =
+    (config : Config) × (config.bounds ≡ bounds) × HasLimits limits config
+    × IsFaultAtEvent config log e fault
 
 abbrev pub terms_of_watch : WatchOptions → Terms
 terms_of_watch options =
@@ -186,24 +184,24 @@ terms_of_watch options =
       names = options.names;
       stop = options.stop;
       certificate = options.certificate;
-      longest = MAX_EVENTS;
-      most = options.limits.events;
-      IsMet = IsMetBehind;
-      IsFaultAt = IsFaultWithin options.limits;
+      text_limit = MAX_EVENTS;
+      event_limit = options.limits.events;
+      IsMetInText = IsMetBehind;
+      IsFaultOfNext = IsFaultWithin options.limits;
     }
 
--- ---- how far each step has come: words of the contracts within the crate
+-- ---- on the way. Contracts within the crate cite these words: how far each step has come
 
 -- these events of the input happened, and the line of their alarm went out, if they have one
 pub record HasCome (terms : Terms) (read old new : Option (List ℕ)) (bounds : Bounds)
     (log : List Event) : Type 0 where
-  pub so_far : IsSoFar terms.most read bounds log
+  pub so_far : IsSoFar terms.event_limit read bounds log
   pub told : Tells old new log
 
 -- the line of the alarm broke off, which the last of these events raised
 pub record BreaksAtAlarm (terms : Terms) (read old new : Option (List ℕ)) (bounds : Bounds)
     (log : List Event) : Type 0 where
-  pub so_far : IsSoFar terms.most read bounds log
+  pub so_far : IsSoFar terms.event_limit read bounds log
   pub ends : EndsAtAlarm log
   pub part : TellsPart old new log
 
@@ -220,7 +218,8 @@ FailsAfter terms read old new bounds log (watch_fault.Replay fault) =
 FailsAfter terms read old new bounds log watch_fault.Write =
     (e : Event) × BreaksAtAlarm terms read old new bounds (log ++ e ∷ [])
 
--- one event more happened; or the input is at its end, and is these events; or neither
+-- one event more happened; or the input is at its end, and is these events; or neither. `HasSeen` and
+-- `IsAt` are what the watch at hand says of the events so far.
 abbrev pub StepsOn : Terms → Option (List ℕ) → Option (List ℕ) → Option (List ℕ) → Bounds
     → List Event → Result Bool WatchFault → Bounds → (List Event → Type 0) → (List Event → Type 0)
     → Type 0
@@ -245,13 +244,13 @@ Follows terms read old new (Err fault) bounds HasSeen =
 -- a watch within the limits can go on
 pub record CanWatch (options : WatchOptions) (watch : Watch) : Type 0 where
   pub goes_on : CanGoOn watch
-  pub limits : KeepsTo options.limits watch.world.config
+  pub limits : HasLimits options.limits watch.world.config
 
 -- these events were read, and the line of their alarm went out
 pub record HasWatched (terms : Terms) (read : Option (List ℕ)) (stdout : Writing)
     (bounds : Bounds) (HasSeen : List Event → Type 0) : Type 0 where
   pub log : List Event
-  pub so_far : IsSoFar terms.most read bounds log
+  pub so_far : IsSoFar terms.event_limit read bounds log
   pub read_to : IsReadTo terms.stop read bounds log
   pub alarm : Option Alarm
   pub exact : AlarmOf log alarm

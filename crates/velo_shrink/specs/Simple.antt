@@ -1,4 +1,5 @@
--- Schedules that are simple: no single turn can be left out of them.
+-- Schedules that are simple: of one with at most MAX_MINIMAL turns no single turn can be left out; a longer one is only no longer
+-- than what was found.
 use Rattle.std.specs.Prelude.{◌≡◌, ◌⊎◌, ◌+◌, ◌-◌, ◌<◌, ◌≤◌, ⊤, ℕ, Bool, true, List, ◌++◌, drop, length, min, take, Option, Some, None}
 use Rattle.std.specs.Global.{Vec}
 use Rattle.std.specs.Option.{option_or}

@@ -13,7 +13,7 @@ use Rattle.velo_logtext.specs.declared.fault.LogFault.TheVariants.{Read}
 use Rattle.velo_logtext.specs.Text.{IsLogText}
 use Rattle.velo_world.specs.declared.analysis.Alarm.{Alarm}
 use Rattle.velo_world.specs.declared.log_replay.LogReplayFault.TheVariants.{Memory}
-use Rattle.velo_world.specs.Faults.{IsFaultOfLog}
+use Rattle.velo_world.specs.Faults.{IsFaultAtEvent}
 use Rattle.velo_world.specs.World.{WorldState, IsAlarm, CompletesShares, HoldsLiveShares}
 use Rattle.velo_report.specs.Alarm.{alarm_line}
 use Rattle.velo_watch.specs.declared.state.Watch.{Watch}
@@ -65,7 +65,7 @@ abbrev pub FailsAfter : Option (List ℕ) → Option (List ℕ) → Option (List
 FailsAfter read old new w (Log fault) =
     CameAbout w × Tells old new w.log × IsMetBehind (length w.log) fault × IfSome read (λ bytes. ReadsAs MAX_EVENTS bytes (Err fault))
 FailsAfter read old new w (Replay fault) =
-    CameAbout w × Tells old new w.log × ((e : Event) × IsFront read w.config.bounds (w.log ++ e ∷ []) × IsFaultOfLog w.config (w.log ++ e ∷ []) fault)
+    CameAbout w × Tells old new w.log × ((e : Event) × IsFront read w.config.bounds (w.log ++ e ∷ []) × IsFaultAtEvent w.config w.log e fault)
 FailsAfter read old new w Write = (e : Event) × FailsToTell read old new w e
 
 -- the next event came about, and its alarm is told; or the input is at its end, and is the log of the world; or neither

@@ -1,6 +1,6 @@
 -- What is said of a run of a workload: of turns of threads that it does not have, and of why it
 -- could not go on.
-use Rattle.std.specs.Prelude.{◌≡◌, ℕ, nat_le, find, List, [], ◌∷◌, ◌++◌, codes, decimal, IsTrue, Option, Some, None, Ok}
+use Rattle.std.specs.Prelude.{◌≡◌, ℕ, IsUtf8, nat_le, find, List, [], ◌∷◌, ◌++◌, codes, decimal, IsTrue, Option, Some, None, Ok}
 use Rattle.velo_deadlock.specs.Waits.{name_or_number, waits_text}
 use Rattle.velo_delivery.specs.Disk.{Disk}
 use Rattle.velo_events.specs.declared.config.Config.{Config}
@@ -86,6 +86,7 @@ stuck_words path waits =
 pub record IsWorkloadAt (disk : Disk) (path : List ℕ) (program : Program) : Type 0 where
   pub bytes : List ℕ
   pub read : Reads (bytes_up_to MAX_WORKLOAD_BYTES) disk path bytes
+  pub utf8 : IsUtf8 bytes
   pub text : meaning_of bytes ≡ Ok program
 
 -- the schedule that is given

@@ -212,6 +212,7 @@ pub fn parse(alloc: Global, text: &str) -> Result<Workload, WorkFault>
 pub fn text_of(bytes: &[u8]) -> Result<&str, WorkFault>
     ensures text { IfOk result (λ text. text.now ≡ bytes.now) }
     ensures few { OnOk result (length bytes.now ≤ MAX_WORKLOAD_BYTES) }
+    ensures utf8 { OnOk result (IsUtf8 bytes.now) }
     ensures too_many { (MAX_WORKLOAD_BYTES < length bytes.now) ↔ (result ≡ Err (WorkFault.TooMany 0)) }
     ensures no_text { OnErr result
         (length bytes.now ≤ MAX_WORKLOAD_BYTES → (result ≡ Err (WorkFault.BadLine 0)) × (¬ IsUtf8 bytes.now)) }

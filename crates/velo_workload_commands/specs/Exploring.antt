@@ -46,10 +46,10 @@ use Rattle.velo_schedule_text.specs.Short.{longest}
 abbrev pub most_to_blame : Bool → ℕ
 most_to_blame first = if first then 0 else MAX_BLAMING
 
--- what a search within the limits that were asked for, which was told or not that it is over, may
--- say of the program's schedules: what is shown is so, what is never shown is so by no schedule, and
--- what is open is so for a cause. Of more events than may be, nothing is tried. The schedules that it
--- hands out lead to alarms
+-- What a search may say of the program's schedules. `over`: whether it was told that its time is
+-- over. What is shown is so; what is never shown is so by no schedule; what is open is so for a cause.
+-- If the bodies have more events than a log may have, nothing is tried. Each schedule that it hands out
+-- leads to an alarm.
 pub record IsSearchOf (program : Program) (config : Config) (options : ExploreOptions) (over : Bool)
     (search : Exploration) : Type 0 where
   pub events : search.events ≡ min (sum_by body_events program.bodies) (2 ^ 64 - 1)
@@ -58,6 +58,7 @@ pub record IsSearchOf (program : Program) (config : Config) (options : ExploreOp
   pub left_open : (fault : Fault) → OnOpen (finding_of search.findings fault)
       (IsLeftOpen program config options.states options.first over search.states search.findings fault)
   pub untried : config.events < sum_by body_events program.bodies → IsUntried search.states search.findings
+      (map (λ schedule. schedule.items) search.alarms.items)
   pub alarms : AreAlarms program config options.first search.findings.alarm
       (map (λ schedule. schedule.items) search.alarms.items)
 
@@ -88,7 +89,8 @@ IsSurveyOf program config options over survey =
 
 -- ---- its text
 
--- the turns of a schedule, each after a space, those of one thread in a row joined (`0*3`); nothing
+-- the turns of a schedule, each after a space, those of one thread in a row joined (`0*3`) as far as
+-- they go (`longest`); nothing
 -- for an empty one
 abbrev pub turns_text : List ThreadId → List ℕ
 turns_text schedule = spaced (longest schedule)
@@ -159,8 +161,8 @@ fate_of_rest found =
     if is_never found.alarm && (is_never found.stuck && is_never found.refused) then fate.Finished Done false
     else fate.Open
 
--- the first finding that is shown: an alarm, else a deadlock, else a refusal; else nothing, if all
--- was tried
+-- that of the first finding that is shown: the alarm, else the deadlock, else the refusal; where none
+-- is shown, that of the rest
 abbrev pub fate_of_findings : Findings → Fate
 fate_of_findings found =
     option_map_or (λ witness. fate_of_goal witness.goal) (first_of found) (fate_of_rest found)
@@ -201,7 +203,7 @@ IsSaidOf program certificate survey None answer =
     answer ≡ printing (survey_text program survey) (fate_of_survey survey)
 
 -- The schedules of the program are tried within the limits that were asked for, and this is said.
--- Only where it may take so many seconds and no more, the search may have been told that it is over.
+-- Only with --seconds may the search have been told that its time is over.
 pub record IsExplored (options : ExploreOptions) (program : Program) (answer : CommandAnswer)
     : Type 0 where
   pub config : Config

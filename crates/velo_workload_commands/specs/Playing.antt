@@ -36,7 +36,8 @@ use Rattle.velo_fate.specs.Saving.{text_of_log}
 -- the bytes are the text of this program; where they are not known nothing is said
 abbrev pub IsWorkload : Option (List ℕ) → Program → Type 0
 IsWorkload read program =
-    IfSome read (λ bytes. (length bytes ≤ MAX_WORKLOAD_BYTES) × (meaning_of bytes ≡ Ok program))
+    IfSome read (λ bytes. (length bytes ≤ MAX_WORKLOAD_BYTES) × IsUtf8 bytes
+    × (meaning_of bytes ≡ Ok program))
 
 -- there are more bytes than a workload may have
 abbrev pub IsTooLong : List ℕ → WorkFault → Type 0
@@ -46,7 +47,8 @@ IsTooLong bytes fault =
 -- they are not UTF-8; or this is the fault of the text that they are
 abbrev pub HasFault : List ℕ → WorkFault → Type 0
 HasFault bytes fault =
-    ((¬ IsUtf8 bytes) × (fault ≡ work_fault.BadLine 0)) ⊎ ParsesAs (meaning_of bytes) (Err fault)
+    ((¬ IsUtf8 bytes) × (fault ≡ work_fault.BadLine 0))
+    ⊎ (IsUtf8 bytes × ParsesAs (meaning_of bytes) (Err fault))
 
 -- why bytes are the text of no workload: there are too many; else by what they are
 abbrev pub IsFaultOfText : List ℕ → WorkFault → Type 0
@@ -150,13 +152,6 @@ listed program =
 abbrev pub text_of_names : Program → List ℕ
 text_of_names program = names_text (listed program)
 
--- The program's names fit into one file of names: it has no more lines, and no more bytes, than
--- such a file may have.
-pub record FitsNames (program : Program) : Type 0 where
-  pub few_lines : length program.thread_names + (length program.variable_names
-      + (length program.lock_names + length program.label_names)) ≤ MAX_NAME_LINES
-  pub few_bytes : length (text_of_names program) ≤ MAX_NAMES_BYTES
-
 -- The text of the log is to be saved. The report of the log by the program's names, with its
 -- certificate if that is asked for, is printed between these texts; and it comes to this end.
 pub record IsReported (program : Program) (certificate : Bool) (before : List ℕ) (w : WorldState)
@@ -212,3 +207,12 @@ IsPlayAnswer play options read answer names =
     ((program : Program) × IsWorkload read program × (names ≡ text_of_names program)
     × IsRunAnswer play options program answer)
     ⊎ ((f : Fate) × IsUnread read f × (answer ≡ silent f))
+
+-- ---- a law of names (`laws.rt`)
+
+-- The program's names fit into one file of names: it has no more lines, and no more bytes, than
+-- such a file may have.
+pub record FitsNames (program : Program) : Type 0 where
+  pub few_lines : length program.thread_names + (length program.variable_names
+      + (length program.lock_names + length program.label_names)) ≤ MAX_NAME_LINES
+  pub few_bytes : length (text_of_names program) ≤ MAX_NAMES_BYTES

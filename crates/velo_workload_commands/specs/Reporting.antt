@@ -1,4 +1,4 @@
--- How a run is reported: what is saved, and what is printed.
+-- Words of the contracts within the crate: how a run is reported. What the commands do is said without them.
 use Rattle.std.specs.Borrow.{Bor}
 use Rattle.std.specs.Prelude.{◌≡◌, ◌≢◌, ◌⊎◌, ◌++◌, ⊤, ℕ, Bool, true, false, List, Option, Some, None, is_some}
 use Rattle.velo_events.specs.declared.event.Event.{Event}

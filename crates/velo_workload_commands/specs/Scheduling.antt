@@ -51,7 +51,7 @@ LacksSchedule disk (source.Turns text) f =
     (fault : ScheduleFault) × IsFaultOfTurns text.now fault × (f ≡ fate.Schedule fault)
 LacksSchedule disk (source.File path) f = LacksAt turns_file disk path.now f
 
--- ---- a word of the contracts within the crate
+-- ---- on the way. Contracts within the crate cite this word
 
 -- the fault for which these bytes say no schedule
 abbrev pub IsNoScheduleIn : List ℕ → Fate → Type 0

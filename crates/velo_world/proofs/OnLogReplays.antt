@@ -2,7 +2,6 @@
 use Rattle.std.proofs.Common.{◌≡◌, ℕ, ◌+◌, ◌<◌, ◌≤◌, Bool, true, false, List, [], ◌∷◌, ◌++◌, length, take, Option, Some, None, Result, Ok, Err, refl, sym, ap, ◌∙◌, subst, arith, inl, inr}
 use Rattle.std.specs.Prelude.{slice_get, IsTrue, IsFalse, is_some, is_err, OnOk, OnErr}
 use Rattle.std.proofs.lemmas.Bool.{eqb-true, lt-leb, false≢true}
-use Rattle.std.proofs.lemmas.Grind.{elements}
 use Rattle.std.proofs.lemmas.Option.{slice_get_within}
 use Rattle.velo_events.specs.declared.config.Bounds.{Bounds}
 use Rattle.velo_events.specs.declared.config.Config.{Config}
@@ -28,7 +27,6 @@ use Rattle.velo_world.specs.World.{meaning, AlarmOf}
 use Rattle.velo_world.specs.LoggedRun.{AddsToLog}
 use Rattle.velo_world.specs.Faults.{world_of, IsLimit, IsFaultAtEvent, IsRefusedAt, IsFaultOfLog}
 use Rattle.velo_world.proofs.OnAlarms.{AlarmOf-alarmed, length-before}
-use Rattle.velo_world.proofs.OnAnalyses.{take-before}
 
 -- ---- the event that is asked for
 
@@ -162,15 +160,6 @@ fault_in_log config log i e (Refused p refusal) here well short (at, inr (none, 
 fault_in_log config log i e (WrongValue p) here well short (at, flawed) =
     record { first = first_flaw config.bounds log i p e _ here well at flawed; within = omega (arith, at, short) }
 fault_in_log config log i e Memory here well short stops = stops
-
-last : (log : List Event) (e : Event) → slice_get (log ++ e ∷ []) (length log) ≡ Some e
-last log e = grind (arith, elements)
-
--- what is wrong with an event after the log is wrong with the log that has it at its end
-pub fault_at_end : (config : Config) (log : List Event) (e : Event) (fault : LogReplayFault) → IsWellFormed config.bounds log → length log ≤ config.events → IsFaultAtEvent config log e fault → IsFaultOfLog config (log ++ e ∷ []) fault
-fault_at_end config log e fault well short at_end =
-    let part : log ≡ take (length log) (log ++ e ∷ []) = sym (take-before log e) in
-    fault_in_log config (log ++ e ∷ []) (length log) e fault (last log e) (subst (IsWellFormed config.bounds) part well) (subst (λ l. length l ≤ config.events) part short) (subst (λ l. IsFaultAtEvent config l e fault) part at_end)
 
 -- ---- a call that went well, or did not
 

@@ -6,7 +6,7 @@ use Rattle.velo_audit.proofs.rounds.audit.Given as goal
 
 abbrev pub invariant-loop-cut : goal.invariant-loop-cut
 invariant-loop-cut l = record {
-  stands : StandsAt l.asked l.log.events (left_of l.initial.left) l.rounds.items (left_of l.left);
+  stands : StandsAt l.with_witness l.log.events (left_of l.initial.left) l.rounds.items (left_of l.left);
   is_cut : IsCut (left_of l.left) l.log.events l.cut;
 }
 

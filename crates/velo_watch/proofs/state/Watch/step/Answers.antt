@@ -6,7 +6,6 @@ use Rattle.velo_watch.specs.declared.fault.WatchFault.{WatchFault}
 use Rattle.velo_watch.specs.declared.fault.WatchFault.TheVariants as watch_fault
 use Rattle.velo_watch.specs.UnderWay.{CameAbout, read_failures, write_failures}
 use Rattle.velo_watch.proofs.OnWatches.{tells, front_next, told_with, told_still, steps_on, fails_writing, failed_reads}
-use Rattle.velo_world.proofs.OnLogReplays.{fault_at_end}
 use Rattle.velo_watch.proofs.state.Watch.step.Goals as goal
 
 pub returns-in-Err-clause-steps : goal.returns-in-Err-clause-steps
@@ -22,7 +21,7 @@ returns-in-Err-replay-clause-steps g c read old h =
     let given : HasGiven read (w.world.log ++ e ∷ []) c.next.new.self (g.I.Source.remaining c.next.new.source) =
     subst (λ (x : Option Event). Gives read w.world.log (Ok x) c.next.new.self (g.I.Source.remaining c.next.new.source)) c.in-Ok-Some.field-0-is (c.in-Ok-Some.ensures.gives read w.world.log h.given) in
     let came : CameAbout w.world = record { well_formed = c.log.ensures.well_formed; room = c.log.ensures.limit } in
-    (came, tells w.told old _ w.world.log h.told, (e, front_next read _ _ old _ w c.next.new.self e h given c.next.ensures.bounds, fault_at_end w.world.config w.world.log e _ came.well_formed came.room c.in-Err-replay.ensures.outcome.0))
+    (came, tells w.told old _ w.world.log h.told, (e, front_next read _ _ old _ w c.next.new.self e h given c.next.ensures.bounds, c.in-Err-replay.ensures.outcome.0))
 
 pub returns-in_err-self-clause-steps : goal.returns-in_err-self-clause-steps
 returns-in_err-self-clause-steps g c read old h =
