@@ -28,7 +28,7 @@ fn used_again(rt: &impl Abort, alloc: Global) -> (Arena, Step, Step) {
     assert!(rt; arena.newest().is_none());
     let first = open(rt, &mut arena, 1);
     finish_and_free(rt, &mut arena, first);
-    assert_eq!(rt; arena.used(), 0);
+    assert!(rt; arena.used() == 0);
     let second = open(rt, &mut arena, 4);
     (arena, first, second)
 }
@@ -53,7 +53,7 @@ fn one_node_fills_one_slot(rt: HostRuntime) -> Result<(), Fail> {
     assert!(rt; arena.newest() == Some(4) && arena.is_used(second.slot));
     assert!(rt; arena.stamp_of(second.slot) == 4);
     assert!(rt; arena.open(5) == Err(GraphFull));
-    assert_eq!(rt; (arena.used(), arena.limit(), arena.extent()), (1, 1, 1));
+    assert!(rt; (arena.used(), arena.limit(), arena.extent()) == (1, 1, 1));
     assert!(rt; arena.is_used(second.slot) && !arena.finished(second.slot));
     Ok(())
 }
@@ -61,9 +61,9 @@ fn one_node_fills_one_slot(rt: HostRuntime) -> Result<(), Fail> {
 #[test]
 fn the_extent_stays_low(rt: HostRuntime) -> Result<(), Fail> {
     let mut arena = Arena::new(rt.alloc(), MAX_NODES).expect(&rt, "memory");
-    assert_eq!(rt; (arena.limit(), arena.extent()), (MAX_NODES, 0));
+    assert!(rt; (arena.limit(), arena.extent()) == (MAX_NODES, 0));
     let step = open(&rt, &mut arena, 0);
     finish_and_free(&rt, &mut arena, step);
-    assert_eq!(rt; arena.extent(), 1);
+    assert!(rt; arena.extent() == 1);
     Ok(())
 }

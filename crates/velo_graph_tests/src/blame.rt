@@ -6,7 +6,7 @@ ghost use Rattle.velo_events.specs.Graph.{HasCycle};
 mod growths;
 mod order;
 
-use crate::words::{acquire, begin, end, exit, fork, join, read, release, share, unshare, write};
+use crate::words::{block, event};
 use order::has_no_cycle;
 use std::alloc::Global;
 use std::process::Abort;
@@ -36,13 +36,6 @@ struct Known<'a> {
     /// The blocks that are open at the position in its thread.
     open: &'a [Block],
     blamed: &'a [Block],
-}
-
-fn block(first: usize, label: u32) -> Block {
-    Block {
-        first,
-        label: Label(label),
-    }
 }
 
 fn trace_of(alloc: Global, events: &[Event]) -> Result<Trace, Memory>
@@ -102,7 +95,11 @@ fn judge_clocks(rt: &impl Abort, alloc: Global, known: &Known) -> Result<(), Fai
     let clocks = clocks_of(rt, alloc, &known.events[..known.position])?;
     let event = known.events[known.position];
     let blocks = clocks.blamed(known.open, known.position, &event);
-    assert_eq!(rt; blocks.as_slice(), known.blamed, "clocks of {}", known.log);
+    assert!(rt;
+        blocks.as_slice() == known.blamed,
+        "clocks of {}",
+        known.log
+    );
     Ok(())
 }
 
@@ -115,12 +112,12 @@ fn judge(rt: &impl Abort, alloc: Global, scan: &mut Scan, known: &Known) -> Resu
     match well_formed(&trace, BOUNDS) {
         Ok(()) => {
             let blocks = scan.blamed(&trace, known.position);
-            assert_eq!(rt; blocks.as_slice(), known.blamed, "scan of {}", known.log);
+            assert!(rt; blocks.as_slice() == known.blamed, "scan of {}", known.log);
         }
         Err((position, _)) => panic!(rt; "not well-formed at {position} of {}", known.log),
     }
     let blocks = blamed(alloc, &trace, known.position)?;
-    assert_eq!(rt; blocks.as_slice(), known.blamed, "blame of {}", known.log);
+    assert!(rt; blocks.as_slice() == known.blamed, "blame of {}", known.log);
     judge_clocks(rt, alloc, known)
 }
 
@@ -133,182 +130,199 @@ fn judge_all(rt: &impl Abort, alloc: Global, logs: &[Known]) -> Result<(), Fail>
     Ok(())
 }
 
-#[test]
-fn updates_in_one_block(rt: HostRuntime) -> Result<(), Fail> {
-    let lost = Known {
+static UPDATES: [Known; 3] = [
+    Known {
         log: "the lost update",
         events: &[
-            fork(0, 1),
-            begin(0, 7),
-            read(0, 0, 0),
-            write(1, 0, 5),
-            write(0, 0, 1),
+            event!(0 fork 1),
+            event!(0 begin 7),
+            event!(0 rd 0 0),
+            event!(1 wr 0 5),
+            event!(0 wr 0 1),
         ],
         position: 4,
         ranks: &IN_ORDER,
-        open: &[block(1, 7)],
-        blamed: &[block(1, 7)],
-    };
-    let read_between = Known {
+        open: &[block!(1, 7)],
+        blamed: &[block!(1, 7)],
+    },
+    Known {
         log: "a read between two writes",
         events: &[
-            fork(0, 1),
-            begin(0, 1),
-            write(0, 0, 1),
-            read(1, 0, 1),
-            write(0, 0, 2),
+            event!(0 fork 1),
+            event!(0 begin 1),
+            event!(0 wr 0 1),
+            event!(1 rd 0 1),
+            event!(0 wr 0 2),
         ],
         position: 4,
         ranks: &IN_ORDER,
-        open: &[block(1, 1)],
-        blamed: &[block(1, 1)],
-    };
-    let later_events = Known {
+        open: &[block!(1, 1)],
+        blamed: &[block!(1, 1)],
+    },
+    Known {
         log: "the lost update, with later events",
         events: &[
-            fork(0, 1),
-            begin(0, 7),
-            read(0, 0, 0),
-            write(1, 0, 5),
-            write(0, 0, 1),
-            end(0),
-            begin(1, 1),
-            begin(0, 2),
+            event!(0 fork 1),
+            event!(0 begin 7),
+            event!(0 rd 0 0),
+            event!(1 wr 0 5),
+            event!(0 wr 0 1),
+            event!(0 end),
+            event!(1 begin 1),
+            event!(0 begin 2),
         ],
         position: 4,
         ranks: &IN_ORDER,
-        open: &[block(1, 7)],
-        blamed: &[block(1, 7)],
-    };
-    judge_all(&rt, rt.alloc(), &[lost, read_between, later_events])
-}
+        open: &[block!(1, 7)],
+        blamed: &[block!(1, 7)],
+    },
+];
 
 #[test]
-fn nested_blocks(rt: HostRuntime) -> Result<(), Fail> {
-    let after = Known {
+fn updates_in_one_block(rt: HostRuntime) -> Result<(), Fail> {
+    judge_all(&rt, rt.alloc(), &UPDATES)
+}
+
+static NESTED: [Known; 3] = [
+    Known {
         log: "inner block after the read",
         events: &[
-            fork(0, 1),
-            begin(0, 1),
-            read(0, 0, 0),
-            begin(0, 2),
-            write(1, 0, 3),
-            write(0, 0, 4),
+            event!(0 fork 1),
+            event!(0 begin 1),
+            event!(0 rd 0 0),
+            event!(0 begin 2),
+            event!(1 wr 0 3),
+            event!(0 wr 0 4),
         ],
         position: 5,
         ranks: &IN_ORDER,
-        open: &[block(1, 1), block(3, 2)],
-        blamed: &[block(1, 1)],
-    };
-    let before = Known {
+        open: &[block!(1, 1), block!(3, 2)],
+        blamed: &[block!(1, 1)],
+    },
+    Known {
         log: "inner block before the read",
         events: &[
-            fork(0, 1),
-            begin(0, 1),
-            begin(0, 2),
-            read(0, 0, 0),
-            write(1, 0, 3),
-            write(0, 0, 4),
+            event!(0 fork 1),
+            event!(0 begin 1),
+            event!(0 begin 2),
+            event!(0 rd 0 0),
+            event!(1 wr 0 3),
+            event!(0 wr 0 4),
         ],
         position: 5,
         ranks: &IN_ORDER,
-        open: &[block(1, 1), block(2, 2)],
-        blamed: &[block(1, 1), block(2, 2)],
-    };
-    let ring = Known {
+        open: &[block!(1, 1), block!(2, 2)],
+        blamed: &[block!(1, 1), block!(2, 2)],
+    },
+    Known {
         log: "three threads in a ring",
         events: &[
-            fork(0, 1),
-            fork(0, 2),
-            begin(0, 1),
-            write(0, 0, 1),
-            begin(0, 2),
-            read(1, 0, 1),
-            write(1, 1, 1),
-            read(2, 1, 1),
-            write(2, 2, 2),
-            read(0, 2, 2),
+            event!(0 fork 1),
+            event!(0 fork 2),
+            event!(0 begin 1),
+            event!(0 wr 0 1),
+            event!(0 begin 2),
+            event!(1 rd 0 1),
+            event!(1 wr 1 1),
+            event!(2 rd 1 1),
+            event!(2 wr 2 2),
+            event!(0 rd 2 2),
         ],
         position: 9,
         ranks: &IN_ORDER,
-        open: &[block(2, 1), block(4, 2)],
-        blamed: &[block(2, 1)],
-    };
-    judge_all(&rt, rt.alloc(), &[after, before, ring])
-}
+        open: &[block!(2, 1), block!(4, 2)],
+        blamed: &[block!(2, 1)],
+    },
+];
 
 #[test]
-fn threads_and_locks(rt: HostRuntime) -> Result<(), Fail> {
-    let joined = Known {
+fn nested_blocks(rt: HostRuntime) -> Result<(), Fail> {
+    judge_all(&rt, rt.alloc(), &NESTED)
+}
+
+static THREADS_AND_LOCKS: [Known; 2] = [
+    Known {
         log: "fork and join",
-        events: &[begin(0, 1), fork(0, 1), exit(1), join(0, 1)],
+        events: &[
+            event!(0 begin 1),
+            event!(0 fork 1),
+            event!(1 exit),
+            event!(0 join 1),
+        ],
         position: 3,
         ranks: &IN_ORDER,
-        open: &[block(0, 1)],
-        blamed: &[block(0, 1)],
-    };
-    let lock = Known {
+        open: &[block!(0, 1)],
+        blamed: &[block!(0, 1)],
+    },
+    Known {
         log: "a lock taken twice",
         events: &[
-            fork(0, 1),
-            begin(0, 1),
-            acquire(0, 0),
-            read(0, 0, 0),
-            release(0, 0),
-            acquire(1, 0),
-            write(1, 0, 9),
-            release(1, 0),
-            acquire(0, 0),
+            event!(0 fork 1),
+            event!(0 begin 1),
+            event!(0 acq 0),
+            event!(0 rd 0 0),
+            event!(0 rel 0),
+            event!(1 acq 0),
+            event!(1 wr 0 9),
+            event!(1 rel 0),
+            event!(0 acq 0),
         ],
         position: 8,
         ranks: &IN_ORDER,
-        open: &[block(1, 1)],
-        blamed: &[block(1, 1)],
-    };
-    judge_all(&rt, rt.alloc(), &[joined, lock])
+        open: &[block!(1, 1)],
+        blamed: &[block!(1, 1)],
+    },
+];
+
+#[test]
+fn threads_and_locks(rt: HostRuntime) -> Result<(), Fail> {
+    judge_all(&rt, rt.alloc(), &THREADS_AND_LOCKS)
 }
 
 /// The lost update of a workload: how its threads are scheduled leaves open which of the last exits
 /// comes first.
-#[test]
-fn updates_of_a_workload(rt: HostRuntime) -> Result<(), Fail> {
-    let replayed = Known {
+static OF_A_WORKLOAD: [Known; 2] = [
+    Known {
         log: "a replayed lost update",
         events: &[
-            fork(0, 1),
-            begin(0, 0),
-            read(0, 0, 0),
-            write(1, 0, 5),
-            write(0, 0, 1),
-            end(0),
-            exit(1),
-            join(0, 1),
-            exit(0),
+            event!(0 fork 1),
+            event!(0 begin 0),
+            event!(0 rd 0 0),
+            event!(1 wr 0 5),
+            event!(0 wr 0 1),
+            event!(0 end),
+            event!(1 exit),
+            event!(0 join 1),
+            event!(0 exit),
         ],
         position: 4,
         ranks: &IN_ORDER,
-        open: &[block(1, 0)],
-        blamed: &[block(1, 0)],
-    };
-    let live = Known {
+        open: &[block!(1, 0)],
+        blamed: &[block!(1, 0)],
+    },
+    Known {
         log: "a live lost update",
         events: &[
-            fork(0, 1),
-            begin(0, 0),
-            read(0, 0, 0),
-            write(1, 0, 5),
-            write(0, 0, 1),
-            exit(1),
-            end(0),
-            join(0, 1),
-            exit(0),
+            event!(0 fork 1),
+            event!(0 begin 0),
+            event!(0 rd 0 0),
+            event!(1 wr 0 5),
+            event!(0 wr 0 1),
+            event!(1 exit),
+            event!(0 end),
+            event!(0 join 1),
+            event!(0 exit),
         ],
         position: 4,
         ranks: &IN_ORDER,
-        open: &[block(1, 0)],
-        blamed: &[block(1, 0)],
-    };
-    judge_all(&rt, rt.alloc(), &[replayed, live])
+        open: &[block!(1, 0)],
+        blamed: &[block!(1, 0)],
+    },
+];
+
+#[test]
+fn updates_of_a_workload(rt: HostRuntime) -> Result<(), Fail> {
+    judge_all(&rt, rt.alloc(), &OF_A_WORKLOAD)
 }
 
 /// Whether the ranks show that the events have no cycle.
@@ -318,100 +332,108 @@ fn is_clean(alloc: Global, events: &[Event], ranks: &[usize]) -> Result<bool, Me
 }
 
 /// Two threads share a lock at the same time, each in a block of its own.
-#[test]
-fn two_sharers_are_clean(rt: HostRuntime) -> Result<(), Fail> {
-    let events = [
-        fork(0, 1),
-        begin(0, 1),
-        share(0, 0),
-        begin(1, 2),
-        share(1, 0),
-        read(0, 0, 0),
-        read(1, 0, 0),
-        unshare(1, 0),
-        unshare(0, 0),
-        end(1),
-        end(0),
-    ];
-    assert_eq!(rt; is_clean(rt.alloc(), &events, &IN_ORDER), Ok(true));
-    let beside = Known {
+const SHARED: &[Event] = &[
+    event!(0 fork 1),
+    event!(0 begin 1),
+    event!(0 acqs 0),
+    event!(1 begin 2),
+    event!(1 acqs 0),
+    event!(0 rd 0 0),
+    event!(1 rd 0 0),
+    event!(1 rels 0),
+    event!(0 rels 0),
+    event!(1 end),
+    event!(0 end),
+];
+
+static SHARING: [Known; 2] = [
+    Known {
         log: "a share beside another",
-        events: &events,
+        events: SHARED,
         position: 4,
         ranks: &IN_ORDER,
-        open: &[block(3, 2)],
+        open: &[block!(3, 2)],
         blamed: &[],
-    };
-    let released = Known {
+    },
+    Known {
         log: "a share released after another",
-        events: &events,
+        events: SHARED,
         position: 8,
         ranks: &IN_ORDER,
-        open: &[block(1, 1)],
+        open: &[block!(1, 1)],
         blamed: &[],
-    };
-    judge_all(&rt, rt.alloc(), &[beside, released])
+    },
+];
+
+#[test]
+fn two_sharers_are_clean(rt: HostRuntime) -> Result<(), Fail> {
+    assert!(rt; is_clean(rt.alloc(), SHARED, &IN_ORDER) == Ok(true));
+    judge_all(&rt, rt.alloc(), &SHARING)
 }
 
 /// A block that shares a lock twice, between which another thread has it alone.
-#[test]
-fn a_lock_taken_between_two_shares(rt: HostRuntime) -> Result<(), Fail> {
-    let between = Known {
-        log: "a lock taken between two shares",
-        events: &[
-            fork(0, 1),
-            begin(0, 1),
-            share(0, 0),
-            unshare(0, 0),
-            acquire(1, 0),
-            release(1, 0),
-            share(0, 0),
-        ],
-        position: 6,
-        ranks: &IN_ORDER,
-        open: &[block(1, 1)],
-        blamed: &[block(1, 1)],
-    };
-    judge_all(&rt, rt.alloc(), &[between])
-}
+static BETWEEN: [Known; 1] = [Known {
+    log: "a lock taken between two shares",
+    events: &[
+        event!(0 fork 1),
+        event!(0 begin 1),
+        event!(0 acqs 0),
+        event!(0 rels 0),
+        event!(1 acq 0),
+        event!(1 rel 0),
+        event!(0 acqs 0),
+    ],
+    position: 6,
+    ranks: &IN_ORDER,
+    open: &[block!(1, 1)],
+    blamed: &[block!(1, 1)],
+}];
 
 #[test]
-fn nobody_is_to_blame(rt: HostRuntime) -> Result<(), Fail> {
-    let crossed = Known {
+fn a_lock_taken_between_two_shares(rt: HostRuntime) -> Result<(), Fail> {
+    judge_all(&rt, rt.alloc(), &BETWEEN)
+}
+
+static NOBODY: [Known; 2] = [
+    Known {
         log: "two blocks",
         events: &[
-            fork(0, 1),
-            begin(0, 1),
-            write(0, 0, 1),
-            begin(1, 2),
-            write(1, 1, 1),
-            read(0, 1, 1),
-            read(1, 0, 1),
+            event!(0 fork 1),
+            event!(0 begin 1),
+            event!(0 wr 0 1),
+            event!(1 begin 2),
+            event!(1 wr 1 1),
+            event!(0 rd 1 1),
+            event!(1 rd 0 1),
         ],
         position: 6,
         ranks: &[0, 2, 0, 1],
-        open: &[block(3, 2)],
+        open: &[block!(3, 2)],
         blamed: &[],
-    };
-    let no_block = Known {
+    },
+    Known {
         log: "no open block",
-        events: &[fork(0, 1), write(1, 0, 5), write(0, 0, 1)],
+        events: &[event!(0 fork 1), event!(1 wr 0 5), event!(0 wr 0 1)],
         position: 2,
         ranks: &IN_ORDER,
         open: &[],
         blamed: &[],
-    };
-    judge_all(&rt, rt.alloc(), &[crossed, no_block])
+    },
+];
+
+#[test]
+fn nobody_is_to_blame(rt: HostRuntime) -> Result<(), Fail> {
+    judge_all(&rt, rt.alloc(), &NOBODY)
 }
 
 /// More blocks than a well-formed trace has open, all begun before the read that another thread
 /// overwrites.
 #[test]
 fn forty_nested_blocks(rt: HostRuntime) -> Result<(), Fail> {
-    let mut events = [begin(0, 1); 43];
-    events[40] = read(0, 0, 0);
-    events[41] = write(1, 0, 3);
-    events[42] = write(0, 0, 4);
+    let mut events = [event!(0 begin 1); 43];
+    events[40] = event!(0 rd 0 0);
+    events[41] = event!(1 wr 0 3);
+    events[42] = event!(0 wr 0 4);
     let mut ranks = [0; 43];
     ranks[41] = 1;
     let known = Known {
@@ -424,9 +446,13 @@ fn forty_nested_blocks(rt: HostRuntime) -> Result<(), Fail> {
     };
     let trace = checked(&rt, rt.alloc(), &known)?;
     let blocks = blamed(rt.alloc(), &trace, known.position)?;
-    assert_eq!(rt; blocks.len(), 40);
+    assert!(rt; blocks.len() == 40);
     for i in 0..blocks.len() {
-        assert_eq!(rt; blocks[i], block(i, 1));
+        let block = Block {
+            first: i,
+            label: Label(1),
+        };
+        assert!(rt; blocks[i] == block);
     }
     Ok(())
 }

@@ -24,12 +24,12 @@ fn expect_edge<A: Ancestors>(
     answer: Edge,
 ) {
     assert!(rt; graph.is_used(from) && graph.is_used(to));
-    assert_eq!(rt; graph.add_edge(from, to), answer);
+    assert!(rt; graph.add_edge(from, to) == answer);
 }
 
 fn expect_reaching<A: Ancestors>(rt: &impl Abort, graph: &Graph<A>, a: u16, b: u16, answer: bool) {
     assert!(rt; graph.is_used(a) && graph.is_used(b));
-    assert_eq!(rt; graph.reaches(a, b), answer);
+    assert!(rt; graph.reaches(a, b) == answer);
 }
 
 fn free<A: Ancestors>(rt: &impl Abort, graph: &mut Graph<A>, slot: u16) {
@@ -78,7 +78,7 @@ fn expect_freed<A: Ancestors>(
 {
     assert!(rt; graph.limit() == 4);
     graph.free_unneeded(freed);
-    assert_eq!(rt; freed.len(), stamps.len());
+    assert!(rt; freed.len() == stamps.len());
     for stamp in stamps {
         assert!(rt; freed.contains(stamp), "{stamp}");
     }
@@ -126,10 +126,7 @@ fn edges_over_bit_rows(rt: HostRuntime) -> Result<(), Fail> {
 #[test]
 fn the_most_nodes_find_room(rt: HostRuntime) -> Result<(), Fail> {
     let graph = Graph::<BitRow>::new(rt.alloc(), MAX_NODES).expect(&rt, "memory");
-    assert_eq!(rt;
-        (graph.limit(), graph.used(), graph.extent()),
-        (MAX_NODES, 0, 0)
-    );
+    assert!(rt; (graph.limit(), graph.used(), graph.extent()) == (MAX_NODES, 0, 0));
     Ok(())
 }
 

@@ -19,22 +19,22 @@ fn operations_find_their_nodes<A: Ancestors>(rt: &impl Abort, alloc: Global) -> 
         stamp: 7,
     };
     edge(rt, &mut graph, first, second);
-    assert_eq!(rt; place(&graph, &[]), Placed::None);
-    assert_eq!(rt; place(&graph, &[dead]), Placed::None);
-    assert_eq!(rt; place(&graph, &[second, first]), Placed::New);
+    assert!(rt; place(&graph, &[]) == Placed::None);
+    assert!(rt; place(&graph, &[dead]) == Placed::None);
+    assert!(rt; place(&graph, &[second, first]) == Placed::New);
     finish(rt, &mut graph, second);
     for steps in [
         [second, first, dead],
         [first, dead, second],
         [dead, second, second],
     ] {
-        assert_eq!(rt; place(&graph, &steps), Placed::In(second));
+        assert!(rt; place(&graph, &steps) == Placed::In(second));
     }
-    assert_eq!(rt; place(&graph, &[first]), Placed::New);
-    assert_eq!(rt; place(&graph, &[first, second, third]), Placed::New);
+    assert!(rt; place(&graph, &[first]) == Placed::New);
+    assert!(rt; place(&graph, &[first, second, third]) == Placed::New);
     finish(rt, &mut graph, third);
-    assert_eq!(rt; place(&graph, &[first, second, third]), Placed::New);
-    assert_eq!(rt; place(&graph, &[third, dead]), Placed::In(third));
+    assert!(rt; place(&graph, &[first, second, third]) == Placed::New);
+    assert!(rt; place(&graph, &[third, dead]) == Placed::In(third));
     Ok(())
 }
 
@@ -61,7 +61,7 @@ fn beside_another<A: Ancestors>(rt: &impl Abort, alloc: Global) -> Result<(), Fa
         (&[], Placed::None),
         (&[dead], Placed::None),
     ] {
-        assert_eq!(rt; place(&graph, steps), placed);
+        assert!(rt; place(&graph, steps) == placed);
     }
     Ok(())
 }

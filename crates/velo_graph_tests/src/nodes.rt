@@ -13,7 +13,7 @@ pub fn open<A: Ancestors>(rt: &impl Abort, graph: &mut Graph<A>, stamp: u32) -> 
 
 pub fn edge<A: Ancestors>(rt: &impl Abort, graph: &mut Graph<A>, from: Step, to: Step) {
     assert!(rt; graph.is_used(from.slot) && graph.is_used(to.slot));
-    assert_eq!(rt; graph.add_edge(from.slot, to.slot), Edge::Added);
+    assert!(rt; graph.add_edge(from.slot, to.slot) == Edge::Added);
 }
 
 pub fn finish<A: Ancestors>(rt: &impl Abort, graph: &mut Graph<A>, step: Step) {

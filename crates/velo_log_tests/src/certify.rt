@@ -4,7 +4,7 @@ mod growths;
 mod slow;
 
 use crate::traces::logs;
-use crate::words::{begin, end, exit, fork, join, read, trace_of, write};
+use crate::words::{event, trace_of};
 use slow::{is_cycle, is_serial, trace_by_chance};
 use std::alloc::Global;
 use std::process::Abort;
@@ -27,35 +27,31 @@ struct Known<'a> {
 }
 
 /// Each of two blocks reads what the other wrote.
-fn two_blocks() -> [Event; 7] {
-    [
-        fork(0, 1),
-        begin(0, 1),
-        write(0, 0, 1),
-        begin(1, 2),
-        write(1, 1, 1),
-        read(0, 1, 1),
-        read(1, 0, 1),
-    ]
-}
+static TWO_BLOCKS: [Event; 7] = [
+    event!(0 fork 1),
+    event!(0 begin 1),
+    event!(0 wr 0 1),
+    event!(1 begin 2),
+    event!(1 wr 1 1),
+    event!(0 rd 1 1),
+    event!(1 rd 0 1),
+];
 
 /// A block reads what another thread wrote after its begin.
-fn clean() -> [Event; 5] {
-    [
-        fork(0, 1),
-        begin(0, 1),
-        write(1, 0, 2),
-        read(0, 0, 2),
-        end(0),
-    ]
-}
+static CLEAN: [Event; 5] = [
+    event!(0 fork 1),
+    event!(0 begin 1),
+    event!(1 wr 0 2),
+    event!(0 rd 0 2),
+    event!(0 end),
+];
 
 /// Compares the orders.
 fn judge_order(rt: &impl Abort, alloc: Global, trace: &Trace, known: &Known) -> Result<(), Fail> {
     match serial_order(alloc, trace) {
         Ok(order) => {
             assert!(rt; known.serial, "no order of {}", known.log);
-            assert_eq!(rt; order.as_slice(), known.list, "order of {}", known.log);
+            assert!(rt; order.as_slice() == known.list, "order of {}", known.log);
             assert!(rt;
                 check_order(alloc, trace, &order)?,
                 "order of {}",
@@ -74,7 +70,7 @@ fn judge_order(rt: &impl Abort, alloc: Global, trace: &Trace, known: &Known) -> 
 fn judge_cycles(rt: &impl Abort, alloc: Global, trace: &Trace, known: &Known) -> Result<(), Fail> {
     if !known.serial {
         match cycle_of(alloc, trace, trace.len().saturating_sub(1)) {
-            Ok(cycle) => assert_eq!(rt; cycle.as_slice(), known.list, "cycle of {}", known.log),
+            Ok(cycle) => assert!(rt; cycle.as_slice() == known.list, "cycle of {}", known.log),
             Err(_) => panic!(rt; "no cycle of {}", known.log),
         }
     }
@@ -100,6 +96,61 @@ fn judge_all(rt: &impl Abort, alloc: Global, logs: &[Known]) -> Result<(), Fail>
     Ok(())
 }
 
+static WORKED: [Known; 4] = [
+    Known {
+        log: "the lost update",
+        events: &[
+            event!(0 fork 1),
+            event!(0 begin 7),
+            event!(0 rd 0 0),
+            event!(1 wr 0 5),
+            event!(0 wr 0 1),
+        ],
+        list: &[1, 3],
+        serial: false,
+        without: &[3],
+    },
+    Known {
+        log: "fork and join in a block",
+        events: &[
+            event!(0 begin 1),
+            event!(0 fork 1),
+            event!(1 exit),
+            event!(0 join 1),
+        ],
+        list: &[0, 2],
+        serial: false,
+        without: &[2],
+    },
+    Known {
+        log: "two cycles of one length",
+        events: &[
+            event!(0 begin 1),
+            event!(0 wr 0 1),
+            event!(2 rd 0 1),
+            event!(1 rd 0 1),
+            event!(0 wr 0 2),
+            event!(0 end),
+        ],
+        list: &[0, 2],
+        serial: false,
+        without: &[2],
+    },
+    Known {
+        log: "a write before a block's read",
+        events: &[
+            event!(0 fork 1),
+            event!(0 begin 1),
+            event!(1 wr 0 2),
+            event!(0 rd 0 2),
+            event!(0 end),
+        ],
+        list: &[0, 2, 1, 3, 4],
+        serial: true,
+        without: &[4],
+    },
+];
+
 #[test]
 fn worked_logs(rt: HostRuntime) -> Result<(), Fail> {
     let empty = trace_of(rt.alloc(), &[])?;
@@ -107,179 +158,135 @@ fn worked_logs(rt: HostRuntime) -> Result<(), Fail> {
         serial_order(rt.alloc(), &empty)?.is_empty(),
         "order of the empty log"
     );
-    let lost_update = Known {
-        log: "the lost update",
-        events: &[
-            fork(0, 1),
-            begin(0, 7),
-            read(0, 0, 0),
-            write(1, 0, 5),
-            write(0, 0, 1),
-        ],
-        list: &[1, 3],
-        serial: false,
-        without: &[3],
-    };
-    let joined = Known {
-        log: "fork and join in a block",
-        events: &[begin(0, 1), fork(0, 1), exit(1), join(0, 1)],
-        list: &[0, 2],
-        serial: false,
-        without: &[2],
-    };
-    let two_cycles = Known {
-        log: "two cycles of one length",
-        events: &[
-            begin(0, 1),
-            write(0, 0, 1),
-            read(2, 0, 1),
-            read(1, 0, 1),
-            write(0, 0, 2),
-            end(0),
-        ],
-        list: &[0, 2],
-        serial: false,
-        without: &[2],
-    };
-    let clean = Known {
-        log: "a write before a block's read",
-        events: &[
-            fork(0, 1),
-            begin(0, 1),
-            write(1, 0, 2),
-            read(0, 0, 2),
-            end(0),
-        ],
-        list: &[0, 2, 1, 3, 4],
-        serial: true,
-        without: &[4],
-    };
-    judge_all(&rt, rt.alloc(), &[lost_update, joined, two_cycles, clean])
+    judge_all(&rt, rt.alloc(), &WORKED)
 }
 
-#[test]
-fn logs_that_share_a_lock(rt: HostRuntime) -> Result<(), Fail> {
-    let two_sharers = Known {
+static SHARING: [Known; 2] = [
+    Known {
         log: "two sharers",
-        events: &logs::two_sharers(),
+        events: logs::TWO_SHARERS,
         list: &[0, 1, 2, 5, 8, 10, 3, 4, 6, 7, 9],
         serial: true,
         without: &[8, 10],
-    };
-    let shared_twice = Known {
+    },
+    Known {
         log: "lock shared twice",
-        events: &logs::lock_shared_twice(),
+        events: logs::LOCK_SHARED_TWICE,
         list: &[1, 4],
         serial: false,
         without: &[4, 5],
-    };
-    judge_all(&rt, rt.alloc(), &[two_sharers, shared_twice])
+    },
+];
+
+#[test]
+fn logs_that_share_a_lock(rt: HostRuntime) -> Result<(), Fail> {
+    judge_all(&rt, rt.alloc(), &SHARING)
 }
 
 /// Two ways lead from the second transaction back to the first, and the one that is found first
 /// goes through the later block.
-fn two_ways_back() -> [Event; 16] {
-    [
-        begin(0, 1),
-        write(0, 0, 1),
-        begin(1, 2),
-        read(1, 0, 1),
-        write(1, 1, 1),
-        write(1, 2, 1),
-        end(1),
-        begin(2, 3),
-        read(2, 1, 1),
-        write(2, 3, 1),
-        end(2),
-        begin(3, 4),
-        read(3, 2, 1),
-        write(3, 4, 1),
-        read(0, 4, 1),
-        read(0, 3, 1),
-    ]
-}
+const TWO_WAYS_BACK: &[Event] = &[
+    event!(0 begin 1),
+    event!(0 wr 0 1),
+    event!(1 begin 2),
+    event!(1 rd 0 1),
+    event!(1 wr 1 1),
+    event!(1 wr 2 1),
+    event!(1 end),
+    event!(2 begin 3),
+    event!(2 rd 1 1),
+    event!(2 wr 3 1),
+    event!(2 end),
+    event!(3 begin 4),
+    event!(3 rd 2 1),
+    event!(3 wr 4 1),
+    event!(0 rd 4 1),
+    event!(0 rd 3 1),
+];
 
 /// Two blocks follow the first, and the earlier of them leads back to it through the later of two
 /// others.
-fn two_ways_there() -> [Event; 16] {
-    [
-        begin(0, 1),
-        write(0, 0, 1),
-        begin(1, 2),
-        read(1, 0, 1),
-        begin(2, 3),
-        read(2, 0, 1),
-        write(2, 1, 1),
-        write(1, 2, 1),
-        begin(3, 4),
-        read(3, 1, 1),
-        write(3, 3, 1),
-        begin(4, 5),
-        read(4, 2, 1),
-        write(4, 4, 1),
-        read(0, 3, 1),
-        read(0, 4, 1),
-    ]
-}
+const TWO_WAYS_THERE: &[Event] = &[
+    event!(0 begin 1),
+    event!(0 wr 0 1),
+    event!(1 begin 2),
+    event!(1 rd 0 1),
+    event!(2 begin 3),
+    event!(2 rd 0 1),
+    event!(2 wr 1 1),
+    event!(1 wr 2 1),
+    event!(3 begin 4),
+    event!(3 rd 1 1),
+    event!(3 wr 3 1),
+    event!(4 begin 5),
+    event!(4 rd 2 1),
+    event!(4 wr 4 1),
+    event!(0 rd 3 1),
+    event!(0 rd 4 1),
+];
 
-#[test]
-fn the_least_of_several_shortest_cycles(rt: HostRuntime) -> Result<(), Fail> {
-    let back = Known {
+static SEVERAL: [Known; 2] = [
+    Known {
         log: "two ways back",
-        events: &two_ways_back(),
+        events: TWO_WAYS_BACK,
         list: &[0, 2, 7],
         serial: false,
         without: &[13],
-    };
-    let there = Known {
+    },
+    Known {
         log: "two ways there",
-        events: &two_ways_there(),
+        events: TWO_WAYS_THERE,
         list: &[0, 2, 11],
         serial: false,
         without: &[13],
-    };
-    judge_all(&rt, rt.alloc(), &[back, there])
+    },
+];
+
+#[test]
+fn the_least_of_several_shortest_cycles(rt: HostRuntime) -> Result<(), Fail> {
+    judge_all(&rt, rt.alloc(), &SEVERAL)
 }
+
+/// Orders of the clean log, and whether they are serial.
+static ORDERS: [(&[usize], bool); 6] = [
+    (&[0, 2, 1, 3, 4], true),
+    (&[0, 1, 2, 3, 4], false),
+    (&[0, 1, 3, 4, 2], false),
+    (&[0, 2, 1, 3], false),
+    (&[0, 2, 1, 3, 3], false),
+    (&[0, 2, 1, 3, 9], false),
+];
 
 #[test]
 fn forged_orders(rt: HostRuntime) -> Result<(), Fail> {
-    let trace = trace_of(rt.alloc(), &clean())?;
-    let orders: [(&[usize], bool); 6] = [
-        (&[0, 2, 1, 3, 4], true),
-        (&[0, 1, 2, 3, 4], false),
-        (&[0, 1, 3, 4, 2], false),
-        (&[0, 2, 1, 3], false),
-        (&[0, 2, 1, 3, 3], false),
-        (&[0, 2, 1, 3, 9], false),
-    ];
-    for (order, serial) in &orders {
-        assert_eq!(&rt; check_order(rt.alloc(), &trace, order)?, *serial);
+    let trace = trace_of(rt.alloc(), &CLEAN)?;
+    for (order, serial) in &ORDERS {
+        assert!(&rt; check_order(rt.alloc(), &trace, *order)? == *serial);
     }
     Ok(())
 }
 
+/// Positions, cycles of the two blocks, and whether they are shortest ones there.
+static CYCLES: [(usize, &[usize], bool); 9] = [
+    (6, &[3, 1], true),
+    (6, &[1, 3], false),
+    (6, &[3], false),
+    (6, &[3, 2], false),
+    (6, &[3, 9], false),
+    (6, &[3, 1, 3, 1], false),
+    (5, &[1, 3], false),
+    (7, &[3, 1], false),
+    (6, &[], false),
+];
+
 #[test]
 fn forged_cycles(rt: HostRuntime) -> Result<(), Fail> {
-    let trace = trace_of(rt.alloc(), &two_blocks())?;
+    let trace = trace_of(rt.alloc(), &TWO_BLOCKS)?;
     let given = cycle_of(rt.alloc(), &trace, 6)?;
     let wanted: &[usize] = &[3, 1];
-    assert_eq!(&rt; given.as_slice(), wanted);
-    let cycles: [(usize, &[usize], bool); 9] = [
-        (6, &[3, 1], true),
-        (6, &[1, 3], false),
-        (6, &[3], false),
-        (6, &[3, 2], false),
-        (6, &[3, 9], false),
-        (6, &[3, 1, 3, 1], false),
-        (5, &[1, 3], false),
-        (7, &[3, 1], false),
-        (6, &[], false),
-    ];
-    for (position, cycle, shortest) in &cycles {
-        assert_eq!(&rt;
-            check_cycle(rt.alloc(), &trace, *position, cycle)?,
-            *shortest
-        );
+    assert!(&rt; given.as_slice() == wanted);
+    for (position, cycle, shortest) in &CYCLES {
+        assert!(&rt; check_cycle(rt.alloc(), &trace, *position, *cycle)? == *shortest);
     }
     Ok(())
 }

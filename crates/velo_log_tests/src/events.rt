@@ -1,9 +1,9 @@
 //! Tests of events, refusals and configurations.
+use crate::words::{holds_for, is_told_as};
 use std::mem::size_of;
-use std::test::Fail;
 use velo_events::{BadConfig, Bounds, Config, Event, Kind, MAX_OPEN_BLOCKS, Refusal};
 
-const REFUSALS: [(Refusal, u8, &str); 22] = [
+static REFUSALS: [(Refusal, u8, &str); 22] = [
     (Refusal::Halted, 1, "halted"),
     (Refusal::NotLive, 2, "thread not live"),
     (Refusal::NoSuchVariable, 3, "no such variable"),
@@ -29,47 +29,47 @@ const REFUSALS: [(Refusal, u8, &str); 22] = [
 ];
 
 #[test]
-fn refusals_have_their_numbers_and_texts(rt: HostRuntime) -> Result<(), Fail> {
-    for (refusal, number, text) in REFUSALS {
-        assert_eq!(rt; refusal as u8, number);
-        assert_eq!(rt; format!(in rt.alloc(); "{refusal}")?.as_str(), text);
+fn refusals_have_their_numbers_and_texts(rt: HostRuntime) {
+    for (refusal, number, text) in &REFUSALS {
+        let is_told = is_told_as(rt.alloc(), refusal, *text);
+        holds_for(&rt, is_told && *refusal as u8 == *number, &text);
     }
-    Ok(())
 }
 
+static BAD_VALUES: [(BadConfig, u8, &str); 5] = [
+    (
+        BadConfig::Threads,
+        1,
+        "the number of threads is not from 1 to 64",
+    ),
+    (
+        BadConfig::Variables,
+        2,
+        "the number of variables is out of range",
+    ),
+    (BadConfig::Locks, 3, "the number of locks is above 4096"),
+    (
+        BadConfig::Events,
+        4,
+        "the limit of events is not from 1 to 16777216",
+    ),
+    (
+        BadConfig::Nodes,
+        5,
+        "the limit of nodes is not from 1 to 4096",
+    ),
+];
+
 #[test]
-fn bad_values_have_their_numbers_and_texts(rt: HostRuntime) -> Result<(), Fail> {
-    for (bad, number, text) in [
-        (
-            BadConfig::Threads,
-            1,
-            "the number of threads is not from 1 to 64",
-        ),
-        (
-            BadConfig::Variables,
-            2,
-            "the number of variables is out of range",
-        ),
-        (BadConfig::Locks, 3, "the number of locks is above 4096"),
-        (
-            BadConfig::Events,
-            4,
-            "the limit of events is not from 1 to 16777216",
-        ),
-        (
-            BadConfig::Nodes,
-            5,
-            "the limit of nodes is not from 1 to 4096",
-        ),
-    ] {
-        assert_eq!(rt; bad as u8, number);
-        assert_eq!(rt; format!(in rt.alloc(); "{bad}")?.as_str(), text);
+fn bad_values_have_their_numbers_and_texts(rt: HostRuntime) {
+    for (bad, number, text) in &BAD_VALUES {
+        let is_told = is_told_as(rt.alloc(), bad, *text);
+        holds_for(&rt, is_told && *bad as u8 == *number, &text);
     }
-    Ok(())
 }
 
 /// The most events, the most nodes, and which of the two is out of its range.
-const LIMITS: [(u32, u16, Option<BadConfig>); 7] = [
+static LIMITS: [(u32, u16, Option<BadConfig>); 7] = [
     (1, 1, None),
     (16_777_216, 4_096, None),
     (0, 1, Some(BadConfig::Events)),
@@ -79,21 +79,28 @@ const LIMITS: [(u32, u16, Option<BadConfig>); 7] = [
     (0, 0, Some(BadConfig::Events)),
 ];
 
+const GREATEST_BOUNDS: Bounds = Bounds {
+    threads: 64,
+    variables: 65_535,
+    locks: 4_096,
+};
+
+/// The bounds of a configuration with the greatest bounds, or which of its limits is out of range.
+fn bounds_within(events: u32, nodes: u16) -> Result<Bounds, BadConfig> {
+    Ok(Config::new(0, GREATEST_BOUNDS, events, nodes, true)?.bounds)
+}
+
 /// Configurations with the greatest bounds, and limits at both sides of their ends.
 #[test]
 fn the_limits_may_be_reached(rt: HostRuntime) {
-    let bounds = Bounds {
-        threads: 64,
-        variables: 65_535,
-        locks: 4_096,
-    };
-    let config = Config::new(0, bounds, 16_777_216, 4_096, true).expect(&rt, "in range");
-    assert_eq!(rt; config.bounds, bounds);
-    for (events, nodes, bad) in LIMITS {
-        let refused = Config::new(0, bounds, events, nodes, true).err();
-        assert_eq!(rt; refused, bad, "{events} events, {nodes} nodes");
+    for (events, nodes, bad) in &LIMITS {
+        let is_right = match bounds_within(*events, *nodes) {
+            Ok(bounds) => bad.is_none() && bounds == GREATEST_BOUNDS,
+            Err(refused) => *bad == Some(refused),
+        };
+        assert!(rt; is_right, "{events} events, {nodes} nodes");
     }
-    assert_eq!(rt; MAX_OPEN_BLOCKS, 32);
+    assert!(rt; MAX_OPEN_BLOCKS == 32);
 }
 
 #[test]

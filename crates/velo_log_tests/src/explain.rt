@@ -1,11 +1,11 @@
 //! Tests of explanations in words and as a picture.
 use crate::traces::logs;
-use crate::words::{acquire, begin, end, fork, read, release, trace_of, write};
+use crate::words::{block, event, trace_of};
 use std::alloc::Global;
 use std::process::Abort;
 use std::test::Fail;
 use velo_certify::{CertFault, serial_order};
-use velo_events::{Event, Label};
+use velo_events::Event;
 use velo_explain::{Evidence, evidence_of, explain, explain_clean, picture};
 use velo_traces::{Block, Trace};
 
@@ -19,36 +19,28 @@ struct Known<'a> {
     picture: &'a str,
 }
 
-fn block(first: usize, label: u32) -> Block {
-    Block {
-        first,
-        label: Label(label),
-    }
-}
-
 /// Compares the words and the picture of an alarm with what is wanted.
 fn compare(rt: &impl Abort, alloc: Global, trace: &Trace, known: &Known) -> Result<(), Fail> {
     assert!(rt; trace.len() < 100);
     let evidence = evidence_of(alloc, trace, known.position, known.blamed)?;
     let words = explain(alloc, trace, known.position, &evidence)?;
-    assert_eq!(rt; words.as_slice(), known.text.as_bytes());
+    assert!(rt; words.as_slice() == known.text.as_bytes());
     let drawn = picture(alloc, trace, known.position, &evidence)?;
-    assert_eq!(rt; drawn.as_slice(), known.picture.as_bytes());
+    assert!(rt; drawn.as_slice() == known.picture.as_bytes());
     Ok(())
 }
 
-#[test]
-fn alarms(rt: HostRuntime) -> Result<(), Fail> {
-    let lost_update = Known {
+static ALARMS: [Known; 3] = [
+    Known {
         events: &[
-            fork(0, 1),
-            begin(0, 7),
-            read(0, 0, 0),
-            write(1, 0, 5),
-            write(0, 0, 1),
+            event!(0 fork 1),
+            event!(0 begin 7),
+            event!(0 rd 0 0),
+            event!(1 wr 0 5),
+            event!(0 wr 0 1),
         ],
         position: 4,
-        blamed: &[block(1, 7)],
+        blamed: &[block!(1, 7)],
         text: "\
 The blocks of this log cannot be serialized.
     line  thread 0                            thread 1
@@ -75,16 +67,16 @@ digraph cycle {
   T2 -> T1 [label=\"line 5: 1 wr 0 5\\nline 6: 0 wr 0 1\"];
 }
 ",
-    };
-    let crossed = Known {
+    },
+    Known {
         events: &[
-            fork(0, 1),
-            begin(0, 1),
-            write(0, 0, 1),
-            begin(1, 2),
-            write(1, 1, 1),
-            read(0, 1, 1),
-            read(1, 0, 1),
+            event!(0 fork 1),
+            event!(0 begin 1),
+            event!(0 wr 0 1),
+            event!(1 begin 2),
+            event!(1 wr 1 1),
+            event!(0 rd 1 1),
+            event!(1 rd 0 1),
         ],
         position: 6,
         blamed: &[],
@@ -115,20 +107,20 @@ digraph cycle {
   T2 -> T1 [label=\"line 4: 0 wr 0 1\\nline 8: 1 rd 0 1\"];
 }
 ",
-    };
-    let nested = Known {
+    },
+    Known {
         events: &[
-            fork(0, 1),
-            begin(0, 1),
-            acquire(0, 3),
-            release(0, 3),
-            begin(0, 2),
-            acquire(1, 3),
-            release(1, 3),
-            acquire(0, 3),
+            event!(0 fork 1),
+            event!(0 begin 1),
+            event!(0 acq 3),
+            event!(0 rel 3),
+            event!(0 begin 2),
+            event!(1 acq 3),
+            event!(1 rel 3),
+            event!(0 acq 3),
         ],
         position: 7,
-        blamed: &[block(1, 1), block(4, 2)],
+        blamed: &[block!(1, 1), block!(4, 2)],
         text: "\
 The blocks of this log cannot be serialized.
     line  thread 0                            thread 1
@@ -158,20 +150,23 @@ digraph cycle {
   T2 -> T1 [label=\"line 7: 1 acq 3\\nline 9: 0 acq 3\"];
 }
 ",
-    };
-    for known in &[lost_update, crossed, nested] {
+    },
+];
+
+#[test]
+fn alarms(rt: HostRuntime) -> Result<(), Fail> {
+    for known in &ALARMS {
         let trace = trace_of(rt.alloc(), known.events)?;
         compare(&rt, rt.alloc(), &trace, known)?;
     }
     Ok(())
 }
 
-#[test]
-fn alarms_by_sharers_and_of_nested_blocks(rt: HostRuntime) -> Result<(), Fail> {
-    let shared_twice = Known {
-        events: &logs::lock_shared_twice(),
+static ALARMS_OF_BLOCKS: [Known; 2] = [
+    Known {
+        events: logs::LOCK_SHARED_TWICE,
         position: 6,
-        blamed: &[block(1, 1)],
+        blamed: &[block!(1, 1)],
         text: "\
 The blocks of this log cannot be serialized.
     line  thread 0                            thread 1
@@ -200,11 +195,11 @@ digraph cycle {
   T2 -> T1 [label=\"line 6: 1 acq 0\\nline 8: 0 acqs 0\"];
 }
 ",
-    };
-    let both_blamed = Known {
-        events: &logs::inner_block_before_the_read(),
+    },
+    Known {
+        events: logs::INNER_BLOCK_BEFORE_THE_READ,
         position: 5,
-        blamed: &[block(1, 1), block(2, 2)],
+        blamed: &[block!(1, 1), block!(2, 2)],
         text: "\
 The blocks of this log cannot be serialized.
     line  thread 0                            thread 1
@@ -233,24 +228,29 @@ digraph cycle {
   T2 -> T1 [label=\"line 6: 1 wr 0 3\\nline 7: 0 wr 0 4\"];
 }
 ",
-    };
-    for known in &[shared_twice, both_blamed] {
+    },
+];
+
+#[test]
+fn alarms_by_sharers_and_of_nested_blocks(rt: HostRuntime) -> Result<(), Fail> {
+    for known in &ALARMS_OF_BLOCKS {
         let trace = trace_of(rt.alloc(), known.events)?;
         compare(&rt, rt.alloc(), &trace, known)?;
     }
     Ok(())
 }
 
+static CLEAN: [Event; 5] = [
+    event!(0 fork 1),
+    event!(0 begin 1),
+    event!(1 wr 0 2),
+    event!(0 rd 0 2),
+    event!(0 end),
+];
+
 #[test]
 fn clean_log(rt: HostRuntime) -> Result<(), Fail> {
-    let events = [
-        fork(0, 1),
-        begin(0, 1),
-        write(1, 0, 2),
-        read(0, 0, 2),
-        end(0),
-    ];
-    let trace = trace_of(rt.alloc(), &events)?;
+    let trace = trace_of(rt.alloc(), &CLEAN)?;
     let words = match serial_order(rt.alloc(), &trace) {
         Ok(_) => explain_clean(rt.alloc(), &trace)?,
         Err(_) => panic!(&rt; "no serial order"),
@@ -260,20 +260,13 @@ The blocks of this log can be serialized.
 Events: 5
 Transactions, which can follow one another: 3
 ";
-    assert_eq!(&rt; words.as_slice(), wanted.as_bytes());
+    assert!(&rt; words.as_slice() == wanted.as_bytes());
     Ok(())
 }
 
 #[test]
 fn faults(rt: HostRuntime) -> Result<(), Fail> {
-    let events = [
-        fork(0, 1),
-        begin(0, 7),
-        read(0, 0, 0),
-        write(1, 0, 5),
-        write(0, 0, 1),
-    ];
-    let trace = trace_of(rt.alloc(), &events)?;
+    let trace = trace_of(rt.alloc(), logs::LOST_UPDATE)?;
     assert!(&rt; trace.len() < 100);
     assert!(&rt; evidence_of(rt.alloc(), &trace, 3, &[]).err() == Some(CertFault::NoCycle));
     assert!(&rt; evidence_of(rt.alloc(), &trace, 5, &[]).err() == Some(CertFault::NotThere));

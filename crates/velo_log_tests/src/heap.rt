@@ -60,7 +60,7 @@ fn first_surprise(heap: &mut Heap, steps: &[Step]) -> Option<usize>
 }
 
 /// What is tried, one after another, and why it is refused, if it is.
-const STEPS: [Step; 32] = [
+static STEPS: [Step; 32] = [
     // an unborn thread, a thread that is not there, and what else would be refused
     (1, Action::Write(VarId(0), 1), Some(Refusal::NotLive)),
     (9, Action::Begin(Label(0)), Some(Refusal::NotLive)),
@@ -104,15 +104,17 @@ const STEPS: [Step; 32] = [
 #[test]
 fn refusals_in_their_order(rt: HostRuntime) {
     let mut heap = heap_of_three_threads(&rt, rt.alloc());
-    assert_eq!(rt; first_surprise(&mut heap, &STEPS), None);
-    assert_eq!(rt; heap.status(ThreadId(0)), Status::Exited);
-    assert_eq!(rt; heap.status(ThreadId(1)), Status::Joined);
-    assert_eq!(rt; heap.status(ThreadId(2)), Status::Unborn);
-    assert_eq!(rt; heap.holder(LockId(0)), None);
+    assert!(rt; first_surprise(&mut heap, &STEPS).is_none());
+    let first = heap.status(ThreadId(0));
+    let second = heap.status(ThreadId(1));
+    let third = heap.status(ThreadId(2));
+    let statuses = [first, second, third];
+    assert!(rt; statuses == [Status::Exited, Status::Joined, Status::Unborn]);
+    assert!(rt; heap.holder(LockId(0)).is_none());
 }
 
 /// What is tried with a lock that is shared, one after another.
-const SHARING_STEPS: [Step; 32] = [
+static SHARING_STEPS: [Step; 32] = [
     (1, Action::AcquireShared(LockId(0)), Some(Refusal::NotLive)),
     (
         0,
@@ -186,11 +188,11 @@ const SHARING_STEPS: [Step; 32] = [
 #[test]
 fn sharers_of_a_lock(rt: HostRuntime) {
     let mut heap = heap_of_three_threads(&rt, rt.alloc());
-    assert_eq!(rt; first_surprise(&mut heap, &SHARING_STEPS), None);
-    assert_eq!(rt; heap.holder(LockId(0)), None);
-    assert_eq!(rt; heap.sharers(LockId(0)), ThreadSet(0b101));
+    assert!(rt; first_surprise(&mut heap, &SHARING_STEPS).is_none());
+    assert!(rt; heap.holder(LockId(0)).is_none());
+    assert!(rt; heap.sharers(LockId(0)) == ThreadSet(0b101));
     for (thread, shares) in [(0, true), (1, false), (2, true)] {
-        assert_eq!(rt; heap.shares(LockId(0), ThreadId(thread)), shares);
+        assert!(rt; heap.shares(LockId(0), ThreadId(thread)) == shares);
     }
 }
 
@@ -202,32 +204,20 @@ fn values_and_holders(rt: HostRuntime) {
         kind: Kind::Read(VarId(0), 0),
     };
     assert!(rt; heap.admit(ThreadId(0), Action::Read(VarId(0))) == Ok(read));
-    assert_eq!(rt;
-        act(&mut heap, ThreadId(0), Action::Write(VarId(0), 5)),
-        None
-    );
-    assert_eq!(rt;
-        act(&mut heap, ThreadId(0), Action::Acquire(LockId(0))),
-        None
-    );
-    assert_eq!(rt; heap.value(VarId(0)), 5);
-    assert_eq!(rt; heap.holder(LockId(0)), Some(ThreadId(0)));
+    assert!(rt; act(&mut heap, ThreadId(0), Action::Write(VarId(0), 5)).is_none());
+    assert!(rt; act(&mut heap, ThreadId(0), Action::Acquire(LockId(0))).is_none());
+    assert!(rt; heap.value(VarId(0)) == 5);
+    assert!(rt; heap.holder(LockId(0)) == Some(ThreadId(0)));
 }
 
 #[test]
 fn blocks_nest_32_deep(rt: HostRuntime) {
     let mut heap = heap_of_three_threads(&rt, rt.alloc());
     let begins = [(0, Action::Begin(Label(1)), None); 32];
-    assert_eq!(rt; first_surprise(&mut heap, &begins), None);
-    assert_eq!(rt;
-        act(&mut heap, ThreadId(0), Action::Begin(Label(1))),
-        Some(Refusal::TooDeep)
-    );
-    assert_eq!(rt; heap.depth(ThreadId(0)), 32);
+    assert!(rt; first_surprise(&mut heap, &begins).is_none());
+    assert!(rt; act(&mut heap, ThreadId(0), Action::Begin(Label(1))) == Some(Refusal::TooDeep));
+    assert!(rt; heap.depth(ThreadId(0)) == 32);
     let ends = [(0, Action::End, None); 32];
-    assert_eq!(rt; first_surprise(&mut heap, &ends), None);
-    assert_eq!(rt;
-        act(&mut heap, ThreadId(0), Action::End),
-        Some(Refusal::NoOpenBlock)
-    );
+    assert!(rt; first_surprise(&mut heap, &ends).is_none());
+    assert!(rt; act(&mut heap, ThreadId(0), Action::End) == Some(Refusal::NoOpenBlock));
 }

@@ -1,9 +1,9 @@
 //! Tests of explanations in lanes.
-use crate::words::{acquire, begin, end, fork, read, release, trace_of, write};
+use crate::words::{block, event, trace_of};
 use std::alloc::Global;
 use std::process::Abort;
 use std::test::Fail;
-use velo_events::{Event, Label};
+use velo_events::Event;
 use velo_explain::{evidence_of, explain_named, picture_named};
 use velo_names::Names;
 use velo_traces::Block;
@@ -18,13 +18,6 @@ struct Known<'a> {
     blamed: &'a [Block],
     text: &'a str,
     dot: bool,
-}
-
-fn block(first: usize, label: u32) -> Block {
-    Block {
-        first,
-        label: Label(label),
-    }
 }
 
 /// Compares the first lines of what is written of an alarm with what is wanted.
@@ -46,9 +39,8 @@ fn compare(rt: &impl Abort, alloc: Global, known: &Known) -> Result<(), Fail> {
 
 /// Three transactions. The names are cut before a character of two bytes, and after one; one just
 /// fits.
-fn three_lanes(rt: &impl Abort, alloc: Global) -> Result<(), Fail> {
-    let known = Known {
-        names: "\
+static THREE_LANES: Known = Known {
+    names: "\
 thread 0 main
 thread 1 a worker with a long name
 variable 0 Zähler der offenen Aufträge
@@ -56,23 +48,23 @@ variable 1 aaaaaaaaaaaaéééé
 variable 2 exactly fifteen
 label 1 Übertrag
 ",
-        events: &[
-            fork(0, 1),
-            fork(0, 2),
-            begin(0, 1),
-            write(0, 0, 1),
-            begin(1, 2),
-            read(1, 0, 1),
-            write(1, 1, 1),
-            end(1),
-            begin(2, 3),
-            read(2, 1, 1),
-            write(2, 2, 1),
-            read(0, 2, 1),
-        ],
-        position: 11,
-        blamed: &[block(2, 1)],
-        text: "\
+    events: &[
+        event!(0 fork 1),
+        event!(0 fork 2),
+        event!(0 begin 1),
+        event!(0 wr 0 1),
+        event!(1 begin 2),
+        event!(1 rd 0 1),
+        event!(1 wr 1 1),
+        event!(1 end),
+        event!(2 begin 3),
+        event!(2 rd 1 1),
+        event!(2 wr 2 1),
+        event!(0 rd 2 1),
+    ],
+    position: 11,
+    blamed: &[block!(2, 1)],
+    text: "\
 The blocks of this log cannot be serialized.
     line  thread 0 main           thread 1 a worker wi..  thread 2
        4  begin 1 Übertrag
@@ -87,30 +79,27 @@ The blocks of this log cannot be serialized.
       13  rd 2 1 exactly fifteen
 Line 13 `0 rd 2 1` exactly fifteen closes a cycle of 3 transactions:
 ",
-        dot: false,
-    };
-    compare(rt, alloc, &known)
-}
+    dot: false,
+};
 
 /// The event that parts the block is not on the cycle. Two events of thread 1 are side by side.
-fn witness_beside_the_cycle(rt: &impl Abort, alloc: Global) -> Result<(), Fail> {
-    let known = Known {
-        names: "lock 0 table\n",
-        events: &[
-            begin(0, 1),
-            begin(0, 9),
-            end(0),
-            fork(0, 1),
-            begin(1, 2),
-            acquire(1, 0),
-            write(1, 0, 1),
-            write(1, 0, 2),
-            release(1, 0),
-            acquire(0, 0),
-        ],
-        position: 9,
-        blamed: &[block(0, 1)],
-        text: "\
+static WITNESS_BESIDE_THE_CYCLE: Known = Known {
+    names: "lock 0 table\n",
+    events: &[
+        event!(0 begin 1),
+        event!(0 begin 9),
+        event!(0 end),
+        event!(0 fork 1),
+        event!(1 begin 2),
+        event!(1 acq 0),
+        event!(1 wr 0 1),
+        event!(1 wr 0 2),
+        event!(1 rel 0),
+        event!(0 acq 0),
+    ],
+    position: 9,
+    blamed: &[block!(0, 1)],
+    text: "\
 The blocks of this log cannot be serialized.
     line  thread 0                            thread 1
        2  begin 1
@@ -123,55 +112,52 @@ The blocks of this log cannot be serialized.
       11  acq 0 table
 Line 11 `0 acq 0` table closes a cycle of 2 transactions:
 ",
-        dot: false,
-    };
-    compare(rt, alloc, &known)
-}
+    dot: false,
+};
 
 /// Six transactions of six threads, with lines between any two events of the cycle: a screen is
 /// full, and no begin is shown.
-fn six_lanes(rt: &impl Abort, alloc: Global) -> Result<(), Fail> {
-    let known = Known {
-        names: "thread 0 main\nvariable 0 total\nvariable 5 abc\n",
-        events: &[
-            fork(0, 1),
-            fork(0, 2),
-            fork(0, 3),
-            fork(0, 4),
-            fork(0, 5),
-            begin(0, 1),
-            write(0, 0, 1),
-            read(0, 9, 0),
-            begin(1, 2),
-            read(1, 0, 1),
-            read(0, 9, 0),
-            write(1, 1, 1),
-            read(0, 9, 0),
-            begin(2, 3),
-            read(2, 1, 1),
-            read(0, 9, 0),
-            write(2, 2, 1),
-            read(0, 9, 0),
-            begin(3, 4),
-            read(3, 2, 1),
-            read(0, 9, 0),
-            write(3, 3, 1),
-            read(0, 9, 0),
-            begin(4, 5),
-            read(4, 3, 1),
-            read(0, 9, 0),
-            write(4, 4, 1),
-            read(0, 9, 0),
-            begin(5, 6),
-            read(5, 4, 1),
-            read(0, 9, 0),
-            write(5, 5, 1),
-            read(0, 9, 0),
-            read(0, 5, 1),
-        ],
-        position: 33,
-        blamed: &[block(5, 1)],
-        text: "\
+static SIX_LANES: Known = Known {
+    names: "thread 0 main\nvariable 0 total\nvariable 5 abc\n",
+    events: &[
+        event!(0 fork 1),
+        event!(0 fork 2),
+        event!(0 fork 3),
+        event!(0 fork 4),
+        event!(0 fork 5),
+        event!(0 begin 1),
+        event!(0 wr 0 1),
+        event!(0 rd 9 0),
+        event!(1 begin 2),
+        event!(1 rd 0 1),
+        event!(0 rd 9 0),
+        event!(1 wr 1 1),
+        event!(0 rd 9 0),
+        event!(2 begin 3),
+        event!(2 rd 1 1),
+        event!(0 rd 9 0),
+        event!(2 wr 2 1),
+        event!(0 rd 9 0),
+        event!(3 begin 4),
+        event!(3 rd 2 1),
+        event!(0 rd 9 0),
+        event!(3 wr 3 1),
+        event!(0 rd 9 0),
+        event!(4 begin 5),
+        event!(4 rd 3 1),
+        event!(0 rd 9 0),
+        event!(4 wr 4 1),
+        event!(0 rd 9 0),
+        event!(5 begin 6),
+        event!(5 rd 4 1),
+        event!(0 rd 9 0),
+        event!(5 wr 5 1),
+        event!(0 rd 9 0),
+        event!(0 rd 5 1),
+    ],
+    position: 33,
+    blamed: &[block!(5, 1)],
+    text: "\
 The blocks of this log cannot be serialized.
     line  thread 0..  thread 1    thread 2    thread 3    thread 4    thread 5
        8  wr 0 1 t..
@@ -199,25 +185,22 @@ The blocks of this log cannot be serialized.
       35  rd 5 1 abc
 Line 35 `0 rd 5 1` abc closes a cycle of 6 transactions:
 ",
-        dot: false,
-    };
-    compare(rt, alloc, &known)
-}
+    dot: false,
+};
 
 /// Quotes and backslashes of names are escaped.
-fn names_in_a_picture(rt: &impl Abort, alloc: Global) -> Result<(), Fail> {
-    let known = Known {
-        names: "thread 0 \"main\"\nthread 1 C:\\pool\nvariable 0 a\\\"b\nlabel 7 f<\"x\">\n",
-        events: &[
-            fork(0, 1),
-            begin(0, 7),
-            read(0, 0, 0),
-            write(1, 0, 5),
-            write(0, 0, 1),
-        ],
-        position: 4,
-        blamed: &[],
-        text: "\
+static NAMES_IN_A_PICTURE: Known = Known {
+    names: "thread 0 \"main\"\nthread 1 C:\\pool\nvariable 0 a\\\"b\nlabel 7 f<\"x\">\n",
+    events: &[
+        event!(0 fork 1),
+        event!(0 begin 7),
+        event!(0 rd 0 0),
+        event!(1 wr 0 5),
+        event!(0 wr 0 1),
+    ],
+    position: 4,
+    blamed: &[],
+    text: "\
 digraph cycle {
   rankdir=LR;
   node [shape=box];
@@ -227,19 +210,17 @@ digraph cycle {
   T2 -> T1 [label=\"line 5: 1 wr 0 5 a\\\\\\\"b\\nline 6: 0 wr 0 1 a\\\\\\\"b\"];
 }
 ",
-        dot: true,
-    };
-    compare(rt, alloc, &known)
-}
+    dot: true,
+};
 
 #[test]
 fn lanes(rt: HostRuntime) -> Result<(), Fail> {
-    three_lanes(&rt, rt.alloc())?;
-    witness_beside_the_cycle(&rt, rt.alloc())?;
-    six_lanes(&rt, rt.alloc())
+    compare(&rt, rt.alloc(), &THREE_LANES)?;
+    compare(&rt, rt.alloc(), &WITNESS_BESIDE_THE_CYCLE)?;
+    compare(&rt, rt.alloc(), &SIX_LANES)
 }
 
 #[test]
 fn pictures_with_names(rt: HostRuntime) -> Result<(), Fail> {
-    names_in_a_picture(&rt, rt.alloc())
+    compare(&rt, rt.alloc(), &NAMES_IN_A_PICTURE)
 }

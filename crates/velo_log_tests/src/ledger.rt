@@ -1,18 +1,9 @@
 //! Tests of the book and its shares.
+use crate::words::event;
 use std::alloc::Global;
 use std::process::Abort;
-use std::test::Fail;
-use velo_events::{Event, Kind, Label, MAX_EVENTS, ThreadId, VarId};
+use velo_events::{Event, MAX_EVENTS, ThreadId};
 use velo_ledger::{Book, Shares, Tally, gather, gather_both};
-
-const X: VarId = VarId(0);
-
-const fn by(thread: u8, kind: Kind) -> Event {
-    Event {
-        thread: ThreadId(thread),
-        kind,
-    }
-}
 
 /// Enters the event by the share of its thread.
 fn enter(rt: &impl Abort, book: &mut Book, shares: &mut Shares, position: usize, event: &Event) {
@@ -35,49 +26,73 @@ fn row(rt: &impl Abort, book: &Book, shares: &Shares, thread: u8) -> Tally {
         read_total: share.read_total(),
         written_total: share.written_total(),
     };
-    assert_eq!(rt; said, row);
+    assert!(rt; said == row);
     row
 }
 
-fn tally(events: u64, next: u64, last: Event, read_total: u128, written_total: u128) -> Tally {
-    Tally {
-        events,
-        next,
-        last: Some(last),
-        read_total,
-        written_total,
-    }
+fn judge_rows(rt: &impl Abort, book: &Book, shares: &Shares, rows: &[Tally; 2]) {
+    assert!(rt; row(rt, book, shares, 0) == rows[0]);
+    assert!(rt; row(rt, book, shares, 1) == rows[1]);
 }
 
+static EVENTS: [Event; 9] = [
+    event!(0 fork 1),
+    event!(0 begin 0),
+    event!(0 rd 0 0),
+    event!(1 wr 0 5),
+    event!(0 wr 0 1),
+    event!(0 end),
+    event!(1 exit),
+    event!(0 join 1),
+    event!(0 exit),
+];
+
+/// The rows of the two threads after five of the events.
+static AFTER_FIVE: [Tally; 2] = [
+    Tally {
+        events: 4,
+        next: 5,
+        last: Some(event!(0 wr 0 1)),
+        read_total: 0,
+        written_total: 1,
+    },
+    Tally {
+        events: 1,
+        next: 4,
+        last: Some(event!(1 wr 0 5)),
+        read_total: 0,
+        written_total: 5,
+    },
+];
+
+static AFTER_ALL: [Tally; 2] = [
+    Tally {
+        events: 7,
+        next: 9,
+        last: Some(event!(0 exit)),
+        read_total: 0,
+        written_total: 1,
+    },
+    Tally {
+        events: 2,
+        next: 7,
+        last: Some(event!(1 exit)),
+        read_total: 0,
+        written_total: 5,
+    },
+];
+
 #[test]
-fn counts_the_events_of_two_threads(rt: HostRuntime) -> Result<(), Fail> {
-    let events = [
-        by(0, Kind::Fork(ThreadId(1))),
-        by(0, Kind::Begin(Label(0))),
-        by(0, Kind::Read(X, 0)),
-        by(1, Kind::Write(X, 5)),
-        by(0, Kind::Write(X, 1)),
-        by(0, Kind::End),
-        by(1, Kind::Exit),
-        by(0, Kind::Join(ThreadId(1))),
-        by(0, Kind::Exit),
-    ];
+fn counts_the_events_of_two_threads(rt: HostRuntime) {
     let (mut book, mut shares) = Book::open(rt.alloc(), 7, 2).expect(&rt, "memory");
-    for (position, event) in events.iter().enumerate() {
+    for (position, event) in EVENTS.iter().enumerate() {
         enter(&rt, &mut book, &mut shares, position, event);
         if position == 4 {
-            let fifth = tally(4, 5, by(0, Kind::Write(X, 1)), 0, 1);
-            assert_eq!(rt; row(&rt, &book, &shares, 0), fifth);
-            let fourth = tally(1, 4, by(1, Kind::Write(X, 5)), 0, 5);
-            assert_eq!(rt; row(&rt, &book, &shares, 1), fourth);
+            judge_rows(&rt, &book, &shares, &AFTER_FIVE);
         }
     }
-    let first = tally(7, 9, by(0, Kind::Exit), 0, 1);
-    assert_eq!(rt; row(&rt, &book, &shares, 0), first);
-    let second = tally(2, 7, by(1, Kind::Exit), 0, 5);
-    assert_eq!(rt; row(&rt, &book, &shares, 1), second);
-    assert_eq!(rt; gather(&book, &shares), Some(9));
-    Ok(())
+    judge_rows(&rt, &book, &shares, &AFTER_ALL);
+    assert!(rt; gather(&book, &shares) == Some(9));
 }
 
 /// Compares whether the share of a thread fits.
@@ -91,26 +106,26 @@ fn foreign_shares_do_not_fit(rt: HostRuntime) {
     let (mut book, mut shares) = Book::open(rt.alloc(), 7, 2).expect(&rt, "memory");
     let (_, of_another_run) = Book::open(rt.alloc(), 8, 2).expect(&rt, "memory");
     let (_, of_another_book) = Book::open(rt.alloc(), 7, 3).expect(&rt, "memory");
-    enter(&rt, &mut book, &mut shares, 0, &by(0, Kind::Read(X, 0)));
+    enter(&rt, &mut book, &mut shares, 0, &event!(0 rd 0 0));
     judge_share(&rt, &book, &shares, 0, true);
     judge_share(&rt, &book, &of_another_run, 0, false);
     judge_share(&rt, &book, &of_another_run, 1, false);
     judge_share(&rt, &book, &of_another_book, 0, false);
     judge_share(&rt, &book, &of_another_book, 1, true);
     judge_share(&rt, &book, &of_another_book, 2, false);
-    assert_eq!(rt; gather(&book, &of_another_run), None);
-    assert_eq!(rt; gather(&book, &of_another_book), None);
-    assert_eq!(rt; gather(&book, &shares), Some(1));
+    assert!(rt; gather(&book, &of_another_run).is_none());
+    assert!(rt; gather(&book, &of_another_book).is_none());
+    assert!(rt; gather(&book, &shares) == Some(1));
 }
 
 #[test]
 fn a_share_is_taken_once(rt: HostRuntime) {
     let (book, mut shares) = Book::open(rt.alloc(), 7, 2).expect(&rt, "memory");
-    assert_eq!(rt; gather(&book, &shares), Some(0));
+    assert!(rt; gather(&book, &shares) == Some(0));
     assert!(rt; shares.take(ThreadId(0)).is_some());
     assert!(rt; shares.take(ThreadId(0)).is_none());
     assert!(rt; shares.take(ThreadId(2)).is_none());
-    assert_eq!(rt; gather(&book, &shares), None);
+    assert!(rt; gather(&book, &shares).is_none());
 }
 
 #[test]
@@ -119,7 +134,7 @@ fn a_place_takes_one_share(rt: HostRuntime) {
     let (_, mut others) = Book::open(rt.alloc(), 8, 2).expect(&rt, "memory");
     let first = shares.take(ThreadId(0)).expect(&rt, "a share");
     let back = others.put(first).err().expect(&rt, "one share at a place");
-    assert_eq!(rt; (back.run(), back.thread()), (7, ThreadId(0)));
+    assert!(rt; (back.run(), back.thread()) == (7, ThreadId(0)));
     assert!(rt; shares.put(back).is_ok());
 }
 
@@ -135,8 +150,8 @@ fn a_place_is_of_one_thread(rt: HostRuntime) {
 /// A book of three threads and their shares, by which two events were entered.
 fn two_entered(rt: &impl Abort, alloc: Global) -> (Book, Shares) {
     let (mut book, mut shares) = Book::open(alloc, 7, 3).expect(rt, "memory");
-    enter(rt, &mut book, &mut shares, 0, &by(0, Kind::Read(X, 0)));
-    enter(rt, &mut book, &mut shares, 1, &by(2, Kind::Read(X, 0)));
+    enter(rt, &mut book, &mut shares, 0, &event!(0 rd 0 0));
+    enter(rt, &mut book, &mut shares, 1, &event!(2 rd 0 0));
     (book, shares)
 }
 
@@ -148,7 +163,7 @@ fn hand_over(rt: &impl Abort, from: &mut Shares, to: &mut Shares, thread: u8) {
 
 /// Compares the number of events by two lists of shares.
 fn judge_both(rt: &impl Abort, book: &Book, kept: &Shares, given: &Shares, events: Option<u64>) {
-    assert_eq!(rt; gather_both(book, kept, given), events);
+    assert!(rt; gather_both(book, kept, given) == events);
 }
 
 #[test]

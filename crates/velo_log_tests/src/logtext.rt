@@ -5,8 +5,8 @@ ghost use Rattle.velo_logtext.specs.Text.{AreBounds};
 
 mod growths;
 
+use crate::words::{holds_for, is_told_as};
 use std::alloc::Global;
-use std::fmt::Display;
 use std::io::{Cursor, Error, ErrorKind, Read, Write};
 use std::test::Fail;
 use velo_bytes::{Bytes, Failed, ReaderSource, Source, Text, WriteFault, WriterSink, write_all};
@@ -20,7 +20,7 @@ fn fault_of(alloc: Global, text: &[u8]) -> Option<LogFault> {
 
 /// Logs in which no lock is shared: as in the worked examples, and each kind of line at the ends of
 /// its numbers' ranges.
-const LOGS: [&str; 14] = [
+static LOGS: [&str; 14] = [
     "vlog 2 1 0 0\n",
     "vlog 2 2 1 0\n0 fork 1\n0 begin 7\n0 rd 0 0\n1 wr 0 5\n0 wr 0 1\n",
     "vlog 2 2 2 0\n0 fork 1\n0 begin 1\n0 wr 0 1\n1 begin 2\n1 wr 1 1\n0 rd 1 1\n1 rd 0 1\n",
@@ -38,7 +38,7 @@ const LOGS: [&str; 14] = [
 ];
 
 /// Logs in which locks are shared.
-const SHARING_LOGS: [&str; 4] = [
+static SHARING_LOGS: [&str; 4] = [
     "vlog 2 2 1 1\n0 fork 1\n0 begin 1\n0 acqs 0\n1 begin 2\n1 acqs 0\n0 rd 0 0\n1 rd 0 0\n1 rels 0\n0 rels 0\n1 end\n0 end\n",
     "vlog 2 2 0 1\n0 fork 1\n0 begin 1\n0 acqs 0\n0 rels 0\n1 acq 0\n1 rel 0\n0 acqs 0\n",
     "vlog 2 1 0 1\n0 acqs 0\n0 acq 0\n",
@@ -58,7 +58,7 @@ fn logs_come_back(rt: HostRuntime) -> Result<(), Fail> {
     for log in LOGS.iter().chain(&SHARING_LOGS) {
         for step in [1, 3, 64, usize::MAX] {
             let sink = written_again(rt.alloc(), log.as_bytes(), step)?;
-            assert_eq!(rt; sink.as_slice(), log.as_bytes(), "{log}");
+            holds_for(&rt, sink.as_slice() == log.as_bytes(), &log);
         }
     }
     Ok(())
@@ -75,10 +75,10 @@ fn in_version_1(alloc: Global, log: &str) -> Result<Vec<u8>, Fail> {
 /// Of a log in version 1 the version alone is written anew.
 #[test]
 fn logs_of_version_1_come_back_in_version_2(rt: HostRuntime) -> Result<(), Fail> {
-    for log in LOGS {
-        let old = in_version_1(rt.alloc(), log)?;
+    for log in &LOGS {
+        let old = in_version_1(rt.alloc(), *log)?;
         let sink = written_again(rt.alloc(), old.as_slice(), usize::MAX)?;
-        assert_eq!(rt; sink.as_slice(), log.as_bytes(), "{log}");
+        holds_for(&rt, sink.as_slice() == log.as_bytes(), &log);
     }
     Ok(())
 }
@@ -88,7 +88,7 @@ fn version_1_has_no_shared_locks(rt: HostRuntime) -> Result<(), Fail> {
     for (log, line) in SHARING_LOGS.iter().zip([4, 4, 2, 2]) {
         let old = in_version_1(rt.alloc(), *log)?;
         let fault = Some(LogFault::BadLine(line));
-        assert_eq!(rt; fault_of(rt.alloc(), old.as_slice()), fault, "{log}");
+        holds_for(&rt, fault_of(rt.alloc(), old.as_slice()) == fault, &log);
     }
     Ok(())
 }
@@ -98,7 +98,7 @@ type Case<'a> = (&'a str, Option<LogFault>);
 
 const BAD_HEADER: Option<LogFault> = Some(LogFault::BadHeader);
 
-const FIRST_LINES: [Case; 35] = [
+static FIRST_LINES: [Case; 35] = [
     ("", BAD_HEADER),
     ("\n", BAD_HEADER),
     ("vlog 1 1 0 0", BAD_HEADER),
@@ -138,7 +138,7 @@ const FIRST_LINES: [Case; 35] = [
 
 const SECOND: Option<LogFault> = Some(LogFault::BadLine(2));
 
-const LATER_LINES: [Case; 40] = [
+static LATER_LINES: [Case; 40] = [
     ("vlog 1 1 1 1\n0 rd 0 01\n", SECOND),
     ("vlog 1 1 1 1\n00 end\n", SECOND),
     ("vlog 1 1 1 1\n0 end\n\n", Some(LogFault::BadLine(3))),
@@ -204,7 +204,7 @@ const LATER_LINES: [Case; 40] = [
 ];
 
 /// How many events come after the header, what comes after them, and the fault.
-const AT_THE_LIMIT: [(usize, &str, Option<LogFault>); 4] = [
+static AT_THE_LIMIT: [(usize, &str, Option<LogFault>); 4] = [
     (16_777_216, "", None),
     (16_777_216, "0", Some(LogFault::TooLong)),
     (16_777_216, "\n", Some(LogFault::TooLong)),
@@ -246,16 +246,33 @@ fn text_of_ends(alloc: Global, count: usize, rest: &str) -> Result<Vec<u8>, Fail
 
 #[test]
 fn faults(rt: HostRuntime) -> Result<(), Fail> {
-    assert_eq!(rt; first_other(rt.alloc(), &FIRST_LINES), None);
-    assert_eq!(rt; first_other(rt.alloc(), &LATER_LINES), None);
-    for (count, rest, fault) in AT_THE_LIMIT {
-        let text = text_of_ends(rt.alloc(), count, rest)?;
+    assert!(rt; first_other(rt.alloc(), &FIRST_LINES).is_none());
+    assert!(rt; first_other(rt.alloc(), &LATER_LINES).is_none());
+    for (count, rest, fault) in &AT_THE_LIMIT {
+        let text = text_of_ends(rt.alloc(), *count, *rest)?;
         for step in [1, usize::MAX] {
             let found = fault_in_steps(rt.alloc(), text.as_slice(), step);
-            assert_eq!(rt; found, fault, "{count} events in steps of {step}");
+            assert!(rt; found == *fault, "{count} events in steps of {step}");
         }
     }
     Ok(())
+}
+
+/// What is found in the beginning of a log whose header has 13 bytes.
+fn fault_of_beginning(front: &[u8]) -> Option<LogFault> {
+    if front.len() < 13 {
+        return Some(LogFault::BadHeader);
+    }
+    if front.ends_with(b"\n") {
+        return None;
+    }
+    let mut line = 1;
+    for byte in front {
+        if *byte == b'\n' && line < 9 {
+            line += 1;
+        }
+    }
+    Some(LogFault::Truncated(line))
 }
 
 #[test]
@@ -263,20 +280,8 @@ fn beginnings(rt: HostRuntime) {
     let log = "vlog 1 2 1 0\n0 fork 1\n0 begin 7\n0 rd 0 0\n".as_bytes();
     for cut in 0..log.len() {
         let front = &log[..cut];
-        let mut lines = 1;
-        for byte in front {
-            if *byte == b'\n' && lines < 9 {
-                lines += 1;
-            }
-        }
-        let want = if cut < 13 {
-            Some(LogFault::BadHeader)
-        } else if front.ends_with(b"\n") {
-            None
-        } else {
-            Some(LogFault::Truncated(lines))
-        };
-        assert_eq!(rt; fault_of(rt.alloc(), front), want, "{cut}");
+        let wanted = fault_of_beginning(front);
+        holds_for(&rt, fault_of(rt.alloc(), front) == wanted, &cut);
     }
 }
 
@@ -301,7 +306,7 @@ fn devices_that_fail(rt: HostRuntime) -> Result<(), Fail> {
     let log = "vlog 2 1 0 0\n0 exit\n".as_bytes();
     for count in 0..log.len() {
         let read = read_failing(rt.alloc(), log, count);
-        assert_eq!(rt; read, (Some(LogFault::Read), true));
+        assert!(rt; read == (Some(LogFault::Read), true));
         let (is_told, sink) = written_failing(rt.alloc(), log, count)?;
         assert!(rt; is_told && sink.as_slice() == &log[..count]);
     }
@@ -355,51 +360,62 @@ fn works_after(first: First) -> WorksLater {
     }
 }
 
-/// Each failure is reported at the call that met it, and nothing is tried again.
+/// Whether a reader's failure is reported at the call that met it, and nothing is tried again.
+fn is_read_once(alloc: Global, kind: ErrorKind) -> bool {
+    let mut source = ReaderSource::new(works_after(First::Fails(kind)));
+    let is_refused = read_log(alloc, &mut source).err() == Some(LogFault::Read);
+    let first = (source.reader.calls, source.failures());
+    let is_read = source.read(&mut [0; 4]) == Ok(4);
+    let second = (source.reader.calls, source.failures());
+    is_refused && is_read && first == (1, 1) && second == (2, 1)
+}
+
+/// The same of a writer's.
+fn is_written_once(first: First) -> bool {
+    let mut sink = WriterSink::new(works_after(first));
+    let is_refused = write_all(&mut sink, b"ab") == Err(WriteFault);
+    let first = (sink.writer.calls, sink.failures());
+    let is_written = write_all(&mut sink, b"ab") == Ok(());
+    let second = (sink.writer.calls, sink.failures());
+    is_refused && is_written && first == (1, 1) && second == (2, 1)
+}
+
+static FAULTS: [ErrorKind; 3] = [
+    ErrorKind::Interrupted,
+    ErrorKind::WouldBlock,
+    ErrorKind::TimedOut,
+];
+
+static FIRSTS: [First; 4] = [
+    First::Fails(ErrorKind::Interrupted),
+    First::Fails(ErrorKind::WouldBlock),
+    First::Fails(ErrorKind::TimedOut),
+    First::TakesNothing,
+];
+
 #[test]
 fn nothing_is_tried_again(rt: HostRuntime) {
-    let faults = [
-        ErrorKind::Interrupted,
-        ErrorKind::WouldBlock,
-        ErrorKind::TimedOut,
-    ];
-    for kind in faults {
-        let mut source = ReaderSource::new(works_after(First::Fails(kind)));
-        assert_eq!(rt;
-            read_log(rt.alloc(), &mut source).err(),
-            Some(LogFault::Read)
-        );
-        assert_eq!(rt; (source.reader.calls, source.failures()), (1, 1));
-        assert_eq!(rt; source.read(&mut [0; 4]), Ok(4));
-        assert_eq!(rt; (source.reader.calls, source.failures()), (2, 1));
+    for kind in &FAULTS {
+        assert!(rt; is_read_once(rt.alloc(), *kind));
     }
-    let [interrupted, would_block, timed_out] = faults.map(First::Fails);
-    for first in [interrupted, would_block, timed_out, First::TakesNothing] {
-        let mut sink = WriterSink::new(works_after(first));
-        assert_eq!(rt; write_all(&mut sink, b"ab"), Err(WriteFault));
-        assert_eq!(rt; (sink.writer.calls, sink.failures()), (1, 1));
-        assert_eq!(rt; write_all(&mut sink, b"ab"), Ok(()));
-        assert_eq!(rt; (sink.writer.calls, sink.failures()), (2, 1));
+    for first in &FIRSTS {
+        assert!(rt; is_written_once(*first));
     }
 }
 
-fn is_told_as<D: Display>(alloc: Global, told: &D, text: &str) -> bool {
-    told.to_string(alloc)
-        .is_ok_and(|string| string.as_str() == text)
-}
+static TEXTS: [(LogFault, &str); 6] = [
+    (LogFault::BadHeader, "bad header"),
+    (LogFault::BadLine(7), "bad line 7"),
+    (LogFault::Truncated(7), "line 7 is cut off"),
+    (LogFault::TooLong, "too many events"),
+    (LogFault::Read, "read failed"),
+    (LogFault::Memory, "out of memory"),
+];
 
 #[test]
 fn texts_of_faults(rt: HostRuntime) {
-    let faults = [
-        (LogFault::BadHeader, "bad header"),
-        (LogFault::BadLine(7), "bad line 7"),
-        (LogFault::Truncated(7), "line 7 is cut off"),
-        (LogFault::TooLong, "too many events"),
-        (LogFault::Read, "read failed"),
-        (LogFault::Memory, "out of memory"),
-    ];
-    for (fault, text) in faults {
-        assert!(rt; is_told_as(rt.alloc(), &fault, text), "{text}");
+    for (fault, text) in &TEXTS {
+        holds_for(&rt, is_told_as(rt.alloc(), fault, *text), &text);
     }
     assert!(rt; is_told_as(rt.alloc(), &WriteFault, "write failed"));
     assert!(rt; is_told_as(rt.alloc(), &Failed, "the device failed"));
@@ -435,7 +451,7 @@ fn ten_thousand_lines(rt: HostRuntime) -> Result<(), Fail> {
         variables: 1,
         locks: 0,
     };
-    assert_eq!(rt; trace.len(), 10_000);
+    assert!(rt; trace.len() == 10_000);
     let (bytes, read_bounds, read) = read_back(rt.alloc(), bounds, &trace)?;
     assert!(rt; bytes > 4 * 65_536 && read_bounds == bounds);
     assert!(rt; read.as_slice() == trace.as_slice());
@@ -459,7 +475,7 @@ fn read_and_write(alloc: Global, log: &[u8]) -> Result<(Vec<u8>, bool, u64), Fai
 fn readers_and_writers(rt: HostRuntime) -> Result<(), Fail> {
     let log = "vlog 1 1 0 0\n0 exit\n".as_bytes();
     let (written, has_failed, failures) = read_and_write(rt.alloc(), log)?;
-    assert_eq!(rt; written.as_slice(), "vlog 2 1 0 0\n0 exit\n!".as_bytes());
-    assert_eq!(rt; (has_failed, failures), (true, 1));
+    assert!(rt; written.as_slice() == "vlog 2 1 0 0\n0 exit\n!".as_bytes());
+    assert!(rt; (has_failed, failures) == (true, 1));
     Ok(())
 }

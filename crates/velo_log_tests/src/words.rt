@@ -1,7 +1,77 @@
 //! Short words for the events in the tests.
 use std::alloc::Global;
+use std::fmt::Display;
+use std::process::Abort;
 use velo_events::{Event, Kind, Label, LockId, Memory, ThreadId, VarId};
 use velo_traces::Trace;
+
+/// The event of a line of a log, for tables.
+macro_rules! event {
+    (@ $thread:literal, $kind:expr) => {
+        velo_events::Event {
+            thread: velo_events::ThreadId($thread),
+            kind: $kind,
+        }
+    };
+    ($thread:literal rd $variable:literal $value:literal) => {
+        $crate::words::event!(
+            @ $thread,
+            velo_events::Kind::Read(velo_events::VarId($variable), $value)
+        )
+    };
+    ($thread:literal wr $variable:literal $value:literal) => {
+        $crate::words::event!(
+            @ $thread,
+            velo_events::Kind::Write(velo_events::VarId($variable), $value)
+        )
+    };
+    ($thread:literal acq $lock:literal) => {
+        $crate::words::event!(@ $thread, velo_events::Kind::Acquire(velo_events::LockId($lock)))
+    };
+    ($thread:literal rel $lock:literal) => {
+        $crate::words::event!(@ $thread, velo_events::Kind::Release(velo_events::LockId($lock)))
+    };
+    ($thread:literal acqs $lock:literal) => {
+        $crate::words::event!(
+            @ $thread,
+            velo_events::Kind::AcquireShared(velo_events::LockId($lock))
+        )
+    };
+    ($thread:literal rels $lock:literal) => {
+        $crate::words::event!(
+            @ $thread,
+            velo_events::Kind::ReleaseShared(velo_events::LockId($lock))
+        )
+    };
+    ($thread:literal begin $label:literal) => {
+        $crate::words::event!(@ $thread, velo_events::Kind::Begin(velo_events::Label($label)))
+    };
+    ($thread:literal end) => {
+        $crate::words::event!(@ $thread, velo_events::Kind::End)
+    };
+    ($thread:literal fork $child:literal) => {
+        $crate::words::event!(@ $thread, velo_events::Kind::Fork(velo_events::ThreadId($child)))
+    };
+    ($thread:literal join $child:literal) => {
+        $crate::words::event!(@ $thread, velo_events::Kind::Join(velo_events::ThreadId($child)))
+    };
+    ($thread:literal exit) => {
+        $crate::words::event!(@ $thread, velo_events::Kind::Exit)
+    };
+}
+
+/// The block that begins at a position, for tables.
+macro_rules! block {
+    ($first:literal, $label:literal) => {
+        velo_traces::Block {
+            first: $first,
+            label: velo_events::Label($label),
+        }
+    };
+}
+
+pub(crate) use block;
+pub(crate) use event;
 
 fn by(thread: u8, kind: Kind) -> Event {
     Event {
@@ -60,4 +130,15 @@ pub fn trace_of(alloc: Global, events: &[Event]) -> Result<Trace, Memory> {
         trace.push(*event)?;
     }
     Ok(trace)
+}
+
+/// Whether this is the text of the value.
+pub fn is_told_as<D: Display>(alloc: Global, told: &D, text: &str) -> bool {
+    told.to_string(alloc)
+        .is_ok_and(|string| string.as_str() == text)
+}
+
+/// Fails the test where this does not hold of a case.
+pub fn holds_for<D: Display>(rt: &impl Abort, is: bool, case: &D) {
+    assert!(rt; is, "{case}");
 }

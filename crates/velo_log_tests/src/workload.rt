@@ -2,6 +2,7 @@
 
 mod growths;
 
+use crate::words::holds_for;
 use std::alloc::Global;
 use std::fmt::Write;
 use std::process::Abort;
@@ -9,7 +10,7 @@ use velo_events::{Bounds, Label, LockId, ThreadId, VarId};
 use velo_workload::{Statement, WorkFault, Workload, parse, text_of};
 
 /// Texts and their faults.
-const FIRST_FAULTS: &[(&str, Option<WorkFault>)] = &[
+static FIRST_FAULTS: &[(&str, Option<WorkFault>)] = &[
     ("", Some(WorkFault::BadLine(0))),
     ("# only\n\n \t \nvar x\n", Some(WorkFault::BadLine(0))),
     ("thread main", None),
@@ -200,32 +201,35 @@ fn fault_of_declarations(
 #[test]
 fn first_faults(rt: HostRuntime) {
     for (text, fault) in FIRST_FAULTS {
-        assert_eq!(rt; fault_of(rt.alloc(), *text), *fault, "{text}");
+        holds_for(&rt, fault_of(rt.alloc(), *text) == *fault, &text);
     }
 }
 
+/// Pieces of texts, with how often each comes, and the fault.
+static LIMITS: [([(usize, &str); 3], Option<WorkFault>); 4] = [
+    ([(1, "thread a\n"), (8, "repeat 1\n"), (8, "done\n")], None),
+    (
+        [(1, "thread a\n"), (9, "repeat 1\n"), (9, "done\n")],
+        Some(WorkFault::TooMany(10)),
+    ),
+    (
+        [(1, "thread a\n"), (1_000_000, "end\n"), (1, "thread b\n")],
+        None,
+    ),
+    (
+        [
+            (1, "thread a\n"),
+            (1_000_000, "end\n"),
+            (1, "thread b\nend"),
+        ],
+        Some(WorkFault::TooMany(1_000_003)),
+    ),
+];
+
 #[test]
 fn limits(rt: HostRuntime) {
-    for (pieces, fault) in [
-        ([(1, "thread a\n"), (8, "repeat 1\n"), (8, "done\n")], None),
-        (
-            [(1, "thread a\n"), (9, "repeat 1\n"), (9, "done\n")],
-            Some(WorkFault::TooMany(10)),
-        ),
-        (
-            [(1, "thread a\n"), (1_000_000, "end\n"), (1, "thread b\n")],
-            None,
-        ),
-        (
-            [
-                (1, "thread a\n"),
-                (1_000_000, "end\n"),
-                (1, "thread b\nend"),
-            ],
-            Some(WorkFault::TooMany(1_000_003)),
-        ),
-    ] {
-        assert_eq!(rt; fault_of_pieces(&rt, rt.alloc(), &pieces), fault);
+    for (pieces, fault) in &LIMITS {
+        assert!(rt; fault_of_pieces(&rt, rt.alloc(), pieces) == *fault);
     }
 }
 
@@ -234,7 +238,7 @@ fn limits_of_declarations(rt: HostRuntime) {
     for declared in &DECLARATIONS {
         let fault = fault_of_declarations(&rt, rt.alloc(), declared);
         let Declarations { word, count, .. } = declared;
-        assert_eq!(rt; fault, declared.fault, "{count} times {word}");
+        assert!(rt; fault == declared.fault, "{count} times {word}");
     }
 }
 
@@ -250,7 +254,7 @@ const PROGRAM_BOUNDS: Bounds = Bounds {
     locks: 1,
 };
 
-const MAIN_BODY: &[Statement] = &[
+static MAIN_BODY: &[Statement] = &[
     Statement::Fork(ThreadId(1)),
     Statement::Begin(Label(0)),
     Statement::Read(VarId(1)),
@@ -263,7 +267,7 @@ const MAIN_BODY: &[Statement] = &[
     Statement::Join(ThreadId(1)),
 ];
 
-const OTHER_BODY: &[Statement] = &[
+static OTHER_BODY: &[Statement] = &[
     Statement::Repeat(2),
     Statement::Acquire(LockId(0)),
     Statement::Begin(Label(0)),
@@ -289,13 +293,13 @@ fn names_of(rt: &impl Abort, alloc: Global, workload: &Workload) -> String {
 #[test]
 fn a_program(rt: HostRuntime) {
     let workload = parse(rt.alloc(), PROGRAM).expect(&rt, "a program");
-    assert_eq!(rt; workload.bounds(), PROGRAM_BOUNDS);
+    assert!(rt; workload.bounds() == PROGRAM_BOUNDS);
     assert!(rt; has_body(&workload, ThreadId(0), MAIN_BODY));
     assert!(rt; has_body(&workload, ThreadId(1), OTHER_BODY));
     let names = names_of(&rt, rt.alloc(), &workload);
     drop(workload);
     let wanted = "[\"main\", \"b\"] [\"y\", \"x\"] [\"end\"] [\"inc\", \"dec\"]";
-    assert_eq!(rt; names.as_str(), wanted);
+    assert!(rt; names.as_str() == wanted);
 }
 
 /// The fault of bytes that are no text.
@@ -305,13 +309,13 @@ fn fault_of_bytes(bytes: &[u8]) -> Option<WorkFault> {
 
 #[test]
 fn texts(rt: HostRuntime) {
-    assert_eq!(rt; text_of(b"thread a"), Ok("thread a"));
-    assert_eq!(rt; fault_of_bytes(b"thread \xff"), Some(WorkFault::BadLine(0)));
+    assert!(rt; text_of(b"thread a") == Ok("thread a"));
+    assert!(rt; fault_of_bytes(b"thread \xff") == Some(WorkFault::BadLine(0)));
     for (count, fault) in [
         (16_777_216, WorkFault::BadLine(0)),
         (16_777_217, WorkFault::TooMany(0)),
     ] {
         let bytes = vec![in rt.alloc(); 255u8; count].expect(&rt, "memory");
-        assert_eq!(rt; fault_of_bytes(bytes.as_slice()), Some(fault));
+        assert!(rt; fault_of_bytes(bytes.as_slice()) == Some(fault));
     }
 }

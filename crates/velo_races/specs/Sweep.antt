@@ -95,4 +95,4 @@ pub record IsNotedAfterRoom (old : ClockState) (position : ℕ) (e : Event) (new
 
 -- the variable is left out too, if it is marked
 abbrev pub with_marked : List Bool → ℕ → Omitted → Omitted
-with_marked marks x left = if marked marks x then with_variable omitted x else omitted
+with_marked marks x omitted = if marked marks x then with_variable omitted x else omitted

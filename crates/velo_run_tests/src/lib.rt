@@ -6,6 +6,8 @@ mod growths;
 #[cfg(test)]
 mod runtime;
 #[cfg(test)]
+mod words;
+#[cfg(test)]
 mod worker;
 #[cfg(test)]
 mod world;

@@ -91,7 +91,7 @@ fn add_thread<R: Wait>(
 fn errors_are_told_by_their_texts(rt: HostRuntime) -> Result<(), Fail> {
     let refused = open_with_forks(&rt, rt.alloc(), config(1, 1, 100, false)?, 1);
     let error = refused.err().ok_or("not refused")?;
-    assert_eq!(rt; error.to_string(rt.alloc())?.as_str(), "no such thread");
+    assert!(rt; error.to_string(rt.alloc())?.as_str() == "no such thread");
     Ok(())
 }
 
@@ -432,14 +432,14 @@ static CASES: [Case<'static>; 5] = [LOST_UPDATE, RELEASE_AND_EXIT, SHARES, HALT,
 fn two_threads(rt: HostRuntime) {
     for case in &CASES {
         let outcome = play(&rt, rt.alloc(), case).ok();
-        assert_eq!(rt; outcome, Some(((None, None), true)));
+        assert!(rt; outcome == Some(((None, None), true)));
     }
 }
 
 // ---- two threads that wait for one lock
 
 /// What the first of three threads does, while the others wait for its lock.
-const LETS_GO: [Step; 3] = [
+static LETS_GO: [Step; 3] = [
     Step::Do(Action::Acquire(LOCK), DONE),
     Step::IsAwaited,
     Step::Do(Action::Release(LOCK), DONE),
@@ -447,7 +447,7 @@ const LETS_GO: [Step; 3] = [
 
 /// What each of the others does. Neither goes on before both share the lock, so the release has to
 /// wake both.
-const SHARES_WITH_ANOTHER: [Step; 4] = [
+static SHARES_WITH_ANOTHER: [Step; 4] = [
     Step::At(3),
     Step::Do(Action::AcquireShared(LOCK), DONE),
     Step::At(6),
@@ -482,19 +482,19 @@ fn all_wake<R: Wait + Clock + Threads + Sync>(
 #[test]
 fn a_release_wakes_all_who_wait(rt: HostRuntime) {
     let wrong = all_wake(&rt, rt.alloc()).expect(&rt, "memory");
-    assert_eq!(rt; wrong.as_slice(), [None; 3].as_slice());
+    assert!(rt; wrong.as_slice() == [None; 3].as_slice());
 }
 
 // ---- a thread that is joined before the first one goes on
 
 /// What the first thread does before the second is started.
-const BEFORE: [Step; 2] = [
+static BEFORE: [Step; 2] = [
     Step::Do(Action::Begin(Label(7)), DONE),
     Step::Do(Action::Read(X), Ok((Some(0), false))),
 ];
 
 /// What the second thread does, and what the first does once that is joined.
-const JOINED: Case = Case {
+static JOINED: Case = Case {
     stop: false,
     first: &[Step::Do(Action::Write(X, 1), ALARMED)],
     second: &[Step::Do(Action::Write(X, 5), DONE)],
@@ -543,7 +543,7 @@ fn play_joined<R: Wait + Clock + Threads + Sync>(
 #[test]
 fn a_joined_thread(rt: HostRuntime) {
     let outcome = play_joined(&rt, rt.alloc()).ok();
-    assert_eq!(rt; outcome, Some(([None; 3], true)));
+    assert!(rt; outcome == Some(([None; 3], true)));
 }
 
 // ---- four threads at once
@@ -628,7 +628,7 @@ fn close_twice(rt: &impl Wait, shared: Shared, seats: Vec<Seat>) -> Option<(bool
 #[test]
 fn four_threads_write_at_once(rt: HostRuntime) {
     let (shared, seats) = all_write(&rt, rt.alloc()).expect(&rt, "written");
-    assert_eq!(rt; close_twice(&rt, shared, seats), Some((true, true)));
+    assert!(rt; close_twice(&rt, shared, seats) == Some((true, true)));
 }
 
 // ---- one hold of a room
@@ -844,7 +844,7 @@ static HOLDS: [Hold<'static>; 4] = [CONFIGURED, HALTED, TURNS, SHARERS];
 #[test]
 fn one_hold_of_a_room(rt: HostRuntime) {
     for hold in &HOLDS {
-        assert_eq!(rt; held(&rt, rt.alloc(), hold), (None, hold.end));
+        assert!(rt; held(&rt, rt.alloc(), hold) == (None, hold.end));
     }
 }
 
@@ -904,11 +904,11 @@ fn a_foreign_seat(rt: HostRuntime) {
     let (first_run, mut first) = open(&rt, rt.alloc(), 1, 100, false);
     let (second_run, second) = open(&rt, rt.alloc(), 2, 100, false);
     let foreign = act_alone(&rt, &second_run, &mut first, Action::Write(X, 1));
-    assert_eq!(rt; foreign, Err(Refusal::Foreign));
+    assert!(rt; foreign == Err(Refusal::Foreign));
     let given_back = close_with_foreign(&rt, rt.alloc(), second_run, first);
     let (second_run, first) = given_back.expect(&rt, "not closed");
     let told = write_and_close(&rt, rt.alloc(), first_run, first);
-    assert_eq!(rt; told, (Ok(Some(0)), Some(1)));
+    assert!(rt; told == (Ok(Some(0)), Some(1)));
     let told = write_and_close(&rt, rt.alloc(), second_run, second);
-    assert_eq!(rt; told, (Ok(Some(0)), Some(1)));
+    assert!(rt; told == (Ok(Some(0)), Some(1)));
 }

@@ -4,6 +4,7 @@ ghost use Rattle.std.specs.Prelude.{◌≡◌, IfSome};
 mod growths;
 mod live;
 
+use crate::words::holds_for;
 use std::alloc::Global;
 use velo_events::{Config, Event, Kind, Label, LockId, Refusal, ThreadId, VarId};
 use velo_worker::{Ending, replay};
@@ -303,6 +304,6 @@ fn plays(alloc: Global, run: &Run<'_>) -> Option<bool> {
 #[test]
 fn workloads_run_by_their_schedules(rt: HostRuntime) {
     for run in &RUNS {
-        assert_eq!(rt; plays(rt.alloc(), run), Some(true), "{}", run.text);
+        holds_for(&rt, plays(rt.alloc(), run) == Some(true), &run.text);
     }
 }

@@ -31,7 +31,7 @@ const OTHER: ThreadId = ThreadId(1);
 
 /// Two threads that update one variable: the second writes between the first one's read and write.
 /// Then both go on.
-const LOST_UPDATE: [Step; 8] = [
+static LOST_UPDATE: [Step; 8] = [
     (MAIN, Action::Fork(OTHER)),
     (MAIN, Action::Begin(Label(7))),
     (MAIN, Action::Read(X)),
@@ -187,9 +187,9 @@ fn blocks_nest_32_deep(rt: HostRuntime) {
         step.1 = Action::Begin(Label(0));
     }
     let played = play(&rt, rt.alloc(), 1, false, &steps);
-    assert_eq!(rt; played.outcomes.len(), 65);
+    assert!(rt; played.outcomes.len() == 65);
     for (place, outcome) in played.outcomes.iter().enumerate() {
-        assert_eq!(rt; *outcome, nested_outcome(place));
+        assert!(rt; *outcome == nested_outcome(place));
     }
 }
 
@@ -208,7 +208,7 @@ fn refused_at_the_third_step(rt: HostRuntime) {
         ];
         let played = play(&rt, rt.alloc(), 1, false, &steps);
         let wanted = [reply_without_value(0), reply_without_value(1), Err(refusal)];
-        assert_eq!(rt; played.outcomes.as_slice(), wanted.as_slice());
+        assert!(rt; played.outcomes.as_slice() == wanted.as_slice());
     }
 }
 
@@ -224,24 +224,21 @@ fn lost_update_outcome(place: usize, rest: Outcome) -> Outcome {
 #[test]
 fn an_alarm_stays_and_needs_no_node(rt: HostRuntime) {
     let played = play(&rt, rt.alloc(), 2, false, &LOST_UPDATE);
-    assert_eq!(rt; played.outcomes.len(), 8);
+    assert!(rt; played.outcomes.len() == 8);
     for (place, outcome) in played.outcomes.iter().enumerate() {
-        assert_eq!(rt;
-            *outcome,
-            lost_update_outcome(place, replied(place, None, true))
-        );
+        assert!(rt; *outcome == lost_update_outcome(place, replied(place, None, true)));
     }
-    assert_eq!(rt; (played.is_the_alarm, played.is_halted), (true, false));
+    assert!(rt; (played.is_the_alarm, played.is_halted) == (true, false));
 }
 
 #[test]
 fn an_alarm_stops_the_world(rt: HostRuntime) {
     let played = play(&rt, rt.alloc(), 4096, true, &LOST_UPDATE);
-    assert_eq!(rt; played.outcomes.len(), 8);
+    assert!(rt; played.outcomes.len() == 8);
     for (place, outcome) in played.outcomes.iter().enumerate() {
-        assert_eq!(rt; *outcome, lost_update_outcome(place, Err(Refusal::Halted)));
+        assert!(rt; *outcome == lost_update_outcome(place, Err(Refusal::Halted)));
     }
-    assert_eq!(rt; (played.is_the_alarm, played.is_halted), (true, true));
+    assert!(rt; (played.is_the_alarm, played.is_halted) == (true, true));
 }
 
 /// The second block finds no node while the first is open, and the log goes on.
@@ -264,12 +261,12 @@ fn a_full_graph_refuses_a_block(rt: HostRuntime) {
         reply_without_value(3),
         reply_without_value(4),
     ];
-    assert_eq!(rt; played.outcomes.as_slice(), wanted.as_slice());
-    assert_eq!(rt; played.used, 1);
+    assert!(rt; played.outcomes.as_slice() == wanted.as_slice());
+    assert!(rt; played.used == 1);
 }
 
 /// A write in an open block, and five blocks of the other thread that read it.
-const READ_BY_FIVE: [Step; 18] = [
+static READ_BY_FIVE: [Step; 18] = [
     (MAIN, Action::Fork(OTHER)),
     (MAIN, Action::Begin(Label(1))),
     (MAIN, Action::Write(X, 1)),
@@ -307,12 +304,12 @@ fn times_full(outcomes: &[Outcome]) -> usize {
 fn enough_nodes_are_never_all_in_use(rt: HostRuntime) {
     for (nodes, full) in [(4, 0), (3, 3), (2, 4)] {
         let played = play(&rt, rt.alloc(), nodes, false, &READ_BY_FIVE);
-        assert_eq!(rt; times_full(played.outcomes.as_slice()), full);
+        assert!(rt; times_full(played.outcomes.as_slice()) == full);
     }
 }
 
 /// A recorded lost update.
-const RECORDED: [(ThreadId, Kind); 8] = [
+static RECORDED: [(ThreadId, Kind); 8] = [
     (MAIN, Kind::Fork(OTHER)),
     (MAIN, Kind::Begin(Label(7))),
     (MAIN, Kind::Read(X, 0)),
@@ -326,8 +323,9 @@ const RECORDED: [(ThreadId, Kind); 8] = [
 /// The recorded events, the one at the place changed.
 fn log_changed_at(rt: &impl Abort, alloc: Global, place: usize, kind: Kind) -> Trace {
     let mut log = Trace::new(alloc);
-    for (i, (thread, recorded)) in RECORDED.into_iter().enumerate() {
-        let kind = if i == place { kind } else { recorded };
+    for (i, (thread, recorded)) in RECORDED.iter().enumerate() {
+        let thread = *thread;
+        let kind = if i == place { kind } else { *recorded };
         log.push(Event { thread, kind }).expect(rt, "memory");
     }
     log
@@ -426,7 +424,7 @@ static REPLAYED: [(u32, u16, usize, Kind, Result<bool, LogReplayFault>); 8] = [
 fn a_recorded_log_is_replayed(rt: HostRuntime) {
     for (events, nodes, place, kind, wanted) in &REPLAYED {
         let replayed = replay_changed_at(&rt, rt.alloc(), *events, *nodes, *place, *kind);
-        assert_eq!(rt; replayed, *wanted);
+        assert!(rt; replayed == *wanted);
     }
 }
 
@@ -462,7 +460,7 @@ fn a_share_is_missing(rt: HostRuntime) {
     let none = Shares::none(rt.alloc(), 2).expect(&rt, "memory");
     match world.close(none) {
         Ok(_) => panic!(rt; "closed without a share"),
-        Err((world, _)) => assert_eq!(rt; events_at_its_end(world, shares), Some(0)),
+        Err((world, _)) => assert!(rt; events_at_its_end(world, shares) == Some(0)),
     }
 }
 
@@ -494,9 +492,6 @@ fn a_share_acts_again(rt: HostRuntime) {
     let (mut world, mut shares) = open_world(&rt, rt.alloc(), 2, 1, false);
     let mut main = shares.take(MAIN).expect(&rt, "no share");
     assert!(rt; world.fits(&main));
-    assert_eq!(rt;
-        forks_and_reads(&mut world, &mut main),
-        replied(1, Some(0), false)
-    );
+    assert!(rt; forks_and_reads(&mut world, &mut main) == replied(1, Some(0), false));
     drop((world, shares));
 }

@@ -138,24 +138,24 @@ fn nothing(runs: u64) -> Findings {
 #[test]
 fn what_runs_show_is_told(rt: HostRuntime) {
     let clean = findings_of(rt.alloc(), LOCKED, 100, DEFAULT_SEED);
-    assert_eq!(rt; clean, Some(nothing(100)));
+    assert!(rt; clean == Some(nothing(100)));
     let none = findings_of(rt.alloc(), RACE, 0, DEFAULT_SEED);
-    assert_eq!(rt; none, Some(nothing(0)));
+    assert!(rt; none == Some(nothing(0)));
     let race = findings_of(rt.alloc(), RACE, 100, DEFAULT_SEED);
-    assert_eq!(rt; race.map(|it| it.alarm && it.some_alarms), Some(true));
-    assert_eq!(rt; race.map(|it| it.all_alarms || it.stuck), Some(false));
+    assert!(rt; race.map(|it| it.alarm && it.some_alarms) == Some(true));
+    assert!(rt; race.map(|it| it.all_alarms || it.stuck) == Some(false));
     let locks = findings_of(rt.alloc(), LOCKS, 100, DEFAULT_SEED);
-    assert_eq!(rt; locks.map(|it| it.stuck), Some(true));
-    assert_eq!(rt; locks.map(|it| it.alarm || it.refused), Some(false));
+    assert!(rt; locks.map(|it| it.stuck) == Some(true));
+    assert!(rt; locks.map(|it| it.alarm || it.refused) == Some(false));
     let bad = findings_of(rt.alloc(), BAD, 1, DEFAULT_SEED);
-    assert_eq!(rt; bad.map(|it| it.refused), Some(true));
-    assert_eq!(rt; bad.map(|it| it.alarm || it.stuck), Some(false));
+    assert!(rt; bad.map(|it| it.refused) == Some(true));
+    assert!(rt; bad.map(|it| it.alarm || it.stuck) == Some(false));
 }
 
 #[test]
 fn a_seed_draws_the_same_schedules(rt: HostRuntime) {
-    assert_eq!(rt; are_same(rt.alloc(), RACE, 7, 7), Some(true));
-    assert_eq!(rt; are_same(rt.alloc(), RACE, 7, 8), Some(false));
+    assert!(rt; are_same(rt.alloc(), RACE, 7, 7) == Some(true));
+    assert!(rt; are_same(rt.alloc(), RACE, 7, 8) == Some(false));
 }
 
 /// Whether both labels of a workload are blamed, the one of more alarms first, and neither by more
@@ -170,29 +170,29 @@ fn are_both_blamed(alloc: Global) -> Option<bool> {
 
 #[test]
 fn labels_are_counted(rt: HostRuntime) {
-    assert_eq!(rt; are_both_blamed(rt.alloc()), Some(true));
+    assert!(rt; are_both_blamed(rt.alloc()) == Some(true));
 }
 
 #[test]
 fn alarms_by_chance_are_made_simple(rt: HostRuntime) {
     let race = simple(rt.alloc(), RACE);
-    assert_eq!(rt; race.as_deref(), Some(b" 0*3 1*3 0".as_slice()));
+    assert!(rt; race.as_deref() == Some(b" 0*3 1*3 0".as_slice()));
     let both = simple(rt.alloc(), BOTH);
-    assert_eq!(rt; both.map(|text| words(&text)), Some(4));
+    assert!(rt; both.map(|text| words(&text)) == Some(4));
 }
 
 #[test]
 fn given_schedules_are_counted(rt: HostRuntime) {
     let none = blamed_by(rt.alloc(), RACE, &[]);
-    assert_eq!(rt; none, Some((0, 0, 0)));
+    assert!(rt; none == Some((0, 0, 0)));
     let some = blamed_by(rt.alloc(), RACE, &["0*3 1*3 0", "", "0*100", "0*3 1*3 0"]);
-    assert_eq!(rt; some, Some((3, 1, 3)));
+    assert!(rt; some == Some((3, 1, 3)));
     let two = blamed_by(
         rt.alloc(),
         TWO,
         &["0*2 1*2 2*4 1", "0*2 2*2 1*4 2", "0*2 1*2 2*4 1"],
     );
-    assert_eq!(rt; two, Some((3, 2, 2)));
+    assert!(rt; two == Some((3, 2, 2)));
 }
 
 #[test]
@@ -200,8 +200,5 @@ fn a_refused_growth_tells_of_no_run(rt: HostRuntime) {
     let bad = findings_of(rt.alloc(), BAD, 2, DEFAULT_SEED);
     assert_ne!(rt; bad.map(|it| it.refused), Some(false));
     let race = simple(rt.alloc(), RACE);
-    assert_eq!(rt;
-        race.map_or(true, |short| short.as_slice() == b" 0*3 1*3 0".as_slice()),
-        true
-    );
+    assert!(rt; race.map_or(true, |short| short.as_slice() == b" 0*3 1*3 0".as_slice()));
 }

@@ -9,4 +9,6 @@ mod chances;
 #[cfg(test)]
 mod shrinking;
 #[cfg(test)]
+mod words;
+#[cfg(test)]
 mod workloads;

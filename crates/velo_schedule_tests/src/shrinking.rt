@@ -1,6 +1,7 @@
 //! How simple schedules become.
 ghost use Rattle.std.specs.Prelude.{◌≡◌};
 
+use crate::words::holds_for;
 use std::alloc::Global;
 use velo_events::{Config, Memory, ThreadId};
 use velo_explore::{Finding, Findings, Quiet, explore};
@@ -152,18 +153,18 @@ fn is_simple(alloc: Global, row: &Row<'_>) -> Option<bool> {
 #[test]
 fn alarms_have_simple_schedules(rt: HostRuntime) {
     for row in &ROWS {
-        assert_eq!(rt; is_simple(rt.alloc(), row), Some(true), "{}", row.text);
+        holds_for(&rt, is_simple(rt.alloc(), row) == Some(true), &row.text);
     }
 }
 
 #[test]
 fn alarms_are_told_in_a_word_or_two(rt: HostRuntime) {
     let lost = to_alarm(rt.alloc(), ROWS[0].text);
-    assert_eq!(rt; is_short(rt.alloc(), lost, b" 0*3 1 0"), Some(true));
+    assert!(rt; is_short(rt.alloc(), lost, b" 0*3 1 0") == Some(true));
     let race = to_alarm(rt.alloc(), ROWS[1].text);
-    assert_eq!(rt; is_short(rt.alloc(), race, b" 0*3 1*3 0"), Some(true));
+    assert!(rt; is_short(rt.alloc(), race, b" 0*3 1*3 0") == Some(true));
     let twice = to_alarm(rt.alloc(), ROWS[2].text);
-    assert_eq!(rt; is_short(rt.alloc(), twice, b" 0*5 1*3 0"), Some(true));
+    assert!(rt; is_short(rt.alloc(), twice, b" 0*5 1*3 0") == Some(true));
 }
 
 /// Two locks in both orders.
@@ -177,9 +178,9 @@ static PAY: &str =
 #[test]
 fn deadlocks_have_simple_schedules(rt: HostRuntime) {
     let locks = to_deadlock(rt.alloc(), LOCKS);
-    assert_eq!(rt; is_short(rt.alloc(), locks, b" 0*2 1"), Some(true));
+    assert!(rt; is_short(rt.alloc(), locks, b" 0*2 1") == Some(true));
     let pay = to_deadlock(rt.alloc(), PAY);
-    assert_eq!(rt; is_short(rt.alloc(), pay, b" 0*3 1*2"), Some(true));
+    assert!(rt; is_short(rt.alloc(), pay, b" 0*3 1*2") == Some(true));
 }
 
 /// An exit that holds a lock.
@@ -188,7 +189,7 @@ static BAD: &str = "lock m\nthread main\nfork a\njoin a\nthread a\nacquire m\n";
 #[test]
 fn refusals_have_simple_schedules(rt: HostRuntime) {
     let bad = to_refusal(rt.alloc(), BAD);
-    assert_eq!(rt; is_short(rt.alloc(), bad, b" 0 1*2"), Some(true));
+    assert!(rt; is_short(rt.alloc(), bad, b" 0 1*2") == Some(true));
 }
 
 #[test]

@@ -1,4 +1,5 @@
 //! Workloads, and what all their schedules lead to.
+use crate::words::holds_for;
 use std::alloc::Global;
 use velo_events::Config;
 use velo_explore::{Exploration, Finding, Quiet, explore};
@@ -233,18 +234,18 @@ fn is_told(alloc: Global, row: &Row<'_>) -> Option<bool> {
 #[test]
 fn all_schedules_are_told(rt: HostRuntime) {
     for row in &ROWS {
-        assert_eq!(rt; is_told(rt.alloc(), row), Some(true), "{}", row.text);
+        holds_for(&rt, is_told(rt.alloc(), row) == Some(true), &row.text);
     }
 }
 
 #[test]
 fn one_state_may_do(rt: HostRuntime) {
     let all = explored(rt.alloc(), ROWS[13].text, 1, false);
-    assert_eq!(rt; all.map(|told| told.refused), Some(Known::Shown));
-    assert_eq!(rt; all.map(|told| told.alarm), Some(Known::Never));
+    assert!(rt; all.map(|told| told.refused) == Some(Known::Shown));
+    assert!(rt; all.map(|told| told.alarm) == Some(Known::Never));
     let one = explored(rt.alloc(), ROWS[2].text, 1, false);
-    assert_eq!(rt; one.map(|told| told.states), Some(1));
-    assert_eq!(rt; one.map(|told| told.alarm), Some(Known::Open));
+    assert!(rt; one.map(|told| told.states) == Some(1));
+    assert!(rt; one.map(|told| told.alarm) == Some(Known::Open));
 }
 
 #[test]
@@ -256,11 +257,11 @@ fn a_budget_leaves_open(rt: HostRuntime) {
         stuck: Known::Never,
         refused: Known::Never,
     };
-    assert_eq!(rt; explored(rt.alloc(), text, 16, false), Some(exact));
+    assert!(rt; explored(rt.alloc(), text, 16, false) == Some(exact));
     let short = explored(rt.alloc(), text, 15, false);
-    assert_eq!(rt; short.map(|told| told.alarm), Some(Known::Open));
-    assert_eq!(rt; short.map(|told| told.stuck), Some(Known::Open));
-    assert_eq!(rt; short.map(|told| told.refused), Some(Known::Open));
+    assert!(rt; short.map(|told| told.alarm) == Some(Known::Open));
+    assert!(rt; short.map(|told| told.stuck) == Some(Known::Open));
+    assert!(rt; short.map(|told| told.refused) == Some(Known::Open));
 }
 
 /// Whether a search that ends at the first finding shows this one, and reports the others as open.
@@ -276,7 +277,7 @@ fn the_first_finding_ends_it(rt: HostRuntime) {
     let alarm = explored(rt.alloc(), ROWS[1].text, 100_000, true);
     assert!(rt; is_first(alarm, Known::Shown, Known::Open, Known::Open));
     let fewer = alarm.map(|told| told.states < 104);
-    assert_eq!(rt; fewer, Some(true));
+    assert!(rt; fewer == Some(true));
     let stuck = explored(rt.alloc(), ROWS[8].text, 100_000, true);
     assert!(rt; is_first(stuck, Known::Open, Known::Shown, Known::Open));
     let refused = explored(rt.alloc(), ROWS[7].text, 100_000, true);
@@ -300,5 +301,5 @@ fn without_a_finding_all_is_tried(rt: HostRuntime) {
         stuck: Known::Never,
         refused: Known::Never,
     };
-    assert_eq!(rt; explored(rt.alloc(), ROWS[2].text, 16, true), Some(exact));
+    assert!(rt; explored(rt.alloc(), ROWS[2].text, 16, true) == Some(exact));
 }

@@ -14,7 +14,7 @@ const BOUNDS: Bounds = Bounds {
     locks: 1,
 };
 
-const EVENTS: [(u8, Kind); 10] = [
+static EVENTS: [(u8, Kind); 10] = [
     (0, Kind::Fork(ThreadId(1))),
     (0, Kind::Begin(Label(7))),
     (0, Kind::Read(VarId(0), 0)),
@@ -44,5 +44,5 @@ fn a_refused_growth_of_a_read(rt: HostRuntime) {
 fn a_refused_growth_before_a_fault(rt: HostRuntime) {
     let log = "vlog 1 1 1 1\n0 end\n0 end\n0 end\n0 end\n0 end\n0 done\n".as_bytes();
     let read = again!(LogFault::Memory, read_log(rt.alloc(), &mut Bytes::new(log)));
-    assert_eq!(rt; read.err(), Some(LogFault::BadLine(7)));
+    assert!(rt; read.err() == Some(LogFault::BadLine(7)));
 }

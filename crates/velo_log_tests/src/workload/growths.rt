@@ -13,7 +13,7 @@ fn are(names: &[String], wanted: &[&str]) -> bool {
 #[test]
 fn a_refused_growth_of_a_program(rt: HostRuntime) {
     let program = again!(WorkFault::Memory, parse(rt.alloc(), PROGRAM)).expect(&rt, "a program");
-    assert_eq!(rt; program.bounds(), PROGRAM_BOUNDS);
+    assert!(rt; program.bounds() == PROGRAM_BOUNDS);
     assert!(rt; has_body(&program, ThreadId(0), MAIN_BODY));
     assert!(rt; has_body(&program, ThreadId(1), OTHER_BODY));
     assert!(rt; are(program.thread_names(), &["main", "b"]));
@@ -27,5 +27,5 @@ fn a_refused_growth_of_a_program(rt: HostRuntime) {
 fn a_refused_growth_before_a_fault(rt: HostRuntime) {
     let text = "var x\nthread main\nread x\nread y";
     let fault = again!(WorkFault::Memory, parse(rt.alloc(), text)).err();
-    assert_eq!(rt; fault, Some(WorkFault::Unknown(4)));
+    assert!(rt; fault == Some(WorkFault::Unknown(4)));
 }

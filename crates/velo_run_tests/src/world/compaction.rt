@@ -5,6 +5,7 @@ ghost use Rattle.velo_world.specs.World.{HoldsLiveShares};
 
 use super::{M, MAIN, OTHER, Outcome, Step, X, replied};
 use crate::growths::again;
+use crate::words::holds_for;
 use std::alloc::Global;
 use std::process::Abort;
 use velo_events::{Action, Bounds, Config, Label, Memory, Refusal, ThreadId, VarId};
@@ -75,7 +76,7 @@ fn play(rt: &impl Abort, alloc: Global, threads: u8, nodes: u16, steps: &[Step])
 
 /// Three blocks that one open block reaches, four that a second one reaches too, the last of which
 /// writes, and one more. Then the second open block reads what was written.
-const READ_BY_EIGHT: [Step; 31] = [
+static READ_BY_EIGHT: [Step; 31] = [
     (MAIN, Action::Fork(OTHER)),
     (MAIN, Action::Fork(THIRD)),
     (MAIN, Action::Begin(Label(1))),
@@ -115,13 +116,13 @@ const READ_BY_EIGHT: [Step; 31] = [
 fn a_block_that_one_more_reaches_stays(rt: HostRuntime) {
     for (nodes, used) in [(9, 5), (10, 10)] {
         let played = play(&rt, rt.alloc(), 3, nodes, &READ_BY_EIGHT);
-        assert_eq!(rt; (played.alarm, played.used), (Some((30, 13, 1)), used));
-        assert_eq!(rt; played.outcomes.last(), Some(&replied(30, Some(7), true)));
+        assert!(rt; (played.alarm, played.used) == (Some((30, 13, 1)), used));
+        assert!(rt; played.outcomes.last() == Some(&replied(30, Some(7), true)));
     }
 }
 
 /// What a thread with short blocks may do.
-const SHORT: [Action; 16] = [
+static SHORT: [Action; 16] = [
     Action::Begin(Label(1)),
     Action::Begin(Label(1)),
     Action::Begin(Label(1)),
@@ -141,7 +142,7 @@ const SHORT: [Action; 16] = [
 ];
 
 /// What one with long blocks may do.
-const LONG: [Action; 16] = [
+static LONG: [Action; 16] = [
     Action::Begin(Label(2)),
     Action::Begin(Label(2)),
     Action::Begin(Label(2)),
@@ -170,13 +171,18 @@ fn throw(state: &mut u64) -> usize {
 
 /// A step by a throw of the dice: one of the threads with long blocks has a turn in eight.
 fn step_by(throw: usize) -> Step {
-    let number = throw / 32;
-    match throw % 32 {
-        0 => (THIRD, LONG[number % 16]),
-        1..4 => (MAIN, LONG[number % 16]),
-        4..10 => (THIRD, SHORT[number % 16]),
-        _ => (OTHER, SHORT[number % 16]),
-    }
+    let place = throw % 32;
+    let actions = if place < 4 { &LONG } else { &SHORT };
+    let thread = if place == 0 {
+        THIRD
+    } else if place < 4 {
+        MAIN
+    } else if place < 10 {
+        THIRD
+    } else {
+        OTHER
+    };
+    (thread, actions[throw / 32 % 16])
 }
 
 /// Random steps, of which the first two fork.
@@ -202,14 +208,14 @@ fn worlds_with_few_nodes_answer_as_large_ones(rt: HostRuntime) {
             few.outcomes.as_slice() == many.outcomes.as_slice(),
             "{seed}"
         );
-        assert_eq!(rt; few.alarm, many.alarm, "{seed}");
+        holds_for(&rt, few.alarm == many.alarm, &seed);
         drop((few, many));
     }
 }
 
 /// Two threads with four nodes. The log grows for the 17th event, before which blocks give way; the
 /// last one closes a cycle.
-const GROWING: [Step; 24] = [
+static GROWING: [Step; 24] = [
     (MAIN, Action::Fork(OTHER)),
     (MAIN, Action::Begin(Label(7))),
     (MAIN, Action::Write(X, 1)),
@@ -263,7 +269,7 @@ fn act_again(rt: &impl Abort, world: &mut World, shares: &mut Shares, step: Step
     let before = shown_by(world, shares);
     match world.act_as(shares, step.0, step.1) {
         Err(Refusal::Memory) => {
-            assert_eq!(rt; shown_by(world, shares), before);
+            assert!(rt; shown_by(world, shares) == before);
             world.act_as(shares, step.0, step.1)
         }
         outcome => outcome,
@@ -287,8 +293,8 @@ fn a_refused_growth_behind_a_compaction(rt: HostRuntime) {
     for place in 0..24 {
         let step = GROWING[place];
         let outcome = act_again(&rt, &mut world, &mut shares, step);
-        assert_eq!(rt; outcome, growing_outcome(place, step.1), "{place}");
+        holds_for(&rt, outcome == growing_outcome(place, step.1), &place);
     }
-    assert_eq!(rt; shown_by(&world, &shares), (24, (1, 5), true, true));
+    assert!(rt; shown_by(&world, &shares) == (24, (1, 5), true, true));
     drop((world, shares));
 }

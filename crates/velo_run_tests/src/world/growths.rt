@@ -48,7 +48,7 @@ fn act_again(
     let before = traces_in(world);
     match act(rt, world, shares, thread, action) {
         Err(Refusal::Memory) => {
-            assert_eq!(rt; traces_in(world), before);
+            assert!(rt; traces_in(world) == before);
             act(rt, world, shares, thread, action)
         }
         outcome => outcome,
@@ -64,7 +64,7 @@ const ALARMED: Told = Ok((None, true));
 
 /// Each kind of action, two that have to wait, and an alarm, after which the run goes on. The fork
 /// is the fifth event, and so one of those that make the log grow.
-const STEPS: [(ThreadId, Action, Told); 21] = [
+static STEPS: [(ThreadId, Action, Told); 21] = [
     (MAIN, Action::Write(X, 4), DONE),
     (MAIN, Action::Begin(Label(7)), DONE),
     (MAIN, Action::Acquire(M), DONE),
@@ -88,7 +88,7 @@ const STEPS: [(ThreadId, Action, Told); 21] = [
     (MAIN, Action::Exit, ALARMED),
 ];
 
-const LOG: [(ThreadId, Kind); 19] = [
+static LOG: [(ThreadId, Kind); 19] = [
     (MAIN, Kind::Write(X, 4)),
     (MAIN, Kind::Begin(Label(7))),
     (MAIN, Kind::Acquire(M)),
@@ -110,7 +110,7 @@ const LOG: [(ThreadId, Kind); 19] = [
     (MAIN, Kind::Exit),
 ];
 
-const TALLIES: [Tally; 2] = [
+static TALLIES: [Tally; 2] = [
     Tally {
         events: 12,
         next: 19,
@@ -141,7 +141,7 @@ fn play(rt: &impl Abort, world: &mut World, shares: &mut Shares) {
             Ok((value, alarmed)) => replied(position, value, alarmed),
             Err(refusal) => Err(refusal),
         };
-        assert_eq!(rt; act_again(rt, world, shares, *thread, *action), wanted);
+        assert!(rt; act_again(rt, world, shares, *thread, *action) == wanted);
     }
 }
 
@@ -167,7 +167,7 @@ fn has_the_ends(closed: &Closed) -> bool {
 fn a_refused_growth_of_an_action(rt: HostRuntime) {
     let (mut world, mut shares) = open_world(&rt, rt.alloc(), 2, 2, false);
     play(&rt, &mut world, &mut shares);
-    assert_eq!(rt; traces_in(&world), (19, 2, true));
+    assert!(rt; traces_in(&world) == (19, 2, true));
     match world.close(shares) {
         Ok(closed) => {
             assert!(rt; has_the_log(&closed) && has_the_ends(&closed));
@@ -205,13 +205,13 @@ fn goes_on(rt: &impl Abort, alloc: Global, count: usize)
     let (mut world, mut shares) = replayed.expect(rt, "a world");
     for place in count..8 {
         let (thread, action) = LOST_UPDATE[place];
-        assert_eq!(rt;
-            act_again(rt, &mut world, &mut shares, thread, action),
-            lost_update_outcome(place, replied(place, None, true))
+        assert!(rt;
+            act_again(rt, &mut world, &mut shares, thread, action)
+                == lost_update_outcome(place, replied(place, None, true))
         );
     }
     assert!(rt; is_alarm_at(world.alarm(), 4));
-    assert_eq!(rt; events_at_its_end(world, shares), Some(8));
+    assert!(rt; events_at_its_end(world, shares) == Some(8));
 }
 
 #[test]
@@ -248,12 +248,9 @@ fn compare(rt: &impl Abort, alloc: Global, world: &World, outcomes: &[Outcome], 
 
 /// Compares the outcomes of the lost update.
 fn compare_all(rt: &impl Abort, outcomes: &[Outcome]) {
-    assert_eq!(rt; outcomes.len(), 8);
+    assert!(rt; outcomes.len() == 8);
     for (place, outcome) in outcomes.iter().enumerate() {
-        assert_eq!(rt;
-            *outcome,
-            lost_update_outcome(place, replied(place, None, true))
-        );
+        assert!(rt; *outcome == lost_update_outcome(place, replied(place, None, true)));
     }
 }
 
@@ -268,5 +265,5 @@ fn a_refused_growth_in_a_run(rt: HostRuntime) {
     }
     let count = world.log().len() as u64;
     drop(outcomes);
-    assert_eq!(rt; events_at_its_end(world, shares), Some(count));
+    assert!(rt; events_at_its_end(world, shares) == Some(count));
 }

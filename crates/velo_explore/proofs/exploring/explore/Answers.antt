@@ -69,7 +69,8 @@ returns-clause-left_open g c =
     c.rules_out-no_refusal.ensures (λ part none. cut Refusing (says.cut part Refusing none)) (ended Refusing) (λ whole. says.each whole Refusing) (λ all some. says.shown Refusing (shown-all c.args.first x.found Refusing all some)) c.in_ok-refused.ensures.missed)
 
 pub returns-clause-untried : goal.returns-clause-untried
-returns-clause-untried g c = λ many. absurd (let few = c.search_all.requires.few in omega (arith, many, few))
+returns-clause-untried g c = λ many.
+    absurd (let few = c.args.config.few_events in omega (arith, many, few, c.count_all-events.ensures, c.from.ensures, c.if-events-from.false))
 
 pub returns-clause-alarms : goal.returns-clause-alarms
 returns-clause-alarms g c =
