@@ -2,7 +2,6 @@
 use Rattle.std.proofs.Common.{◌≡◌, ◌∙◌, ap, inl, inr, refl, subst, sym, ⊎_elim}
 use Rattle.std.specs.Prelude.{◌⊎◌, ℕ, Bool, true, All, IfOk, List, Option, Some, None, Result, Ok, Err}
 use Rattle.std.specs.Borrow.{Bor}
-use Rattle.std.proofs.lemmas.List.Elements.{All-weaker}
 use Rattle.velo_events.specs.declared.config.Bounds.{Bounds}
 use Rattle.velo_events.specs.declared.event.Event.{Event}
 use Rattle.velo_names.specs.Names.{NameLists}
@@ -10,8 +9,8 @@ use Rattle.velo_sites.specs.Sites.{Table}
 use Rattle.velo_filter.specs.Left.{Omitted, rest_of}
 use Rattle.velo_audit.specs.declared.told.Told.{Told}
 use Rattle.velo_audit_text.specs.declared.words.Asked.{Asked}
-use Rattle.velo_delays.specs.Deadlock.{IsDeadlockIn}
-use Rattle.velo_delays.specs.Found.{IsFoundIn}
+use Rattle.velo_delays.specs.Deadlock.{AreDeadlocksIn}
+use Rattle.velo_delays.specs.Found.{AreFoundIn}
 use Rattle.velo_predict_text.specs.Text.{CanBeTold, CanTellDeadlock}
 use Rattle.velo_predict_text.proofs.OnFound.{CanBeTold-from, CanTellDeadlock-from}
 use Rattle.velo_fate.specs.declared.fate.Fate.{Fate}
@@ -31,17 +30,17 @@ use Rattle.velo_inputs.specs.Siting.{HaveLengthOf}
 
 -- what a search of this log answers
 pub foretold_of : {E : Type 0} (values : Bool) (bounds : Bounds) (log searched : List Event) (left : Omitted) (result : Result PredictedFindings E) → IsSearched values log searched
-    → IfOk result (λ (f : PredictedFindings). All (IsFoundIn bounds searched left) f.labels.items) → IfOk result (λ (f : PredictedFindings). All (IsDeadlockIn bounds searched left) f.deadlocks.items)
+    → IfOk result (λ (f : PredictedFindings). AreFoundIn bounds searched left f.labels.items) → IfOk result (λ (f : PredictedFindings). AreDeadlocksIn bounds searched left f.deadlocks.items)
     → IfOk result (λ (f : PredictedFindings). ArePredictionsOf values bounds log left f)
 foretold_of values bounds log searched left (Ok f) is labels deadlocks = record { searched = searched; is_searched = is; labels = labels; deadlocks = deadlocks }
 foretold_of values bounds log searched left (Err e) is labels deadlocks = tt
 
 module _ (values : Bool) (bounds : Bounds) (log : List Event) (left : Omitted) (findings : PredictedFindings) (are : ArePredictionsOf values bounds log left findings) where
   pub can_be_told : All CanBeTold findings.labels.items
-  can_be_told = All-weaker _ CanBeTold (λ found is. CanBeTold-from bounds are.searched left found is) findings.labels.items are.labels
+  can_be_told = CanBeTold-from bounds are.searched left findings.labels.items are.labels
 
   pub can_tell_deadlocks : All CanTellDeadlock findings.deadlocks.items
-  can_tell_deadlocks = All-weaker (IsDeadlockIn bounds are.searched left) CanTellDeadlock (λ deadlock is. CanTellDeadlock-from bounds (rest_of left are.searched) deadlock is) findings.deadlocks.items are.deadlocks
+  can_tell_deadlocks = CanTellDeadlock-from bounds (rest_of left are.searched) findings.deadlocks.items are.deadlocks
 
 module _ (names : NameLists) (sites : Option Table) (asked : Asked) (options : PredictOptions) (store : Store) (stdout : Writing) where
   -- an answer without a word

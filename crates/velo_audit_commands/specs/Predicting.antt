@@ -1,5 +1,5 @@
 -- What a search for predictions has to say, by the bytes of its input and by the definitions.
-use Rattle.std.specs.Prelude.{◌≡◌, ◌⊎◌, ℕ, Bool, true, false, All, List, [], ◌∷◌, Option, Some, None, option_map}
+use Rattle.std.specs.Prelude.{◌≡◌, ◌⊎◌, ℕ, Bool, true, false, List, [], ◌∷◌, Option, Some, None, option_map}
 use Rattle.std.specs.Borrow.{Bor}
 use Rattle.velo_events.specs.declared.config.Bounds.{Bounds}
 use Rattle.velo_events.specs.declared.event.Event.{Event}
@@ -12,8 +12,8 @@ use Rattle.velo_audit_text.specs.declared.words.Asked.{Asked}
 use Rattle.velo_delays.specs.declared.judged.PredictedCycle.{PredictedCycle}
 use Rattle.velo_delays.specs.declared.stuck.Deadlock.{Deadlock}
 use Rattle.velo_delays.specs.Anew.{IsAnew}
-use Rattle.velo_delays.specs.Deadlock.{IsDeadlockIn}
-use Rattle.velo_delays.specs.Found.{IsFoundIn}
+use Rattle.velo_delays.specs.Deadlock.{AreDeadlocksIn}
+use Rattle.velo_delays.specs.Found.{AreFoundIn}
 use Rattle.velo_predict_text.specs.Text.{is_something_told, predictions_text}
 use Rattle.velo_audit_forms.specs.Answer.{line_text}
 use Rattle.velo_predict_forms.specs.Answer.{predictions_json}
@@ -49,11 +49,13 @@ pub record ArePredictionsOf (values : Bool) (bounds : Bounds) (log : List Event)
     (findings : PredictedFindings) : Type 0 where
   pub searched : List Event
   pub is_searched : IsSearched values log searched
-  -- What is left out stays so, and maybe the begins and ends of some labels more (`IsFoundIn`). The
-  -- trace has a cycle, and the blocks told are those to blame at its first alarm.
-  pub labels : All (IsFoundIn bounds searched omitted) findings.labels.items
-  -- After the trace threads wait in a circle (`IsDeadlock`), to do the events that are told.
-  pub deadlocks : All (IsDeadlockIn bounds searched omitted) findings.deadlocks.items
+  -- The trace has a cycle, and the blocks told are those to blame at its first alarm. What is left out
+  -- stays so, and maybe the begins and ends of labels that those before it blame. Each blames a label
+  -- that is not left out and that none before it blames.
+  pub labels : AreFoundIn bounds searched omitted findings.labels.items
+  -- After the trace threads wait in a circle (`IsDeadlock`), to do the events that are told. Each has a
+  -- lock that is waited for in none before it.
+  pub deadlocks : AreDeadlocksIn bounds searched omitted findings.deadlocks.items
 
 -- ---- what is said of it
 

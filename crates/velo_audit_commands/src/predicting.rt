@@ -1,12 +1,12 @@
 //! `velodrome predict`.
-ghost use Rattle.std.specs.Prelude.{◌≡◌, ◌≤◌, All, Some, false, true, length, option_map, IfOk};
+ghost use Rattle.std.specs.Prelude.{◌≡◌, ◌≤◌, Some, false, true, length, option_map, IfOk};
 ghost use Rattle.std.specs.Option.{option_copied};
 ghost use Rattle.velo_events.specs.declared.limits.TheConstants.{MAX_EVENTS};
 ghost use Rattle.velo_events.specs.WellFormed.{IsWellFormed};
 ghost use Rattle.velo_logtext.specs.Text.{log_text};
 ghost use Rattle.velo_filter.specs.Tables.{left_of};
-ghost use Rattle.velo_delays.specs.Deadlock.{IsDeadlockIn};
-ghost use Rattle.velo_delays.specs.Found.{IsFoundIn};
+ghost use Rattle.velo_delays.specs.Deadlock.{AreDeadlocksIn};
+ghost use Rattle.velo_delays.specs.Found.{AreFoundIn};
 ghost use Rattle.velo_worker.specs.declared.ending.Ending.TheVariants.{Done};
 ghost use Rattle.velo_delivery.specs.Disk.{store};
 ghost use Rattle.velo_delivery.specs.Reading.{reading};
@@ -74,10 +74,10 @@ fn search_in(
     requires goes_on { config.now.stop ≡ false }
     requires few { length log.now.events ≤ MAX_EVENTS }
     requires well_formed { IsWellFormed config.now.bounds log.now.events }
-    ensures labels { IfOk result (λ findings. All (IsFoundIn config.now.bounds log.now.events
-        (left_of left.old)) findings.labels.items) }
-    ensures deadlocks { IfOk result (λ findings. All (IsDeadlockIn config.now.bounds log.now.events
-        (left_of left.old)) findings.deadlocks.items) }
+    ensures labels { IfOk result (λ findings. AreFoundIn config.now.bounds log.now.events
+        (left_of left.old) findings.labels.items) }
+    ensures deadlocks { IfOk result (λ findings. AreDeadlocksIn config.now.bounds log.now.events
+        (left_of left.old) findings.deadlocks.items) }
 {
     let draws = Draws {
         tries: options.tries,

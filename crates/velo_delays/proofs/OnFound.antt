@@ -1,12 +1,13 @@
--- What is found in a list that goes on.
-use Rattle.std.proofs.Common.{◌≡◌, ℕ, ◌<◌, Bool, true, List, [], ◌∷◌, ◌++◌, length, map, Option, Some, None, refl, sym, ap, ◌∙◌, subst, append_assoc, ⊎_elim}
-use Rattle.std.specs.Prelude.{All, Contains, IfSome, OnOk, Result, Ok, Err, slice_get}
-use Rattle.std.proofs.lemmas.Bool.{or_left}
-use Rattle.std.proofs.lemmas.List.{append-nil}
-use Rattle.std.proofs.lemmas.List.Elements.{All-nil, All-cons, All-head, All-append, All-weaker, All-contains_itself}
-use Rattle.std.proofs.lemmas.Option.{none-some, same_Some, slice_get_within}
+-- What is found one after another.
+use Rattle.std.proofs.Common.{◌≡◌, ℕ, zero, suc, ◌<◌, ◌≤◌, true, List, [], ◌∷◌, ◌++◌, get_or, length, map, take, Option, Some, None, refl, sym, ap, ◌∙◌, subst, append_assoc, arith, ⊎_elim}
+use Rattle.std.specs.Prelude.{Bool, All, Contains, IfSome, IsFalse, IsTrue, OnOk, Result, Ok, Err, slice_get}
+use Rattle.std.proofs.lemmas.Bool.{eq-eqb, or_left, or_right}
+use Rattle.std.proofs.lemmas.List.{append-nil, length-append, take-append-le, take_all}
+use Rattle.std.proofs.lemmas.List.Elements.{All-head, All-weaker, All-contains_itself}
+use Rattle.std.proofs.lemmas.Option.{none-some, same_Some, slice_get-get_or, slice_get_within}
 use Rattle.velo_events.specs.declared.config.Bounds.{Bounds}
 use Rattle.velo_events.specs.declared.event.Event.{Event}
+use Rattle.velo_traces.specs.declared.block.Block.{Block}
 use Rattle.velo_filter.specs.Left.{Omitted, is_listed, rest_of, with_labels}
 use Rattle.velo_audit.specs.Audit.{AreWitnessed}
 use Rattle.velo_audit.specs.Rounds.{IsRound, Rounds}
@@ -16,32 +17,19 @@ use Rattle.velo_audit.specs.declared.told.Told.{Told}
 use Rattle.velo_predict.specs.declared.difference.Difference.{Difference}
 use Rattle.velo_predict.specs.Differences.{AreDifferences}
 use Rattle.velo_delays.specs.declared.judged.PredictedCycle.{PredictedCycle}
-use Rattle.velo_delays.specs.Found.{IsFound, IsFoundIn, LeavesOutMore, Adds, AddsAtMost}
+use Rattle.velo_delays.specs.Found.{AreFoundIn, AreFoundInTurn, GoesOn, HasNew, IsFound, IsFoundAfter, TakesIn, labels_blamed, labels_of, left_out_behind}
 
--- ---- lists that go on
+-- ---- lists in which each thing is such after those before it
 
-pub Adds-none : {X : Type 0} (P : X → Type 0) (xs : List X) → Adds P xs xs
-Adds-none P xs = record { more = []; is_longer = sym (append-nil xs); each = All-nil P }
+-- with one more that is such after them
+pub each-push : {X : Type 0} (P : List X → X → Type 0) (xs : List X) (y : X) → ((i : ℕ) (x : X) → slice_get xs i ≡ Some x → P (take i xs) x) → P xs y → (i : ℕ) (x : X) → slice_get (xs ++ y ∷ []) i ≡ Some x → P (take i (xs ++ y ∷ [])) x
+each-push P [] y each last zero x is = subst (P []) (same_Some y x is) last
+each-push P [] y each last (suc i) x is = absurd (none-some x is)
+each-push P (z ∷ zs) y each last zero x is = each 0 x is
+each-push P (z ∷ zs) y each last (suc i) x is = each-push (λ ws. P (z ∷ ws)) zs y (λ j w its. each (suc j) w its) last i x is
 
-pub Adds-one : {X : Type 0} (P : X → Type 0) (xs : List X) (x : X) → P x → Adds P xs (xs ++ x ∷ [])
-Adds-one P xs x p = record { more = x ∷ []; is_longer = refl; each = All-cons P x [] p (All-nil P) }
-
-pub Adds-more : {X : Type 0} (P : X → Type 0) (one two three : List X) → Adds P one two → Adds P two three → Adds P one three
-Adds-more P one two three first then = record {
-  more = first.more ++ then.more;
-  is_longer = then.is_longer ∙ (ap (λ xs. xs ++ then.more) first.is_longer ∙ append_assoc one first.more then.more);
-  each = All-append P first.more then.more first.each then.each;
-}
-
-pub Adds-each : {X : Type 0} (P Q : X → Type 0) (one two : List X) → ((x : X) → P x → Q x) → Adds P one two → Adds Q one two
-Adds-each P Q one two f adds = record { more = adds.more; is_longer = adds.is_longer; each = All-weaker P Q f adds.more adds.each }
-
-pub All-Adds : {X : Type 0} (P : X → Type 0) (one two : List X) → All P one → Adds P one two → All P two
-All-Adds P one two all adds = subst (λ xs. All P xs) (sym adds.is_longer) (All-append P one adds.more all adds.each)
-
-pub Adds-most : {X : Type 0} (P : X → Type 0) (one two : List X) (found : Option X) → IfSome found P → AddsAtMost one two found → Adds P one two
-Adds-most P one two None some most = subst (λ xs. Adds P one xs) (sym most) (Adds-none P one)
-Adds-most P one two (Some x) some most = ⊎_elim (λ same. subst (λ xs. Adds P one xs) (sym same) (Adds-none P one)) (λ more. subst (λ xs. Adds P one xs) (sym more) (Adds-one P one x some)) most
+pub All-from_each : {X : Type 0} (P : X → Type 0) (xs : List X) → ((i : ℕ) (x : X) → slice_get xs i ≡ Some x → P x) → All P xs
+All-from_each P xs each = λ i d within. each i (get_or xs i d) (slice_get-get_or xs i d within)
 
 pub on_ok : {A E : Type 0} {P Q : Type 0} (r : Result A E) → (P → Q) → OnOk r P → OnOk r Q
 on_ok (Ok x) f h = f h
@@ -49,34 +37,106 @@ on_ok (Err e) f h = tt
 
 -- ---- labels that are left out
 
-pub LeavesOutMore-refl : (left : Omitted) → LeavesOutMore left left
-LeavesOutMore-refl left = record { locks = refl; variables = refl; labels = λ l out. out }
+pub listed-first : (n : ℕ) (rest : List ℕ) → IsTrue (is_listed (n ∷ rest) n)
+unfolding is_listed
+listed-first n rest = or_left _ _ (eq-eqb n n refl)
 
-pub LeavesOutMore-same : (one two : Omitted) → two ≡ one → LeavesOutMore one two
-LeavesOutMore-same one two same = subst (LeavesOutMore one) (sym same) (LeavesOutMore-refl one)
+pub listed-later : (m : ℕ) (rest : List ℕ) (n : ℕ) → IsTrue (is_listed rest n) → IsTrue (is_listed (m ∷ rest) n)
+unfolding is_listed
+listed-later m rest n there = or_right _ _ there
 
-pub LeavesOutMore-labels : (one two : Omitted) (labels : List ℕ) → two ≡ with_labels one labels → LeavesOutMore one two
-LeavesOutMore-labels one two labels is = subst (LeavesOutMore one) (sym is) (record { locks = refl; variables = refl; labels = λ l out. or_left (one.labels l) (is_listed labels l) out })
+label-listed : (blocks : List Block) (i : ℕ) (block : Block) → slice_get blocks i ≡ Some block → IsTrue (is_listed (labels_of blocks) block.label.0)
+label-listed [] i block there = absurd (none-some block there)
+label-listed (b ∷ rest) zero block there = subst (λ (x : Block). IsTrue (is_listed (labels_of (b ∷ rest)) x.label.0)) (same_Some b block there) (listed-first b.label.0 (labels_of rest))
+label-listed (b ∷ rest) (suc i) block there = listed-later b.label.0 (labels_of rest) block.label.0 (label-listed rest i block there)
 
-pub LeavesOutMore-more : (one two three : Omitted) → LeavesOutMore one two → LeavesOutMore two three → LeavesOutMore one three
-LeavesOutMore-more one two three first then = record {
-  locks = then.locks ∙ first.locks;
-  variables = then.variables ∙ first.variables;
-  labels = λ l out. then.labels l (first.labels l out);
-}
+-- a block has a label that is not left out
+pub has_new-label : (test : ℕ → Bool) (blocks : List Block) (i : ℕ) (block : Block) → slice_get blocks i ≡ Some block → IsFalse (test block.label.0) → HasNew test (labels_of blocks)
+has_new-label test blocks i block there new = record { number = block.label.0; listed = label-listed blocks i block there; new = new }
 
-pub IsFoundIn-rest : (bounds : Bounds) (log : List Event) (left : Omitted) (found : PredictedCycle) → IsFound bounds (rest_of left log) found → IsFoundIn bounds log left found
-IsFoundIn-rest bounds log left found is = record { labels = left.labels; more = λ l out. out; is_found = is }
+pub left_out_behind-push : (left : Omitted) (founds : List PredictedCycle) (found : PredictedCycle) → left_out_behind left (founds ++ found ∷ []) ≡ with_labels (left_out_behind left founds) (labels_blamed found)
+unfolding left_out_behind
+left_out_behind-push left [] found = refl
+left_out_behind-push left (f ∷ rest) found = left_out_behind-push (with_labels left (labels_blamed f)) rest found
 
-pub IsFoundIn-before : (bounds : Bounds) (log : List Event) (old new : Omitted) → LeavesOutMore old new → (found : PredictedCycle) → IsFoundIn bounds log new found → IsFoundIn bounds log old found
-IsFoundIn-before bounds log old new adds found is = record {
-  labels = is.labels;
-  more = λ l out. is.more l (adds.labels l out);
-  is_found = subst (λ (left : Omitted). IsFound bounds (rest_of left log) found) equal is.is_found;
-}
-  where
-    equal : record new { labels = is.labels } ≡ record old { labels = is.labels }
-    equal = ap (λ (f : ℕ → Bool). record { labels = is.labels; locks = f; variables = new.variables }) adds.locks ∙ ap (λ (f : ℕ → Bool). record { labels = is.labels; locks = old.locks; variables = f }) adds.variables
+-- ---- what is found one after another
+
+module _ (bounds : Bounds) (log : List Event) where
+  in_turn-push : (left : Omitted) (founds : List PredictedCycle) (found : PredictedCycle) → AreFoundInTurn bounds log left founds → IsFound bounds log found → HasNew (left_out_behind left founds).labels (labels_blamed found)
+      → AreFoundInTurn bounds log left (founds ++ found ∷ [])
+  unfolding AreFoundInTurn left_out_behind
+  in_turn-push left [] found are is new = ((is, new), tt)
+  in_turn-push left (f ∷ rest) found are is new = (are.0, in_turn-push (with_labels left (labels_blamed f)) rest found are.1 is new)
+
+  pub GoesOn-none : (left : Omitted) (founds : List PredictedCycle) → GoesOn bounds log left left founds founds
+  unfolding AreFoundInTurn left_out_behind
+  GoesOn-none left founds = record { more = []; is_longer = sym (append-nil founds); are_found = tt; behind = refl }
+
+  GoesOn-same : (one two three : Omitted) (xs ys zs : List PredictedCycle) → GoesOn bounds log one two xs ys → three ≡ two → zs ≡ ys → GoesOn bounds log one three xs zs
+  GoesOn-same one two three xs ys zs on left same = record { more = on.more; is_longer = same ∙ on.is_longer; are_found = on.are_found; behind = left ∙ on.behind }
+
+  GoesOn-push : (one two three : Omitted) (xs ys zs : List PredictedCycle) → GoesOn bounds log one two xs ys → (found : PredictedCycle) → IsFound bounds log found → HasNew two.labels (labels_blamed found)
+      → three ≡ with_labels two (labels_blamed found) → zs ≡ ys ++ found ∷ [] → GoesOn bounds log one three xs zs
+  GoesOn-push one two three xs ys zs on found is new left more = record {
+    more = on.more ++ found ∷ [];
+    is_longer = more ∙ (ap (λ (ws : List PredictedCycle). ws ++ found ∷ []) on.is_longer ∙ append_assoc xs on.more (found ∷ []));
+    are_found = in_turn-push one on.more found on.are_found is (subst (λ (l : Omitted). HasNew l.labels (labels_blamed found)) on.behind new);
+    behind = left ∙ (ap (λ (l : Omitted). with_labels l (labels_blamed found)) on.behind ∙ sym (left_out_behind-push one on.more found));
+  }
+
+  -- what was found is taken in
+  pub GoesOn-takes : (one two three : Omitted) (xs ys zs : List PredictedCycle) → GoesOn bounds log one two xs ys → (found : Option PredictedCycle) → IfSome found (λ (f : PredictedCycle). IsFound bounds log f) → TakesIn two three ys zs found
+      → GoesOn bounds log one three xs zs
+  GoesOn-takes one two three xs ys zs on None is takes = GoesOn-same one two three xs ys zs on takes.0 takes.1
+  GoesOn-takes one two three xs ys zs on (Some found) is takes = ⊎_elim
+      (λ same. GoesOn-same one two three xs ys zs on same.0 same.1)
+      (λ new. GoesOn-push one two three xs ys zs on found is new.0 new.1 new.2)
+      takes
+
+-- ---- round after round
+
+pub behind-none : (first : Omitted) (founds : List PredictedCycle) → founds ≡ [] → first ≡ left_out_behind first founds
+unfolding left_out_behind
+behind-none first founds none = ap (left_out_behind first) (sym none)
+
+module _ (bounds : Bounds) (log : List Event) (first : Omitted) where
+  pub AreFoundIn-none : (founds : List PredictedCycle) → founds ≡ [] → AreFoundIn bounds log first founds
+  AreFoundIn-none founds none = record { each = λ i found there. absurd (none-some found (sym (ap (λ (fs : List PredictedCycle). slice_get fs i) none) ∙ there)) }
+
+  -- the first of them are known, and without what they blame the others are found, one after another
+  grown : (k : ℕ) (left : Omitted) (founds more : List PredictedCycle) → k ≤ length founds → left ≡ left_out_behind first founds → AreFoundIn bounds log first founds
+      → AreFoundInTurn bounds (rest_of (left_out_behind first (take k founds)) log) left more → AreFoundIn bounds log first (founds ++ more) × (left_out_behind left more ≡ left_out_behind first (founds ++ more))
+  unfolding AreFoundInTurn left_out_behind
+  grown k left founds [] few behind are more = (
+    subst (AreFoundIn bounds log first) (sym (append-nil founds)) are,
+    behind ∙ ap (left_out_behind first) (sym (append-nil founds)),
+  )
+  grown k left founds (f ∷ rest) few behind are more =
+      let longer = founds ++ f ∷ [] in
+      let known : take k longer ≡ take k founds = take-append-le k founds (f ∷ []) few in
+      let after : IsFoundAfter bounds log first founds f = record {
+        known = k;
+        is_found = more.0.0;
+        blames_new = subst (λ (l : Omitted). HasNew l.labels (labels_blamed f)) behind more.0.1;
+      } in
+      let w = grown k (with_labels left (labels_blamed f)) longer rest (omega (arith, length-append founds (f ∷ [])))
+      (ap (λ (l : Omitted). with_labels l (labels_blamed f)) behind ∙ sym (left_out_behind-push first founds f))
+      (record { each = each-push (IsFoundAfter bounds log first) founds f are.each after })
+      (subst (λ (fs : List PredictedCycle). AreFoundInTurn bounds (rest_of (left_out_behind first fs) log) (with_labels left (labels_blamed f)) rest) (sym known) more.1) in
+      let same : longer ++ rest ≡ founds ++ f ∷ rest = append_assoc founds (f ∷ []) rest in
+      (subst (AreFoundIn bounds log first) same w.0, w.1 ∙ ap (left_out_behind first) same)
+
+  -- a round finds some more
+  module _ (left new : Omitted) (before after : List PredictedCycle) (behind : left ≡ left_out_behind first before) (are : AreFoundIn bounds log first before) (on : GoesOn bounds (rest_of left log) left new before after) where
+    both : AreFoundIn bounds log first (before ++ on.more) × (left_out_behind left on.more ≡ left_out_behind first (before ++ on.more))
+    both = grown (length before) left before on.more (omega arith) behind are
+        (subst (λ (l : Omitted). AreFoundInTurn bounds (rest_of l log) left on.more) (behind ∙ ap (left_out_behind first) (sym (take_all (length before) before (omega arith)))) on.are_found)
+
+    pub AreFoundIn-more : AreFoundIn bounds log first after
+    AreFoundIn-more = subst (AreFoundIn bounds log first) (sym on.is_longer) both.0
+
+    pub behind-more : new ≡ left_out_behind first after
+    behind-more = on.behind ∙ (both.1 ∙ ap (left_out_behind first) (sym on.is_longer))
 
 -- ---- the first round of an audit
 

@@ -1,9 +1,10 @@
 -- What a search returns: predictions of a log with a cycle.
-use Rattle.std.specs.Prelude.{◌≡◌, ◌⊎◌, ◌≤◌, ℕ, Bool, true, List, [], ◌∷◌, ◌++◌, Option, Some, None, length, IsTrue, All}
+use Rattle.std.specs.Prelude.{◌≡◌, ◌⊎◌, ◌≤◌, ⊤, ℕ, Bool, true, List, [], ◌∷◌, ◌++◌, Option, Some, None, length, map, take, slice_get, IsTrue, IsFalse}
 use Rattle.velo_events.specs.declared.config.Bounds.{Bounds}
 use Rattle.velo_events.specs.declared.limits.TheConstants.{MAX_EVENTS}
 use Rattle.velo_events.specs.declared.event.Event.{Event}
-use Rattle.velo_filter.specs.Left.{Omitted, nothing, rest_of}
+use Rattle.velo_traces.specs.declared.block.Block.{Block}
+use Rattle.velo_filter.specs.Left.{Omitted, is_listed, nothing, rest_of, with_labels}
 use Rattle.velo_audit.specs.Audit.{TellsTruly}
 use Rattle.velo_audit.specs.Rounds.{IsRound}
 use Rattle.velo_audit.specs.Tells.{numbers_of}
@@ -24,26 +25,55 @@ pub record IsFound (bounds : Bounds) (log : List Event) (found : PredictedCycle)
   -- and these reads have another value than in this log
   pub differing : AreDiffering log found.trace.events found.differing.items
 
--- the same of what is left of the log where the blocks of these labels, and maybe of some more, are dissolved
-pub record IsFoundIn (bounds : Bounds) (log : List Event) (omitted : Omitted) (found : PredictedCycle) : Type 0 where
-  pub labels : ℕ → Bool
-  -- what was left out is still left out
-  pub more : (l : ℕ) → IsTrue (omitted.labels l) → IsTrue (labels l)
-  pub is_found : IsFound bounds (rest_of (record omitted { labels = labels }) log) found
+-- ---- one after another
 
--- the same is left out, and maybe some labels more. Private contracts cite this word
-pub record LeavesOutMore (old new : Omitted) : Type 0 where
-  pub locks : new.locks ≡ old.locks
-  pub variables : new.variables ≡ old.variables
-  pub labels : (l : ℕ) → IsTrue (old.labels l) → IsTrue (new.labels l)
+abbrev pub labels_of : List Block → List ℕ
+labels_of blocks = map (λ (b : Block). b.label.0) blocks
 
--- the new list goes on with some items more, and each of these is such. Private contracts cite this word
-pub record Adds {X : Type 0} (P : X → Type 0) (old new : List X) : Type 0 where
-  pub more : List X
-  pub is_longer : new ≡ old ++ more
-  pub each : All P more
+-- the labels that it blames
+abbrev pub labels_blamed : PredictedCycle → List ℕ
+labels_blamed found = labels_of found.told.blocks.items
 
--- it is the old one, or goes on with the thing, if there is one. Private contracts cite this word
-abbrev pub AddsAtMost : {X : Type 0} → List X → List X → Option X → Type 0
-AddsAtMost old new None = new ≡ old
-AddsAtMost old new (Some x) = (new ≡ old) ⊎ (new ≡ old ++ x ∷ [])
+-- what is left out behind these: the labels that they blame as well
+unfoldable pub left_out_behind : Omitted → List PredictedCycle → Omitted
+left_out_behind omitted [] = omitted
+left_out_behind omitted (found ∷ rest) = left_out_behind (with_labels omitted (labels_blamed found)) rest
+
+-- one of the numbers does not pass the test
+pub record HasNew (is_old : ℕ → Bool) (numbers : List ℕ) : Type 0 where
+  pub number : ℕ
+  pub listed : IsTrue (is_listed numbers number)
+  pub new : IsFalse (is_old number)
+
+-- It is found in what is left of the log where the labels are left out, too, that so many of the first of those before it blame; and it
+-- blames a label that was not left out and that none of those before it blames
+pub record IsFoundAfter (bounds : Bounds) (log : List Event) (omitted : Omitted) (before : List PredictedCycle) (found : PredictedCycle) : Type 0 where
+  pub known : ℕ
+  pub is_found : IsFound bounds (rest_of (left_out_behind omitted (take known before)) log) found
+  pub blames_new : HasNew (left_out_behind omitted before).labels (labels_blamed found)
+
+-- each of these is found after those before it, so none is told twice
+pub record AreFoundIn (bounds : Bounds) (log : List Event) (omitted : Omitted) (founds : List PredictedCycle) : Type 0 where
+  pub each : (i : ℕ) (found : PredictedCycle) → slice_get founds i ≡ Some found → IsFoundAfter bounds log omitted (take i founds) found
+
+-- ---- on the way. Private contracts cite these words
+
+-- each of these is found in the log, and blames a label that is not left out behind those before it
+unfoldable pub AreFoundInTurn : Bounds → List Event → Omitted → List PredictedCycle → Type 0
+AreFoundInTurn bounds log omitted [] = ⊤
+AreFoundInTurn bounds log omitted (found ∷ rest) =
+    (IsFound bounds log found × HasNew omitted.labels (labels_blamed found)) × AreFoundInTurn bounds log (with_labels omitted (labels_blamed found)) rest
+
+-- some more are found in the log, and what they blame is left out
+pub record GoesOn (bounds : Bounds) (log : List Event) (old new : Omitted) (before after : List PredictedCycle) : Type 0 where
+  pub more : List PredictedCycle
+  pub is_longer : after ≡ before ++ more
+  pub are_found : AreFoundInTurn bounds log old more
+  pub behind : new ≡ left_out_behind old more
+
+-- nothing is taken in, or what was found, if it blames a label that is not left out
+abbrev pub TakesIn : Omitted → Omitted → List PredictedCycle → List PredictedCycle → Option PredictedCycle → Type 0
+TakesIn old new before after None = (new ≡ old) × (after ≡ before)
+TakesIn old new before after (Some found) =
+    ((new ≡ old) × (after ≡ before))
+    ⊎ (HasNew old.labels (labels_blamed found) × (new ≡ with_labels old (labels_blamed found)) × (after ≡ before ++ found ∷ []))

@@ -1,10 +1,11 @@
 //! A search for deadlocks: a thread is stopped where it wants a second lock.
-ghost use Rattle.std.specs.Prelude.{◌≡◌, ◌≤◌, length, All, IfOk, IfSome, OnOk};
+ghost use Rattle.std.specs.Prelude.{◌≡◌, ◌≤◌, [], length, option_map, IfOk, IfSome, IsTrue, OnOk};
+ghost use Rattle.velo_events.specs.declared.event.LockId.{LockId as LockOf};
 ghost use Rattle.velo_events.specs.declared.limits.TheConstants.{MAX_EVENTS};
 ghost use Rattle.velo_events.specs.WellFormed.{IsWellFormed};
 ghost use Rattle.velo_filter.specs.Tables.{left_of};
-ghost use Rattle.velo_delays.specs.Deadlock.{IsDeadlock, IsDeadlockIn};
-ghost use Rattle.velo_delays.specs.Found.{Adds, AddsAtMost};
+ghost use Rattle.velo_delays.specs.Deadlock.{AreDeadlocks, AreDeadlocksIn, IsDeadlock, TakesIn, lock_acquired, locks_of, with_numbers};
+ghost use Rattle.velo_delays.specs.Found.{HasNew};
 ghost use Rattle.velo_delays.specs.Stands.{Stands};
 
 use crate::drawing::WINDOW;
@@ -37,7 +38,9 @@ pub struct Deadlocks {
 }
 
 /// The lock that the operation acquires, if it does.
-fn lock_wanted(kind: Kind) -> Option<LockId> {
+fn lock_wanted(kind: Kind) -> Option<LockId>
+    ensures { option_map (λ (m : LockOf). m.0) result ≡ lock_acquired kind }
+{
     match kind {
         Kind::Acquire(lock) | Kind::AcquireShared(lock) => Some(lock),
         _ => None,
@@ -142,8 +145,24 @@ fn find_by(
     }
 }
 
+/// Whether one of the threads waits for a lock that is not done.
+fn has_new(waiting: &[Event], done: &LeftOut) -> bool
+    ensures { IsTrue result → HasNew (left_of done.now).locks (locks_of waiting.now) }
+{
+    for event in waiting {
+        if let Some(lock) = lock_wanted(event.kind) {
+            if !done.has_lock(lock) {
+                return true;
+            }
+        }
+    }
+    false
+}
+
 /// The locks that the threads wait for are done.
-fn leave_out_wanted(done: &mut LeftOut, waiting: &[Event]) -> Result<(), Memory> {
+fn leave_out_wanted(done: &mut LeftOut, waiting: &[Event]) -> Result<(), Memory>
+    ensures { OnOk result ((left_of done.new).locks ≡ with_numbers (left_of done.old).locks (locks_of waiting.now)) }
+{
     for event in waiting {
         if let Some(lock) = lock_wanted(event.kind) {
             done.leave_out_lock(lock)?;
@@ -152,17 +171,21 @@ fn leave_out_wanted(done: &mut LeftOut, waiting: &[Event]) -> Result<(), Memory>
     Ok(())
 }
 
-/// Takes in what a delay found, if it found something: no more delays are tried for its locks.
+/// Takes in what a delay found, if it found something and its threads wait for a lock that is not done: no more delays are tried for
+/// its locks.
 fn take_in(
     deadlocks: &mut Deadlocks,
     done: &mut LeftOut,
     found: Option<Deadlock>,
 ) -> Result<(), Memory>
-    ensures { AddsAtMost deadlocks.old.found.items deadlocks.new.found.items found }
+    ensures { OnOk result (TakesIn (left_of done.old).locks (left_of done.new).locks deadlocks.old.found.items deadlocks.new.found.items found) }
 {
     let Some(found) = found else {
         return Ok(());
     };
+    if !has_new(&found.waiting, done) {
+        return Ok(());
+    }
     leave_out_wanted(done, &found.waiting)?;
     reserve(&mut deadlocks.found, 1)?;
     deadlocks.found.push_reserved(found);
@@ -178,7 +201,8 @@ fn try_all(
     wants: &[Want],
     deadlocks: &mut Deadlocks,
 ) -> Result<(), Memory>
-    ensures { OnOk result (Adds (IsDeadlock config.now.bounds log.now.events) deadlocks.old.found.items deadlocks.new.found.items) }
+    requires none { deadlocks.old.found.items ≡ [] }
+    ensures { OnOk result (AreDeadlocks config.now.bounds log.now.events deadlocks.new.found.items) }
 {
     let mut base = Run::new(alloc, config, lookup, false)?;
     let mut done = LeftOut::new(alloc);
@@ -212,7 +236,7 @@ pub fn search_deadlocks(
 ) -> Result<Deadlocks, Memory>
     requires few { length log.now.events ≤ MAX_EVENTS }
     requires well_formed { IsWellFormed config.now.bounds log.now.events }
-    ensures { IfOk result (λ deadlocks. All (IsDeadlockIn config.now.bounds log.now.events (left_of left.now)) deadlocks.found.items) }
+    ensures { IfOk result (λ deadlocks. AreDeadlocksIn config.now.bounds log.now.events (left_of left.now) deadlocks.found.items) }
 {
     let rest = thin(alloc, log, left)?;
     let events = rest.trace.as_slice();

@@ -1,9 +1,10 @@
 //! Rounds of a search. What one finds is left out in the next.
-ghost use Rattle.std.specs.Prelude.{◌≡◌, ◌≤◌, false, length, All, IfOk, IfSome, OnOk};
+ghost use Rattle.std.specs.Prelude.{◌≡◌, ◌≤◌, false, length, IfOk, IfSome, IsTrue, OnOk};
 ghost use Rattle.velo_events.specs.declared.limits.TheConstants.{MAX_EVENTS};
 ghost use Rattle.velo_events.specs.WellFormed.{IsWellFormed};
+ghost use Rattle.velo_filter.specs.Left.{rest_of, with_labels};
 ghost use Rattle.velo_filter.specs.Tables.{left_of};
-ghost use Rattle.velo_delays.specs.Found.{Adds, AddsAtMost, IsFound, IsFoundIn, LeavesOutMore};
+ghost use Rattle.velo_delays.specs.Found.{AreFoundIn, GoesOn, HasNew, IsFound, TakesIn, labels_of};
 ghost use Rattle.velo_delays.specs.Stands.{Stands};
 
 use crate::drawing::{Delay, draw_all};
@@ -38,7 +39,9 @@ pub struct PredictedCycles {
 }
 
 /// Whether one of the blocks has a label that is not left out.
-fn has_new(blocks: &[Block], left: &LeftOut) -> bool {
+fn has_new(blocks: &[Block], left: &LeftOut) -> bool
+    ensures { IsTrue result → HasNew (left_of left.now).labels (labels_of blocks.now) }
+{
     for block in blocks {
         if !left.has_label(block.label) {
             return true;
@@ -49,7 +52,7 @@ fn has_new(blocks: &[Block], left: &LeftOut) -> bool {
 
 /// Leaves out the labels of the blocks.
 fn leave_out_all(left: &mut LeftOut, blocks: &[Block]) -> Result<(), Memory>
-    ensures { LeavesOutMore (left_of left.old) (left_of left.new) }
+    ensures { OnOk result (left_of left.new ≡ with_labels (left_of left.old) (labels_of blocks.now)) }
 {
     for block in blocks {
         left.leave_out_label(block.label)?;
@@ -122,8 +125,7 @@ fn take_in(
     label: Label,
     found: Option<PredictedCycle>,
 ) -> Result<(), Memory>
-    ensures labels { LeavesOutMore (left_of left.old) (left_of left.new) }
-    ensures found { AddsAtMost searched.old.found.items searched.new.found.items found }
+    ensures { OnOk result (TakesIn (left_of left.old) (left_of left.new) searched.old.found.items searched.new.found.items found) }
 {
     let Some(found) = found else {
         return Ok(());
@@ -149,8 +151,7 @@ fn try_all(
     searched: &mut PredictedCycles,
 ) -> Result<(), Memory>
     requires goes_on { config.now.stop ≡ false }
-    ensures labels { LeavesOutMore (left_of left.old) (left_of left.new) }
-    ensures found { OnOk result (Adds (IsFound config.now.bounds log.now.events) searched.old.found.items searched.new.found.items) }
+    ensures { OnOk result (GoesOn config.now.bounds log.now.events (left_of left.old) (left_of left.new) searched.old.found.items searched.new.found.items) }
 {
     let mut base = Run::new(alloc, config, lookup, true)?;
     let mut done = LabelSet::new(alloc);
@@ -182,8 +183,7 @@ fn search_once(
     requires goes_on { config.now.stop ≡ false }
     requires few { length log.now.events ≤ MAX_EVENTS }
     requires well_formed { IsWellFormed config.now.bounds log.now.events }
-    ensures labels { LeavesOutMore (left_of left.old) (left_of left.new) }
-    ensures found { OnOk result (Adds (IsFoundIn config.now.bounds log.now.events (left_of left.old)) searched.old.found.items searched.new.found.items) }
+    ensures { OnOk result (GoesOn config.now.bounds (rest_of (left_of left.old) log.now.events) (left_of left.old) (left_of left.new) searched.old.found.items searched.new.found.items) }
 {
     let rest = thin(alloc, log, left)?;
     let lookup = Lookup::new(alloc, rest.trace.as_slice())?;
@@ -214,7 +214,7 @@ pub fn search(
     requires goes_on { config.now.stop ≡ false }
     requires few { length log.now.events ≤ MAX_EVENTS }
     requires well_formed { IsWellFormed config.now.bounds log.now.events }
-    ensures { IfOk result (λ searched. All (IsFoundIn config.now.bounds log.now.events (left_of left.old)) searched.found.items) }
+    ensures { IfOk result (λ searched. AreFoundIn config.now.bounds log.now.events (left_of left.old) searched.found.items) }
 {
     let mut random = Xoshiro256PlusPlus::seed_from_u64(draws.seed);
     let mut searched = PredictedCycles {

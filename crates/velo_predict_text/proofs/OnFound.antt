@@ -10,9 +10,10 @@ use Rattle.velo_predict.specs.declared.difference.Difference.{Difference}
 use Rattle.velo_delays.specs.declared.judged.Differing.{Differing}
 use Rattle.velo_delays.specs.declared.judged.PredictedCycle.{PredictedCycle}
 use Rattle.velo_delays.specs.declared.stuck.Deadlock.{Deadlock}
-use Rattle.velo_delays.specs.Deadlock.{IsDeadlock}
+use Rattle.velo_delays.specs.Deadlock.{AreDeadlocks, IsDeadlock}
 use Rattle.velo_delays.specs.Differing.{differing_of, AreDiffering}
-use Rattle.velo_delays.specs.Found.{IsFoundIn}
+use Rattle.velo_delays.specs.Found.{AreFoundIn, IsFound}
+use Rattle.velo_delays.proofs.OnFound.{All-from_each}
 use Rattle.velo_predict_text.specs.Text.{CanBeTold, CanTellDeadlock}
 
 within_trace : (log trace : List Event) (differing : List Differing) → AreDiffering log trace differing → All (λ (d : Differing). d.position < length trace) differing
@@ -22,13 +23,19 @@ within_trace log trace differing are =
     (All-map (λ (d : Differing). d.position < length trace) (differing_of log) differences
     (All-weaker (Contains differences) (λ (d : Difference). d.position < length trace) (λ d there. let its = (are.are_they.each d).0 there in slice_get_within trace d.position its.read its.here) differences (All-contains_itself differences)))
 
-pub CanTellDeadlock-from : (bounds : Bounds) (log : List Event) (deadlock : Deadlock) → IsDeadlock bounds log deadlock → CanTellDeadlock deadlock
-CanTellDeadlock-from bounds log deadlock is = record { few = is.short; differing = within_trace _ deadlock.trace.events deadlock.differing.items is.differing }
+deadlock_told : (bounds : Bounds) (log : List Event) (deadlock : Deadlock) → IsDeadlock bounds log deadlock → CanTellDeadlock deadlock
+deadlock_told bounds log deadlock is = record { few = is.short; differing = within_trace _ deadlock.trace.events deadlock.differing.items is.differing }
 
-pub CanBeTold-from : (bounds : Bounds) (log : List Event) (left : Omitted) (found : PredictedCycle) → IsFoundIn bounds log left found → CanBeTold found
-CanBeTold-from bounds log left found is = record {
-  few = is.is_found.short;
-  can_come_about = record { bounds = bounds; well_formed = is.is_found.foretold.prediction.well_formed };
-  within = is.is_found.truly.2;
-  differing = within_trace _ found.trace.events found.differing.items is.is_found.differing;
+pub CanTellDeadlock-from : (bounds : Bounds) (log : List Event) (deadlocks : List Deadlock) → AreDeadlocks bounds log deadlocks → All CanTellDeadlock deadlocks
+CanTellDeadlock-from bounds log deadlocks are = All-from_each CanTellDeadlock deadlocks (λ i deadlock there. deadlock_told bounds log deadlock (are.each i deadlock there).is_deadlock)
+
+cycle_told : (bounds : Bounds) (log : List Event) (found : PredictedCycle) → IsFound bounds log found → CanBeTold found
+cycle_told bounds log found is = record {
+  few = is.short;
+  can_come_about = record { bounds = bounds; well_formed = is.foretold.prediction.well_formed };
+  within = is.truly.2;
+  differing = within_trace _ found.trace.events found.differing.items is.differing;
 }
+
+pub CanBeTold-from : (bounds : Bounds) (log : List Event) (left : Omitted) (founds : List PredictedCycle) → AreFoundIn bounds log left founds → All CanBeTold founds
+CanBeTold-from bounds log left founds are = All-from_each CanBeTold founds (λ i found there. cycle_told bounds _ found (are.each i found there).is_found)

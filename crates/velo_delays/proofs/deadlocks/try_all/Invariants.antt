@@ -1,10 +1,14 @@
-use Rattle.velo_delays.specs.Deadlock.{IsDeadlock}
-use Rattle.velo_delays.specs.Found.{Adds}
+use Rattle.std.proofs.Common.{◌≡◌}
+use Rattle.std.specs.List.{flat_map}
+use Rattle.velo_filter.specs.Left.{is_listed}
+use Rattle.velo_filter.specs.Tables.{left_of}
+use Rattle.velo_delays.specs.Deadlock.{AreDeadlocks, locks_waited_for}
 use Rattle.velo_delays.specs.Stands.{Stands}
 use Rattle.velo_delays.proofs.deadlocks.try_all.Given as goal
 
 abbrev pub invariant-loop-at : goal.invariant-loop-at
 invariant-loop-at l = record {
   stands : Stands l.base.heap;
-  found : Adds (IsDeadlock l.config.bounds l.log.events) l.fn.deadlocks.found.items l.deadlocks.found.items;
+  done : (left_of l.done).locks ≡ is_listed (flat_map locks_waited_for l.deadlocks.found.items);
+  found : AreDeadlocks l.config.bounds l.log.events l.deadlocks.found.items;
 }

@@ -1,13 +1,15 @@
-use Rattle.velo_delays.specs.Found.{IsFound}
-use Rattle.velo_delays.proofs.OnFound.{Adds-more, Adds-most, LeavesOutMore-more}
+use Rattle.velo_filter.specs.Tables.{left_of}
+use Rattle.velo_delays.proofs.OnFound.{GoesOn-none, GoesOn-takes}
 use Rattle.velo_delays.proofs.rounds.try_all.Goals as goal
+
+pub loop-at-init : goal.loop-at-init
+loop-at-init c = record {
+  stands = c.in_ok-base.ensures;
+  goes_on = GoesOn-none c.args.config.now.bounds c.args.log.now.events (left_of c.args.left.now) c.args.searched.now.found.items;
+}
 
 pub loop-at-preserved : goal.loop-at-preserved
 loop-at-preserved c = record {
   stands = c.follow_to.ensures;
-  labels = LeavesOutMore-more _ _ _ c.loop-at.invariant.labels c.take_in.ensures.labels;
-  found = Adds-more _ _ _ _ c.loop-at.invariant.found (Adds-most (IsFound c.args.config.now.bounds c.args.log.now.events) _ _ _ c.in_ok-found.ensures c.take_in.ensures.found);
+  goes_on = GoesOn-takes c.args.config.now.bounds c.args.log.now.events _ _ _ _ _ _ c.loop-at.invariant.goes_on _ c.in_ok-found.ensures c.in_ok-take_in.ensures;
 }
-
-pub returns-in_err-take_in-clause-labels : goal.returns-in_err-take_in-clause-labels
-returns-in_err-take_in-clause-labels c = LeavesOutMore-more _ _ _ c.loop-at.invariant.labels c.take_in.ensures.labels
