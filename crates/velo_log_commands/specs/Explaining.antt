@@ -42,7 +42,7 @@ is_whole asked =
 
 -- what comes before the words where something was: what an audit begins with, and a title
 abbrev pub opening : NameLists → Asked → List ℕ
-opening names asked = asked_text names asked ++ codes "What is omitted of the log:\n"
+opening names asked = asked_text names asked ++ codes "What is left of the log:\n"
 
 -- ---- the page of a verdict
 
