@@ -16,7 +16,7 @@ use Rattle.velo_thinning.specs.declared.outcome.ThinnedLog.{ThinnedLog}
 use Rattle.velo_thinning.specs.declared.reading.ThinFault.{ThinFault}
 use Rattle.velo_thinning.specs.declared.reading.ThinFault.TheVariants.{Log, Refused, WrongValue, Memory}
 use Rattle.velo_thinning.specs.Reading.{failures_by}
-use Rattle.velo_thinning.specs.Texts.{GoesOut, LacksMemory, is_text_of, saves_of}
+use Rattle.velo_thinning.specs.Texts.{GoesOut, IsMemoryFailure, IsOutgoingText, saves_of}
 use Rattle.velo_request.specs.declared.request.ThinOptions.{ThinOptions}
 use Rattle.velo_fate.specs.declared.fate.Fate.{Fate}
 use Rattle.velo_fate.specs.declared.fate.Fate.TheVariants.{Check}
@@ -44,16 +44,16 @@ HasCause (failure_of.ReadFailed which) = ⊥
 HasCause (failure_of.Memory memory) = GrowthRefused
 HasCause failure = ⊤
 
-of_lack : (failure : Failure) → LacksMemory (Err failure) → HasCause failure
+of_lack : (failure : Failure) → IsMemoryFailure (Err failure) → HasCause failure
 of_lack (failure_of.Memory memory) lacks = lacks
 of_lack failure lacks = absurd lacks
 
-of_save : (store : Store) (save : Save Outgoing) (failure : Failure) → IsUnsavedFor is_text_of store save failure → HasCause failure
+of_save : (store : Store) (save : Save Outgoing) (failure : Failure) → IsUnsavedFor IsOutgoingText store save failure → HasCause failure
 of_save store save (failure_of.CannotOpen which) unsaved = tt
 of_save store save (failure_of.WriteFailed which) unsaved = tt
 of_save store save failure unsaved = absurd unsaved
 
-of_saves : (store : Store) (saves : List (Save Outgoing)) (failure : Failure) → IsOneUnsaved is_text_of store saves failure → HasCause failure
+of_saves : (store : Store) (saves : List (Save Outgoing)) (failure : Failure) → IsOneUnsaved IsOutgoingText store saves failure → HasCause failure
 of_saves store [] failure unsaved = absurd unsaved
 of_saves store (save ∷ saves) failure (inl unsaved) = of_save store save failure unsaved
 of_saves store (save ∷ saves) failure (inr (between, saved, unsaved)) = of_saves (behind store between) saves failure unsaved
