@@ -1,11 +1,10 @@
 //! Which words are passed on.
 use super::with_why;
-use crate::tests::holds_for;
 use std::alloc::Global;
 use std::test::Fail;
 
 /// Command lines, whether standard error is a terminal, and what is passed on.
-static LINES: &[(&str, bool, &str)] = &[
+const LINES: &[(&str, bool, &str)] = &[
     ("velodrome", true, "velodrome "),
     ("velodrome check a", true, "velodrome check --why a "),
     ("velodrome check a", false, "velodrome check a "),
@@ -55,10 +54,10 @@ fn are_passed(alloc: Global, line: &str, is_terminal: bool, passed: &str) -> boo
 #[test]
 fn why_is_on_on_a_terminal(rt: HostRuntime) -> Result<(), Fail> {
     for (line, is_terminal, passed) in LINES {
-        holds_for(
-            &rt,
+        assert_eq!(rt;
             are_passed(rt.alloc(), line, *is_terminal, passed),
-            &line,
+            true,
+            "{line}"
         );
     }
     Ok(())
