@@ -205,31 +205,28 @@ fn first_faults(rt: HostRuntime) {
     }
 }
 
-/// Pieces of texts, with how often each comes, and the fault.
-static LIMITS: [([(usize, &str); 3], Option<WorkFault>); 4] = [
-    ([(1, "thread a\n"), (8, "repeat 1\n"), (8, "done\n")], None),
-    (
-        [(1, "thread a\n"), (9, "repeat 1\n"), (9, "done\n")],
-        Some(WorkFault::TooMany(10)),
-    ),
-    (
-        [(1, "thread a\n"), (1_000_000, "end\n"), (1, "thread b\n")],
-        None,
-    ),
-    (
-        [
-            (1, "thread a\n"),
-            (1_000_000, "end\n"),
-            (1, "thread b\nend"),
-        ],
-        Some(WorkFault::TooMany(1_000_003)),
-    ),
-];
-
 #[test]
 fn limits(rt: HostRuntime) {
-    for (pieces, fault) in &LIMITS {
-        assert!(rt; fault_of_pieces(&rt, rt.alloc(), pieces) == *fault);
+    for (pieces, fault) in [
+        ([(1, "thread a\n"), (8, "repeat 1\n"), (8, "done\n")], None),
+        (
+            [(1, "thread a\n"), (9, "repeat 1\n"), (9, "done\n")],
+            Some(WorkFault::TooMany(10)),
+        ),
+        (
+            [(1, "thread a\n"), (1_000_000, "end\n"), (1, "thread b\n")],
+            None,
+        ),
+        (
+            [
+                (1, "thread a\n"),
+                (1_000_000, "end\n"),
+                (1, "thread b\nend"),
+            ],
+            Some(WorkFault::TooMany(1_000_003)),
+        ),
+    ] {
+        assert!(rt; fault_of_pieces(&rt, rt.alloc(), &pieces) == fault);
     }
 }
 
