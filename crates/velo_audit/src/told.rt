@@ -1,10 +1,8 @@
 //! What a round reports of the alarm of the rest, by the log as read.
 ghost use Rattle.std.specs.Prelude.{◌≡◌, ◌<◌, length, map, slice_index, All, IfOk};
 ghost use Rattle.velo_traces.specs.Blocks.{block_at};
-ghost use Rattle.velo_blame.specs.Blamed.{begins_of};
 ghost use Rattle.velo_world.specs.World.{IsAlarm};
-ghost use Rattle.velo_audit.specs.Rounds.{told_of};
-ghost use Rattle.velo_audit.specs.Tells.{Tells};
+ghost use Rattle.velo_audit.specs.Tells.{Tells, blocks_told};
 ghost use Rattle.velo_audit.specs.Witness.{block_as_read, WitnessTells};
 
 use crate::witness::{block_as_read, place_at, witness_of};
@@ -81,7 +79,7 @@ fn blocks_told(
 ) -> Result<Vec<Block>, Memory>
     requires alarm { IsAlarm events.now alarm.now }
     requires as_many { length places.now ≡ length events.now }
-    ensures { IfOk result (λ blocks. blocks.items ≡ map (λ b. block_as_read (slice_index places.now) (block_at events.now b)) (told_of (begins_of alarm.now.blamed.items) alarm.now.transaction)) }
+    ensures { IfOk result (λ blocks. blocks.items ≡ blocks_told events.now places.now alarm.now) }
 {
     let blamed = alarm.blamed.as_slice();
     if blamed.is_empty() {

@@ -71,6 +71,10 @@ pub record GoesOn (bounds : Bounds) (log : List Event) (old new : Omitted) (befo
   pub are_found : AreFoundInTurn bounds log old more
   pub behind : new ≡ left_out_behind old more
 
+-- the same of what is left of the log
+abbrev pub GoesOnIn : Bounds → List Event → Omitted → Omitted → List PredictedCycle → List PredictedCycle → Type 0
+GoesOnIn bounds log old new before after = GoesOn bounds (rest_of old log) old new before after
+
 -- nothing is taken in, or what was found, if it blames a label that is not left out
 abbrev pub TakesIn : Omitted → Omitted → List PredictedCycle → List PredictedCycle → Option PredictedCycle → Type 0
 TakesIn old new before after None = (new ≡ old) × (after ≡ before)

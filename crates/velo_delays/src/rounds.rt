@@ -2,9 +2,9 @@
 ghost use Rattle.std.specs.Prelude.{◌≡◌, ◌≤◌, false, length, IfOk, IfSome, IsTrue, OnOk};
 ghost use Rattle.velo_events.specs.declared.limits.TheConstants.{MAX_EVENTS};
 ghost use Rattle.velo_events.specs.WellFormed.{IsWellFormed};
-ghost use Rattle.velo_filter.specs.Left.{rest_of, with_labels};
+ghost use Rattle.velo_filter.specs.Left.{with_labels};
 ghost use Rattle.velo_filter.specs.Tables.{left_of};
-ghost use Rattle.velo_delays.specs.Found.{AreFoundIn, GoesOn, HasNew, IsFound, TakesIn, labels_of};
+ghost use Rattle.velo_delays.specs.Found.{AreFoundIn, GoesOn, GoesOnIn, HasNew, IsFound, TakesIn, labels_of};
 ghost use Rattle.velo_delays.specs.Stands.{Stands};
 
 use crate::drawing::{Delay, draw_all};
@@ -183,7 +183,7 @@ fn search_once(
     requires goes_on { config.now.stop ≡ false }
     requires few { length log.now.events ≤ MAX_EVENTS }
     requires well_formed { IsWellFormed config.now.bounds log.now.events }
-    ensures { OnOk result (GoesOn config.now.bounds (rest_of (left_of left.old) log.now.events) (left_of left.old) (left_of left.new) searched.old.found.items searched.new.found.items) }
+    ensures { OnOk result (GoesOnIn config.now.bounds log.now.events (left_of left.old) (left_of left.new) searched.old.found.items searched.new.found.items) }
 {
     let rest = thin(alloc, log, left)?;
     let lookup = Lookup::new(alloc, rest.trace.as_slice())?;

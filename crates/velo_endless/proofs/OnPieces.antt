@@ -54,7 +54,7 @@ prologue_alone log none = record { within = omega arith; no_begin = subst HasNoB
 
 -- ---- what is kept, and the whole
 
-module _ (bounds : Bounds) (whole kept : List Event) (so_many so_long : ℕ) (k : IsKept bounds whole kept so_many so_long) where
+module _ (bounds : Bounds) (whole kept : List Event) (before_length prologue_length : ℕ) (k : IsKept bounds whole kept before_length prologue_length) where
   quiet : IsQuiet k.before
   quiet = IsQuiet-from bounds k.before k.well_formed k.ended
 
@@ -66,7 +66,7 @@ module _ (bounds : Bounds) (whole kept : List Event) (so_many so_long : ℕ) (k 
       subst HasCycle (sym k.kept_is) ((HasCycle-cut k.prologue k.after own.1).1 (inr after))
 
   -- an event more is kept
-  pub kept_more : (e : Event) → IsKept bounds (whole ++ e ∷ []) (kept ++ e ∷ []) so_many so_long
+  pub kept_more : (e : Event) → IsKept bounds (whole ++ e ∷ []) (kept ++ e ∷ []) before_length prologue_length
   kept_more e = record {
     before = k.before;
     prologue = k.prologue;
@@ -90,18 +90,18 @@ module _ (bounds : Bounds) (whole kept : List Event) (so_many so_long : ℕ) (k 
       (goes_on_law bounds k.before k.prologue k.after k.well_formed k.stands.well_formed k.ended own.0 k.stands.stands (subst (IsWellFormed bounds) k.whole_is well))
 
   -- the position of its end
-  pub end_kept : in_whole so_many so_long (length kept) ≡ length whole
+  pub end_kept : in_whole before_length prologue_length (length kept) ≡ length whole
   end_kept =
       let a = ap length k.whole_is ∙ length-append k.before k.after in
       let b = ap length k.kept_is ∙ length-append k.prologue k.after in
       omega (arith, a, b, k.counted, k.measured)
 
-  pub alarm_kept : (alarm moved : Alarm) → IsAlarm kept alarm → IsInWhole so_many so_long alarm moved → IsAlarm whole moved
+  pub alarm_kept : (alarm moved : Alarm) → IsAlarm kept alarm → IsInWhole before_length prologue_length alarm moved → IsAlarm whole moved
   alarm_kept alarm moved h is =
       let own = prologue_law k.prologue k.stands.no_begin in
       subst (λ log. IsAlarm log moved) (sym k.whole_is)
       (alarm_moved k.before k.prologue k.after quiet k.no_cycle own.1 own.2 alarm moved (subst (λ log. IsAlarm log alarm) k.kept_is h)
-      (subst (λ n. IsInWhole n (length k.prologue) alarm moved) k.counted (subst (λ n. IsInWhole so_many n alarm moved) k.measured is)))
+      (subst (λ n. IsInWhole n (length k.prologue) alarm moved) k.counted (subst (λ n. IsInWhole before_length n alarm moved) k.measured is)))
 
 -- of no events none are kept
 pub kept_none : (bounds : Bounds) (log : List Event) → log ≡ [] → ¬ HasCycle [] → NoBlockOpen [] → IsPrologueOf bounds [] [] → IsKept bounds [] log 0 0
@@ -153,8 +153,8 @@ alarm_lies log n alarm h few is =
 
 -- ---- a cut
 
-pub kept_cut : (bounds : Bounds) (whole made : List Event) (so_many : ℕ) → IsWellFormed bounds whole → ¬ HasCycle whole → length whole ≡ so_many → Restarts bounds whole made → IsKept bounds whole made so_many (length made)
-kept_cut bounds whole made so_many well none count h = record {
+pub kept_cut : (bounds : Bounds) (whole made : List Event) (before_length : ℕ) → IsWellFormed bounds whole → ¬ HasCycle whole → length whole ≡ before_length → Restarts bounds whole made → IsKept bounds whole made before_length (length made)
+kept_cut bounds whole made before_length well none count h = record {
   before = whole;
   prologue = made;
   after = [];
@@ -169,9 +169,9 @@ kept_cut bounds whole made so_many well none count h = record {
   short = omega (arith, h.length);
 }
 
-module _ (config : Config) (whole : List Event) (so_many so_long : ℕ) where
+module _ (config : Config) (whole : List Event) (before_length prologue_length : ℕ) where
   -- where it is not late, it never was since the cut
-  pub never_late : (kept : List Event) → IsKept config.bounds whole kept so_many so_long → (so_long + config.events ≤ length kept + length kept → ⊥) → WasCutInTime config whole so_many so_long
+  pub never_late : (kept : List Event) → IsKept config.bounds whole kept before_length prologue_length → (prologue_length + config.events ≤ length kept + length kept → ⊥) → WasCutInTime config whole before_length prologue_length
   never_late kept k early = record {
     since = λ n within half.
         let a = ap length k.whole_is ∙ length-append k.before k.after in
@@ -180,21 +180,21 @@ module _ (config : Config) (whole : List Event) (so_many so_long : ℕ) where
   }
 
   -- a cut that was made just now
-  pub late_cut : (made : List Event) → length whole ≡ so_many → length made ≡ so_long → Restarts config.bounds whole made → WasCutInTime config whole so_many so_long
+  pub late_cut : (made : List Event) → length whole ≡ before_length → length made ≡ prologue_length → Restarts config.bounds whole made → WasCutInTime config whole before_length prologue_length
   late_cut made count long h = record {
     since = λ n within half.
-        subst (CannotBeCut config) (sym (take_all (so_many + n) whole (omega (arith, count)))) (inr (omega (arith, within, half, count, long, h.length)));
+        subst (CannotBeCut config) (sym (take_all (before_length + n) whole (omega (arith, count)))) (inr (omega (arith, within, half, count, long, h.length)));
   }
 
   -- one that is not possible
-  pub late_still : (log : List Event) (e : Event) → whole ≡ log ++ e ∷ [] → WasCutInTime config log so_many so_long → CannotBeCut config whole → WasCutInTime config whole so_many so_long
+  pub late_still : (log : List Event) (e : Event) → whole ≡ log ++ e ∷ [] → WasCutInTime config log before_length prologue_length → CannotBeCut config whole → WasCutInTime config whole before_length prologue_length
   late_still log e is was none = record {
     since = λ n within half. ⊎_elim
         (λ before.
-        let earlier : so_many + n ≤ length log = omega (arith, before, ap length is, length-append log (e ∷ [])) in
-        subst (CannotBeCut config) (sym (ap (take (so_many + n)) is ∙ take-append-le (so_many + n) log (e ∷ []) earlier)) (was.since n earlier half))
-        (λ here. subst (CannotBeCut config) (sym (take_all (so_many + n) whole here)) none)
-        (cases_lt (so_many + n) (length whole));
+        let earlier : before_length + n ≤ length log = omega (arith, before, ap length is, length-append log (e ∷ [])) in
+        subst (CannotBeCut config) (sym (ap (take (before_length + n)) is ∙ take-append-le (before_length + n) log (e ∷ []) earlier)) (was.since n earlier half))
+        (λ here. subst (CannotBeCut config) (sym (take_all (before_length + n) whole here)) none)
+        (cases_lt (before_length + n) (length whole));
   }
 
 pub cut_late : (config : Config) (whole made : List Event) → Restarts config.bounds whole made → length made + config.events ≤ length made + length made → CannotBeCut config whole
@@ -208,22 +208,22 @@ not_cut config whole not_renewed.Memory h other = absurd (other refl)
 
 -- ---- an event that does not come next
 
-module _ (config : Config) (whole kept : List Event) (so_many so_long : ℕ) (e : Event) (k : IsKept config.bounds whole kept so_many so_long) (in_time : WasCutInTime config whole so_many so_long) (none : ¬ HasCycle whole) (well : IsWellFormed config.bounds (whole ++ e ∷ [])) where
+module _ (config : Config) (whole kept : List Event) (before_length prologue_length : ℕ) (e : Event) (k : IsKept config.bounds whole kept before_length prologue_length) (in_time : WasCutInTime config whole before_length prologue_length) (none : ¬ HasCycle whole) (well : IsWellFormed config.bounds (whole ++ e ∷ [])) where
   well_next : IsWellFormed config.bounds (kept ++ e ∷ [])
-  well_next = well_kept config.bounds (whole ++ e ∷ []) (kept ++ e ∷ []) so_many so_long (kept_more config.bounds whole kept so_many so_long k e) well
+  well_next = well_kept config.bounds (whole ++ e ∷ []) (kept ++ e ∷ []) before_length prologue_length (kept_more config.bounds whole kept before_length prologue_length k e) well
 
   flawless : flaw_of config.bounds whole e ≡ None
   flawless = no_flaw-from_MayFollow config.bounds whole e (IsWellFormed-before config.bounds whole (e ∷ []) well) (IsWellFormed-last config.bounds whole e well)
 
   kept_in_time : IsKeptInTime config whole kept
-  kept_in_time = record { so_many = so_many; so_long = so_long; is_kept = k; in_time = in_time }
+  kept_in_time = record { before_length = before_length; prologue_length = prologue_length; is_kept = k; in_time = in_time }
 
   full_now : config.events ≤ length kept → CannotBeCut config whole
   full_now many =
       let a = ap length k.whole_is ∙ length-append k.before k.after in
       let b = ap length k.kept_is ∙ length-append k.prologue k.after in
       let n = length k.after in
-      subst (CannotBeCut config) (take_all (so_many + n) whole (omega (arith, a, k.counted)))
+      subst (CannotBeCut config) (take_all (before_length + n) whole (omega (arith, a, k.counted)))
       (in_time.since n (omega (arith, a, k.counted)) (omega (arith, many, b, k.measured)))
 
   kept_flawless : (flaw : Flaw) → flaw_of config.bounds kept e ≡ Some flaw → ⊥
@@ -238,9 +238,9 @@ module _ (config : Config) (whole kept : List Event) (so_many so_long : ℕ) (e 
         h,
   )
 
-  pub fault_kept : (fault : LogReplayFault) → IsFaultAtEvent config kept e fault → IsFaultBehind config whole e (moved_fault (in_whole so_many so_long (length kept)) fault)
+  pub fault_kept : (fault : LogReplayFault) → IsFaultAtEvent config kept e fault → IsFaultBehind config whole e (moved_fault (in_whole before_length prologue_length (length kept)) fault)
   fault_kept (Refused p refusal) (at, inl flawed) = absurd (kept_flawless _ flawed)
-  fault_kept (Refused p refusal) (at, inr (unflawed, limit)) = (end_kept config.bounds whole kept so_many so_long k, inr (flawless, at_limit refusal limit))
+  fault_kept (Refused p refusal) (at, inr (unflawed, limit)) = (end_kept config.bounds whole kept before_length prologue_length k, inr (flawless, at_limit refusal limit))
   fault_kept (WrongValue p) (at, flawed) = absurd (kept_flawless _ flawed)
   fault_kept Memory h = h
 

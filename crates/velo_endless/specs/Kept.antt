@@ -20,7 +20,7 @@ use Rattle.velo_world.specs.declared.log_replay.LogReplayFault.TheVariants.{Refu
 
 -- The whole log was cut where no block was open and no cycle was. What is kept are the events after the cut, behind a prologue
 -- that stands for those before it
-pub record IsKept (bounds : Bounds) (whole kept : List Event) (so_many so_long : ℕ) : Type 0 where
+pub record IsKept (bounds : Bounds) (whole kept : List Event) (before_length prologue_length : ℕ) : Type 0 where
   pub before : List Event
   pub prologue : List Event
   pub after : List Event
@@ -31,10 +31,10 @@ pub record IsKept (bounds : Bounds) (whole kept : List Event) (so_many so_long :
   pub no_cycle : ¬ HasCycle before
   pub stands : IsPrologueOf bounds before prologue
   -- so many events were before the cut, and so long is the prologue
-  pub counted : so_many ≡ length before
-  pub measured : so_long ≡ length prologue
+  pub counted : before_length ≡ length before
+  pub measured : prologue_length ≡ length prologue
   -- it has no more events than it takes to say what those before the cut leave
-  pub short : so_long ≤ events_to_leave bounds before
+  pub short : prologue_length ≤ events_to_leave bounds before
 
 -- The log can't be cut at its end: a block is open, or what the events leave takes as many events as may be kept
 abbrev pub CannotBeCut : Config → List Event → Type 0
@@ -43,18 +43,18 @@ CannotBeCut config whole =
 
 -- so many events after a cut, at least half the room behind the prologue is used
 abbrev pub IsHalfUsed : Config → ℕ → ℕ → Type 0
-IsHalfUsed config so_long n = config.events ≤ so_long + n + n
+IsHalfUsed config prologue_length n = config.events ≤ prologue_length + n + n
 
 -- The log was cut so many events after its begin, and in time: since then, whenever half the room was used, it could not be cut
-pub record WasCutInTime (config : Config) (whole : List Event) (so_many so_long : ℕ) : Type 0 where
-  pub since : (n : ℕ) → so_many + n ≤ length whole → IsHalfUsed config so_long n → CannotBeCut config (take (so_many + n) whole)
+pub record WasCutInTime (config : Config) (whole : List Event) (before_length prologue_length : ℕ) : Type 0 where
+  pub since : (n : ℕ) → before_length + n ≤ length whole → IsHalfUsed config prologue_length n → CannotBeCut config (take (before_length + n) whole)
 
 -- this is what is kept of the log, which was cut in time
 pub record IsKeptInTime (config : Config) (whole kept : List Event) : Type 0 where
-  pub so_many : ℕ
-  pub so_long : ℕ
-  pub is_kept : IsKept config.bounds whole kept so_many so_long
-  pub in_time : WasCutInTime config whole so_many so_long
+  pub before_length : ℕ
+  pub prologue_length : ℕ
+  pub is_kept : IsKept config.bounds whole kept before_length prologue_length
+  pub in_time : WasCutInTime config whole before_length prologue_length
 
 -- as many events are kept as may be, and no cut is possible
 pub record FillsLogBehind (config : Config) (whole : List Event) : Type 0 where

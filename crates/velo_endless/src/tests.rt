@@ -62,12 +62,12 @@ const LOST_UPDATE: &[u8] = b"vlog 2 2 1 1\n0 fork 1\n\
 fn an_alarm_after_a_cut_is_that_of_the_whole(rt: HostRuntime) -> Result<(), Fail> {
     let mut sink = Text::new(rt.alloc());
     let fault = watched(rt.alloc(), LOST_UPDATE, &mut sink);
-    assert_eq!(rt; fault, None);
-    assert_eq!(rt;
-        sink.as_slice(),
-        b"alarm 20 blame 17 9\n\
+    assert!(rt; fault == None);
+    assert!(rt;
+        sink.as_slice()
+            == b"alarm 20 blame 17 9\n\
         events 22\nthread 0 13\nthread 1 9\nverdict alarm 20\ntransaction 17\nblame 17 9\n"
-            .as_slice()
+                .as_slice()
     );
     Ok(())
 }
@@ -108,12 +108,12 @@ fn a_refusal_after_a_cut_is_that_of_the_whole(rt: HostRuntime) -> Result<(), Fai
     for case in &REFUSED {
         let mut sink = Text::new(rt.alloc());
         let fault = watched(rt.alloc(), case.log, &mut sink);
-        assert_eq!(rt;
-            fault,
-            Some(WatchFault::Replay(LogReplayFault::Refused {
-                position: case.position,
-                refusal: case.refusal,
-            }))
+        assert!(rt;
+            fault
+                == Some(WatchFault::Replay(LogReplayFault::Refused {
+                    position: case.position,
+                    refusal: case.refusal,
+                }))
         );
     }
     Ok(())

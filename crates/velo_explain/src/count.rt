@@ -25,7 +25,7 @@ fn count_firsts(events: &[Event], owners: &[usize]) -> usize
 ///
 /// # Errors
 /// `Memory` if an allocation failed.
-pub(crate) fn transactions_of(alloc: Global, events: &[Event]) -> Result<usize, Memory>
+pub fn transactions_of(alloc: Global, events: &[Event]) -> Result<usize, Memory>
     ensures { IfOk result (λ count. count ≡ transactions_of events.now) }
 {
     let owners = owners_of(alloc, events)?;

@@ -15,6 +15,7 @@ mod spans;
 mod words;
 mod writing;
 
+pub use count::transactions_of;
 pub use evidence::{Blame, Evidence, evidence_of};
 pub use fitting::{LEAST_LANE, SCREEN_LANES, SCREEN_LINES, add_shortened, characters};
 pub use lanes::{lanes_of, lines_before};

@@ -2,7 +2,6 @@
 #![tactic(auto)]
 
 mod answer;
-mod count;
 mod parts;
 mod shown;
 

@@ -9,12 +9,11 @@ ghost use Rattle.velo_audit_forms.specs.Events.{known_of};
 ghost use Rattle.velo_explain.specs.Count.{transactions_of};
 ghost use Rattle.velo_explain_forms.specs.Answer.{alarm_json, alarm_or_null, serial_json, serial_or_null, verdict_name, verdict_of};
 
-use crate::count::transactions_of;
 use crate::shown::Shown;
 use std::alloc::Global;
 use velo_audit_forms::{Background, add_event_at, add_witness};
 use velo_events::{Event, Memory};
-use velo_explain::Evidence;
+use velo_explain::{Evidence, transactions_of};
 use velo_json::JsonWriter;
 
 /// Whether there is an alarm, in words.

@@ -5,15 +5,15 @@ use Rattle.velo_workload.specs.Program.{Program}
 use Rattle.velo_explore.specs.declared.finding.Finding.{Finding}
 use Rattle.velo_explore.specs.declared.finding.Finding.TheVariants.{Shown, Never, Open}
 use Rattle.velo_explore.specs.Goals.{IsWitness, Shows}
-use Rattle.velo_explore.specs.Told.{IsTold, OnShown}
+use Rattle.velo_explore.specs.Told.{IsTold, IfShown}
 
 module _ (program : Program) (config : Config) (fault : Fault) where
-  pub told-shows : (finding : Finding) → IsTold program config fault finding → OnShown finding (Shows program config)
+  pub told-shows : (finding : Finding) → IsTold program config fault finding → IfShown finding (Shows program config)
   told-shows (Shown witness) is = is.0
   told-shows Never is = tt
   told-shows Open is = tt
 
-  pub witness-shows : (finding : Finding) → OnShown finding (IsWitness program config fault) → OnShown finding (Shows program config)
+  pub witness-shows : (finding : Finding) → IfShown finding (IsWitness program config fault) → IfShown finding (Shows program config)
   witness-shows (Shown witness) is = is.0
   witness-shows Never is = tt
   witness-shows Open is = tt

@@ -24,7 +24,7 @@ use Rattle.velo_explore.specs.declared.goal.Goal.TheVariants.{Alarm, Stuck, Refu
 use Rattle.velo_explore.specs.declared.outcome.RunOutcome.{RunOutcome}
 use Rattle.velo_explore.specs.Goals.{HasAlarm, Reached, Reaches, fault_of, goal_in}
 use Rattle.velo_explore.specs.Logs.{ends_refused, is_for_room}
-use Rattle.velo_explore.specs.Told.{AreAlarms, IsMissed, HasOutcome, LacksFault, OnShown}
+use Rattle.velo_explore.specs.Told.{AreAlarms, IsMissed, HasOutcome, LacksFault, IfShown}
 use Rattle.velo_explore.specs.Bodies.{all_scripts}
 use Rattle.velo_search.specs.declared.fault.Fault.TheVariants as faults
 use Rattle.velo_search.specs.declared.fault.Fault.{Fault}
@@ -173,17 +173,17 @@ of_mapped f P (Some x) some h = h
 
 -- ---- the schedules to alarms
 
-OnShown-map : (finding : Finding) {P Q : Type 0} → (P → Q) → OnShown finding (λ w. P) → OnShown finding (λ w. Q)
-OnShown-map Open f p = tt
-OnShown-map Never f p = tt
-OnShown-map (Shown witness) f p = f p
+IfShown-map : (finding : Finding) {P Q : Type 0} → (P → Q) → IfShown finding (λ w. P) → IfShown finding (λ w. Q)
+IfShown-map Open f p = tt
+IfShown-map Never f p = tt
+IfShown-map (Shown witness) f p = f p
 
 some-mapped : {X Y : Type 0} (f : X → Y) (o : Option X) → IsTrue (is_some o) → IsTrue (is_some (option_map f o))
 some-mapped f None some = some
 some-mapped f (Some x) some = refl
 
 pub alarms-told : (program : Program) (config : Config) → config.bounds ≡ program.bounds → (first : Bool) (alarm : Finding) (shown : Schedules) →
-    LeadToCycles program.bounds (all_scripts program) first shown → OnShown alarm (λ w. IsTrue (is_some shown.alarm)) → AreAlarms program config first alarm (alarms_of shown)
+    LeadToCycles program.bounds (all_scripts program) first shown → IfShown alarm (λ w. IsTrue (is_some shown.alarm)) → AreAlarms program config first alarm (alarms_of shown)
 alarms-told program config same first alarm shown cycles from = record {
   each = λ k d l.
       let leads = cycles.lead k d l in
@@ -193,7 +193,7 @@ alarms-told program config same first alarm shown cycles from = record {
       };
   few = cycles.few;
   none = cycles.none;
-  some = λ all. OnShown-map alarm (λ there. cycles.some all (some-mapped (λ v. v.items) shown.alarm there)) from;
+  some = λ all. IfShown-map alarm (λ there. cycles.some all (some-mapped (λ v. v.items) shown.alarm there)) from;
 }
 
 -- where nothing was tried

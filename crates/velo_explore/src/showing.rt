@@ -2,7 +2,7 @@
 ghost use Rattle.std.specs.Prelude.{◌≡◌, ◌↔◌, ◌<◌, ◌++◌, ◌∷◌, [], ℕ, true, false, is_some, length, IsTrue, IfNone, IfOk, IfSome};
 ghost use Rattle.velo_worker.specs.Schedule.{Replays};
 ghost use Rattle.velo_explore.specs.Goals.{IsWitness, lacks_memory};
-ghost use Rattle.velo_explore.specs.Told.{IsMissed, HasOutcome, IsTold, LacksFault, NeverHas, OnOpen, OnShown};
+ghost use Rattle.velo_explore.specs.Told.{IsMissed, HasOutcome, IsTold, LacksFault, NeverHas, OnOpen, IfShown};
 ghost use Rattle.velo_explore.specs.Bodies.{all_scripts};
 ghost use Rattle.velo_search.specs.declared.fault.Fault.TheVariants.{Refusing};
 ghost use Rattle.velo_search.specs.Trail.{LeadsTo};
@@ -160,7 +160,7 @@ pub(crate) fn tell(
     ensures never { IfOk result (λ f. (ruled_out ≡ true) ↔ (f ≡ Never)) }
     ensures missed { IfOk result (λ f. OnOpen f ((ruled_out ≡ false) × IfSome found
         (λ turns. IsMissed workload.now config fault))) }
-    ensures from { IfOk result (λ f. OnShown f (λ witness. IsTrue (is_some found))) }
+    ensures from { IfOk result (λ f. IfShown f (λ witness. IsTrue (is_some found))) }
 {
     if ruled_out {
         return Ok(Finding::Never);

@@ -18,7 +18,7 @@ use Rattle.velo_movers.specs.Programs.{own}
 use Rattle.velo_movers.specs.Wants.{Does}
 use Rattle.velo_movers.proofs.OnHolders.{own-push_yes, own-push_no}
 use Rattle.velo_movers.proofs.OnWants.{Does-push}
-use Rattle.velo_predict.specs.Deadlocks.{WaitsFor, IsDeadlock, IsNextAction}
+use Rattle.velo_predict.specs.Deadlocks.{WaitsFor, HasDeadlock, IsNextAction}
 use Rattle.velo_predict.specs.Deadlocks.WaitsFor.{ForLock, ForShare, ForEnd}
 use Rattle.velo_predict.specs.Feasible.{IsRun, IsKept, KeptAreRuns, KeptDeadlocksAreFeasible}
 use Rattle.velo_predict.specs.Predictions.{IsUnsure, IsNextOf, IsForetold, IsPrediction}
@@ -95,7 +95,7 @@ module _ (bounds : Bounds) (wants : ℕ → List Event → Option Action) (log :
   cycle_alike R S f (a ∷ []) c = c
   cycle_alike R S f (a ∷ b ∷ rest) c = path_alike R S f a (b ∷ rest) a c
 
-  pub deadlock_alike : (trace : List Event) → IsDeadlock (IsNextAction log trace) trace → IsDeadlock (λ t action. wants t (own t trace) ≡ Some action) trace
+  pub deadlock_alike : (trace : List Event) → HasDeadlock (IsNextAction log trace) trace → HasDeadlock (λ t action. wants t (own t trace) ≡ Some action) trace
   deadlock_alike trace d = record {
     threads = d.threads;
     circle = cycle_alike (WaitsFor (IsNextAction log trace) trace) (WaitsFor (λ t action. wants t (own t trace) ≡ Some action) trace) (waits_alike trace) d.threads d.circle;

@@ -13,7 +13,7 @@ use Rattle.velo_events.specs.Heap.{latest, happened, times}
 use Rattle.velo_events.proofs.Deciders.{all_below, makes_edge, edge_by}
 use Rattle.velo_events.proofs.OnLookUps.{happened-at}
 use Rattle.velo_movers.specs.Free.{gives_up}
-use Rattle.velo_predict.specs.Deadlocks.{WaitsFor, IsDeadlock, IsNextAction}
+use Rattle.velo_predict.specs.Deadlocks.{WaitsFor, HasDeadlock, IsNextAction}
 use Rattle.velo_predict.specs.Deadlocks.WaitsFor.{ForLock}
 use Rattle.velo_predict.specs.Differences.{IsDifference}
 use Rattle.velo_predict.specs.Waits.{IsCircle, IsDue}
@@ -139,7 +139,7 @@ crossed_waits = (
   }) refl (λ h. absurd (omega (arith, h))) refl,
 )
 
-waiting : IsDeadlock (IsNextAction crossed both_hold) both_hold
+waiting : HasDeadlock (IsNextAction crossed both_hold) both_hold
 waiting = record { threads = 0 ∷ 1 ∷ []; circle = crossed_waits }
 
 at_next : ℕ → ℕ → Waiting

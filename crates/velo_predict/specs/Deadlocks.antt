@@ -19,7 +19,7 @@ pub data WaitsFor (Next : ℕ → Action → Type 0) (trace : List Event) (t u :
   ForEnd : (v : ThreadId) → Next t (Action.Join v) → status_in trace t ≡ Live → v.0 ≡ u → status_in trace u ≡ Live → WaitsFor Next trace t u
 
 -- each of some threads waits for the next one, and the last for the first
-pub record IsDeadlock (Next : ℕ → Action → Type 0) (trace : List Event) : Type 0 where
+pub record HasDeadlock (Next : ℕ → Action → Type 0) (trace : List Event) : Type 0 where
   pub threads : List ℕ
   pub circle : IsCycle (WaitsFor Next trace) threads
 
@@ -32,4 +32,4 @@ pub record IsNextAction (log trace : List Event) (t : ℕ) (action : Action) : T
 -- a prediction after which threads wait in a circle
 pub record PredictsDeadlock (bounds : Bounds) (log trace : List Event) : Type 0 where
   pub prediction : IsPrediction bounds log trace
-  pub deadlock : IsDeadlock (IsNextAction log trace) trace
+  pub deadlock : HasDeadlock (IsNextAction log trace) trace

@@ -9,7 +9,7 @@ use Rattle.velo_events.specs.Meaning.{holds}
 use Rattle.velo_events.specs.Reordering.{IsSelfSerializable, AreBlamed}
 use Rattle.velo_movers.specs.Programs.{own, IsLog}
 use Rattle.velo_movers.specs.Wants.{Does}
-use Rattle.velo_predict.specs.Deadlocks.{IsDeadlock, PredictsDeadlock}
+use Rattle.velo_predict.specs.Deadlocks.{HasDeadlock, PredictsDeadlock}
 use Rattle.velo_predict.specs.Predictions.{IsUnsure, IsPrediction, PredictsCycle}
 
 -- a trace that the program can have: each thread did what it wanted after what it had done, its reads included
@@ -45,7 +45,7 @@ pub record CanBreak (bounds : Bounds) (wants : ℕ → List Event → Option Act
 pub record CanDeadlock (bounds : Bounds) (wants : ℕ → List Event → Option Action) : Type 0 where
   pub run : List Event
   pub is_run : IsRun bounds wants run
-  pub deadlock : IsDeadlock (λ t action. wants t (own t run) ≡ Some action) run
+  pub deadlock : HasDeadlock (λ t action. wants t (own t run) ≡ Some action) run
 
 -- no thread goes on whose next action is unknown: so nothing is given up behind a read of another value
 pub record IsKept (log trace : List Event) : Type 0 where
@@ -62,7 +62,7 @@ abbrev pub KeptDeadlocksAreFeasible : Type 0
 KeptDeadlocksAreFeasible =
     (bounds : Bounds) (wants : ℕ → List Event → Option Action) (log trace : List Event) →
     IsRun bounds wants log → PredictsDeadlock bounds log trace → IsKept log trace →
-    IsRun bounds wants trace × IsDeadlock (λ t action. wants t (own t trace) ≡ Some action) trace
+    IsRun bounds wants trace × HasDeadlock (λ t action. wants t (own t trace) ≡ Some action) trace
 
 -- no false alarm: what a run of a program foretells, the program can do, if its critical sections end
 abbrev pub CyclesAreFeasible : Type 0

@@ -25,7 +25,7 @@ use Rattle.velo_explore.specs.declared.finding.Findings.{Findings}
 use Rattle.velo_explore.specs.declared.finding.Witness.{Witness}
 use Rattle.velo_explore.specs.declared.goal.Goal.{Goal}
 use Rattle.velo_explore.specs.Goals.{IsWitness, Reached, fault_of, finding_of, goal_in}
-use Rattle.velo_explore.specs.Told.{OnShown}
+use Rattle.velo_explore.specs.Told.{IfShown}
 use Rattle.velo_explore.proofs.OnShown.{goal-reaches}
 use Rattle.std.proofs.lemmas.List.Sums.{count_by-le-length, sum_by_push}
 use Rattle.velo_random.specs.declared.tally.BlamedLabel.{BlamedLabel}
@@ -188,13 +188,13 @@ module _ (program : Program) (config : Config) where
       at None is rest = subst (λ (o : Option Goal). IfSome (of o) (IsShown fault)) (sym is) rest
       at (Some goal) is rest = subst (λ (o : Option Goal). IfSome (of o) (IsShown fault)) (sym is) (one-shown fault run (All-head (IsRun program config) run runs all) goal is)
 
-  shown-by : (fault : Fault) (seen : Option (Goal × List ThreadId)) (finding : Finding) → IsFirst seen finding → IfSome seen (IsShown fault) → OnShown finding (IsWitness program config fault)
+  shown-by : (fault : Fault) (seen : Option (Goal × List ThreadId)) (finding : Finding) → IsFirst seen finding → IfSome seen (IsShown fault) → IfShown finding (IsWitness program config fault)
   shown-by fault (Some s) (Shown witness) first shown = subst (IsShown fault) first shown
   shown-by fault None (Shown witness) first shown = absurd first
   shown-by fault seen Never first shown = tt
   shown-by fault seen Open first shown = tt
 
-  pub are-shown : (schedules : List (List ThreadId)) (tally : RunTally) → IsTriedBy program config schedules tally → (fault : Fault) → OnShown (finding_of tally.findings fault) (IsWitness program config fault)
+  pub are-shown : (schedules : List (List ThreadId)) (tally : RunTally) → IsTriedBy program config schedules tally → (fault : Fault) → IfShown (finding_of tally.findings fault) (IsWitness program config fault)
   are-shown schedules tally tried fault =
       shown-by fault (first_shown fault tried.runs) (finding_of tally.findings fault) (tried.comes_to.findings fault) (first-shown fault tried.runs tried.replayed)
 

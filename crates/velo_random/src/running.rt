@@ -5,7 +5,7 @@ ghost use Rattle.velo_events.specs.declared.config.Config.{Config as ConfigOf};
 ghost use Rattle.velo_events.specs.declared.event.ThreadId.{ThreadId as Turn};
 ghost use Rattle.velo_search.specs.declared.fault.Fault.{Fault as FaultOf};
 ghost use Rattle.velo_explore.specs.Goals.{IsWitness, finding_of};
-ghost use Rattle.velo_explore.specs.Told.{OnShown};
+ghost use Rattle.velo_explore.specs.Told.{IfShown};
 ghost use Rattle.velo_workload.specs.Program.{Program};
 ghost use Rattle.velo_random.specs.Tallies.{IsTried, IsTriedBy, rank};
 
@@ -107,7 +107,7 @@ pub fn try_by_chance(
     ensures tried { IfOk result (IsTried workload.now config seed runs) }
     ensures order { IfOk result (λ tally. IsNonDecreasingBy rank tally.blamed.items) }
     ensures shows { IfOk result (λ tally. (fault : FaultOf) →
-        OnShown (finding_of tally.findings fault) (IsWitness workload.now config fault)) }
+        IfShown (finding_of tally.findings fault) (IsWitness workload.now config fault)) }
 {
     let mut random = Xoshiro256PlusPlus::seed_from_u64(seed);
     let turns = turns_for(workload);

@@ -62,7 +62,7 @@ fn a_prologue_has_what_is_left(rt: HostRuntime) {
         by(1, Kind::Exit),
         by(0, Kind::Join(ThreadId(1))),
     ];
-    assert_eq!(rt; length_after(&rt, rt.alloc(), 100, &nothing_left), Ok(0));
+    assert!(rt; length_after(&rt, rt.alloc(), 100, &nothing_left) == Ok(0));
     // two forks, a write, an acquisition, two shares, an exit
     let all_left = [
         by(0, Kind::Fork(ThreadId(1))),
@@ -73,7 +73,7 @@ fn a_prologue_has_what_is_left(rt: HostRuntime) {
         by(2, Kind::AcquireShared(LockId(0))),
         by(0, Kind::AcquireShared(LockId(0))),
     ];
-    assert_eq!(rt; length_after(&rt, rt.alloc(), 100, &all_left), Ok(7));
+    assert!(rt; length_after(&rt, rt.alloc(), 100, &all_left) == Ok(7));
 }
 
 #[test]
@@ -84,7 +84,7 @@ fn an_open_block_and_an_alarm_are_in_the_way(rt: HostRuntime) {
         by(0, Kind::Write(VarId(0), 5)),
     ];
     let reason = Err(NotRenewed::BlockOpen(ThreadId(1)));
-    assert_eq!(rt; length_after(&rt, rt.alloc(), 100, &open), reason);
+    assert!(rt; length_after(&rt, rt.alloc(), 100, &open) == reason);
     let lost_update = [
         by(0, Kind::Fork(ThreadId(1))),
         by(0, Kind::Begin(Label(7))),
@@ -93,10 +93,7 @@ fn an_open_block_and_an_alarm_are_in_the_way(rt: HostRuntime) {
         by(0, Kind::Write(VarId(0), 1)),
         by(0, Kind::End),
     ];
-    assert_eq!(rt;
-        length_after(&rt, rt.alloc(), 100, &lost_update),
-        Err(NotRenewed::Alarm)
-    );
+    assert!(rt; length_after(&rt, rt.alloc(), 100, &lost_update) == Err(NotRenewed::Alarm));
 }
 
 #[test]
@@ -105,5 +102,5 @@ fn what_is_left_has_to_fit(rt: HostRuntime) {
         by(0, Kind::Write(VarId(0), 5)),
         by(0, Kind::Write(VarId(1), 6)),
     ];
-    assert_eq!(rt; length_after(&rt, rt.alloc(), 2, &two_left), Ok(2));
+    assert!(rt; length_after(&rt, rt.alloc(), 2, &two_left) == Ok(2));
 }

@@ -1,4 +1,4 @@
--- The longest stretches of a schedule.
+-- The longest stretches of turns of one thread.
 use Rattle.std.proofs.Common.{◌≡◌, ℕ, zero, suc, ◌+◌, ◌<◌, ◌≤◌, Bool, cond, List, [], ◌∷◌, ◌++◌, All, length, get_or, drop, replicate, ⊎_elim, refl, sym, ap, subst, ◌∙◌, append_assoc, arith}
 use Rattle.std.specs.Prelude.{⊤}
 use Rattle.std.proofs.lemmas.Bool.Decides.{eqb_tells}
@@ -9,7 +9,7 @@ use Rattle.velo_events.specs.declared.limits.TheConstants.{MAX_THREADS}
 use Rattle.velo_schedule_text.specs.declared.limits.TheConstants.{MAX_TURNS}
 use Rattle.velo_schedule_text.specs.declared.turns.Turns.{Turns}
 use Rattle.velo_schedule_text.specs.Schedule.{in_order, spaced, turns_text, SaysTurns}
-use Rattle.velo_schedule_text.specs.Short.{one_turn, with_turn, longest, short_text}
+use Rattle.velo_schedule_text.specs.Short.{one_turn, with_turn, stretches_of, short_text}
 
 abbrev longer : ThreadId → ℕ → List Turns → List Turns
 longer t n rest = record { thread = t; count = suc n } ∷ rest
@@ -35,9 +35,9 @@ turn_first t (x ∷ rest) =
     (λ no. ap in_order (parts t x rest no.1))
     (eqb_tells t.0 x.thread.0)
 
-pub in_order_longest : (schedule : List ThreadId) → in_order (longest schedule) ≡ schedule
-in_order_longest [] = refl
-in_order_longest (t ∷ rest) = turn_first t (longest rest) ∙ ap (λ (turns : List ThreadId). t ∷ turns) (in_order_longest rest)
+pub in_order_stretches : (schedule : List ThreadId) → in_order (stretches_of schedule) ≡ schedule
+in_order_stretches [] = refl
+in_order_stretches (t ∷ rest) = turn_first t (stretches_of rest) ∙ ap (λ (turns : List ThreadId). t ∷ turns) (in_order_stretches rest)
 
 pub record AreShort (most : ℕ) (turns : Turns) : Type 0 where
   pub thread : turns.thread.0 < MAX_THREADS
@@ -57,18 +57,18 @@ short_turn most t (x ∷ rest) small each =
 abbrev Small : ThreadId → Type 0
 Small t = t.0 < MAX_THREADS
 
-short_words : (schedule : List ThreadId) → All Small schedule → All (AreShort (length schedule)) (longest schedule)
+short_words : (schedule : List ThreadId) → All Small schedule → All (AreShort (length schedule)) (stretches_of schedule)
 short_words [] each = All-nil (AreShort 0)
-short_words (t ∷ rest) each = short_turn (length rest) t (longest rest) (All-head Small t rest each) (short_words rest (All-tail Small t rest each))
+short_words (t ∷ rest) each = short_turn (length rest) t (stretches_of rest) (All-head Small t rest each) (short_words rest (All-tail Small t rest each))
 
 pub short_reads_back : (schedule : List ThreadId) → All Small schedule → length schedule ≤ MAX_TURNS → SaysTurns (short_text schedule) schedule
 short_reads_back schedule each few =
     let short = short_words schedule each in
     record {
-      words = longest schedule;
+      words = stretches_of schedule;
       each = λ k d lt. (let x = short k d lt in record { thread = x.thread; some = x.some; few = omega (arith, x.few, few) });
       whole = refl;
-      turns = sym (in_order_longest schedule);
+      turns = sym (in_order_stretches schedule);
       few = few;
     }
 
@@ -109,11 +109,11 @@ later t (suc n) words = ap (with_turn t) (later t n words)
 pub record IsFront (schedule : List ThreadId) (t : ThreadId) (n : ℕ) : Type 0 where
   pub some : 1 ≤ n
   pub within : n ≤ length schedule
-  pub words : longest schedule ≡ with_turns t n (longest (drop n schedule))
+  pub words : stretches_of schedule ≡ with_turns t n (stretches_of (drop n schedule))
 
 pub front_of_one : (schedule : List ThreadId) (t d : ThreadId) → 0 < length schedule → t ≡ get_or schedule 0 d → IsFront schedule t 1
 front_of_one [] t d some e = absurd (omega (arith, some))
-front_of_one (u ∷ rest) t d some e = record { some = omega arith; within = omega arith; words = ap (λ (v : ThreadId). with_turn v (longest rest)) (sym e) }
+front_of_one (u ∷ rest) t d some e = record { some = omega arith; within = omega arith; words = ap (λ (v : ThreadId). with_turn v (stretches_of rest)) (sym e) }
 
 pub front_more : (schedule : List ThreadId) (t d : ThreadId) (n : ℕ) → IsFront schedule t n → n < length schedule → t ≡ get_or schedule n d → IsFront schedule t (n + 1)
 front_more schedule t d n h lt e =
@@ -122,18 +122,18 @@ front_more schedule t d n h lt e =
     record {
       some = omega arith;
       within = omega (arith, lt);
-      words = h.words ∙ (ap (λ (s : List ThreadId). with_turns t n (longest s)) next ∙ (later t n (longest (drop (n + 1) schedule)) ∙ ap (λ (k : ℕ). with_turns t k (longest (drop (n + 1) schedule))) (sym one)));
+      words = h.words ∙ (ap (λ (s : List ThreadId). with_turns t n (stretches_of s)) next ∙ (later t n (stretches_of (drop (n + 1) schedule)) ∙ ap (λ (k : ℕ). with_turns t k (stretches_of (drop (n + 1) schedule))) (sym one)));
     }
 
-ends_here : (schedule : List ThreadId) (t d : ThreadId) (n : ℕ) → (n < length schedule → t.0 ≡ (get_or schedule n d).0 → ⊥) → BeginsElsewhere t (longest (drop n schedule))
+ends_here : (schedule : List ThreadId) (t d : ThreadId) (n : ℕ) → (n < length schedule → t.0 ≡ (get_or schedule n d).0 → ⊥) → BeginsElsewhere t (stretches_of (drop n schedule))
 ends_here [] t d zero h = tt
 ends_here [] t d (suc n) h = tt
-ends_here (u ∷ rest) t d zero h = begins t u (longest rest) (h (omega arith))
+ends_here (u ∷ rest) t d zero h = begins t u (stretches_of rest) (h (omega arith))
 ends_here (u ∷ rest) t d (suc n) h = ends_here rest t d n (λ lt e. h (omega (arith, lt)) e)
 
-pub first_stretch : (schedule : List ThreadId) (t d : ThreadId) (n : ℕ) → IsFront schedule t n → (n < length schedule → t.0 ≡ (get_or schedule n d).0 → ⊥) → longest schedule ≡ record { thread = t; count = n } ∷ longest (drop n schedule)
+pub first_stretch : (schedule : List ThreadId) (t d : ThreadId) (n : ℕ) → IsFront schedule t n → (n < length schedule → t.0 ≡ (get_or schedule n d).0 → ⊥) → stretches_of schedule ≡ record { thread = t; count = n } ∷ stretches_of (drop n schedule)
 first_stretch schedule t d zero f h = absurd (omega (arith, f.some))
-first_stretch schedule t d (suc n) f h = f.words ∙ stretch t n (longest (drop (suc n) schedule)) (ends_here schedule t d (suc n) h)
+first_stretch schedule t d (suc n) f h = f.words ∙ stretch t n (stretches_of (drop (suc n) schedule)) (ends_here schedule t d (suc n) h)
 
 -- ---- what is written
 

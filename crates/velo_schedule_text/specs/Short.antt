@@ -13,9 +13,9 @@ with_turn t [] = one_turn t ∷ []
 with_turn t (turns ∷ rest) =
     if t.0 == turns.thread.0 then record { thread = t; count = suc turns.count } ∷ rest else one_turn t ∷ (turns ∷ rest)
 
-abbrev pub longest : List ThreadId → List Turns
-longest [] = []
-longest (t ∷ schedule) = with_turn t (longest schedule)
+abbrev pub stretches_of : List ThreadId → List Turns
+stretches_of [] = []
+stretches_of (t ∷ schedule) = with_turn t (stretches_of schedule)
 
 abbrev pub short_text : List ThreadId → List ℕ
-short_text schedule = words_text (longest schedule)
+short_text schedule = words_text (stretches_of schedule)

@@ -1,7 +1,7 @@
 //! Writing a schedule in as few words as there can be.
 ghost use Rattle.std.specs.Prelude.{◌≡◌, ◌≤◌, ◌<◌, ◌++◌, ◌∷◌, drop, length, OnOk};
 ghost use Rattle.velo_schedule_text.specs.Schedule.{spaced, turns_text};
-ghost use Rattle.velo_schedule_text.specs.Short.{longest};
+ghost use Rattle.velo_schedule_text.specs.Short.{stretches_of};
 
 use crate::turns::Turns;
 use velo_bytes::{append, append_number};
@@ -22,7 +22,7 @@ fn append_word(text: &mut Vec<u8>, turns: Turns) -> Result<(), Memory>
 /// The turns at the front that are all of one thread.
 fn first_turns(schedule: &[ThreadId]) -> Turns
     requires { 0 < length schedule.now }
-    ensures first { longest schedule.now ≡ result ∷ longest (drop result.count schedule.now) }
+    ensures first { stretches_of schedule.now ≡ result ∷ stretches_of (drop result.count schedule.now) }
     ensures some { 1 ≤ result.count }
     ensures within { result.count ≤ length schedule.now }
 {
@@ -40,7 +40,7 @@ fn first_turns(schedule: &[ThreadId]) -> Turns
 /// # Errors
 /// `Memory` if an allocation failed.
 pub fn append_turns(text: &mut Vec<u8>, schedule: &[ThreadId]) -> Result<(), Memory>
-    ensures { OnOk result (text.new.items ≡ text.old.items ++ spaced (longest schedule.now)) }
+    ensures { OnOk result (text.new.items ≡ text.old.items ++ spaced (stretches_of schedule.now)) }
 {
     let mut rest = schedule;
     while !rest.is_empty() {

@@ -35,16 +35,13 @@ fn are_no_numbers(alloc: Global, text: &str) -> bool {
 
 #[test]
 fn schedules_are_shortened(rt: HostRuntime) -> Result<(), Fail> {
-    assert_eq!(rt; is_short(rt.alloc(), "", b""), true);
-    assert_eq!(rt; is_short(rt.alloc(), "0", b" 0"), true);
-    assert_eq!(rt; is_short(rt.alloc(), "63", b" 63"), true);
-    assert_eq!(rt; is_short(rt.alloc(), "0 0 0 1 0", b" 0*3 1 0"), true);
-    assert_eq!(rt;
-        is_short(rt.alloc(), "0*2 0 1*2 1*3 0", b" 0*3 1*5 0"),
-        true
-    );
-    assert_eq!(rt; is_short(rt.alloc(), "0*1000000", b" 0*1000000"), true);
-    assert_eq!(rt; is_short(rt.alloc(), "0*999999 12", b" 0*999999 12"), true);
+    assert!(rt; is_short(rt.alloc(), "", b""));
+    assert!(rt; is_short(rt.alloc(), "0", b" 0"));
+    assert!(rt; is_short(rt.alloc(), "63", b" 63"));
+    assert!(rt; is_short(rt.alloc(), "0 0 0 1 0", b" 0*3 1 0"));
+    assert!(rt; is_short(rt.alloc(), "0*2 0 1*2 1*3 0", b" 0*3 1*5 0"));
+    assert!(rt; is_short(rt.alloc(), "0*1000000", b" 0*1000000"));
+    assert!(rt; is_short(rt.alloc(), "0*999999 12", b" 0*999999 12"));
     Ok(())
 }
 
@@ -76,17 +73,17 @@ fn other_texts_are_bad(rt: HostRuntime) -> Result<(), Fail> {
         "0\n",
         "9999999999999999999999",
     ] {
-        assert_eq!(rt; is_bad(rt.alloc(), text), true);
+        assert!(rt; is_bad(rt.alloc(), text));
     }
     Ok(())
 }
 
 #[test]
 fn thread_numbers_are_read(rt: HostRuntime) -> Result<(), Fail> {
-    assert_eq!(rt; are_numbers_of(rt.alloc(), "", b""), true);
-    assert_eq!(rt; are_numbers_of(rt.alloc(), "63", b" 63"), true);
-    assert_eq!(rt; are_numbers_of(rt.alloc(), "0 0 0 1 0", b" 0*3 1 0"), true);
-    assert_eq!(rt; are_numbers_of(rt.alloc(), "9 10 10 2", b" 9 10*2 2"), true);
+    assert!(rt; are_numbers_of(rt.alloc(), "", b""));
+    assert!(rt; are_numbers_of(rt.alloc(), "63", b" 63"));
+    assert!(rt; are_numbers_of(rt.alloc(), "0 0 0 1 0", b" 0*3 1 0"));
+    assert!(rt; are_numbers_of(rt.alloc(), "9 10 10 2", b" 9 10*2 2"));
     Ok(())
 }
 
@@ -96,7 +93,7 @@ fn other_texts_are_no_numbers(rt: HostRuntime) -> Result<(), Fail> {
         "0*3 1", "0*1", "0 1*2", "*", "@s", "@", "0  1", " 0", "0 ", " ", "01", "00", "64", "0\t1",
         "\t0", "0\n", "0,1", "+1", "-1", "x",
     ] {
-        assert_eq!(rt; are_no_numbers(rt.alloc(), text), true);
+        assert!(rt; are_no_numbers(rt.alloc(), text));
     }
     Ok(())
 }

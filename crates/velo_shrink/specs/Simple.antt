@@ -18,7 +18,7 @@ use Rattle.velo_explore.specs.declared.goal.Goal.{Goal}
 use Rattle.velo_explore.specs.declared.goal.Goal.TheVariants.{Alarm, Refused, Stuck}
 use Rattle.velo_search.specs.declared.fault.Fault.{Fault}
 use Rattle.velo_explore.specs.Goals.{DoesNotShow, IsReplayOf, Reaches, Shows, finding_of, first_of}
-use Rattle.velo_explore.specs.Told.{OnShown}
+use Rattle.velo_explore.specs.Told.{IfShown}
 use Rattle.velo_shrink.specs.declared.findings.Replay.{Replay}
 use Rattle.velo_shrink.specs.declared.findings.Shrunk.{Shrunk}
 use Rattle.velo_shrink.specs.declared.minimizing.TheConstants.{MAX_MINIMAL}
@@ -117,8 +117,8 @@ KeepsFirst program config told old now = now ≡ old
 -- the finding is told by a simple schedule, which shows its goal and can be told; and its replay is kept, if none was
 pub record IsToldBy (program : Program) (config : Config) (found told : Finding) (old now : Option Replay) : Type 0 where
   pub simple : SimplifiesFinding program config found told
-  pub shows : OnShown told (Shows program config)
-  pub sayable : OnShown told (λ witness. IsSayable witness.schedule.items)
+  pub shows : IfShown told (Shows program config)
+  pub sayable : IfShown told (λ witness. IsSayable witness.schedule.items)
   pub first : KeepsFirst program config told old now
 
 -- the replay is that by the first witness, if there is one
@@ -131,8 +131,8 @@ IsReplayFor program config told replay = ⊥
 -- replay of the first is kept
 pub record IsShrunkFrom (program : Program) (config : Config) (found : Findings) (shrunk : Shrunk) : Type 0 where
   pub simple : (fault : Fault) → SimplifiesFinding program config (finding_of found fault) (finding_of shrunk.findings fault)
-  pub shows : (fault : Fault) → OnShown (finding_of shrunk.findings fault) (Shows program config)
-  pub sayable : (fault : Fault) → OnShown (finding_of shrunk.findings fault) (λ witness. IsSayable witness.schedule.items)
+  pub shows : (fault : Fault) → IfShown (finding_of shrunk.findings fault) (Shows program config)
+  pub sayable : (fault : Fault) → IfShown (finding_of shrunk.findings fault) (λ witness. IsSayable witness.schedule.items)
   pub first : IsReplayFor program config (first_of shrunk.findings) shrunk.first
 
 -- ---- what a try answers

@@ -4,7 +4,7 @@ ghost use Rattle.velo_events.specs.declared.limits.TheConstants.{MAX_THREADS};
 ghost use Rattle.velo_explore.specs.declared.finding.Finding.TheVariants.{Shown};
 ghost use Rattle.velo_explore.specs.Goals.{DoesNotShow, Shows, finding_of};
 ghost use Rattle.velo_search.specs.declared.fault.Fault.{Fault};
-ghost use Rattle.velo_explore.specs.Told.{OnShown};
+ghost use Rattle.velo_explore.specs.Told.{IfShown};
 ghost use Rattle.velo_shrink.specs.Simple.{IsReplayBy, IsSayable, IsShrunkFrom, IsToldBy, KeepsReplay};
 
 use crate::shrinking::{MAX_TRIES, shrink};
@@ -132,7 +132,7 @@ fn shrink_finding(
     first: &mut Option<Replay>,
 ) -> Result<Finding, Memory>
     requires bounds { config.bounds ≡ workload.now.bounds }
-    requires shows { OnShown finding (Shows workload.now config) }
+    requires shows { IfShown finding (Shows workload.now config) }
     ensures { IfOk result
         (λ told. IsToldBy workload.now config finding told first.old first.new) }
 {
@@ -153,7 +153,7 @@ fn shrink_each(
 ) -> Result<Findings, Memory>
     requires bounds { config.bounds ≡ workload.now.bounds }
     requires shows { (fault : Fault) →
-        OnShown (finding_of findings fault) (Shows workload.now config) }
+        IfShown (finding_of findings fault) (Shows workload.now config) }
     requires none { first.old ≡ None }
     ensures { IfOk result (λ told. IsShrunkFrom workload.now config findings
         (record { findings = told; first = first.new })) }
@@ -188,7 +188,7 @@ pub fn shrink_findings(
 ) -> Result<Shrunk, Memory>
     requires bounds { config.bounds ≡ workload.now.bounds }
     requires shows { (fault : Fault) →
-        OnShown (finding_of findings fault) (Shows workload.now config) }
+        IfShown (finding_of findings fault) (Shows workload.now config) }
     ensures { IfOk result (IsShrunkFrom workload.now config findings) }
 {
     let mut first = None;

@@ -30,51 +30,24 @@ fn fault_of(alloc: Global, bytes: &[u8]) -> Option<SitesFault> {
 #[test]
 fn events_have_places(rt: HostRuntime) -> Result<(), Fail> {
     let bytes = b"vsites 1 2 3\nbank.c:12 deposit\nbank.c:20 withdraw\n1\n0\n2\n".as_slice();
-    assert_eq!(rt;
-        place_in(rt.alloc(), bytes, 0),
-        b"bank.c:12 deposit".as_slice()
-    );
-    assert_eq!(rt; place_in(rt.alloc(), bytes, 1), b"".as_slice());
-    assert_eq!(rt;
-        place_in(rt.alloc(), bytes, 2),
-        b"bank.c:20 withdraw".as_slice()
-    );
-    assert_eq!(rt; place_in(rt.alloc(), bytes, 3), b"".as_slice());
+    assert!(rt; place_in(rt.alloc(), bytes, 0) == b"bank.c:12 deposit".as_slice());
+    assert!(rt; place_in(rt.alloc(), bytes, 1) == b"".as_slice());
+    assert!(rt; place_in(rt.alloc(), bytes, 2) == b"bank.c:20 withdraw".as_slice());
+    assert!(rt; place_in(rt.alloc(), bytes, 3) == b"".as_slice());
     Ok(())
 }
 
 #[test]
 fn other_files_have_faults(rt: HostRuntime) -> Result<(), Fail> {
     let alloc = rt.alloc();
-    assert_eq!(rt; fault_of(alloc, b"vsites 1 0 0\n"), None);
-    assert_eq!(rt; fault_of(alloc, b""), Some(SitesFault::BadLine(1)));
-    assert_eq!(rt;
-        fault_of(alloc, b"vsites 2 0 0\n"),
-        Some(SitesFault::BadLine(1))
-    );
-    assert_eq!(rt;
-        fault_of(alloc, b"vsites 1 1 1\n\n1\n"),
-        Some(SitesFault::BadLine(2))
-    );
-    assert_eq!(rt;
-        fault_of(alloc, b"vsites 1 1 1\nf.c:1 f\n2\n"),
-        Some(SitesFault::BadLine(3))
-    );
-    assert_eq!(rt;
-        fault_of(alloc, b"vsites 1 1 1\nf.c:1 f\n1\n0\n"),
-        Some(SitesFault::BadLine(4))
-    );
-    assert_eq!(rt;
-        fault_of(alloc, b"vsites 1 1 1\nf.c:1 f\n1"),
-        Some(SitesFault::EndsEarly(3))
-    );
-    assert_eq!(rt;
-        fault_of(alloc, b"vsites 1 1 2\nf.c:1 f\n1\n"),
-        Some(SitesFault::EndsEarly(3))
-    );
-    assert_eq!(rt;
-        fault_of(alloc, b"vsites 1 1 0\n\xff\n"),
-        Some(SitesFault::NotText)
-    );
+    assert!(rt; fault_of(alloc, b"vsites 1 0 0\n") == None);
+    assert!(rt; fault_of(alloc, b"") == Some(SitesFault::BadLine(1)));
+    assert!(rt; fault_of(alloc, b"vsites 2 0 0\n") == Some(SitesFault::BadLine(1)));
+    assert!(rt; fault_of(alloc, b"vsites 1 1 1\n\n1\n") == Some(SitesFault::BadLine(2)));
+    assert!(rt; fault_of(alloc, b"vsites 1 1 1\nf.c:1 f\n2\n") == Some(SitesFault::BadLine(3)));
+    assert!(rt; fault_of(alloc, b"vsites 1 1 1\nf.c:1 f\n1\n0\n") == Some(SitesFault::BadLine(4)));
+    assert!(rt; fault_of(alloc, b"vsites 1 1 1\nf.c:1 f\n1") == Some(SitesFault::EndsEarly(3)));
+    assert!(rt; fault_of(alloc, b"vsites 1 1 2\nf.c:1 f\n1\n") == Some(SitesFault::EndsEarly(3)));
+    assert!(rt; fault_of(alloc, b"vsites 1 1 0\n\xff\n") == Some(SitesFault::NotText));
     Ok(())
 }

@@ -62,9 +62,9 @@ fn nothing_is_told_before_the_newline(rt: HostRuntime) -> Result<(), Fail> {
     for step in [1, 7, 64] {
         let mut sink = Text::new(rt.alloc());
         let seen = watched(rt.alloc(), LOST_UPDATE, step, CLOSING, 9, &mut sink);
-        assert_eq!(rt; seen.steps, 4);
-        assert_eq!(rt; seen.fault, Some(WatchFault::Log(LogFault::Read)));
-        assert_eq!(rt; sink.as_slice().is_empty(), true);
+        assert!(rt; seen.steps == 4);
+        assert!(rt; seen.fault == Some(WatchFault::Log(LogFault::Read)));
+        assert!(rt; sink.as_slice().is_empty());
     }
     Ok(())
 }
@@ -75,10 +75,10 @@ fn the_alarm_is_told_with_the_newline(rt: HostRuntime) -> Result<(), Fail> {
     for step in [1, 7, 64] {
         let mut sink = Text::new(rt.alloc());
         let seen = watched(rt.alloc(), LOST_UPDATE, step, CLOSING + 1, 5, &mut sink);
-        assert_eq!(rt; seen.steps, 5);
-        assert_eq!(rt; seen.told, 1);
-        assert_eq!(rt; seen.fault, None);
-        assert_eq!(rt; sink.as_slice(), b"alarm 4 blame 1 7\n".as_slice());
+        assert!(rt; seen.steps == 5);
+        assert!(rt; seen.told == 1);
+        assert!(rt; seen.fault == None);
+        assert!(rt; sink.as_slice() == b"alarm 4 blame 1 7\n".as_slice());
     }
     Ok(())
 }

@@ -18,7 +18,7 @@ use Rattle.velo_explore.specs.declared.finding.Witness.{Witness}
 use Rattle.velo_explore.specs.declared.goal.Goal.{Goal}
 use Rattle.velo_explore.specs.declared.goal.Goal.TheVariants as goals
 use Rattle.velo_explore.specs.Goals.{Reaches, Shows, fault_of, finding_of, first_of, lacks_memory}
-use Rattle.velo_explore.specs.Told.{IsTold, OnShown}
+use Rattle.velo_explore.specs.Told.{IsTold, IfShown}
 use Rattle.velo_shrink.specs.declared.findings.Replay.{Replay}
 use Rattle.velo_shrink.specs.declared.findings.Shrunk.{Shrunk}
 use Rattle.velo_shrink.specs.Simple.{IsReplayFor, IsShrunkFrom, SimplifiesFinding}
@@ -57,7 +57,7 @@ take_least most schedules =
 module _ (program : Program) (config : Config) where
   -- ---- what is told is so
 
-  told-simple : (fault : Fault) (found told : Finding) → IsTold program config fault found → SimplifiesFinding program config found told → OnShown told (Shows program config) → IsTold program config fault told
+  told-simple : (fault : Fault) (found told : Finding) → IsTold program config fault found → SimplifiesFinding program config found told → IfShown told (Shows program config) → IsTold program config fault told
   told-simple fault (Shown f) (Shown t) is short shows = (shows, ap fault_of short.0 ∙ is.1)
   told-simple fault found Open is short shows = tt
   told-simple fault Never Never is short shows = is

@@ -38,7 +38,7 @@ use Rattle.velo_fate.specs.Delivery.{CommandAnswer, LacksMemory, printing, silen
 use Rattle.velo_fate.specs.Fate.{number_of}
 use Rattle.velo_workload_commands.specs.Playing.{IsConfigOf, IsReported, IsWorkload, IsUnread, text_of_names}
 use Rattle.velo_schedule_text.specs.Schedule.{spaced}
-use Rattle.velo_schedule_text.specs.Short.{longest}
+use Rattle.velo_schedule_text.specs.Short.{stretches_of}
 
 -- ---- the survey of the schedules
 
@@ -90,10 +90,10 @@ IsSurveyOf program config options over survey =
 -- ---- its text
 
 -- the turns of a schedule, each after a space, those of one thread in a row joined (`0*3`) as far as
--- they go (`longest`); nothing
+-- they go (`stretches_of`); nothing
 -- for an empty one
 abbrev pub turns_text : List ThreadId → List ℕ
-turns_text schedule = spaced (longest schedule)
+turns_text schedule = spaced (stretches_of schedule)
 
 -- a name after a space, if there is one
 abbrev pub name_text : Option (List ℕ) → List ℕ

@@ -23,6 +23,7 @@ mod watching;
 mod workloads;
 
 use std::alloc::Global;
+use std::fmt::Display;
 use std::process::Abort;
 use std::sync::Wait;
 use std::thread::Threads;
@@ -38,7 +39,7 @@ const LOST_UPDATE_REPORT: &str =
 const LOST_UPDATE_CERTIFIED: &str =
     "events 5\nthread 0 4\nthread 1 1\nverdict alarm 4\ntransaction 1\nblame 1 7\ncycle 1 3\n";
 
-const FILES: [(&str, &str); 2] = [("a.log", LOST_UPDATE), ("b.log", "vlog 1 1 0 0\n")];
+static FILES: [(&str, &str); 2] = [("a.log", LOST_UPDATE), ("b.log", "vlog 1 1 0 0\n")];
 
 /// Files by their paths, which come a few bytes at a time. Standard input is the first of them.
 #[derive(Drop)]
@@ -147,7 +148,7 @@ fn show<R: Threads + Wait + Sync>(rt: &R, words: &[&str], folder: &mut Folder) -
 /// Compares what a run showed of a text with what it is to show.
 fn compare(rt: &impl Abort, shown: &Shown, out: &str, err: &str, status: u8, text: &str) {
     let told = (shown.out.as_slice(), shown.err.as_slice(), shown.status);
-    assert_eq!(rt; told, (out.as_bytes(), err.as_bytes(), status), "{text}");
+    holds_for(rt, told == (out.as_bytes(), err.as_bytes(), status), &text);
 }
 
 /// Runs the program on these words with a standard output that fails after a number of bytes.
@@ -160,4 +161,9 @@ fn show_short<R: Threads + Wait + Sync, F: Files + Recall>(
 ) -> Shown {
     let out = Text::new(alloc).failing_after(room);
     show_on(rt, alloc, words, files, out, Text::new(alloc))
+}
+
+/// Fails the test where this does not hold of a case.
+pub fn holds_for<D: Display>(rt: &impl Abort, is: bool, case: &D) {
+    assert!(rt; is, "{case}");
 }

@@ -53,15 +53,14 @@ fn reaches(rt: &impl Abort, graph: &Graph<BitRow>, from: u32, to: u32) -> bool {
 /// Looks at all nodes in use.
 fn look(rt: &impl Abort, monitor: &Monitor, nodes: &[Node]) {
     let graph = &monitor.graph;
-    assert_eq!(rt; monitor.used() as usize, nodes.len());
+    assert!(rt; monitor.used() as usize == nodes.len());
     for (stamp, finished, ancestors) in nodes {
         let slot = slot_of(graph, *stamp).expect(rt, "no such node");
-        assert_eq!(rt; graph.finished(slot), *finished, "{stamp}");
+        assert!(rt; graph.finished(slot) == *finished, "{stamp}");
         for (other, _, _) in nodes {
             let is_ancestor = other == stamp || ancestors.contains(other);
-            assert_eq!(rt;
-                reaches(rt, graph, *other, *stamp),
-                is_ancestor,
+            assert!(rt;
+                reaches(rt, graph, *other, *stamp) == is_ancestor,
                 "{other} {stamp}"
             );
         }
@@ -155,7 +154,7 @@ fn follow(rt: &impl Abort, monitor: &mut Monitor, events: &[Event], rows: &[Row]
     for i in 0..events.len() {
         let (_, _, needs_node, seen, after) = rows[i];
         let answer = observe(rt, monitor, &events[..i], &events[i], needs_node);
-        assert_eq!(rt; answer, seen, "{i}");
+        assert!(rt; answer == seen, "{i}");
         look(rt, monitor, after);
         if answer != Seen::Quiet {
             return;

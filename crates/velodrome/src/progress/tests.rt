@@ -1,5 +1,6 @@
 //! When the progress of a search is printed, and in which words.
 use crate::progress::{ProgressLine, is_terminal_device};
+use crate::tests::holds_for;
 use std::alloc::Global;
 use std::cell::Cell;
 use std::io;
@@ -26,7 +27,7 @@ impl Clock for Hand {
 
 /// Whether standard error is a terminal, whether progress is printed always, and what is printed of
 /// the levels below.
-const MANNERS: [(bool, bool, &str); 4] = [
+static MANNERS: [(bool, bool, &str); 4] = [
     (
         true,
         false,
@@ -47,7 +48,7 @@ const MANNERS: [(bool, bool, &str); 4] = [
 
 /// Levels: the number of each, how long the search has taken, in milliseconds, and how many states
 /// it has looked at.
-const LEVELS: [(u64, u64, u64); 5] = [
+static LEVELS: [(u64, u64, u64); 5] = [
     (1, 1, 5),
     (2, 1000, 30),
     (3, 2000, 90),
@@ -62,27 +63,27 @@ fn compare(rt: &impl Abort, alloc: Global, is_terminal: bool, always: bool, text
     };
     let mut line = ProgressLine::new(&clock, alloc, Text::new(alloc), is_terminal);
     line.begin(always, None);
-    for (level, millis, states) in LEVELS {
-        clock.millis.set(7 + millis);
-        line.level_done(level, states);
+    for (level, millis, states) in &LEVELS {
+        clock.millis.set(millis.saturating_add(7));
+        line.level_done(*level, *states);
     }
     line.end();
     line.level_done(9, 9);
-    assert_eq!(rt; line.sink.as_slice(), text.as_bytes());
+    assert!(rt; line.sink.as_slice() == text.as_bytes());
     drop(line);
     drop(clock);
 }
 
 #[test]
 fn progress_is_told_in_time(rt: HostRuntime) {
-    for (is_terminal, always, text) in MANNERS {
-        compare(&rt, rt.alloc(), is_terminal, always, text);
+    for (is_terminal, always, text) in &MANNERS {
+        compare(&rt, rt.alloc(), *is_terminal, *always, *text);
     }
 }
 
 /// How many seconds a search is given, how long it has taken, in milliseconds, and whether it is
 /// over.
-const TIMES: [(Option<u32>, u64, bool); 6] = [
+static TIMES: [(Option<u32>, u64, bool); 6] = [
     (None, 0, false),
     (None, 1_000_000, false),
     (Some(1), 0, false),
@@ -108,14 +109,18 @@ fn is_over(alloc: Global, seconds: Option<u32>, millis: u64) -> bool {
 
 #[test]
 fn a_search_is_over_in_time(rt: HostRuntime) {
-    for (seconds, millis, over) in TIMES {
-        assert_eq!(&rt; is_over(rt.alloc(), seconds, millis), over, "{millis}");
+    for (seconds, millis, over) in &TIMES {
+        holds_for(
+            &rt,
+            is_over(rt.alloc(), *seconds, *millis) == *over,
+            &millis,
+        );
     }
 }
 
 /// Modes and devices, with whether they are of terminals: of a pseudo one, a console, the null
 /// device, a disk, a file.
-const DEVICES: [(u32, u64, bool); 6] = [
+static DEVICES: [(u32, u64, bool); 6] = [
     (0o020_620, 136 << 8 | 2, true),
     (0o020_620, 4 << 8 | 64, true),
     (0o020_666, 1 << 8 | 3, false),
@@ -126,7 +131,10 @@ const DEVICES: [(u32, u64, bool); 6] = [
 
 #[test]
 fn terminals_are_known(rt: HostRuntime) {
-    for (mode, device, is) in DEVICES {
-        assert_eq!(&rt; is_terminal_device(mode, device), is, "{mode} {device}");
+    for (mode, device, is) in &DEVICES {
+        assert!(&rt;
+            is_terminal_device(*mode, *device) == *is,
+            "{mode} {device}"
+        );
     }
 }

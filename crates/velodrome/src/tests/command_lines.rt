@@ -1,5 +1,5 @@
 //! Command lines that are right, wrong, or ask for help.
-use crate::tests::{FILES, Folder, Shown, compare, show, show_short};
+use crate::tests::{FILES, Folder, Shown, compare, holds_for, show, show_short};
 use std::alloc::Global;
 use std::io::ErrorKind;
 use std::process::Abort;
@@ -11,7 +11,7 @@ use velo_events::{MAX_EVENTS, MAX_NODES, MAX_THREADS, Refusal};
 
 /// Right words, with the status and standard error: of the two logs one raises an alarm at its last
 /// event.
-const RIGHT_WORDS: [(&[&str], u8, &str); 9] = [
+static RIGHT_WORDS: [(&[&str], u8, &str); 9] = [
     (&["velodrome", "check", "-"], 3, ""),
     (&["velodrome", "check", "--certificate", "a.log"], 3, ""),
     (&["velodrome", "check", "a.log"], 3, ""),
@@ -49,7 +49,7 @@ const RIGHT_WORDS: [(&[&str], u8, &str); 9] = [
     (&["velodrome", "--help"], 0, ""),
 ];
 
-const WRONG_WORDS: [&[&str]; 49] = [
+static WRONG_WORDS: [&[&str]; 49] = [
     &["velodrome"],
     &["velodrome", "check"],
     &["velodrome", "race", "a.log"],
@@ -142,7 +142,7 @@ const WRONG_WORDS: [&[&str]; 49] = [
 ];
 
 /// Right words that do not go together, with the line that says so.
-const WORDS_APART: [(&[&str], &str); 29] = [
+static WORDS_APART: [(&[&str], &str); 29] = [
     (
         &["velodrome", "check", "-", "--names", "-"],
         "error: standard input can be read once\n",
@@ -307,15 +307,15 @@ fn compare_right(rt: &impl Abort, shown: &Shown, status: u8, err: &str) {
         shown.out.as_slice().is_empty(),
         shown.err.as_slice(),
     );
-    assert_eq!(rt; told, (status, status > 3, err.as_bytes()));
+    assert!(rt; told == (status, status > 3, err.as_bytes()));
 }
 
 #[test]
 fn right_command_lines(rt: HostRuntime) {
     let mut folder = Folder::new(rt.alloc(), &FILES, usize::MAX);
-    for (words, status, err) in RIGHT_WORDS {
-        let shown = show(&rt, words, &mut folder);
-        compare_right(&rt, &shown, status, err);
+    for (words, status, err) in &RIGHT_WORDS {
+        let shown = show(&rt, *words, &mut folder);
+        compare_right(&rt, &shown, *status, *err);
         drop(shown);
     }
     drop(folder);
@@ -324,7 +324,7 @@ fn right_command_lines(rt: HostRuntime) {
 /// A fault of usage goes to standard error, where it is called an error once.
 fn compare_wrong(rt: &impl Abort, shown: &Shown, words: &[&str]) {
     let told = (shown.status, shown.out.as_slice().is_empty());
-    assert_eq!(rt; told, (2, true), "{words:?}");
+    assert!(rt; told == (2, true), "{words:?}");
     let err = str::from_utf8(shown.err.as_slice()).unwrap_or_default();
     let fault = err.strip_prefix("error: ");
     let is_told_once = fault.is_some_and(|fault| !fault.contains("error: "));
@@ -334,9 +334,9 @@ fn compare_wrong(rt: &impl Abort, shown: &Shown, words: &[&str]) {
 #[test]
 fn wrong_command_lines(rt: HostRuntime) {
     let mut folder = Folder::new(rt.alloc(), &FILES, usize::MAX);
-    for words in WRONG_WORDS {
-        let shown = show(&rt, words, &mut folder);
-        compare_wrong(&rt, &shown, words);
+    for words in &WRONG_WORDS {
+        let shown = show(&rt, *words, &mut folder);
+        compare_wrong(&rt, &shown, *words);
         drop(shown);
     }
     drop(folder);
@@ -345,9 +345,9 @@ fn wrong_command_lines(rt: HostRuntime) {
 #[test]
 fn words_that_do_not_go_together(rt: HostRuntime) {
     let mut folder = Folder::new(rt.alloc(), &FILES, usize::MAX);
-    for (words, line) in WORDS_APART {
-        let shown = show(&rt, words, &mut folder);
-        compare(&rt, &shown, "", line, 2, line);
+    for (words, line) in &WORDS_APART {
+        let shown = show(&rt, *words, &mut folder);
+        compare(&rt, &shown, "", *line, 2, *line);
         assert!(rt; !folder.has_created, "{line}");
         drop(shown);
     }
@@ -355,7 +355,7 @@ fn words_that_do_not_go_together(rt: HostRuntime) {
 }
 
 /// Words that ask for help, and its end.
-const HELP: [(&[&str], &str); 16] = [
+static HELP: [(&[&str], &str); 16] = [
     (&["velodrome", "replay", "--help"], help::OF_REPLAY),
     (&["velodrome", "run", "--help"], help::OF_RUN),
     (&["velodrome", "explain", "--help"], help::OF_EXPLAIN),
@@ -377,7 +377,7 @@ const HELP: [(&[&str], &str); 16] = [
 /// Help goes to standard output, and has this end.
 fn compare_help(rt: &impl Abort, shown: &Shown, end: &str) {
     let told = (shown.status, shown.err.as_slice().is_empty());
-    assert_eq!(rt; told, (0, true));
+    assert!(rt; told == (0, true));
     let help = shown.out.as_slice().trim_ascii_end();
     assert!(rt; help.ends_with(end.as_bytes()), "{end}");
 }
@@ -385,16 +385,16 @@ fn compare_help(rt: &impl Abort, shown: &Shown, end: &str) {
 #[test]
 fn help_goes_to_standard_output(rt: HostRuntime) {
     let mut folder = Folder::new(rt.alloc(), &FILES, usize::MAX);
-    for (words, end) in HELP {
-        let shown = show(&rt, words, &mut folder);
-        compare_help(&rt, &shown, end);
+    for (words, end) in &HELP {
+        let shown = show(&rt, *words, &mut folder);
+        compare_help(&rt, &shown, *end);
         drop(shown);
     }
     drop(folder);
 }
 
 /// The words of a command's help before a limit and after it.
-const LIMITS: [(&str, &str, u32, &str); 19] = [
+static LIMITS: [(&str, &str, u32, &str); 19] = [
     ("check", "have, 1 to ", MAX_EVENTS, " ["),
     ("check", "at once, 1 to ", MAX_NODES as u32, " ["),
     ("replay", "have, 1 to ", MAX_EVENTS, " ["),
@@ -425,8 +425,8 @@ fn has_words(shown: &Shown, words: &str) -> bool {
 #[test]
 fn help_has_the_limits(rt: HostRuntime) {
     let mut folder = Folder::new(rt.alloc(), &FILES, usize::MAX);
-    for (command, before, limit, after) in LIMITS {
-        let shown = show(&rt, &["velodrome", command, "--help"], &mut folder);
+    for (command, before, limit, after) in &LIMITS {
+        let shown = show(&rt, &["velodrome", *command, "--help"], &mut folder);
         let words = format!(in rt.alloc(); "{before}{limit}{after}").expect(&rt, "memory");
         assert!(rt; has_words(&shown, words.as_str()), "{command}: {words}");
         drop((shown, words));
@@ -437,17 +437,17 @@ fn help_has_the_limits(rt: HostRuntime) {
 #[test]
 fn help_without_standard_output(rt: HostRuntime) {
     let mut folder = Folder::new(rt.alloc(), &FILES, usize::MAX);
-    for (words, end) in HELP {
-        let shown = show_short(&rt, rt.alloc(), words, &mut folder, 9);
-        assert_eq!(rt; shown.status, 5, "{end}");
-        assert_eq!(rt; shown.err.as_slice(), b"write failed\n".as_slice());
+    for (words, end) in &HELP {
+        let shown = show_short(&rt, rt.alloc(), *words, &mut folder, 9);
+        holds_for(&rt, shown.status == 5, &end);
+        assert!(rt; shown.err.as_slice() == b"write failed\n".as_slice());
         drop(shown);
     }
     drop(folder);
 }
 
 /// The refusals that a check can report.
-const REFUSALS: [Refusal; 17] = [
+static REFUSALS: [Refusal; 17] = [
     Refusal::NotLive,
     Refusal::NoSuchVariable,
     Refusal::NoSuchLock,
@@ -470,8 +470,8 @@ const REFUSALS: [Refusal; 17] = [
 /// What help says of a number is the text of its refusal.
 #[test]
 fn help_has_the_texts_of_refusals(rt: HostRuntime) -> Result<(), Fail> {
-    for refusal in REFUSALS {
-        let number = refusal as u8;
+    for refusal in &REFUSALS {
+        let number = *refusal as u8;
         let line = format!(in rt.alloc(); "\n{number:>4}  {refusal}")?;
         assert!(rt; help::OF_CHECK.contains(line.as_str()), "{line}");
     }
@@ -479,7 +479,7 @@ fn help_has_the_texts_of_refusals(rt: HostRuntime) -> Result<(), Fail> {
 }
 
 /// What a program without words prints for a fault, with its status.
-const WORDLESS: [(ErrorKind, &str, u8); 2] = [
+static WORDLESS: [(ErrorKind, &str, u8); 2] = [
     (ErrorKind::OutOfMemory, "out of memory\n", 5),
     (
         ErrorKind::InvalidData,
@@ -498,12 +498,12 @@ fn show_wordless(alloc: Global, kind: ErrorKind, room: usize) -> Shown {
 
 #[test]
 fn words_that_are_missing(rt: HostRuntime) {
-    for (kind, line, status) in WORDLESS {
-        let shown = show_wordless(rt.alloc(), kind, usize::MAX);
-        compare(&rt, &shown, "", line, status, line);
+    for (kind, line, status) in &WORDLESS {
+        let shown = show_wordless(rt.alloc(), *kind, usize::MAX);
+        compare(&rt, &shown, "", *line, *status, *line);
         drop(shown);
-        let closed = show_wordless(rt.alloc(), kind, 0);
-        compare(&rt, &closed, "", "", 5, line);
+        let closed = show_wordless(rt.alloc(), *kind, 0);
+        compare(&rt, &closed, "", "", 5, *line);
         drop(closed);
     }
 }

@@ -1,7 +1,7 @@
 //! All schedules of workloads.
 ghost use Rattle.std.specs.Prelude.{◌≡◌, is_some};
 
-use crate::tests::{Folder, Shown, compare};
+use crate::tests::{Folder, Shown, compare, holds_for};
 use std::alloc::Global;
 use std::process::Abort;
 use std::sync::Wait;
@@ -367,11 +367,10 @@ fn explore_it<R: Threads + Wait + Abort + Sync>(rt: &R, alloc: Global, row: &Row
     let status = end_with(&fate, &mut err);
     let shown = Shown { out, err, status };
     compare(rt, &shown, row.out, row.err, row.status, row.workload);
-    assert_eq!(rt;
-        folder.created(),
-        row.log.map(|log| log.as_bytes()),
-        "{}",
-        row.workload
+    holds_for(
+        rt,
+        folder.created() == row.log.map(|log| log.as_bytes()),
+        &row.workload,
     );
     drop((shown, folder));
 }

@@ -39,10 +39,10 @@ fn a_refused_growth_of_a_check(rt: HostRuntime) {
             true,
         )
     );
-    assert_eq!(rt; checked, Ok(Verdict::Alarm));
+    assert!(rt; checked == Ok(Verdict::Alarm));
     drop(sink);
-    assert_eq!(rt; space.as_slice().get(..written.len()), Some(written));
-    assert_eq!(rt; space.as_slice().get(written.len()), Some(&0));
+    assert!(rt; space.as_slice().get(..written.len()) == Some(written));
+    assert!(rt; space.as_slice().get(written.len()) == Some(&0));
 }
 
 /// Nothing is written where a growth is refused. The sink takes no growth itself.
@@ -59,10 +59,10 @@ fn a_refused_growth_of_a_log_that_is_carried_over(rt: HostRuntime) {
             &mut sink
         )
     );
-    assert_eq!(rt; answer, Ok(()));
+    assert!(rt; answer == Ok(()));
     drop(sink);
-    assert_eq!(rt; space.as_slice().get(..carried.len()), Some(carried));
-    assert_eq!(rt; space.as_slice().get(carried.len()), Some(&0));
+    assert!(rt; space.as_slice().get(..carried.len()) == Some(carried));
+    assert!(rt; space.as_slice().get(carried.len()) == Some(&0));
 }
 
 /// A block that has written a variable, and a thread that has done nothing.
@@ -89,7 +89,7 @@ fn read_beside(alloc: Global) -> Result<Option<Refusal>, LogReplayFault> {
 #[test]
 fn a_refused_growth_beside_a_full_graph(rt: HostRuntime) {
     let refusal = again!(LogReplayFault::Memory, read_beside(rt.alloc()));
-    assert_eq!(rt; refusal, Ok(Some(Refusal::GraphFull)));
+    assert!(rt; refusal == Ok(Some(Refusal::GraphFull)));
 }
 
 const AUDIT: &[&str] = &[
@@ -105,7 +105,7 @@ const AUDIT: &[&str] = &[
     "--no-witness",
 ];
 
-const AUDIT_FILES: [(&str, &str); 3] = [
+static AUDIT_FILES: [(&str, &str); 3] = [
     ("a", LOST_UPDATE),
     ("n", "label 7 flush\nlabel 9 f\nlock 1 m\nlock 3 m\n"),
     ("l", "f\nnot atomic 8 f\n12\n"),
@@ -144,12 +144,12 @@ fn a_refused_growth_of_an_audit(rt: HostRuntime) {
     let mut err = [0u8; 20];
     let mut status = audit_into(&rt, rt.alloc(), out.as_mut_slice(), err.as_mut_slice());
     if status == 5 {
-        assert_eq!(rt; out.as_slice().first(), Some(&0));
+        assert!(rt; out.as_slice().first() == Some(&0));
         assert!(rt; err.starts_with(b"out of memory\n\0"));
         status = audit_into(&rt, rt.alloc(), out.as_mut_slice(), err.as_mut_slice());
     }
-    assert_eq!(rt; status, 3);
+    assert!(rt; status == 3);
     let audited = AUDITED.as_bytes();
-    assert_eq!(rt; out.as_slice().get(..audited.len()), Some(audited));
-    assert_eq!(rt; out.as_slice().get(audited.len()), Some(&0));
+    assert!(rt; out.as_slice().get(..audited.len()) == Some(audited));
+    assert!(rt; out.as_slice().get(audited.len()) == Some(&0));
 }

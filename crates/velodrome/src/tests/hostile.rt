@@ -75,7 +75,7 @@ fn show<R: Threads + Wait + Sync>(
 }
 
 /// Command lines with the text that they read, and their status.
-const COMMANDS: [(&[&str], &str, u8); 5] = [
+static COMMANDS: [(&[&str], &str, u8); 5] = [
     (&["velodrome", "check", "a.log"], LOST_UPDATE, 3),
     (
         &["velodrome", "check", "-", "--certificate"],
@@ -126,9 +126,9 @@ fn fail_read<R: Threads + Wait + Abort + Sync>(
 
 #[test]
 fn reads_fail_at_each_byte(rt: HostRuntime) {
-    for (words, text, _) in COMMANDS {
+    for (words, text, _) in &COMMANDS {
         for count in 0..=text.len() {
-            fail_read(&rt, rt.alloc(), words, text, count);
+            fail_read(&rt, rt.alloc(), *words, *text, count);
         }
     }
 }
@@ -151,7 +151,7 @@ fn compare_failed(rt: &impl Abort, written: &Text, whole: &Text, count: usize, s
         b"write failed\n".as_slice(),
         5u8,
     );
-    assert_eq!(rt; told, wanted);
+    assert!(rt; told == wanted);
 }
 
 /// Lets the write to standard output after a number of bytes fail. What goes to a file went there
@@ -167,7 +167,10 @@ fn fail_output<R: Threads + Wait + Abort + Sync>(
     let shown = show(rt, words, &mut devices, count);
     compare_failed(rt, &shown.out, &whole.0.out, count, &shown);
     let file = whole.1.output.as_slice();
-    assert_eq!(rt; devices.output.as_slice(), file, "{count} bytes of {text}");
+    assert!(rt;
+        devices.output.as_slice() == file,
+        "{count} bytes of {text}"
+    );
     drop((shown, devices));
 }
 
@@ -189,12 +192,12 @@ fn fail_file<R: Threads + Wait + Abort + Sync>(
 
 #[test]
 fn writes_to_standard_output_fail(rt: HostRuntime) {
-    for (words, text, status) in COMMANDS {
+    for (words, text, status) in &COMMANDS {
         let mut devices = Devices::new(rt.alloc(), text.as_bytes());
-        let whole = show(&rt, words, &mut devices, usize::MAX);
-        assert_eq!(rt; whole.status, status);
+        let whole = show(&rt, *words, &mut devices, usize::MAX);
+        assert!(rt; whole.status == *status);
         for count in 0..whole.out.as_slice().len() {
-            fail_output(&rt, words, text, (&whole, &devices), count);
+            fail_output(&rt, *words, *text, (&whole, &devices), count);
         }
         drop((whole, devices));
     }
@@ -202,12 +205,12 @@ fn writes_to_standard_output_fail(rt: HostRuntime) {
 
 #[test]
 fn writes_to_files_fail(rt: HostRuntime) {
-    for (words, text, status) in COMMANDS {
+    for (words, text, status) in &COMMANDS {
         let mut devices = Devices::new(rt.alloc(), text.as_bytes());
-        let whole = show(&rt, words, &mut devices, usize::MAX);
-        assert_eq!(rt; whole.status, status);
+        let whole = show(&rt, *words, &mut devices, usize::MAX);
+        assert!(rt; whole.status == *status);
         for count in 0..devices.output.as_slice().len() {
-            fail_file(&rt, words, text, &devices, count);
+            fail_file(&rt, *words, *text, &devices, count);
         }
         drop((whole, devices));
     }
@@ -215,7 +218,7 @@ fn writes_to_files_fail(rt: HostRuntime) {
 
 /// What the program shows of the lost update cut off after a number of whole lines, and within the
 /// next one.
-const CUT_OFF: [(&str, &str); 6] = [
+static CUT_OFF: [(&str, &str); 6] = [
     ("", "log fault 1\n"),
     (
         "events 0\nthread 0 0\nthread 1 0\nverdict clean\n",
@@ -260,7 +263,7 @@ fn check_cut_off<R: Threads + Wait + Abort + Sync>(
 #[test]
 fn logs_are_cut_off_at_each_byte(rt: HostRuntime) {
     let log = LOST_UPDATE.as_bytes();
-    assert_eq!(rt; log.len(), 59);
+    assert!(rt; log.len() == 59);
     for count in 0..log.len() {
         let front = &log[..count];
         let lines = front.iter().filter(|byte| **byte == b'\n').count();
@@ -279,17 +282,15 @@ fn spoil(text: &mut Vec<u8>, dice: &mut Dice) -> Result<(), Fail> {
         Some(byte) => *byte,
         None => b' ',
     };
-    match dice.below(16) {
-        0 => text.truncate(at),
-        1..4 if at < text.len() => {
-            text.remove(at);
-        }
-        4..8 if at < text.len() => text.insert(at, byte)?,
-        _ => {
-            if let Some(place) = text.get_mut(at) {
-                *place = byte;
-            }
-        }
+    let throw = dice.below(16);
+    if throw == 0 {
+        text.truncate(at);
+    } else if throw < 4 && at < text.len() {
+        text.remove(at);
+    } else if throw < 8 && at < text.len() {
+        text.insert(at, byte)?;
+    } else if let Some(place) = text.get_mut(at) {
+        *place = byte;
     }
     Ok(())
 }
@@ -338,7 +339,7 @@ fn slow_answer_of(alloc: Global, bounds: Bounds, trace: &Trace) -> Result<String
 }
 
 /// Logs that are spoiled.
-const LOGS: [&str; 4] = [
+static LOGS: [&str; 4] = [
     LOST_UPDATE,
     "vlog 2 3 2 2\n0 fork 1\n0 begin 1\n0 acqs 0\n1 begin 2\n1 acqs 0\n0 rd 0 0\n1 rd 0 0\n1 rels 0\n0 rels 0\n1 acq 0\n1 wr 1 4\n1 rel 0\n0 acqs 0\n0 rels 0\n0 acqs 1\n1 end\n0 end\n",
     "vlog 1 3 2 2\n0 fork 1\n0 begin 1\n0 acq 0\n0 rd 0 0\n0 wr 0 1\n0 rel 0\n1 acq 0\n1 rd 0 1\n1 wr 1 4\n1 rel 0\n0 rd 1 4\n0 end\n1 exit\n0 join 1\n",

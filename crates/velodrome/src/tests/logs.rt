@@ -1,6 +1,8 @@
 //! Logs are checked, explained and certified.
 use crate::tests::workloads::COLLIDING_LOG;
-use crate::tests::{Folder, LOST_UPDATE, LOST_UPDATE_CERTIFIED, LOST_UPDATE_REPORT, compare, show};
+use crate::tests::{
+    Folder, LOST_UPDATE, LOST_UPDATE_CERTIFIED, LOST_UPDATE_REPORT, compare, holds_for, show,
+};
 use std::alloc::Global;
 use std::process::Abort;
 use std::sync::Wait;
@@ -528,7 +530,7 @@ fn explain<R: Threads + Wait + Abort + Sync>(rt: &R, alloc: Global, known: &Expl
     let shown = show(rt, &asked, &mut folder);
     compare(rt, &shown, known.words, "", known.status, known.log);
     let picture = known.picture.map(str::as_bytes);
-    assert_eq!(rt; folder.created(), picture, "{}", known.log);
+    holds_for(rt, folder.created() == picture, &known.log);
     drop((shown, folder));
 }
 
@@ -540,7 +542,7 @@ fn verdicts_are_explained(rt: HostRuntime) {
 }
 
 /// Logs with their report and the certificate after it.
-const CERTIFIED: [(&str, &str); 7] = [
+static CERTIFIED: [(&str, &str); 7] = [
     ("vlog 1 1 0 0\n", "events 0\nthread 0 0\nverdict clean\n"),
     (LOST_UPDATE, LOST_UPDATE_CERTIFIED),
     (SHARED, SHARED_CERTIFIED),
@@ -561,14 +563,14 @@ const CERTIFIED: [(&str, &str); 7] = [
 
 #[test]
 fn certificates_are_written(rt: HostRuntime) {
-    for (log, written) in CERTIFIED {
+    for (log, written) in &CERTIFIED {
         let mut sink = Text::new(rt.alloc()).in_steps(1);
         let mut source = Bytes::new(log.as_bytes());
         check_run(rt.alloc(), &mut source, &mut sink, MAX_EVENTS, 1024, true).expect(
             &rt,
             "a verdict",
         );
-        assert_eq!(rt; sink.as_slice(), written.as_bytes());
+        assert!(rt; sink.as_slice() == written.as_bytes());
         drop(sink);
     }
 }

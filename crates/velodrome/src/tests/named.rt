@@ -325,13 +325,13 @@ fn play_row<R: Threads + Wait + Abort + Sync>(
     let shown = play(rt, alloc, &request, &mut shelf);
     let out = if row.err.is_empty() { out } else { "" };
     compare(rt, &shown, out, row.err, row.status, row.err);
-    assert_eq!(rt;
-        shelf.calls,
-        row.calls,
+    assert!(rt;
+        shelf.calls == row.calls,
         "{how:?} {:?} {:?}",
-        row.target, row.names_target
+        row.target,
+        row.names_target
     );
-    assert_eq!(rt; shelf.names.as_slice(), row.names.as_bytes(), "{how:?}");
+    assert!(rt; shelf.names.as_slice() == row.names.as_bytes(), "{how:?}");
     drop((shown, shelf));
 }
 
@@ -377,7 +377,7 @@ fn names_behind_the_log_of_a_run(rt: HostRuntime) {
     let has_names = shelf.names.as_slice() == NAMES.as_bytes();
     drop((shown, shelf));
     assert!(rt; is_told && has_names);
-    assert_eq!(rt; calls, 1234);
+    assert!(rt; calls == 1234);
 }
 
 /// Where nothing is found there is neither a log nor names.
@@ -389,7 +389,7 @@ fn no_names_without_a_finding(rt: HostRuntime) {
     let status = shown.status;
     let calls = shelf.calls;
     drop((shown, shelf));
-    assert_eq!(rt; (status, calls), (0, 0));
+    assert!(rt; (status, calls) == (0, 0));
 }
 
 /// A writer that takes all.
@@ -529,11 +529,11 @@ fn a_refused_growth_before_names(rt: HostRuntime) {
     let mut out = [0u8; 200];
     let (fate, count) = count_opened(&rt, rt.alloc(), &request, out.as_mut_slice());
     if !matches!(fate, Fate::Finished { alarm: true, .. }) {
-        assert_eq!(rt; (count, out.as_slice().first()), (0, Some(&0)));
+        assert!(rt; (count, out.as_slice().first()) == (0, Some(&0)));
         let again = count_opened(&rt, rt.alloc(), &request, out.as_mut_slice());
-        assert_eq!(rt; again.1, 2);
+        assert!(rt; again.1 == 2);
     } else {
-        assert_eq!(rt; count, 2);
+        assert!(rt; count == 2);
     }
     assert!(rt; out.starts_with(REPLAYED.as_bytes()));
 }

@@ -1,6 +1,6 @@
 //! Which fault is reported where two would be, and what is opened and written before it is.
 use crate::tests::workloads::COLLIDING;
-use crate::tests::{Folder, LOST_UPDATE, compare, show};
+use crate::tests::{Folder, LOST_UPDATE, compare, holds_for, show};
 use std::alloc::Global;
 use std::process::Abort;
 use std::sync::Wait;
@@ -265,7 +265,7 @@ fn do_run<R: Threads + Wait + Abort + Sync>(rt: &R, alloc: Global, run: &Run) {
     let shown = show(rt, run.words, &mut folder);
     compare(rt, &shown, run.out, run.err, run.status, run.text);
     let file = run.file.map(str::as_bytes);
-    assert_eq!(rt; folder.created(), file, "{}", run.text);
+    holds_for(rt, folder.created() == file, &run.text);
     drop((shown, folder));
 }
 

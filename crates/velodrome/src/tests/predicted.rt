@@ -1,5 +1,5 @@
 //! What a log foretells of other runs of its program.
-use crate::tests::{Folder, LOST_UPDATE, compare, show};
+use crate::tests::{Folder, LOST_UPDATE, compare, holds_for, show};
 use std::alloc::Global;
 use std::process::Abort;
 use std::sync::Wait;
@@ -178,11 +178,10 @@ fn try_told<R: Threads + Wait + Sync + Abort>(rt: &R, alloc: Global, told: &Told
     let mut folder = Folder::new(alloc, &files, 7);
     let shown = show(rt, told.words, &mut folder);
     compare(rt, &shown, told.out, told.err, told.status, told.log);
-    assert_eq!(rt;
-        folder.created(),
-        told.file.map(|text| text.as_bytes()),
-        "{}",
-        told.log
+    holds_for(
+        rt,
+        folder.created() == told.file.map(|text| text.as_bytes()),
+        &told.log,
     );
     drop((shown, folder));
 }

@@ -13,7 +13,7 @@ use velo_traces::Trace;
 use velo_world::Closed;
 
 /// Reports by names: as far as there are any, they replace the numbers.
-const NAMED: [(usize, usize, &str); 2] = [
+static NAMED: [(usize, usize, &str); 2] = [
     (
         1,
         8,
@@ -26,7 +26,7 @@ const NAMED: [(usize, usize, &str); 2] = [
 fn compare_report(rt: &impl Abort, alloc: Global, closed: &Closed, names: &Names, wanted: &str) {
     let mut sink = Text::new(alloc);
     assert!(rt; report(closed, names, &mut sink).is_ok());
-    assert_eq!(rt; sink.as_slice(), wanted.as_bytes());
+    assert!(rt; sink.as_slice() == wanted.as_bytes());
     drop(sink);
 }
 
@@ -41,14 +41,14 @@ fn copies(alloc: Global, word: &str, count: usize) -> Result<Vec<String>, AllocE
 
 /// Compares the reports by names.
 fn compare_named(rt: &impl Abort, alloc: Global, closed: &Closed) {
-    for (threads_named, labels_named, wanted) in NAMED {
-        let threads = copies(alloc, "main", threads_named).expect(rt, "memory");
-        let labels = copies(alloc, "inc", labels_named).expect(rt, "memory");
+    for (threads_named, labels_named, wanted) in &NAMED {
+        let threads = copies(alloc, "main", *threads_named).expect(rt, "memory");
+        let labels = copies(alloc, "inc", *labels_named).expect(rt, "memory");
         let names = Names::Words {
             threads: threads.as_slice(),
             labels: labels.as_slice(),
         };
-        compare_report(rt, alloc, closed, &names, wanted);
+        compare_report(rt, alloc, closed, &names, *wanted);
         drop((threads, labels));
     }
 }
@@ -83,7 +83,7 @@ fn push_events(trace: &mut Trace) -> Result<(), Fail> {
 fn ten_thousand_lines(rt: HostRuntime) -> Result<(), Fail> {
     let mut trace = Trace::new(rt.alloc());
     push_events(&mut trace)?;
-    assert_eq!(rt; trace.len(), 10_000);
+    assert!(rt; trace.len() == 10_000);
     let bounds = Bounds {
         threads: 2,
         variables: 1,
@@ -95,10 +95,10 @@ fn ten_thousand_lines(rt: HostRuntime) -> Result<(), Fail> {
     let mut source = Bytes::new(log.as_slice());
     let mut sink = Text::new(rt.alloc());
     let answer = check_run(rt.alloc(), &mut source, &mut sink, 10_000, 1024, true);
-    assert_eq!(rt; answer, Ok(Verdict::Alarm));
+    assert!(rt; answer == Ok(Verdict::Alarm));
     let lines =
         "events 10000\nthread 0 4\nthread 1 9996\nverdict alarm 9999\ntransaction 9996\nblame 9996 7\ncycle 9996 9998\n";
-    assert_eq!(rt; sink.as_slice(), lines.as_bytes());
+    assert!(rt; sink.as_slice() == lines.as_bytes());
     drop((log, sink));
     Ok(())
 }

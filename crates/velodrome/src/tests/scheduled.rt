@@ -1,6 +1,6 @@
 //! Replays by turns, by those of a file, and by texts that are no schedule.
 use crate::tests::workloads::{COLLIDING, COLLIDING_REPORT};
-use crate::tests::{Folder, compare, show, show_on};
+use crate::tests::{Folder, compare, holds_for, show, show_on};
 use std::alloc::Global;
 use std::cell::Cell;
 use std::process::Abort;
@@ -203,23 +203,23 @@ fn opens_a_file<R: Threads + Wait + Abort + Sync>(
     let (out, err) = (Text::new(alloc), Text::new(alloc));
     let shown = show_on(rt, alloc, &words, &mut files, out, err);
     let is_opened = files.is_opened.get();
-    assert_eq!(rt;
-        (shown.err.as_slice(), shown.status),
-        (told.0.as_bytes(), told.1),
-        "{value}"
+    holds_for(
+        rt,
+        (shown.err.as_slice(), shown.status) == (told.0.as_bytes(), told.1),
+        &value,
     );
     drop((shown, files));
     is_opened
 }
 
 /// What `--schedule` does not take, though `--turns` takes some of it.
-const NO_NUMBERS: [&str; 15] = [
+static NO_NUMBERS: [&str; 15] = [
     "0*3 1", "0*2", "@s", "@-", "@", "0  1", " 0", "0 ", " ", "01", "64", "0\t1", "\t", "0\n",
     "0 x",
 ];
 
 /// What `--turns` does not take.
-const NO_TURNS: [&str; 10] = [
+static NO_TURNS: [&str; 10] = [
     "0*1",
     "0*03",
     "0*3  1",
@@ -235,16 +235,18 @@ const NO_TURNS: [&str; 10] = [
 #[test]
 fn no_file_is_opened_for_a_bad_schedule(rt: HostRuntime) {
     let bad = ("bad schedule\n", 2);
-    for text in NO_NUMBERS {
-        assert!(rt;
-            !opens_a_file(&rt, rt.alloc(), "--schedule", text, bad),
-            "{text}"
+    for text in &NO_NUMBERS {
+        holds_for(
+            &rt,
+            !opens_a_file(&rt, rt.alloc(), "--schedule", *text, bad),
+            &text,
         );
     }
-    for text in NO_TURNS {
-        assert!(rt;
-            !opens_a_file(&rt, rt.alloc(), "--turns", text, bad),
-            "{text}"
+    for text in &NO_TURNS {
+        holds_for(
+            &rt,
+            !opens_a_file(&rt, rt.alloc(), "--turns", *text, bad),
+            &text,
         );
     }
     assert!(rt; opens_a_file(&rt, rt.alloc(), "--schedule", "0 1", ("", 0)));

@@ -25,7 +25,7 @@ const Y: VarId = VarId(1);
 const LOCK: LockId = LockId(0);
 
 /// What a throw of the dice may say.
-const ACTIONS: [Action; 32] = [
+static ACTIONS: [Action; 32] = [
     Action::Read(X),
     Action::Read(X),
     Action::Read(X),

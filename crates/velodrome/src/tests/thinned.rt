@@ -1,5 +1,5 @@
 //! Logs are thinned: what is left, the map, and the counts.
-use crate::tests::{Folder, LOST_UPDATE, carried, compare, show};
+use crate::tests::{Folder, LOST_UPDATE, carried, compare, holds_for, show};
 use std::alloc::Global;
 use std::process::Abort;
 use std::sync::Wait;
@@ -75,11 +75,10 @@ fn thin<R: Threads + Wait + Abort + Sync>(rt: &R, alloc: Global, run: &Run, step
     let mut folder = Folder::new(alloc, &files, step);
     let shown = show(rt, run.words, &mut folder);
     compare(rt, &shown, run.out, run.err, run.status, run.log);
-    assert_eq!(rt;
-        folder.created(),
-        run.file.map(|text| text.as_bytes()),
-        "{}",
-        run.log
+    holds_for(
+        rt,
+        folder.created() == run.file.map(|text| text.as_bytes()),
+        &run.log,
     );
     drop((shown, folder));
 }

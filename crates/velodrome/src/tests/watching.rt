@@ -1,5 +1,6 @@
 //! A log that is watched: the line of its alarm, then its report, and what stops it.
 use super::LOST_UPDATE;
+use crate::tests::holds_for;
 use std::alloc::Global;
 use std::process::Abort;
 use std::sync::Wait;
@@ -96,8 +97,8 @@ fn watch<R: Threads + Wait + Sync, O: Sink>(
 
 /// Compares what was printed and the fate with what is wanted.
 fn compare_told(rt: &impl Abort, out: &Text, fate: Fate, text: &str, wanted: Fate, log: &str) {
-    assert_eq!(rt; out.as_slice(), text.as_bytes(), "{log}");
-    assert_eq!(rt; fate, wanted, "{log}");
+    holds_for(rt, out.as_slice() == text.as_bytes(), &log);
+    holds_for(rt, fate == wanted, &log);
 }
 
 /// What is printed of a log, with a limit of events.
@@ -329,8 +330,8 @@ fn writes_fail_while_watching(rt: HostRuntime) {
         } else {
             ALARM
         };
-        assert_eq!(rt; out.as_slice(), &written[..count]);
-        assert_eq!(rt; fate, wanted);
+        assert!(rt; out.as_slice() == &written[..count]);
+        assert!(rt; fate == wanted);
         drop(out);
     }
 }
@@ -362,10 +363,7 @@ fn a_refused_growth_of_a_watch(rt: HostRuntime) {
         );
         fate = certify(&rt, rt.alloc(), space.as_mut_slice());
     }
-    assert_eq!(rt; fate, ALARM);
-    assert_eq!(rt;
-        space.as_slice().get(..CERTIFIED.len()),
-        Some(CERTIFIED.as_bytes())
-    );
-    assert_eq!(rt; space.as_slice().get(CERTIFIED.len()), Some(&0));
+    assert!(rt; fate == ALARM);
+    assert!(rt; space.as_slice().get(..CERTIFIED.len()) == Some(CERTIFIED.as_bytes()));
+    assert!(rt; space.as_slice().get(CERTIFIED.len()) == Some(&0));
 }

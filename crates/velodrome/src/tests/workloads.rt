@@ -1,5 +1,5 @@
 //! Workloads, replayed by schedules and run by threads.
-use crate::tests::{Folder, compare, show};
+use crate::tests::{Folder, compare, holds_for, show};
 use std::alloc::Global;
 use std::process::Abort;
 use std::sync::Wait;
@@ -418,7 +418,7 @@ fn do_work<R: Threads + Wait + Abort + Sync>(rt: &R, alloc: Global, run: &Work, 
     let shown = show(rt, run.words, &mut folder);
     compare(rt, &shown, run.out, run.err, run.status, run.workload);
     let log = folder.output.as_slice();
-    assert_eq!(rt; log, run.log.as_bytes(), "{}", run.workload);
+    holds_for(rt, log == run.log.as_bytes(), &run.workload);
     drop((shown, folder));
 }
 
@@ -431,7 +431,7 @@ fn workloads_run(rt: HostRuntime) {
 }
 
 /// Texts of schedules, with the numbers that they mean.
-const SCHEDULES: [(&str, &[u8]); 6] = [
+static SCHEDULES: [(&str, &[u8]); 6] = [
     ("", &[]),
     ("0", &[0]),
     ("63", &[63]),
@@ -440,7 +440,7 @@ const SCHEDULES: [(&str, &[u8]); 6] = [
     ("1 1", &[1, 1]),
 ];
 
-const BAD_SCHEDULES: [&str; 21] = [
+static BAD_SCHEDULES: [&str; 21] = [
     "64", "01", "0 x", " ", " 0", "0 ", "0  1", "100", "+1", "-1", "70", "0,1", "0\t1", "0\n",
     "00", "x", "0*3 1", "0 1*2", "*", "@s", "@",
 ];
@@ -448,7 +448,7 @@ const BAD_SCHEDULES: [&str; 21] = [
 /// Compares a schedule with the numbers that its text means.
 fn compare_schedule(rt: &impl Abort, alloc: Global, text: &str, numbers: &[u8]) {
     let schedule = schedule_of(alloc, text).expect(rt, "a schedule");
-    assert_eq!(rt; schedule.len(), numbers.len(), "{text}");
+    assert!(rt; schedule.len() == numbers.len(), "{text}");
     assert!(rt;
         schedule.iter().zip(numbers).all(|(t, n)| t.0 == *n),
         "{text}"
@@ -458,17 +458,18 @@ fn compare_schedule(rt: &impl Abort, alloc: Global, text: &str, numbers: &[u8]) 
 
 #[test]
 fn schedules_are_read(rt: HostRuntime) {
-    for (text, numbers) in SCHEDULES {
-        compare_schedule(&rt, rt.alloc(), text, numbers);
+    for (text, numbers) in &SCHEDULES {
+        compare_schedule(&rt, rt.alloc(), *text, *numbers);
     }
 }
 
 #[test]
 fn bad_schedules(rt: HostRuntime) {
-    for text in BAD_SCHEDULES {
-        assert!(rt;
-            schedule_of(rt.alloc(), text) == Err(ScheduleFault::Bad),
-            "{text}"
+    for text in &BAD_SCHEDULES {
+        holds_for(
+            &rt,
+            schedule_of(rt.alloc(), *text) == Err(ScheduleFault::Bad),
+            &text,
         );
     }
 }

@@ -1,10 +1,11 @@
 //! Which words are passed on.
 use super::with_why;
+use crate::tests::holds_for;
 use std::alloc::Global;
 use std::test::Fail;
 
 /// Command lines, whether standard error is a terminal, and what is passed on.
-const LINES: &[(&str, bool, &str)] = &[
+static LINES: &[(&str, bool, &str)] = &[
     ("velodrome", true, "velodrome "),
     ("velodrome check a", true, "velodrome check --why a "),
     ("velodrome check a", false, "velodrome check a "),
@@ -54,10 +55,10 @@ fn are_passed(alloc: Global, line: &str, is_terminal: bool, passed: &str) -> boo
 #[test]
 fn why_is_on_on_a_terminal(rt: HostRuntime) -> Result<(), Fail> {
     for (line, is_terminal, passed) in LINES {
-        assert_eq!(rt;
+        holds_for(
+            &rt,
             are_passed(rt.alloc(), line, *is_terminal, passed),
-            true,
-            "{line}"
+            &line,
         );
     }
     Ok(())

@@ -2,7 +2,7 @@ use Rattle.velo_search.specs.declared.fault.Fault.{Fault}
 use Rattle.velo_search.specs.declared.fault.Fault.TheVariants.{Cycle, Refusing, Stuck}
 use Rattle.velo_explore.specs.declared.finding.Findings.{Findings}
 use Rattle.velo_explore.specs.Goals.{Shows, finding_of}
-use Rattle.velo_explore.specs.Told.{OnShown}
+use Rattle.velo_explore.specs.Told.{IfShown}
 use Rattle.velo_explore.proofs.OnTold.{each_fault}
 use Rattle.velo_shrink.specs.Simple.{IsSayable, SimplifiesFinding}
 use Rattle.velo_shrink.proofs.OnShown.{kept-first}
@@ -28,9 +28,9 @@ returns c =
     record {
       simple =
           each_fault (λ (f : Fault). SimplifiesFinding program c.args.config (finding_of found f) (finding_of told f)) alarm.simple stuck.simple refused.simple;
-      shows = each_fault (λ (f : Fault). OnShown (finding_of told f) (Shows program c.args.config)) alarm.shows stuck.shows refused.shows;
+      shows = each_fault (λ (f : Fault). IfShown (finding_of told f) (Shows program c.args.config)) alarm.shows stuck.shows refused.shows;
       sayable =
-          each_fault (λ (f : Fault). OnShown (finding_of told f) (λ witness. IsSayable witness.schedule.items)) alarm.sayable stuck.sayable refused.sayable;
+          each_fault (λ (f : Fault). IfShown (finding_of told f) (λ witness. IsSayable witness.schedule.items)) alarm.sayable stuck.sayable refused.sayable;
       first =
           kept-first program c.args.config c.in_ok-alarm.alarm c.in_ok-stuck.stuck c.in_ok-refused.refused _ _ _ _ c.requires.none alarm.first stuck.first
           refused.first;
