@@ -30,7 +30,7 @@ use Rattle.velo_request.specs.declared.request.ThinOptions.{ThinOptions}
 use Rattle.velo_request.specs.declared.request.VerifyOptions.{VerifyOptions}
 use Rattle.velo_request.specs.declared.request.Request.{Request}
 use Rattle.velo_request.specs.declared.request.Request.TheVariants.{Audit, Carry, Check, Explain, Explore, Predict, Replay, Run, Thin, Verify, Watch, WatchEndless}
-use Rattle.velo_arguments.specs.Asked.{AreLeftOut, AreLimits, AreRandomRuns, AreSeconds, AreTurns, AsksFor, AsksForNothing, AsksAudit, AsksCarry, AsksCheck, AsksExplain, AsksExplore, IsFlag, AsksPredict, AsksReplay, AsksRun, IsSchedule, IsSeed, AsksThin, AsksVerify, WritesNumber, form_of, text_or_json_of}
+use Rattle.velo_arguments.specs.Asked.{AreLeftOut, AreLimits, AreRandomRuns, AreSeconds, AreTurns, AsksFor, AsksForNothing, AsksAudit, AsksCarry, AsksCheck, AsksExplain, AsksExplore, IsFlag, AsksPredict, AsksReplay, AsksRun, IsScheduleSource, IsSeed, AsksThin, AsksVerify, WritesNumber, form_of, text_or_json_of}
 use Rattle.velo_arguments.specs.CommandLine.{asked_by, audit, carry, check, command_line, explain, explore, faults_of, predict, replay, run, thin, verify, watch}
 use Rattle.velo_arguments.proofs.OnLimits.{HasLimit, HasWide, HasWord, MayHave}
 use Rattle.velo_arguments.proofs.OnWalk.{Each, found_has}
@@ -163,7 +163,7 @@ some_turns (b ∷ rest) =
     ⊎_elim (λ at. (source.File (a_path rest), ap (λ c. c ∷ rest) at.1)) (λ other. (source.Turns (a_path (b ∷ rest)), (refl, λ path e. other.1 (ap (λ xs. get_or xs 0 0) e))))
     (eqb_tells b 64)
 
-a_schedule : (turns text : Option Text) → (source : ScheduleSource) × IsSchedule turns text source
+a_schedule : (turns text : Option Text) → (source : ScheduleSource) × IsScheduleSource turns text source
 unfolding a_path
 a_schedule (Some turns) text = some_turns turns
 a_schedule None text = (source.Text (a_path (unwrap_or text [])), refl)

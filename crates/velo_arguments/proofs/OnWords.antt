@@ -27,7 +27,7 @@ use Rattle.velo_request.specs.declared.request.ThinOptions.{ThinOptions}
 use Rattle.velo_request.specs.declared.request.VerifyOptions.{VerifyOptions}
 use Rattle.velo_request.specs.declared.request.WatchOptions.{WatchOptions}
 use Rattle.velo_request.specs.declared.request.Request.TheVariants.{Audit, Carry, Check, Explain, Explore, Predict, Replay, Run, Thin, Verify, Watch, WatchEndless}
-use Rattle.velo_arguments.specs.Asked.{AreTurns, AsksFor, IsFlag, IsSchedule, WritesNumber}
+use Rattle.velo_arguments.specs.Asked.{AreTurns, AsksFor, IsFlag, IsScheduleSource, WritesNumber}
 use Rattle.velo_arguments.specs.CommandLine.{asked_by, faults_of}
 use Rattle.velo_arguments.specs.Together.{given_by}
 
@@ -81,7 +81,7 @@ unfolding asked_by walked
 replay_asks options text schedule says file stop log names events nodes certificate why = (
   refl,
   (
-    subst (IsSchedule None (Some (codes "@s"))) (sym schedule) (sym says),
+    subst (IsScheduleSource None (Some (codes "@s"))) (sym schedule) (sym says),
     (ap Some (sym file), search rules, ap (option_map (λ path. path.now)) (sym log), ap (option_map (λ path. path.now)) (sym names), search rules, search rules, search rules),
   ),
 )
@@ -105,7 +105,7 @@ unfolding asked_by walked
 bare_asks options text schedule says file stop log names events nodes certificate why = (
   refl,
   (
-    subst (IsSchedule None None) (sym schedule) (sym says),
+    subst (IsScheduleSource None None) (sym schedule) (sym says),
     (ap Some (sym file), search rules, ap (option_map (λ path. path.now)) (sym log), ap (option_map (λ path. path.now)) (sym names), search rules, search rules, search rules),
   ),
 )

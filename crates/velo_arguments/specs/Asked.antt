@@ -82,14 +82,14 @@ AreTurns word (schedule.Turns turns) =
 AreTurns word (schedule.File path) = word ≡ codes "@" ++ path.now
 
 -- the turns, where they are given; else the text, and without one the empty one
-abbrev pub IsSchedule : Option Text → Option Text → ScheduleSource → Type 0
-IsSchedule (Some turns) text source = AreTurns turns source
-IsSchedule None text (schedule.Text found) = unwrap_or text [] ≡ found.now
-IsSchedule None text source = ⊥
+abbrev pub IsScheduleSource : Option Text → Option Text → ScheduleSource → Type 0
+IsScheduleSource (Some turns) text source = AreTurns turns source
+IsScheduleSource None text (schedule.Text found) = unwrap_or text [] ≡ found.now
+IsScheduleSource None text source = ⊥
 
 abbrev pub AsksReplay : List Row → ReplayOptions → Type 0
 AsksReplay rows options =
-    IsSchedule (first_of (codes "turns") rows) (first_of (codes "schedule") rows) options.schedule
+    IsScheduleSource (first_of (codes "turns") rows) (first_of (codes "schedule") rows) options.schedule
     × AsksRun rows options.run
 
 -- this is left out

@@ -15,7 +15,7 @@ ghost use Rattle.velo_request.specs.declared.request.RunOptions.{RunOptions};
 ghost use Rattle.velo_request.specs.declared.request.ThinOptions.{ThinOptions};
 ghost use Rattle.velo_request.specs.declared.request.VerifyOptions.{VerifyOptions};
 ghost use Rattle.velo_request.specs.declared.request.WatchOptions.{WatchOptions};
-ghost use Rattle.velo_arguments.specs.Asked.{AreLeftOut, AreLimits, AreRandomRuns, AreSeconds, AreTurns, AsksFor, AsksForNothing, AsksAudit, AsksCarry, AsksCheck, AsksEndless, AsksExplain, AsksExplore, AsksPredict, AsksReplay, AsksRun, IsSchedule, IsSeed, AsksThin, AsksVerify, AsksWatch, WritesNumber, form_named, form_of, text_or_json_named, text_or_json_of};
+ghost use Rattle.velo_arguments.specs.Asked.{AreLeftOut, AreLimits, AreRandomRuns, AreSeconds, AreTurns, AsksFor, AsksForNothing, AsksAudit, AsksCarry, AsksCheck, AsksEndless, AsksExplain, AsksExplore, AsksPredict, AsksReplay, AsksRun, IsScheduleSource, IsSeed, AsksThin, AsksVerify, AsksWatch, WritesNumber, form_named, form_of, text_or_json_named, text_or_json_of};
 
 use clap::ArgMatches;
 use velo_events::{MAX_EVENTS, MAX_NODES};
@@ -80,7 +80,7 @@ fn turns_source<'a>(word: &'a str) -> ScheduleSource<'a>
 
 /// Where the schedule is: the turns that are given, or else the text.
 fn schedule_source<'a>(found: &ArgMatches<'a>) -> ScheduleSource<'a>
-    ensures { IsSchedule (first_of (codes "turns") (rows_of (found_of found.now)))
+    ensures { IsScheduleSource (first_of (codes "turns") (rows_of (found_of found.now)))
         (first_of (codes "schedule") (rows_of (found_of found.now))) result }
 {
     match found.get_str("turns") {

@@ -7,7 +7,7 @@ use Rattle.velo_events.specs.declared.event.Event.{Event}
 use Rattle.velo_events.specs.Graph.{HasCycle}
 use Rattle.velo_events.specs.Reordering.{IsSerializable}
 use Rattle.velo_filter.specs.Left.{Omitted, rest_of, with_labels}
-use Rattle.velo_audit.specs.Rounds.{IsRound, Rounds, AreTheOnlyRounds, FirstRounds, AreFound, labels_told, labels_found, left_after, atomic_labels}
+use Rattle.velo_audit.specs.Rounds.{IsRound, Rounds, AreTheOnlyRounds, FirstRounds, AreFound, labels_told, labels_found, left_after, labels_left}
 use Rattle.velo_audit.specs.Rounds as round
 use Rattle.velo_audit.specs.Tells.{numbers_of}
 use Rattle.velo_audit.specs.Audit.{TellsTruly, AreWitnessed, RoundTells, left_behind, StandsAt, IsFullAt, IsRoundFault, IsAuditFault}
@@ -55,11 +55,11 @@ audit-fault with_witness config log start rounds left w (GraphFull place) h = re
 
 module _ (with_witness : Bool) (log : List Event) (start : Omitted) (rounds : List Told) (left : Omitted) (w : StandsAt with_witness log start rounds left) (answer : Option Told) (tells : RoundTells with_witness log left answer) (new : Omitted) (behind : new ≡ left_behind log left answer) where
   -- a round with an alarm leaves out more
-  pub audit-smaller : (told : Told) → answer ≡ Some told → atomic_labels new log < atomic_labels left log
+  pub audit-smaller : (told : Told) → answer ≡ Some told → labels_left new log < labels_left left log
   audit-smaller told is =
       let r = subst (RoundTells with_witness log left) is tells in
       let fewer = round-fewer log left (numbers_of told) r.0 in
-      omega (arith, fewer, ap (λ x. atomic_labels x log) (behind ∙ ap (left_behind log left) is))
+      omega (arith, fewer, ap (λ x. labels_left x log) (behind ∙ ap (left_behind log left) is))
 
   pub StandsAt-push : (told : Told) → answer ≡ Some told → (more : List Told) → more ≡ rounds ++ told ∷ [] → StandsAt with_witness log start more new
   StandsAt-push told is more pushed =
@@ -96,10 +96,10 @@ module _ (with_witness : Bool) (log : List Event) (start : Omitted) (rounds : Li
     pub audit-found : AreFound log start (labels_found log (map numbers_of rounds))
     audit-found = rounds-found log start (map numbers_of rounds) audit-rounds
 
-    pub audit-few : length rounds + atomic_labels new log ≤ atomic_labels start log
+    pub audit-few : length rounds + labels_left new log ≤ labels_left start log
     audit-few =
         let few = rounds-few log start (map numbers_of rounds) audit-rounds in
-        omega (arith, few, length-map rounds numbers_of, ap (λ x. atomic_labels x log) same)
+        omega (arith, few, length-map rounds numbers_of, ap (λ x. labels_left x log) same)
 
     pub audit-serializable : IsSerializable (rest_of new log)
     audit-serializable = subst (λ x. IsSerializable (rest_of x log)) (sym same) (rounds-serializable log start (map numbers_of rounds) audit-rounds)

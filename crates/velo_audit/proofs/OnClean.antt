@@ -7,7 +7,7 @@ use Rattle.velo_events.specs.Reordering.{IsSerializable}
 use Rattle.velo_filter.specs.Left.{Omitted, rest_of, with_labels}
 use Rattle.velo_filter.proofs.OnKept.{HasCycle-rest}
 use Rattle.velo_audit.specs.Audit.{RoundTells, TellsTruly, AreWitnessed, StandsAt}
-use Rattle.velo_audit.specs.Rounds.{Rounds, AreTheOnlyRounds, AreFound, labels_found, atomic_labels}
+use Rattle.velo_audit.specs.Rounds.{Rounds, AreTheOnlyRounds, AreFound, labels_found, labels_left}
 use Rattle.velo_audit.specs.Tells.{numbers_of}
 use Rattle.velo_audit.specs.declared.told.Told.{Told}
 use Rattle.velo_audit.proofs.OnAudit.{StandsAt-start, audit-rounds, audit-left, audit-only, audit-found, audit-few, audit-serializable}
@@ -37,7 +37,7 @@ module _ (with_witness : Bool) (log : List Event) (left : Omitted) (rounds : Lis
   pub clean-left : left ≡ with_labels left (labels_found log (map numbers_of rounds))
   clean-left = audit-left with_witness log left rounds left stands None tells left refl refl
 
-  pub clean-few : length rounds + atomic_labels left log ≤ atomic_labels left log
+  pub clean-few : length rounds + labels_left left log ≤ labels_left left log
   clean-few = audit-few with_witness log left rounds left stands None tells left refl refl
 
   pub clean-serializable : IsSerializable (rest_of left log)

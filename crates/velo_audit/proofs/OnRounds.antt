@@ -27,7 +27,7 @@ use Rattle.velo_events.proofs.OnUnfinished.{Contains-open_blocks}
 use Rattle.velo_traces.specs.Blocks.{label_of}
 use Rattle.velo_blame.specs.Blamed.{AreBlamedAt, thread_at}
 use Rattle.velo_filter.specs.Left.{Omitted, is_among, label_begun, is_dissolved, rest_of, place_of, is_listed, with_labels}
-use Rattle.velo_audit.specs.Rounds.{label_at, each_once, labels_in, atomic_labels, RoundNumbers, labels_told, told_of, is_some_blamed, IsRound, left_after, Rounds, labels_found, AreFound}
+use Rattle.velo_audit.specs.Rounds.{label_at, each_once, labels_in, labels_left, RoundNumbers, labels_told, told_of, is_some_blamed, IsRound, left_after, Rounds, labels_found, AreFound}
 use Rattle.velo_certify.proofs.OnClosing.{no_cycle_before}
 use Rattle.velo_filter.proofs.OnRanks.{events_staying}
 use Rattle.velo_filter.proofs.OnLeft.{stays, rest_of-is, sub-passes, stands_for, is_left_out-begin, is_dissolved-is}
@@ -274,14 +274,14 @@ count-less a b up n old new (l ∷ ls) w =
     (is_listed-cases l ls n w)
 
 -- a round leaves out at least one more label of the log
-pub round-fewer : (log : List Event) (left : Omitted) (told : RoundNumbers) → IsRound log left told → atomic_labels (with_labels left (labels_told log told)) log + 1 ≤ atomic_labels left log
+pub round-fewer : (log : List Event) (left : Omitted) (told : RoundNumbers) → IsRound log left told → labels_left (with_labels left (labels_told log told)) log + 1 ≤ labels_left left log
 round-fewer log left told r =
     let some = told-some log left told r in
     let block = told-block log left told r some.0 some.1 in
     count-less left.labels (with_labels left (labels_told log told)).labels (λ l h. or_left _ _ h) (label_at log some.0) block.new (told-left_out log left told r some.0 some.1) (labels_in log) block.is_label
 
 -- The rounds with an alarm are at most the labels that were not left out; with those that stay to the end they are at most all
-pub rounds-few : (log : List Event) (left : Omitted) (rounds : List RoundNumbers) → Rounds log left rounds → length rounds + atomic_labels (left_after log left rounds) log ≤ atomic_labels left log
+pub rounds-few : (log : List Event) (left : Omitted) (rounds : List RoundNumbers) → Rounds log left rounds → length rounds + labels_left (left_after log left rounds) log ≤ labels_left left log
 unfolding Rounds left_after
 rounds-few log left [] h = omega arith
 rounds-few log left (told ∷ rest) h =

@@ -24,8 +24,8 @@ abbrev pub labels_in : List Event → List ℕ
 labels_in log = each_once (filter_map (λ e. label_begun e.kind) log)
 
 -- how many of the log's labels are not left out
-abbrev pub atomic_labels : Omitted → List Event → ℕ
-atomic_labels omitted log = count_by (λ l. not (omitted.labels l)) (labels_in log)
+abbrev pub labels_left : Omitted → List Event → ℕ
+labels_left omitted log = count_by (λ l. not (omitted.labels l)) (labels_in log)
 
 -- ---- a round
 

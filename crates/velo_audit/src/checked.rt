@@ -5,7 +5,7 @@ ghost use Rattle.velo_events.specs.Reordering.{IsSerializable};
 ghost use Rattle.velo_events.specs.WellFormed.{IsWellFormed};
 ghost use Rattle.velo_audit.specs.Audit.{TellsTruly, AreWitnessed, IsAuditFault};
 ghost use Rattle.velo_filter.specs.Left.{rest_of, with_labels};
-ghost use Rattle.velo_audit.specs.Rounds.{Rounds, AreTheOnlyRounds, AreFound, labels_found, atomic_labels};
+ghost use Rattle.velo_audit.specs.Rounds.{Rounds, AreTheOnlyRounds, AreFound, labels_found, labels_left};
 ghost use Rattle.velo_filter.specs.Tables.{left_of};
 ghost use Rattle.velo_audit.specs.Tells.{numbers_of};
 
@@ -49,8 +49,8 @@ pub fn audit_checked(
         ≡ with_labels (left_of left.old) (labels_found log.now.events
         (map numbers_of rounds.items))) }
     ensures few { IfOk result (λ rounds.
-        length rounds.items + atomic_labels (left_of left.new) log.now.events
-        ≤ atomic_labels (left_of left.old) log.now.events) }
+        length rounds.items + labels_left (left_of left.new) log.now.events
+        ≤ labels_left (left_of left.old) log.now.events) }
     ensures serializable { OnOk result (
         IsSerializable (rest_of (left_of left.new) log.now.events)) }
     ensures fault { IfErr result (IsAuditFault config.now log.now.events (left_of left.old)) }

@@ -2,7 +2,7 @@
 ghost use Rattle.std.specs.Prelude.{◌≡◌, ◌<◌, ◌+◌, length, IfOk, OnOk};
 ghost use Rattle.velo_filter.specs.Tables.{left_of, members};
 ghost use Rattle.velo_audit.specs.Count.{IsCountedTo};
-ghost use Rattle.velo_audit.specs.Rounds.{atomic_labels};
+ghost use Rattle.velo_audit.specs.Rounds.{labels_left};
 
 use std::alloc::Global;
 use velo_events::{Event, Kind, Memory};
@@ -13,8 +13,8 @@ use velo_traces::Trace;
 ///
 /// # Errors
 /// `Memory` where a growth was refused.
-pub fn count_atomic(alloc: Global, log: &Trace, left: &LeftOut) -> Result<usize, Memory>
-    ensures { IfOk result (λ count. count ≡ atomic_labels (left_of left.now) log.now.events) }
+pub fn count_labels_left(alloc: Global, log: &Trace, left: &LeftOut) -> Result<usize, Memory>
+    ensures { IfOk result (λ count. count ≡ labels_left (left_of left.now) log.now.events) }
 {
     let events = log.as_slice();
     let mut seen = LabelSet::new(alloc);

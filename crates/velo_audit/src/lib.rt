@@ -14,7 +14,7 @@ mod told;
 mod witness;
 
 pub use checked::audit_checked;
-pub use count::count_atomic;
+pub use count::count_labels_left;
 pub use first::{FirstAlarm, first_alarm};
 pub use round::AuditFault;
 pub use rounds::audit;

@@ -36,7 +36,8 @@ pub enum Verdict {
 }
 
 /// Judges one piece of the rest after another, from the cut on. The cut moves to the end of each piece
-/// that has no cycle and leaves no block open. Each is twice as long, so few are without an alarm.
+/// that has no cycle and leaves no block open. Each is twice as long as the one before it,
+/// so there are few without an alarm.
 pub fn by_pieces(
     alloc: Global,
     config: &Config,

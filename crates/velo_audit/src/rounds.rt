@@ -6,7 +6,7 @@ ghost use Rattle.velo_events.specs.WellFormed.{IsWellFormed};
 ghost use Rattle.velo_traces.specs.declared.block.Block.{Block as BlockOf};
 ghost use Rattle.velo_audit.specs.Audit.{RoundTells, TellsTruly, AreWitnessed, IsRoundFault, IsAuditFault, left_behind, out_of_memory};
 ghost use Rattle.velo_filter.specs.Left.{rest_of, with_labels};
-ghost use Rattle.velo_audit.specs.Rounds.{Rounds, AreTheOnlyRounds, AreFound, labels_found, atomic_labels};
+ghost use Rattle.velo_audit.specs.Rounds.{Rounds, AreTheOnlyRounds, AreFound, labels_found, labels_left};
 ghost use Rattle.velo_audit.specs.Cut.{IsCut};
 ghost use Rattle.velo_events.specs.declared.event.Event.{Event as EventOf};
 ghost use Rattle.velo_filter.specs.Tables.{left_of};
@@ -44,7 +44,7 @@ pub fn audit(
     ensures witnessed { IfOk result (λ rounds. AreWitnessed with_witness log.now.events (left_of left.old) rounds.items) }
     ensures found { IfOk result (λ rounds. AreFound log.now.events (left_of left.old) (labels_found log.now.events (map numbers_of rounds.items))) }
     ensures left { IfOk result (λ rounds. left_of left.new ≡ with_labels (left_of left.old) (labels_found log.now.events (map numbers_of rounds.items))) }
-    ensures few { IfOk result (λ rounds. length rounds.items + atomic_labels (left_of left.new) log.now.events ≤ atomic_labels (left_of left.old) log.now.events) }
+    ensures few { IfOk result (λ rounds. length rounds.items + labels_left (left_of left.new) log.now.events ≤ labels_left (left_of left.old) log.now.events) }
     ensures serializable { OnOk result (IsSerializable (rest_of (left_of left.new) log.now.events)) }
     ensures fault { IfErr result (IsAuditFault config.now log.now.events (left_of left.old)) }
 {

@@ -10,7 +10,7 @@ use Rattle.velo_names.specs.Names.{NameLists}
 use Rattle.velo_sites.specs.Sites.{Table}
 use Rattle.velo_filter.specs.Left.{Omitted, rest_of, with_labels}
 use Rattle.velo_audit.specs.Audit.{AreWitnessed, IsFullAfter, TellsTruly}
-use Rattle.velo_audit.specs.Rounds.{AreFound, AreTheOnlyRounds, Rounds, atomic_labels, labels_found}
+use Rattle.velo_audit.specs.Rounds.{AreFound, AreTheOnlyRounds, Rounds, labels_left, labels_found}
 use Rattle.velo_audit.specs.Tells.{numbers_of}
 use Rattle.velo_audit.specs.declared.told.Told.{Told}
 use Rattle.velo_audit_text.specs.declared.words.Asked.{Asked}
@@ -31,12 +31,12 @@ use Rattle.velo_fate.proofs.OnDelivery.{put_of, same_fate}
 -- ---- the text
 
 pub told_put : (names : NameLists) (sites : Option Table) (log : List Event) (asked : Asked) (options : AuditOptions) (rounds : List Told) (left : Omitted) (words page : List ℕ) (atomic : ℕ) (alarm : Bool)
-    → words ≡ page → IsAuditPage names sites log asked options rounds atomic page → atomic ≡ atomic_labels left log → left ≡ left_out_at_last log (left_out_at_first asked) rounds → alarm ≡ is_found rounds
+    → words ≡ page → IsAuditPage names sites log asked options rounds atomic page → atomic ≡ labels_left left log → left ≡ left_out_at_last log (left_out_at_first asked) rounds → alarm ≡ is_found rounds
     → (stdout : Writing) (f : Fate) → IsPrinted stdout (printing words (fate.Finished Done alarm)) f → PrintsRounds names sites log asked options rounds stdout f
 told_put names sites log asked options rounds left words page atomic alarm same is count behind found stdout f told = inl (
   words,
   subst (IsAuditPage names sites log asked options rounds (atomic_of log asked rounds)) (sym same)
-      (subst (λ (n : ℕ). IsAuditPage names sites log asked options rounds n page) (count ∙ ap (λ (l : Omitted). atomic_labels l log) behind) is),
+      (subst (λ (n : ℕ). IsAuditPage names sites log asked options rounds n page) (count ∙ ap (λ (l : Omitted). labels_left l log) behind) is),
   subst (λ (b : Bool). IsPrinted stdout (printing words (fate.Finished Done b)) f) found told,
 )
 
@@ -45,7 +45,7 @@ told_put names sites log asked options rounds left words page atomic alarm same 
 -- what an audit of the log from this start answers
 pub are_rounds_of : (witness : Bool) (log : List Event) (first start behind : Omitted) (rounds : List Told) → start ≡ first
     → Rounds log start (map numbers_of rounds) → AreTheOnlyRounds log start (map numbers_of rounds) → All (TellsTruly log) rounds → AreWitnessed witness log start rounds
-    → AreFound log start (labels_found log (map numbers_of rounds)) → behind ≡ with_labels start (labels_found log (map numbers_of rounds)) → length rounds + atomic_labels behind log ≤ atomic_labels start log
+    → AreFound log start (labels_found log (map numbers_of rounds)) → behind ≡ with_labels start (labels_found log (map numbers_of rounds)) → length rounds + labels_left behind log ≤ labels_left start log
     → IsSerializable (rest_of behind log) → AreRoundsOf witness log first rounds
 are_rounds_of witness log first start behind rounds begins each only truly witnessed found left few serializable =
     subst (λ (x : Omitted). AreRoundsOf witness log x rounds) begins made
@@ -58,7 +58,7 @@ are_rounds_of witness log first start behind rounds begins each only truly witne
           truly = truly;
           witnessed = witnessed;
           found = found;
-          few = subst (λ (x : Omitted). length rounds + atomic_labels x log ≤ atomic_labels start log) left few;
+          few = subst (λ (x : Omitted). length rounds + labels_left x log ≤ labels_left start log) left few;
           serializable = subst (λ (x : Omitted). IsSerializable (rest_of x log)) left serializable;
         }
 

@@ -11,7 +11,7 @@ use Rattle.velo_sites.specs.Sites.{Table}
 use Rattle.velo_filter.specs.Left.{Omitted, rest_of, with_labels}
 use Rattle.velo_audit.specs.declared.told.Told.{Told}
 use Rattle.velo_audit.specs.Audit.{AreWitnessed, IsFullAfter, TellsTruly}
-use Rattle.velo_audit.specs.Rounds.{AreFound, AreTheOnlyRounds, Rounds, atomic_labels, labels_found}
+use Rattle.velo_audit.specs.Rounds.{AreFound, AreTheOnlyRounds, Rounds, labels_left, labels_found}
 use Rattle.velo_audit.specs.Tells.{numbers_of}
 use Rattle.velo_audit_text.specs.declared.words.Asked.{Asked}
 use Rattle.velo_audit_text.specs.declared.entries.Listing.{Listing}
@@ -54,8 +54,8 @@ pub record AreRoundsOf (witness : Bool) (log : List Event) (omitted : Omitted) (
   pub truly : All (TellsTruly log) rounds
   pub witnessed : AreWitnessed witness log omitted rounds
   pub found : AreFound log omitted (labels_found log (map numbers_of rounds))
-  pub few : length rounds + atomic_labels (left_out_at_last log omitted rounds) log
-      ≤ atomic_labels omitted log
+  pub few : length rounds + labels_left (left_out_at_last log omitted rounds) log
+      ≤ labels_left omitted log
   pub serializable : IsSerializable (rest_of (left_out_at_last log omitted rounds) log)
 
 -- ---- what is said of them
@@ -67,7 +67,7 @@ is_found (told ∷ rounds) = true
 
 -- the labels of the log that are neither found nor left out
 abbrev pub atomic_of : List Event → Asked → List Told → ℕ
-atomic_of log asked rounds = atomic_labels (left_out_at_last log (left_out_at_first asked) rounds) log
+atomic_of log asked rounds = labels_left (left_out_at_last log (left_out_at_first asked) rounds) log
 
 -- how the labels are to be listed, if this was asked for
 abbrev pub listing_if : AuditOptions → Bool → Option Listing

@@ -11,7 +11,7 @@ use Rattle.velo_audit.specs.declared.told.Told.{Told}
 use Rattle.velo_audit_text.specs.declared.words.Asked.{Asked}
 use Rattle.velo_delays.specs.declared.judged.PredictedCycle.{PredictedCycle}
 use Rattle.velo_delays.specs.declared.stuck.Deadlock.{Deadlock}
-use Rattle.velo_delays.specs.Anew.{IsAnew}
+use Rattle.velo_delays.specs.Anew.{IsRenewed}
 use Rattle.velo_delays.specs.Deadlock.{AreDeadlocksIn}
 use Rattle.velo_delays.specs.Found.{AreFoundIn}
 use Rattle.velo_predict_text.specs.Text.{is_something_told, predictions_text}
@@ -40,7 +40,7 @@ use Rattle.velo_inputs.specs.Siting.{HaveLengthOf}
 -- by which two reads have the same one where they read from the same write.
 abbrev pub IsSearched : Bool → List Event → List Event → Type 0
 IsSearched true log searched = searched ≡ log
-IsSearched false log searched = IsAnew log searched
+IsSearched false log searched = IsRenewed log searched
 
 -- What the search found are predictions of this log without what is left out. It predicts the trace of
 -- each (`PredictsCycle` of `velo_predict`), and the reads told are those that have another value than

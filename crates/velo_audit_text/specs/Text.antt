@@ -31,7 +31,7 @@ told_text names sites log told =
     flat_map (not_atomic_text names) (each_once (map (λ block. block.label.0) told.blocks.items))
     ++ behind_labels_text names sites log told
 
--- with an alarm each, and one more without
+-- what was left out, the rounds with an alarm, and the counts; the number of rounds counts the last one, without an alarm, too
 abbrev pub audit_text : NameLists → Option Table → List Event → Asked → List Told → ℕ → List ℕ
 audit_text names sites log asked rounds atomic =
     asked_text names asked

@@ -13,12 +13,12 @@ use Rattle.velo_fate.specs.declared.fate.Fate.TheVariants as fate
 use Rattle.velo_fate.specs.Causes.{ComesByRefusal, EndsByRefusal, LogByGrowth, Needs, ReportByGrowth}
 use Rattle.velo_fate.specs.Delivery.{CommandAnswer}
 use Rattle.velo_fate.specs.Format.{LacksAt, SaysNone}
-use Rattle.velo_verify.specs.Verifying.{HaveFault, IsVerifyAnswer, report_file}
+use Rattle.velo_verify.specs.Verifying.{HaveFaultOfReport, IsVerifyAnswer, report_file}
 use Rattle.velo_events.specs.Refusals.{GrowthRefused}
 
 -- ---- a report that claims nothing
 
-of_report : (read : Option (List ℕ)) (f : ReportFault) → HaveFault read f → ReportByGrowth f
+of_report : (read : Option (List ℕ)) (f : ReportFault) → HaveFaultOfReport read f → ReportByGrowth f
 of_report read report_fault.Memory is = is
 of_report read (report_fault.BadLine n) is = tt
 of_report read (report_fault.EndsEarly n) is = tt

@@ -17,7 +17,7 @@ use Rattle.velo_request.specs.declared.request.Request.TheVariants.{Audit, Carry
 use Rattle.velo_verify.specs.Commands.{DoesVerify}
 use Rattle.velo_workload_commands.specs.Commands.{DoesExplore, DoesReplay, DoesRun}
 
--- What was asked for was done. (It is opaque to the crates above: only `do_by` unfolds it.)
+-- What was asked for was done. (It is opaque to the crates above: It is opaque outside this crate.)
 unfoldable pub Does : Store → Request → Writing → Fate → Type 0
 Does store (Check options) stdout f = DoesCheck options store stdout f
 Does store (Explain options) stdout f = DoesExplain options store stdout f

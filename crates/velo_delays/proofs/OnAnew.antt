@@ -18,7 +18,7 @@ use Rattle.velo_events.proofs.OnTraces.{slice_get-append, slice_get-push}
 use Rattle.velo_heap.specs.Contents.{Contents, IsHeapOf}
 use Rattle.velo_search.specs.Plain.{plain_kind, plain, plain_log}
 use Rattle.velo_search.proofs.OnPlain.{same_access, same_begin, same_end, same_exit, same_acquire, same_release, same_acquire_shared, same_release_shared, was_born-plain, holder_in-plain, shares_in-plain, MayFollow-plain}
-use Rattle.velo_delays.specs.Anew.{renewed_kind, renewed, IsAnew, IsAnewSoFar}
+use Rattle.velo_delays.specs.Anew.{renewed_kind, renewed, IsRenewed, IsRenewedSoFar}
 
 -- the value plays no part in the test
 record IsBlind (test : Event → Bool) : Type 0 where
@@ -102,8 +102,8 @@ plain-renewed es (Read x v) = refl
 plain-renewed es (Write x v) = refl
 plain-renewed es _ = refl
 
-IsAnew-push : (log anew : List Event) (e : Event) → IsAnew log anew → IsAnew (log ++ e ∷ []) (anew ++ renewed anew e ∷ [])
-IsAnew-push log anew e is = record {
+IsRenewed-push : (log anew : List Event) (e : Event) → IsRenewed log anew → IsRenewed (log ++ e ∷ []) (anew ++ renewed anew e ∷ [])
+IsRenewed-push log anew e is = record {
   as_long = length-append anew (renewed anew e ∷ []) ∙ (ap (λ n. n + 1) is.as_long ∙ sym (length-append log (e ∷ [])));
   each = λ i f here. ⊎_elim (before i f here) (last i f here) (cases_lt i (length log));
 }
@@ -127,9 +127,9 @@ IsAnew-push log anew e is = record {
         ∙ (ap (λ g. Some (renewed anew g)) is_e
         ∙ ap (λ es. Some (renewed es f)) (sym (ap (λ n. take n whole) at_end ∙ take-append_seam anew (renewed anew e ∷ [])))))
 
-pub IsAnewSoFar-push : (log : List Event) (e : Event) (heap after : Contents) (anew : List Event) → IsAnewSoFar log heap anew → IsHeapOf after (anew ++ renewed anew e ∷ []) → IsAnewSoFar (log ++ e ∷ []) after (anew ++ renewed anew e ∷ [])
-IsAnewSoFar-push log e heap after anew stands is_heap = record {
-  is_anew = IsAnew-push log anew e stands.is_anew;
+pub IsRenewedSoFar-push : (log : List Event) (e : Event) (heap after : Contents) (anew : List Event) → IsRenewedSoFar log heap anew → IsHeapOf after (anew ++ renewed anew e ∷ []) → IsRenewedSoFar (log ++ e ∷ []) after (anew ++ renewed anew e ∷ [])
+IsRenewedSoFar-push log e heap after anew stands is_heap = record {
+  is_renewed = IsRenewed-push log anew e stands.is_renewed;
   is_heap = is_heap;
   same = map-append plain anew (renewed anew e ∷ []) ∙ (ap (λ (es : List Event). es ++ plain (renewed anew e) ∷ []) stands.same
       ∙ (ap (λ k. plain_log log ++ (record { thread = e.thread; kind = k }) ∷ []) (plain-renewed anew e.kind)

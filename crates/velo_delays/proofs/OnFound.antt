@@ -115,7 +115,7 @@ module _ (bounds : Bounds) (log : List Event) (first : Omitted) where
       let longer = founds ++ f ∷ [] in
       let known : take k longer ≡ take k founds = take-append-le k founds (f ∷ []) few in
       let after : IsFoundAfter bounds log first founds f = record {
-        known = k;
+        taken = k;
         is_found = more.0.0;
         blames_new = subst (λ (l : Omitted). HasNew l.labels (labels_blamed f)) behind more.0.1;
       } in

@@ -18,12 +18,12 @@ abbrev pub renewed : List Event → Event → Event
 renewed before e = record { thread = e.thread; kind = renewed_kind before e.kind }
 
 -- the same events in the same order, each with such a value: two reads have the same one where they read from the same write
-pub record IsAnew (log anew : List Event) : Type 0 where
+pub record IsRenewed (log anew : List Event) : Type 0 where
   pub as_long : length anew ≡ length log
   pub each : (i : ℕ) (e : Event) → slice_get log i ≡ Some e → slice_get anew i ≡ Some (renewed (take i anew) e)
 
--- the events so far are anew, and the heap is theirs. Private contracts cite this word
-pub record IsAnewSoFar (log : List Event) (heap : Contents) (anew : List Event) : Type 0 where
-  pub is_anew : IsAnew log anew
+-- the events so far are renewed, and the heap is theirs. Private contracts cite this word
+pub record IsRenewedSoFar (log : List Event) (heap : Contents) (anew : List Event) : Type 0 where
+  pub is_renewed : IsRenewed log anew
   pub is_heap : IsHeapOf heap anew
   pub same : plain_log anew ≡ plain_log log

@@ -64,7 +64,7 @@ AreDeadlocksIn bounds log omitted deadlocks = AreDeadlocks bounds (rest_of omitt
 abbrev pub with_numbers : (ℕ → Bool) → List ℕ → ℕ → Bool
 with_numbers test numbers = λ n. test n || is_listed numbers n
 
--- Nothing is taken in, or what was found, if its threads wait for a lock that is not done. Then its locks are done
+-- Nothing is taken in, or what was found, if its threads wait for a lock that none found before waits for. Then its locks count as found
 abbrev pub TakesIn : (ℕ → Bool) → (ℕ → Bool) → List Deadlock → List Deadlock → Option Deadlock → Type 0
 TakesIn old new before after None = (new ≡ old) × (after ≡ before)
 TakesIn old new before after (Some found) =

@@ -45,11 +45,11 @@ pub record HasNew (is_old : ℕ → Bool) (numbers : List ℕ) : Type 0 where
   pub listed : IsTrue (is_listed numbers number)
   pub new : IsFalse (is_old number)
 
--- It is found in what is left of the log where the labels are left out, too, that so many of the first of those before it blame; and it
+-- It is found in what is left of the log where the labels that the first `taken` before it blame are left out, too; and it
 -- blames a label that was not left out and that none of those before it blames
 pub record IsFoundAfter (bounds : Bounds) (log : List Event) (omitted : Omitted) (before : List PredictedCycle) (found : PredictedCycle) : Type 0 where
-  pub known : ℕ
-  pub is_found : IsFound bounds (rest_of (left_out_behind omitted (take known before)) log) found
+  pub taken : ℕ
+  pub is_found : IsFound bounds (rest_of (left_out_behind omitted (take taken before)) log) found
   pub blames_new : HasNew (left_out_behind omitted before).labels (labels_blamed found)
 
 -- each of these is found after those before it, so none is told twice

@@ -4,7 +4,7 @@ ghost use Rattle.velo_events.specs.declared.limits.TheConstants.{MAX_EVENTS};
 ghost use Rattle.velo_events.specs.declared.event.Event.{Event as EventOf};
 ghost use Rattle.velo_events.specs.WellFormed.{IsWellFormed, NamesKnown};
 ghost use Rattle.velo_heap.specs.Contents.{bounds_of, IsHeapOf};
-ghost use Rattle.velo_delays.specs.Anew.{renewed, IsAnew, IsAnewSoFar};
+ghost use Rattle.velo_delays.specs.Anew.{renewed, IsRenewed, IsRenewedSoFar};
 
 use std::alloc::Global;
 use velo_events::{Config, Event, Kind, Memory};
@@ -39,9 +39,9 @@ fn take_in(
     requires within { position < length events.now }
     requires few { length events.now ≤ MAX_EVENTS }
     requires well_formed { IsWellFormed (bounds_of heap.old) events.now }
-    requires stands { IsAnewSoFar (take position events.now) heap.old anew.old.events }
+    requires stands { IsRenewedSoFar (take position events.now) heap.old anew.old.events }
     ensures bounds { bounds_of heap.new ≡ bounds_of heap.old }
-    ensures stands { OnOk result (IsAnewSoFar (take (position + 1) events.now) heap.new anew.new.events) }
+    ensures stands { OnOk result (IsRenewedSoFar (take (position + 1) events.now) heap.new anew.new.events) }
 {
     let event = renewed(heap, events[position], position);
     anew.push(event)?;
@@ -57,7 +57,7 @@ fn take_in(
 pub fn with_lines(alloc: Global, config: &Config, log: &Trace) -> Result<Trace, Memory>
     requires few { length log.now.events ≤ MAX_EVENTS }
     requires well_formed { IsWellFormed config.now.bounds log.now.events }
-    ensures anew { IfOk result (λ anew. IsAnew log.now.events anew.events) }
+    ensures anew { IfOk result (λ anew. IsRenewed log.now.events anew.events) }
     ensures well_formed { IfOk result (λ anew. IsWellFormed config.now.bounds anew.events) }
 {
     let mut heap = Heap::new(alloc, config)?;

@@ -9,12 +9,6 @@ pub enum Operand {
     Log,
     /// `FILE`, a workload.
     File,
-    /// The names that are told.
-    Names,
-    /// The list of labels that are known already.
-    List,
-    /// The turns of a schedule.
-    Turns,
     /// `OUT`, where a log or a picture is saved.
     Out,
     /// `NAMES`, where the names of a workload are saved.

@@ -35,8 +35,8 @@ abbrev pub IsLate : LogPiece → Type 0
 IsLate piece = piece.prologue + piece.world.config.events ≤ length piece.world.log + length piece.world.log
 
 -- where it is late, the log can't be cut
-abbrev pub IsCutWhereLate : List Event → LogPiece → Type 0
-IsCutWhereLate whole piece = IsLate piece → CannotBeCut piece.world.config whole
+abbrev pub CannotBeCutWhereLate : List Event → LogPiece → Type 0
+CannotBeCutWhereLate whole piece = IsLate piece → CannotBeCut piece.world.config whole
 
 -- whenever it was late, the log could not be cut
 abbrev pub IsCutInTime : List Event → LogPiece → Type 0

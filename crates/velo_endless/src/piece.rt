@@ -8,7 +8,7 @@ ghost use Rattle.velo_heap.specs.Contents.{bounds_of, ForItsTraces, IsHeapOf};
 ghost use Rattle.velo_world.specs.declared.log_replay.LogReplayFault.TheVariants as log_replay_fault;
 ghost use Rattle.velo_renew.specs.declared.renewal.NotRenewed.TheVariants as not_renewed;
 ghost use Rattle.velo_endless.specs.declared.reading.TheConstants.{MAX_WATCHED};
-ghost use Rattle.velo_endless.specs.Piece.{AllLieBehind, CanFollow, Follows, IsCutInTime, IsCutWhereLate, IsInWhole, IsJudged, IsLate, IsPieceOf, LiesBehind, block_in_whole, in_whole, moved_fault};
+ghost use Rattle.velo_endless.specs.Piece.{AllLieBehind, CanFollow, Follows, IsCutInTime, CannotBeCutWhereLate, IsInWhole, IsJudged, IsLate, IsPieceOf, LiesBehind, block_in_whole, in_whole, moved_fault};
 
 use smallvec::SmallVec;
 use std::alloc::Global;
@@ -100,7 +100,7 @@ impl LogPiece {
         ensures in_time { OnOk result (ForItsTraces heap.now (λ whole. (log : List EventOf) (event : EventOf)
             → whole ≡ log ++ event ∷ [] → length whole ≡ count → IsPieceOf whole self.old
             → IsCutInTime log self.old → IsCutInTime whole self.new)) }
-        ensures late { OnOk result (ForItsTraces heap.now (λ whole. IsCutWhereLate whole self.new)) }
+        ensures late { OnOk result (ForItsTraces heap.now (λ whole. CannotBeCutWhereLate whole self.new)) }
         ensures fault { IfErr result (λ fault. fault ≡ log_replay_fault.Memory) }
         ensures memory { OnErr result GrowthRefused }
     {

@@ -22,7 +22,7 @@ use Rattle.velo_explore.specs.declared.finding.Finding.TheVariants.{Shown, Never
 use Rattle.velo_explore.specs.declared.goal.Goal.{Goal}
 use Rattle.velo_explore.specs.declared.goal.Goal.TheVariants.{Alarm, Stuck, Refused}
 use Rattle.velo_explore.specs.declared.outcome.RunOutcome.{RunOutcome}
-use Rattle.velo_explore.specs.Goals.{HasAlarm, Reached, Reaches, fault_of, goal_in}
+use Rattle.velo_explore.specs.Goals.{KnowsAlarm, Reached, Reaches, fault_of, goal_in}
 use Rattle.velo_explore.specs.Logs.{ends_refused, is_for_room}
 use Rattle.velo_explore.specs.Told.{AreAlarms, IsMissed, HasOutcome, LacksFault, IfShown}
 use Rattle.velo_explore.specs.Bodies.{all_scripts}
@@ -39,7 +39,7 @@ cycle_by closed None none is = (λ some. absurd (false≢true some), λ cycle. a
 cycle_by closed (Some alarm) none is = (λ some. HasCycle-from_closing closed.log alarm.now.position is.closing, λ cycle. refl)
 
 -- and what it is is known
-pub known_by : (log : List Event) (alarm : Option (Bor AlarmOf)) → IfNone alarm (¬ HasCycle log) → IfSome alarm (λ a. IsAlarm log a.now) → HasAlarm log
+pub known_by : (log : List Event) (alarm : Option (Bor AlarmOf)) → IfNone alarm (¬ HasCycle log) → IfSome alarm (λ a. IsAlarm log a.now) → KnowsAlarm log
 known_by log None none is = (None, none)
 known_by log (Some alarm) none is = (Some alarm.now, is)
 

@@ -46,8 +46,8 @@ goal_in Refusing alarm (endings.Refused t r) = if is_for_room r then None else S
 goal_in Refusing alarm ending = None
 
 -- the alarm of a log is known: one, or none
-abbrev pub HasAlarm : List Event → Type 0
-HasAlarm log = (alarm : Option AlarmAt) × AlarmOf log alarm
+abbrev pub KnowsAlarm : List Event → Type 0
+KnowsAlarm log = (alarm : Option AlarmAt) × AlarmOf log alarm
 
 -- it ended for want of memory
 abbrev pub lacks_memory : Ending → Bool
@@ -62,7 +62,7 @@ pub record IsReplayOf (program : Program) (config : Config) (goal : Goal) (turns
   pub ending : Ending
   pub replays : Replays program turns config ending closed
   pub memory : lacks_memory ending ≡ false
-  pub alarm : HasAlarm closed.log
+  pub alarm : KnowsAlarm closed.log
   pub reaches : Reaches goal ending closed
 
 -- it replays to some world so

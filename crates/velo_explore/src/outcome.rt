@@ -2,7 +2,7 @@
 ghost use Rattle.std.specs.Prelude.{◌≡◌, ◌↔◌, Bool, IsFalse, IsTrue};
 ghost use Rattle.velo_search.specs.declared.fault.Fault.TheVariants.{Refusing, Stuck};
 ghost use Rattle.velo_events.specs.Graph.{HasCycle};
-ghost use Rattle.velo_explore.specs.Goals.{HasAlarm, Reaches, goal_in};
+ghost use Rattle.velo_explore.specs.Goals.{KnowsAlarm, Reaches, goal_in};
 ghost use Rattle.velo_explore.specs.Logs.{is_for_room};
 ghost use Rattle.velo_worker.specs.declared.ending.Ending.TheVariants.{Refused};
 
@@ -25,7 +25,7 @@ impl RunOutcome {
     /// That of a run which left this world, and ended so.
     pub fn of(closed: &Closed, ending: Ending) -> RunOutcome
         ensures alarm { IsTrue result.alarm ↔ HasCycle closed.now.log }
-        ensures known { HasAlarm closed.now.log }
+        ensures known { KnowsAlarm closed.now.log }
         ensures ending { result.ending ≡ ending }
     {
         RunOutcome {
@@ -51,7 +51,7 @@ impl Goal {
     /// Whether a run shows it, which left this world and ended so.
     pub fn is_reached(self, closed: &Closed, ending: Ending) -> bool
         ensures reached { IsTrue result ↔ Reaches self ending closed.now }
-        ensures known { HasAlarm closed.now.log }
+        ensures known { KnowsAlarm closed.now.log }
     {
         let outcome = RunOutcome::of(closed, ending);
         match self {

@@ -198,13 +198,10 @@ line_of_ignored ignorable.Lock = codes "ignored fault 1\n"
 line_of_ignored ignorable.Variable = codes "ignored fault 2\n"
 line_of_ignored ignorable.Label = codes "ignored fault 3\n"
 
--- its word in the line of `OneFile`, which has LOG, FILE, OUT, NAMES (of --names-out), MAP or SVG alone
+-- its word in the line of `OneFile`
 abbrev pub word_of : Operand → List ℕ
 word_of operand.Log = codes "LOG"
 word_of operand.File = codes "FILE"
-word_of operand.Names = codes "NAMES"
-word_of operand.List = codes "LIST"
-word_of operand.Turns = codes "TURNS"
 word_of operand.Out = codes "OUT"
 word_of operand.NamesOut = codes "NAMES"
 word_of operand.Map = codes "MAP"
@@ -214,27 +211,27 @@ abbrev pub line_of_one_file : Operand → Operand → List ℕ
 line_of_one_file first second =
     codes "error: " ++ word_of first ++ codes " and " ++ word_of second ++ codes " are one file\n"
 
-abbrev pub line_of : Fate → List ℕ
-line_of (Finished how alarm) = line_of_ending how
-line_of (Schedule fault) = line_of_schedule fault
-line_of (Work fault) = line_of_work (place_of_work fault)
-line_of (Names fault) = line_of_file_fault (codes "names") (fault_number fault) (fault_line fault)
-line_of (fate.List fault) =
+abbrev pub last_line_of : Fate → List ℕ
+last_line_of (Finished how alarm) = line_of_ending how
+last_line_of (Schedule fault) = line_of_schedule fault
+last_line_of (Work fault) = line_of_work (place_of_work fault)
+last_line_of (Names fault) = line_of_file_fault (codes "names") (fault_number fault) (fault_line fault)
+last_line_of (fate.List fault) =
     line_of_file_fault (codes "list") (number_of_list_fault fault) (line_of_list_fault fault)
-line_of (Sites fault) =
+last_line_of (Sites fault) =
     line_of_file_fault (codes "sites") (number_of_sites_fault fault) (line_of_sites_fault fault)
-line_of OtherSites = codes "sites fault 5 line 0\n"
-line_of (fate.Report fault) =
+last_line_of OtherSites = codes "sites fault 5 line 0\n"
+last_line_of (fate.Report fault) =
     line_of_file_fault (codes "report") (number_of_report_fault fault) (line_of_report_fault fault)
-line_of (fate.Ignored what) = line_of_ignored what
-line_of (Check fault) = line_of_check fault
-line_of CannotOpen = codes "cannot open\n"
-line_of (OneFile first second) = line_of_one_file first second
-line_of ReadFailed = codes "read failed\n"
-line_of Lost = codes "seat lost\n"
-line_of Open = codes "open\n"
-line_of WriteFailed = codes "write failed\n"
-line_of fate.Memory = codes "out of memory\n"
+last_line_of (fate.Ignored what) = line_of_ignored what
+last_line_of (Check fault) = line_of_check fault
+last_line_of CannotOpen = codes "cannot open\n"
+last_line_of (OneFile first second) = line_of_one_file first second
+last_line_of ReadFailed = codes "read failed\n"
+last_line_of Lost = codes "seat lost\n"
+last_line_of Open = codes "open\n"
+last_line_of WriteFailed = codes "write failed\n"
+last_line_of fate.Memory = codes "out of memory\n"
 
 -- ---- how they are used
 
@@ -255,5 +252,5 @@ Closes status line stderr result =
 -- off.
 abbrev pub Ends : Fate → Writing → ℕ → Type 0
 Ends fate stderr result =
-    Closes (status_of fate) (line_of fate) stderr result
-    × (line_of fate ≡ [] → result ≡ status_of fate)
+    Closes (status_of fate) (last_line_of fate) stderr result
+    × (last_line_of fate ≡ [] → result ≡ status_of fate)

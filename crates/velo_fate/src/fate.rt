@@ -1,7 +1,7 @@
 //! How the program ends: its status, and the line on standard error.
 ghost use Rattle.std.specs.Prelude.{◌≡◌, ◌≢◌, ◌≤◌, ◌+◌, ◌++◌, [], length, take, IfOk, OnOk, OnErr};
 ghost use Rattle.velo_delivery.specs.Writing.{BreaksOff, Writes, writing};
-ghost use Rattle.velo_fate.specs.Fate.{Ends, fate_of_failure, number_of, status_of, status_of_check, status_of_list, status_of_log, status_of_refused, status_of_ending, status_of_names, status_of_report, status_of_schedule, status_of_sites, status_of_work, place_of_work, line_of, line_of_check, line_of_log, line_of_ending, line_of_file_fault, line_of_ignored, line_of_one_file, line_of_refused, line_of_schedule, line_of_work, word_of};
+ghost use Rattle.velo_fate.specs.Fate.{Ends, fate_of_failure, number_of, status_of, status_of_check, status_of_list, status_of_log, status_of_refused, status_of_ending, status_of_names, status_of_report, status_of_schedule, status_of_sites, status_of_work, place_of_work, last_line_of, line_of_check, line_of_log, line_of_ending, line_of_file_fault, line_of_ignored, line_of_one_file, line_of_refused, line_of_schedule, line_of_work, word_of};
 
 use crate::fault::CheckFault;
 use velo_bytes::{Sink, WriteFault, put_bytes, put_number, write_all};
@@ -21,7 +21,7 @@ use velo_workload::WorkFault;
 /// Room that is enough for a line on standard error.
 const LINE_ROOM: usize = 64;
 
-/// How a run of the program ended.
+/// How a command ended.
 #[derive(Clone, Copy, Debug, PartialEq, Eq)]
 pub enum Fate {
     /// It ended, with or without an alarm. A check is done.
@@ -54,7 +54,7 @@ pub enum Fate {
     WriteFailed,
     /// A growth was refused.
     Memory,
-    /// A seat was not given back.
+    /// A seat was not given back, or what came back is no run of the workload.
     Lost,
     /// Not every schedule was tried, and nothing was found.
     Open,
@@ -359,10 +359,8 @@ fn put_operand(buffer: &mut [u8], at: usize, operand: Operand) -> usize
     match operand {
         Operand::Log => put_bytes(buffer, at, b"LOG"),
         Operand::File => put_bytes(buffer, at, b"FILE"),
-        Operand::List => put_bytes(buffer, at, b"LIST"),
-        Operand::Turns => put_bytes(buffer, at, b"TURNS"),
         Operand::Out => put_bytes(buffer, at, b"OUT"),
-        Operand::Names | Operand::NamesOut => put_bytes(buffer, at, b"NAMES"),
+        Operand::NamesOut => put_bytes(buffer, at, b"NAMES"),
         Operand::Map => put_bytes(buffer, at, b"MAP"),
         Operand::Svg => put_bytes(buffer, at, b"SVG"),
     }
@@ -385,7 +383,7 @@ fn put_one_file(buffer: &mut [u8], first: Operand, second: Operand) -> usize
 /// Puts the line about how a run ended at the front of a buffer, and returns where it ends, or 0.
 fn put_line(buffer: &mut [u8], fate: Fate) -> usize
     requires { 64 ≤ length buffer.old }
-    ensures text { take result buffer.new ≡ line_of fate }
+    ensures text { take result buffer.new ≡ last_line_of fate }
     ensures end { result ≤ length buffer.new }
 {
     match fate {
@@ -417,10 +415,10 @@ fn put_line(buffer: &mut [u8], fate: Fate) -> usize
 pub fn end_line<S: Sink>(fate: &Fate, sink: &mut S) -> Result<u8, WriteFault>
     ensures status { IfOk result (λ status. status ≡ status_of fate.now) }
     ensures text { OnOk result (Writes
-        (writing S.contents S.failures sink.old sink.new) (line_of fate.now)) }
+        (writing S.contents S.failures sink.old sink.new) (last_line_of fate.now)) }
     ensures err { OnErr result (BreaksOff
-        (writing S.contents S.failures sink.old sink.new) (line_of fate.now)) }
-    ensures line { OnErr result (line_of fate.now ≢ []) }
+        (writing S.contents S.failures sink.old sink.new) (last_line_of fate.now)) }
+    ensures line { OnErr result (last_line_of fate.now ≢ []) }
 {
     let mut buffer = [0u8; LINE_ROOM];
     let end = put_line(&mut buffer, *fate);

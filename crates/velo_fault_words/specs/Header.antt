@@ -15,16 +15,16 @@ abbrev pub looks_marked : List ℕ → Bool
 looks_marked bytes = begins (239 ∷ 187 ∷ 191 ∷ []) bytes
 
 -- as a workload
-abbrev pub is_workload : List ℕ → Bool
-is_workload bytes =
+abbrev pub looks_like_workload : List ℕ → Bool
+looks_like_workload bytes =
     begins (codes "var ") bytes || (begins (codes "lock ") bytes || begins (codes "thread ") bytes)
 
 -- any number of 64 bits
 abbrev pub most : ℕ
 most = 2 ^ 64 - 1
 
--- ---- after `vlog `: version, threads, variables and locks, each as large as a number can be. The
--- first of them that may not be so large is the fault
+-- ---- after `vlog `: version, threads, variables and locks, each read as any number of 64 bits. The
+-- first that is outside its range is the fault
 
 abbrev pub locks_of : Taken ℕ → HeaderFault
 locks_of (Some (locks, rest)) = if nat_lt MAX_LOCKS locks then Locks locks else Other
@@ -66,6 +66,6 @@ rest_of_word None = Other
 unfoldable pub header_fault_of : List ℕ → HeaderFault
 header_fault_of bytes =
     if looks_marked bytes then Marked
-    else if is_workload bytes then Workload
+    else if looks_like_workload bytes then Workload
     else if ends_in_return (first_line bytes) then Returned
     else rest_of_word (after_word (codes "vlog ") bytes)

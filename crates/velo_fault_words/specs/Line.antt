@@ -14,9 +14,9 @@ abbrev pub has_tab : List ℕ → Bool
 has_tab line = list_any (λ b. b == 9) line
 
 -- bytes after this byte have a space after a space, or end in one
-abbrev pub is_spaced : ℕ → List ℕ → Bool
-is_spaced before [] = before == 32
-is_spaced before (b ∷ bs) = (before == 32 && b == 32) || is_spaced b bs
+abbrev pub is_badly_spaced : ℕ → List ℕ → Bool
+is_badly_spaced before [] = before == 32
+is_badly_spaced before (b ∷ bs) = (before == 32 && b == 32) || is_badly_spaced b bs
 
 -- the word of an event that is likely to be meant by another one
 unfoldable pub likely : List ℕ → Option Word
@@ -51,11 +51,12 @@ abbrev pub ends : List ℕ → LineFault → LineFault
 ends [] fault = fault
 ends (b ∷ bs) fault = More
 
--- a number that ends the line: it is not there, it does not end the line, or otherwise
+-- by what stands after a number, if one is there
 abbrev pub by_number : Taken ℕ → LineFault → (List ℕ → LineFault) → LineFault
 by_number None lacking fault = lacking
 by_number (Some (n, rest)) lacking fault = fault rest
 
+-- a number that ends the line: it is not there, it does not end the line, or otherwise
 abbrev pub number_fault : ℕ → LineFault → LineFault → List ℕ → LineFault
 number_fault limit lacking otherwise bytes =
     by_number (number_at limit bytes) lacking (λ rest. ends rest otherwise)
@@ -67,8 +68,8 @@ access_fault bytes = by_number (number_at 65535 bytes) Variable (λ rest.
 
 -- ---- operations
 
-unfoldable pub thread_fault : List ℕ → LineFault
-thread_fault words =
+unfoldable pub thread_operation_fault : List ℕ → LineFault
+thread_operation_fault words =
     by_operand (operand_at (codes "fork") words) (number_fault 255 Other Sound)
     (by_operand (operand_at (codes "join") words) (number_fault 255 Other Sound)
     (by_operand (operand_at (codes "exit") words) (λ rest. ends rest Sound)
@@ -78,7 +79,7 @@ unfoldable pub block_fault : List ℕ → LineFault
 block_fault words =
     by_operand (operand_at (codes "begin") words) (number_fault 4294967295 Label Sound)
     (by_operand (operand_at (codes "end") words) (λ rest. ends rest Sound)
-    (thread_fault words))
+    (thread_operation_fault words))
 
 -- a shared one without another fault is of a version that the log is not of
 unfoldable pub lock_fault : List ℕ → LineFault
@@ -108,6 +109,6 @@ line_fault_of line =
     else if begins (codes "#") line then Comment
     else if has_tab line then Tab
     else if ends_in_return line then Returned
-    else if is_spaced 32 line then Spaces
+    else if is_badly_spaced 32 line then Spaces
     else if nat_lt LONGEST (length line) then Long
     else event_fault line

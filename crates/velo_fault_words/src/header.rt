@@ -1,6 +1,6 @@
 //! What is wrong with the first line of a log.
 ghost use Rattle.std.specs.Prelude.{◌≡◌};
-ghost use Rattle.velo_fault_words.specs.Header.{begins, bounds_fault, header_fault_of, is_workload, locks_fault, looks_marked, variables_fault, version_fault};
+ghost use Rattle.velo_fault_words.specs.Header.{begins, bounds_fault, header_fault_of, looks_like_workload, locks_fault, looks_marked, variables_fault, version_fault};
 ghost use Rattle.velo_fault_words.specs.Lines.{first_line};
 
 use crate::lines::{ends_in_return, first_line};
@@ -46,8 +46,8 @@ fn looks_marked(bytes: &[u8]) -> bool
 }
 
 /// Whether the bytes begin as a workload.
-fn is_workload(bytes: &[u8]) -> bool
-    ensures { result ≡ is_workload bytes.now }
+fn looks_like_workload(bytes: &[u8]) -> bool
+    ensures { result ≡ looks_like_workload bytes.now }
 {
     begins(b"var ", bytes) || begins(b"lock ", bytes) || begins(b"thread ", bytes)
 }
@@ -118,7 +118,7 @@ pub fn header_fault_of(bytes: &[u8]) -> HeaderFault
     if looks_marked(bytes) {
         return HeaderFault::Marked;
     }
-    if is_workload(bytes) {
+    if looks_like_workload(bytes) {
         return HeaderFault::Workload;
     }
     if ends_in_return(first_line(bytes)) {

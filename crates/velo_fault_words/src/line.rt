@@ -1,6 +1,6 @@
 //! What is wrong with the line of an event.
 ghost use Rattle.std.specs.Prelude.{◌≡◌, ◌≤◌, option_map};
-ghost use Rattle.velo_fault_words.specs.Line.{access_fault, block_fault, ends, event_fault, has_tab, is_spaced, likely, line_fault_of, lock_fault, number_fault, operand_at, operation_fault, thread_fault};
+ghost use Rattle.velo_fault_words.specs.Line.{access_fault, block_fault, ends, event_fault, has_tab, is_badly_spaced, likely, line_fault_of, lock_fault, number_fault, operand_at, operation_fault, thread_operation_fault};
 
 use crate::header::begins;
 use crate::lines::ends_in_return;
@@ -75,8 +75,8 @@ fn has_tab(line: &[u8]) -> bool
 }
 
 /// Whether a line has a space at its front, at its end or after another one.
-fn is_spaced(line: &[u8]) -> bool
-    ensures { result ≡ is_spaced 32 line.now }
+fn is_badly_spaced(line: &[u8]) -> bool
+    ensures { result ≡ is_badly_spaced 32 line.now }
 {
     let mut before = b' ';
     for byte in line {
@@ -167,9 +167,9 @@ fn access_fault(bytes: &[u8]) -> LineFault
 }
 
 /// What is wrong with forks, joins and exits.
-#[tactic(auto, unfolding(crate::specs::Line::thread_fault))]
-fn thread_fault(words: &[u8]) -> LineFault
-    ensures { result ≡ thread_fault words.now }
+#[tactic(auto, unfolding(crate::specs::Line::thread_operation_fault))]
+fn thread_operation_fault(words: &[u8]) -> LineFault
+    ensures { result ≡ thread_operation_fault words.now }
 {
     if let Some(rest) = operand(words, b"fork") {
         return number_fault(rest, u64::from(u8::MAX), LineFault::Other, LineFault::Sound);
@@ -198,7 +198,7 @@ fn block_fault(words: &[u8]) -> LineFault
     }
     match operand(words, b"end") {
         Some(rest) => ends(rest, LineFault::Sound),
-        None => thread_fault(words),
+        None => thread_operation_fault(words),
     }
 }
 
@@ -266,7 +266,7 @@ pub fn line_fault_of(line: &[u8]) -> LineFault
     if ends_in_return(line) {
         return LineFault::Returned;
     }
-    if is_spaced(line) {
+    if is_badly_spaced(line) {
         return LineFault::Spaces;
     }
     if line.len() > LONGEST {

@@ -1,4 +1,4 @@
--- Why a log can't be done.
+-- Why the events of a log cannot happen.
 use Rattle.std.specs.Prelude.{List}
 use Rattle.velo_events.specs.declared.config.Config.{Config}
 use Rattle.velo_events.specs.declared.event.Event.{Event}
@@ -15,7 +15,7 @@ check_fault_of (replay.Refused p refusal) = Refused p refusal
 check_fault_of (replay.WrongValue p) = WrongValue p
 check_fault_of replay.Memory = Memory
 
--- why the log can't be done to its end
+-- why its events cannot all happen
 abbrev pub IsFaultOfLog : Config → List Event → CheckFault → Type 0
 IsFaultOfLog config log (Refused p refusal) =
     IsRefusedAt config.events config.nodes config.bounds log p refusal

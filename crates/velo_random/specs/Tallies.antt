@@ -51,6 +51,6 @@ pub record IsTriedBy (program : Program) (config : Config) (schedules : List (Li
   pub by : map (λ run. run.schedule) runs ≡ schedules
   pub comes_to : ComesTo runs tally
 
--- it was by so many, which the seed draws
+-- it was replayed by so many schedules, which the seed draws
 abbrev pub IsTried : Program → Config → ℕ → ℕ → RunTally → Type 0
 IsTried program config seed n tally = IsTriedBy program config (schedules_of_seed program seed n) tally

@@ -13,9 +13,9 @@ use Rattle.velo_events.proofs.OnGraphs.{HasCycle-from_closing}
 use Rattle.velo_bytes.specs.Device.{AppendsBeginning}
 use Rattle.velo_report.specs.Certificate.{Certifies, CertifiesOrder, is_first, serial_line, serial_lines, IsCertificate, FailsInCertificate, AppendsCertificate, AppendsPartOfCertificate}
 use Rattle.velo_report.specs.Lines.{numbers_line}
-use Rattle.velo_report.specs.Runs.{IsRun}
+use Rattle.velo_report.specs.Runs.{IsOneTransaction}
 
-module _ (log : List Event) (order : List ℕ) (from end : ℕ) (run : IsRun log order from end) where
+module _ (log : List Event) (order : List ℕ) (from end : ℕ) (run : IsOneTransaction log order from end) where
   abbrev a : ℕ
   a = slice_index order from
 

@@ -16,7 +16,7 @@ use Rattle.velo_world.specs.declared.analysis.Alarm.{Alarm}
 use Rattle.velo_world.specs.World.{AlarmOf}
 use Rattle.velo_report.specs.declared.names.Names.{Names}
 use Rattle.velo_report.specs.Lines.{line_of}
-use Rattle.velo_report.specs.Counted.{AreEventsOf}
+use Rattle.velo_report.specs.Counted.{AreEventCountsOf}
 use Rattle.velo_report.specs.Report.{blame_line, blame_lines, thread_lines, verdict_lines, IsReport, AppendsReport, AppendsPartOfReport}
 
 -- what is read past the end of some blocks
@@ -62,7 +62,7 @@ module _ (line : ℕ → List ℕ) (t : ℕ) where
       ∙ append_assoc (flat_map line (range_with_len 0 t)) (line t) (later n)
 
 -- a count at its place is that of the thread
-pub counted_events : (log : List Event) (counts : List ℕ) (t : ℕ) → AreEventsOf log counts → t < length counts → get_or counts t 0 ≡ events_of log t
+pub counted_events : (log : List Event) (counts : List ℕ) (t : ℕ) → AreEventCountsOf log counts → t < length counts → get_or counts t 0 ≡ events_of log t
 counted_events log counts t are within = get_or_from_slice_get counts t (events_of log t) 0 (are.each t within)
 
 -- ---- the whole

@@ -21,7 +21,7 @@ use Rattle.velo_certify.specs.Owners.{event_at}
 use Rattle.velo_certify.proofs.OnOrders.{count_take}
 use Rattle.velo_certify.proofs.OnSerial.{positions_below, below-own, below-first, below-last, below-stays}
 use Rattle.velo_report.specs.Certificate.{is_first}
-use Rattle.velo_report.specs.Runs.{IsStart, IsRun, IsDepthAfter, GoesOn, AreInside}
+use Rattle.velo_report.specs.Runs.{IsStart, IsOneTransaction, IsDepthAfter, GoesOn, AreInside}
 
 -- ---- the places of a reordering
 
@@ -199,8 +199,8 @@ module _ (log : List Event) (order : List ℕ) (from : ℕ) (reorders : IsReorde
             ap (positions_below log a) (let at : j ≡ i + 1 + (j - (i + 1)) = omega (arith, up) in at)
             ∙ below-stays log a (i + 1) (j - (i + 1)) (λ x l u own. none_between here same x l u (thread-own log a x (inside from start.within) (let h = inside end here in omega (arith, u, up, h)) own))
 
-    pub IsRun-end : ¬ GoesOn log order from end depth → IsRun log order from end
-    IsRun-end stops = record {
+    pub IsOneTransaction-end : ¬ GoesOn log order from end depth → IsOneTransaction log order from end
+    IsOneTransaction-end stops = record {
       after = omega (arith, w.after, w.is_last);
       within = w.within;
       own = w.own;
@@ -256,7 +256,7 @@ module _ (log : List Event) (order : List ℕ) (reorders : IsReordering log orde
   IsStart-first some = starts 0 some (λ k l e. omega (arith, l))
 
   -- behind a transaction another one begins
-  pub IsStart-next : IsSerial log order → (from end : ℕ) → from < length order → IsRun log order from end → end < length order → IsStart log order end
+  pub IsStart-next : IsSerial log order → (from end : ℕ) → from < length order → IsOneTransaction log order from end → end < length order → IsStart log order end
   IsStart-next serial from end here run within = starts end within (λ k l e.
       let j = slice_index order end in
       let there : j < length log = (AreInside-reordering log order reorders).each end within in

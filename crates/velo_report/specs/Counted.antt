@@ -3,5 +3,5 @@ use Rattle.std.specs.Prelude.{◌≡◌, ℕ, ◌<◌, List, length, Some, slice
 use Rattle.velo_events.specs.declared.event.Event.{Event}
 use Rattle.velo_events.specs.Tally.{events_of}
 
-pub record AreEventsOf (log : List Event) (counts : List ℕ) : Type 0 where
+pub record AreEventCountsOf (log : List Event) (counts : List ℕ) : Type 0 where
   pub each : (t : ℕ) → t < length counts → slice_get counts t ≡ Some (events_of log t)

@@ -18,7 +18,7 @@ label_word Numbers l = decimal l
 label_word (Listed names) l = decimal l
 label_word (Words threads labels) l = option_map_or (λ name. string_bytes name) (slice_get labels.now l) (decimal l)
 
--- the name of a file that stands behind a number at the end of its line, if there is one
+-- the name that a file of names gives, which stands behind a number at the end of its line, if there is one
 abbrev pub name_behind : Names → NameKind → ℕ → Option (List ℕ)
 name_behind Numbers kind n = None
 name_behind (Words threads labels) kind n = None

@@ -10,13 +10,14 @@ use Rattle.velo_world.specs.declared.analysis.Alarm.{Alarm}
 use Rattle.velo_world.specs.World.{AlarmOf}
 use Rattle.velo_names.specs.declared.kind.NameKind.TheVariants.{Thread, Label}
 use Rattle.velo_report.specs.declared.names.Names.{Names}
-use Rattle.velo_report.specs.Counted.{AreEventsOf}
+use Rattle.velo_report.specs.Counted.{AreEventCountsOf}
 use Rattle.velo_report.specs.Lines.{line_of}
 use Rattle.velo_report.specs.Names.{thread_name, label_word, name_behind}
 
 -- ---- how many events there are
 
--- The number of a thread and how many events it has. A name of a workload stands between them, one of a file behind them
+-- The number of a thread and how many events it has. A name that a workload gives stands between them, one that a file of
+-- names gives behind them
 abbrev pub thread_words : Option (List ℕ) → Option (List ℕ) → ℕ → ℕ → List (List ℕ)
 thread_words (Some behind) between t count = decimal t ∷ decimal count ∷ behind ∷ []
 thread_words None (Some between) t count = decimal t ∷ between ∷ decimal count ∷ []
@@ -34,7 +35,7 @@ thread_lines names log threads = flat_map (thread_line names log) (range_with_le
 
 -- ---- the verdict
 
--- The begin of a blamed block, and its label, as a word or as a number with the name of a file behind it
+-- The begin of a blamed block, and its label, as a word, or as a number with the name that a file of names gives behind it
 abbrev pub blame_words : Option (List ℕ) → ℕ → ℕ → List ℕ → List (List ℕ)
 blame_words (Some behind) first label word = decimal first ∷ decimal label ∷ behind ∷ []
 blame_words None first label word = decimal first ∷ word ∷ []
@@ -70,7 +71,7 @@ pub record IsReport (names : Names) (threads : ℕ) (log : List Event) (text : L
 -- the log has so many events, its threads have these counts of them, and this is its alarm
 pub record AreCountsOf (log : List Event) (events : ℕ) (counts : List ℕ) (alarm : Option Alarm) : Type 0 where
   pub total : events ≡ length log
-  pub each : AreEventsOf log counts
+  pub each : AreEventCountsOf log counts
   pub exact : AlarmOf log alarm
 
 -- known bytes grow by the report

@@ -13,7 +13,7 @@ pub record IsStart (log : List Event) (order : List ℕ) (from : ℕ) : Type 0 w
   pub first : owner log (slice_index order from) ≡ slice_index order from
 
 -- from one place of the list to before another stand the positions of one transaction, and all of them
-pub record IsRun (log : List Event) (order : List ℕ) (from end : ℕ) : Type 0 where
+pub record IsOneTransaction (log : List Event) (order : List ℕ) (from end : ℕ) : Type 0 where
   pub after : from < end
   pub within : end ≤ length order
   pub own : (k : ℕ) → from ≤ k → k < end → owner log (slice_index order k) ≡ slice_index order from

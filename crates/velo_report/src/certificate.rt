@@ -4,7 +4,7 @@ ghost use Rattle.velo_events.specs.Reordering.{IsReordering, IsSerial};
 ghost use Rattle.velo_bytes.specs.Device.{with_failure, AppendsBeginning};
 ghost use Rattle.velo_report.specs.Certificate.{Certifies, serial_lines, BuffersCertificate, FailsInCertificate, AppendsCertificate, AppendsPartOfCertificate};
 ghost use Rattle.velo_report.specs.Lines.{Buffers};
-ghost use Rattle.velo_report.specs.Runs.{AreInside, GoesOn, IsDepthAfter, IsRun, IsStart};
+ghost use Rattle.velo_report.specs.Runs.{AreInside, GoesOn, IsDepthAfter, IsOneTransaction, IsStart};
 
 use crate::lines::Lines;
 use velo_bytes::{Sink, WriteFault};
@@ -43,7 +43,7 @@ fn run_end(events: &[Event], order: &[usize], from: usize) -> usize
     requires serial { IsSerial events.now order.now }
     requires inside { AreInside events.now order.now }
     requires start { IsStart events.now order.now from }
-    ensures { IsRun events.now order.now from result }
+    ensures { IsOneTransaction events.now order.now from result }
 {
     let mut depth = depth_after(events, order[from], 0);
     let mut end = from + 1;

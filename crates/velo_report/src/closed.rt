@@ -6,7 +6,7 @@ ghost use Rattle.velo_events.specs.declared.limits.TheConstants.{MAX_THREADS};
 ghost use Rattle.velo_ledger.specs.Logs.{AreTalliesOf};
 ghost use Rattle.velo_bytes.specs.Device.{with_failure, AppendsBeginning};
 ghost use Rattle.velo_report.specs.Lines.{Buffers};
-ghost use Rattle.velo_report.specs.Counted.{AreEventsOf};
+ghost use Rattle.velo_report.specs.Counted.{AreEventCountsOf};
 ghost use Rattle.velo_report.specs.Report.{count_line, blame_line, blame_lines, verdict_lines, AppendsReport, AppendsPartOfReport};
 
 use crate::counted::report_counts;
@@ -207,7 +207,7 @@ pub fn report_so_far<S: Sink>(world: &World, names: &Names, sink: &mut S) -> Res
 fn counts_in(book: &Book, threads: u8) -> [u64; MAX_THREADS as usize]
     requires all { length book.now.rows ≡ threads }
     requires few { threads ≤ MAX_THREADS }
-    ensures { (log : List Event) → AreTalliesOf log book.now.rows → AreEventsOf log (take threads result) }
+    ensures { (log : List Event) → AreTalliesOf log book.now.rows → AreEventCountsOf log (take threads result) }
 {
     let mut counts = [0; MAX_THREADS as usize];
     for t in 0..threads {

@@ -6,7 +6,7 @@ ghost use Rattle.velo_events.specs.declared.limits.TheConstants.{MAX_THREADS};
 ghost use Rattle.velo_bytes.specs.Device.{with_failure, AppendsBeginning};
 ghost use Rattle.velo_report.specs.Lines.{Buffers};
 ghost use Rattle.velo_report.specs.Report.{thread_lines, AreCountsOf, AppendsReport, AppendsPartOfReport};
-ghost use Rattle.velo_report.specs.Counted.{AreEventsOf};
+ghost use Rattle.velo_report.specs.Counted.{AreEventCountsOf};
 
 use crate::closed::{add_thread, add_verdict};
 use crate::lines::{Lines, Word};
@@ -23,10 +23,10 @@ fn add_counts<S: Sink>(
     counts: &[u64],
 ) -> Result<(), WriteFault>
     requires { length counts.now ≤ MAX_THREADS }
-    ensures ok { (log : List Event) → AreEventsOf log counts.now
+    ensures ok { (log : List Event) → AreEventCountsOf log counts.now
         → OnOk result (Buffers (S.contents sink.old) (S.contents sink.new)
         lines.old lines.new (thread_lines names.now log (length counts.now))) }
-    ensures err { (log : List Event) → AreEventsOf log counts.now
+    ensures err { (log : List Event) → AreEventCountsOf log counts.now
         → OnErr result (AppendsBeginning (S.contents sink.old) (S.contents sink.new)
         (lines.old ++ thread_lines names.now log (length counts.now))) }
     ensures no_failure { OnOk result (S.failures sink.new ≡ S.failures sink.old) }

@@ -24,7 +24,7 @@ use Rattle.velo_explore.specs.declared.finding.Finding.TheVariants.{Shown, Never
 use Rattle.velo_explore.specs.declared.finding.Witness.{Witness}
 use Rattle.velo_explore.specs.declared.goal.Goal.{Goal}
 use Rattle.velo_explore.specs.declared.goal.Goal.TheVariants.{Alarm, Stuck, Refused}
-use Rattle.velo_explore.specs.Goals.{HasAlarm, Reached, Reaches, lacks_memory, shown_by}
+use Rattle.velo_explore.specs.Goals.{KnowsAlarm, Reached, Reaches, lacks_memory, shown_by}
 use Rattle.velo_shrink.specs.declared.findings.Replay.{Replay}
 use Rattle.velo_shrink.specs.Simple.{IsAbove, IsLimited, IsNeeded, IsReplayBy, IsReplayFor, IsSayable, KeepsFirst, KeepsReplay, Misses, ReachesWithin, without}
 use Rattle.velo_schedule_text.specs.declared.limits.TheConstants.{MAX_TURNS}
@@ -34,7 +34,7 @@ use Rattle.velo_schedule_text.proofs.OnTexts.{threads_of_schedule}
 
 -- what a run reaches, its turns reach
 pub reached : {X E : Type 0} (program : Program) (config : Config) (goal : Goal) (turns : List ThreadId) (ending : Ending) (closed : WorldState) → Replays program turns config ending closed → lacks_memory ending ≡ false
-    → (result : Result (Option X) E) → IfOk result (λ found. HasAlarm closed.log) → IfOk result (λ found. IfSome found (λ x. Reaches goal ending closed))
+    → (result : Result (Option X) E) → IfOk result (λ found. KnowsAlarm closed.log) → IfOk result (λ found. IfSome found (λ x. Reaches goal ending closed))
     → IfOk result (λ found. IfSome found (λ x. Reached program config goal turns))
 reached program config goal turns ending closed replays memory (Ok (Some x)) known reaches =
     record { closed = closed; replay = record { ending = ending; replays = replays; memory = memory; alarm = known; reaches = reaches } }

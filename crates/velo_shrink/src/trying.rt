@@ -1,7 +1,7 @@
 //! One try: a schedule is replayed, and taken up if it shows the goal and is simpler.
 ghost use Rattle.std.specs.Prelude.{◌≡◌, ◌≤◌, ℕ, length, IsTrue, IfOk, IfSome};
 ghost use Rattle.velo_worker.specs.declared.ending.Ending.{Ending as EndingOf};
-ghost use Rattle.velo_explore.specs.Goals.{HasAlarm, Reached, Reaches};
+ghost use Rattle.velo_explore.specs.Goals.{KnowsAlarm, Reached, Reaches};
 ghost use Rattle.velo_shrink.specs.Simple.{IsAbove, IsLimited, Misses, ReachesWithin, stops};
 
 use crate::budget::Budget;
@@ -84,7 +84,7 @@ fn turns_if_reached(
 ) -> Result<Option<Vec<ThreadId>>, Memory>
     ensures reaches { IfOk result (λ found.
         IfSome found (λ turns. Reaches goal ending closed.now)) }
-    ensures known { IfOk result (λ found. HasAlarm closed.now.log) }
+    ensures known { IfOk result (λ found. KnowsAlarm closed.now.log) }
     ensures misses { IfOk result (λ found. (n : ℕ) → IsAbove n found →
         ¬ ReachesWithin n goal ending closed.now) }
 {

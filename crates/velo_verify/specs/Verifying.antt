@@ -33,12 +33,12 @@ abbrev pub HaveClaim : Option (List ℕ) → Claimed → Type 0
 HaveClaim read claim = IfSome read (λ bytes. Claims bytes (Ok claim))
 
 -- the fault for which they claim nothing
-abbrev pub HaveFault : Option (List ℕ) → ReportFault → Type 0
-HaveFault read report_fault.Memory = GrowthRefused
-HaveFault read fault = IfSome read (λ bytes. Claims bytes (Err fault))
+abbrev pub HaveFaultOfReport : Option (List ℕ) → ReportFault → Type 0
+HaveFaultOfReport read report_fault.Memory = GrowthRefused
+HaveFaultOfReport read fault = IfSome read (λ bytes. Claims bytes (Err fault))
 
 abbrev pub HaveNoClaim : Option (List ℕ) → Fate → Type 0
-HaveNoClaim read (Report fault) = HaveFault read fault
+HaveNoClaim read (Report fault) = HaveFaultOfReport read fault
 HaveNoClaim read f = ⊥
 
 -- a report

@@ -6,7 +6,7 @@ use Rattle.velo_delivery.specs.Writing.{Writing}
 use Rattle.velo_events.specs.declared.config.Bounds.{Bounds}
 use Rattle.velo_events.specs.declared.event.Event.{Event}
 use Rattle.velo_events.specs.declared.refusal.Refusal.{Refusal}
-use Rattle.velo_fate.specs.Fate.{Closes, Ends, line_of, status_of}
+use Rattle.velo_fate.specs.Fate.{Closes, Ends, last_line_of, status_of}
 use Rattle.velo_fate.specs.Format.{Reads, bytes_up_to}
 use Rattle.velo_fate.specs.declared.fate.Fate.{Fate}
 use Rattle.velo_fate.specs.declared.fate.Fate.TheVariants as fate
@@ -133,4 +133,4 @@ abbrev pub EndsInWords : Disk → (List ℕ → SystemReason → Type 0) → Req
 EndsInWords disk failed request f stderr result =
     Ends f stderr result
     ⊎ ((words : List ℕ) × (IsSaid disk request f words ⊎ SaysFailure failed request f words)
-    × Closes (status_of f) (words ++ line_of f) stderr result)
+    × Closes (status_of f) (words ++ last_line_of f) stderr result)

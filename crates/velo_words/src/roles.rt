@@ -33,7 +33,7 @@ pub enum Role {
     Map,
 }
 
-/// The roles, in the order in which a command opens its files.
+/// The roles, in the order in which a command opens its files; but `verify` opens its report first.
 pub const ROLES: [Role; 12] = [
     Role::Turns,
     Role::Names,

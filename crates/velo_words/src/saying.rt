@@ -3,7 +3,7 @@ ghost use Rattle.std.specs.Prelude.{◌≡◌, ◌≤◌, ◌++◌, ◌⊎◌, I
 ghost use Rattle.velo_request.specs.declared.request.ScheduleSource.TheVariants.{File as FileOf};
 ghost use Rattle.velo_delivery.specs.Writing.{writing};
 ghost use Rattle.velo_events.specs.declared.limits.TheConstants.{MAX_EVENTS};
-ghost use Rattle.velo_fate.specs.Fate.{Closes, line_of, status_of};
+ghost use Rattle.velo_fate.specs.Fate.{Closes, last_line_of, status_of};
 ghost use Rattle.velo_fault_words.specs.Beside.{other_sites_words};
 ghost use Rattle.velo_words.specs.Failing.{SaysFailure};
 ghost use Rattle.velo_words.specs.Saying.{EndsInWords, IsSaid, IsTextAt, SaysEvent, SaysFault, SaysSchedule, event_words, log_of, work_of};
@@ -234,7 +234,7 @@ fn said_of<F: Files + Recall>(
 
 /// Writes the words, and then reports how a run ended.
 fn end_after<E: Sink>(words: &[u8], fate: &Fate, err: &mut E) -> u8
-    ensures { Closes (status_of fate.now) (words.now ++ line_of fate.now)
+    ensures { Closes (status_of fate.now) (words.now ++ last_line_of fate.now)
         (writing E.contents E.failures err.old err.new) result }
 {
     match write_all(err, words) {

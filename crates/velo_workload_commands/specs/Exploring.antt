@@ -89,9 +89,8 @@ IsSurveyOf program config options over survey =
 
 -- ---- its text
 
--- the turns of a schedule, each after a space, those of one thread in a row joined (`0*3`) as far as
--- they go (`stretches_of`); nothing
--- for an empty one
+-- the turns, each after a space; turns of one thread in a row are one word (`0*3`). Nothing for an
+-- empty schedule
 abbrev pub turns_text : List ThreadId → List ℕ
 turns_text schedule = spaced (stretches_of schedule)
 

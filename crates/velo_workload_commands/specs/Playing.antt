@@ -45,15 +45,15 @@ IsTooLong bytes fault =
     (MAX_WORKLOAD_BYTES < length bytes) × (fault ≡ work_fault.TooMany 0)
 
 -- they are not UTF-8; or this is the fault of the text that they are
-abbrev pub HasFault : List ℕ → WorkFault → Type 0
-HasFault bytes fault =
+abbrev pub HasFaultOfWork : List ℕ → WorkFault → Type 0
+HasFaultOfWork bytes fault =
     ((¬ IsUtf8 bytes) × (fault ≡ work_fault.BadLine 0))
     ⊎ (IsUtf8 bytes × ParsesAs (meaning_of bytes) (Err fault))
 
 -- why bytes are the text of no workload: there are too many; else by what they are
 abbrev pub IsFaultOfText : List ℕ → WorkFault → Type 0
 IsFaultOfText bytes fault =
-    IsTooLong bytes fault ⊎ ((length bytes ≤ MAX_WORKLOAD_BYTES) × HasFault bytes fault)
+    IsTooLong bytes fault ⊎ ((length bytes ≤ MAX_WORKLOAD_BYTES) × HasFaultOfWork bytes fault)
 
 abbrev pub IsFaultOfWork : Option (List ℕ) → WorkFault → Type 0
 IsFaultOfWork read work_fault.Memory = GrowthRefused
@@ -95,19 +95,19 @@ pub record IsReplayedRunOf (schedule : List ThreadId) (options : RunOptions) (pr
   pub cause : EndsByGrowth ended
 
 -- the event that closes the first cycle, if one does, is the last
-abbrev pub EndsAtCycle : List Event → Type 0
-EndsAtCycle log = (p : ℕ) → IsClosing log p → p + 1 ≡ length log
+abbrev pub HasNothingAfterCycle : List Event → Type 0
+HasNothingAfterCycle log = (p : ℕ) → IsClosing log p → p + 1 ≡ length log
 
 -- the gate let all go on; and where a run is to stop at its first cycle, no event came after it
 pub record KeepsTo (stop : Bool) (log : List Event) (ended : Ending) : Type 0 where
   pub not_gated : ended ≢ ending.Gated
-  pub stops : stop ≡ true → EndsAtCycle log
+  pub stops : stop ≡ true → HasNothingAfterCycle log
 
 -- a run of the program by threads of its own: it is configured as was asked for, and keeps to that;
 -- its log is one of the program's; where it is done, each thread that was born did its body; where it
 -- is halted, an alarm did so. Of a run that ended stuck or refused no more is said: some thread could
--- perhaps have gone on, and the refusal need not be one that is due after this log. Only where it is
--- of memory, or of the start of a thread, did that fail
+-- perhaps have gone on, and the refusal need not be one that is due after this log. Where the
+-- refusal is one of memory or of the start of a thread, that did fail (`cause`)
 pub record IsLiveRunOf (options : RunOptions) (program : Program) (ended : Ending) (w : WorldState)
     : Type 0 where
   pub configured : IsConfigOf program options w.config

@@ -19,8 +19,8 @@ fn most_to_blame(first: bool) -> usize
     if first { 0 } else { MAX_BLAMING }
 }
 
-/// Whom the replays by these schedules blame, each made once. Behind the most of them the others
-/// are left out; where the first finding ends the search all are.
+/// Whom the replays by these schedules blame, each made once. Only the first [`MAX_BLAMING`] are
+/// made; where the first finding ends the search, none is.
 ///
 /// # Errors
 /// `Memory` where a growth was refused.

@@ -1,6 +1,6 @@
 //! `velodrome run`.
 ghost use Rattle.std.specs.Prelude.{◌≤◌, length, IsTrue};
-ghost use Rattle.velo_workload_commands.specs.Playing.{ByThreads, EndsAtCycle, KeepsTo};
+ghost use Rattle.velo_workload_commands.specs.Playing.{ByThreads, HasNothingAfterCycle, KeepsTo};
 ghost use Rattle.velo_workload_commands.specs.Commands.{DoesRun};
 ghost use Rattle.velo_delivery.specs.Disk.{store};
 ghost use Rattle.velo_delivery.specs.Writing.{writing};
@@ -19,9 +19,9 @@ use velo_workload::Workload;
 use velo_world::Closed;
 
 /// Whether no event came after the one that closes the first cycle.
-fn ends_at_cycle(closed: &Closed) -> bool
+fn has_nothing_after_cycle(closed: &Closed) -> bool
     ensures within { length closed.now.log ≤ closed.now.config.events }
-    ensures last { IsTrue result → EndsAtCycle closed.now.log }
+    ensures last { IsTrue result → HasNothingAfterCycle closed.now.log }
 {
     let events = closed.log().len();
     match closed.alarm() {
@@ -35,7 +35,7 @@ fn keeps_to(run: &(Closed, Ending), stop: bool) -> bool
     ensures within { length run.now.0.log ≤ run.now.0.config.events }
     ensures keeps { IsTrue result → KeepsTo stop run.now.0.log run.now.1 }
 {
-    let is_last = ends_at_cycle(&run.0);
+    let is_last = has_nothing_after_cycle(&run.0);
     match run.1 {
         Ending::Gated => false,
         _ => !stop || is_last,

@@ -87,7 +87,7 @@ pub fn config_of_run(workload: &Workload, options: &RunOptions) -> Config
     }
 }
 
-/// Whether a run that ends so has no report: a growth was refused.
+/// Whether a run that ends so has no report: memory, or the start of a thread, was refused.
 pub fn is_unreported(ending: Ending) -> bool
     ensures { result ≡ is_unreported ending }
 {

@@ -1,6 +1,6 @@
 use Rattle.velo_audit.specs.Audit.{StandsAt}
 use Rattle.velo_audit.specs.Cut.{IsCut}
-use Rattle.velo_audit.specs.Rounds.{atomic_labels}
+use Rattle.velo_audit.specs.Rounds.{labels_left}
 use Rattle.velo_filter.specs.Tables.{left_of}
 use Rattle.velo_audit.proofs.rounds.audit.Given as goal
 
@@ -11,4 +11,4 @@ invariant-loop-cut l = record {
 }
 
 abbrev pub decreases-loop-cut : goal.decreases-loop-cut
-decreases-loop-cut l = atomic_labels (left_of l.left) l.log.events
+decreases-loop-cut l = labels_left (left_of l.left) l.log.events

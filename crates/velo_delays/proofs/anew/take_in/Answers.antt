@@ -6,8 +6,8 @@ use Rattle.velo_events.specs.declared.event.Kind.TheVariants.{Read}
 use Rattle.velo_events.specs.WellFormed.{MayFollow}
 use Rattle.velo_events.proofs.OnScans.{take-next}
 use Rattle.velo_heap.specs.Contents.{bounds_of, IsHeapOf, IsAdmitted}
-use Rattle.velo_delays.specs.Anew.{renewed, IsAnewSoFar}
-use Rattle.velo_delays.proofs.OnAnew.{MayFollow-renewed, IsAnewSoFar-push}
+use Rattle.velo_delays.specs.Anew.{renewed, IsRenewedSoFar}
+use Rattle.velo_delays.proofs.OnAnew.{MayFollow-renewed, IsRenewedSoFar-push}
 use Rattle.velo_delays.proofs.anew.take_in.Goals as goal
 
 abbrev none : Event
@@ -23,7 +23,7 @@ apply-requires c =
     let anew = c.args.anew.now.events in
     let stands = c.requires.stands in
     let follows = c.requires.well_formed.each c.args.position e (slice_get-get_or c.args.events.now c.args.position none c.requires.within) in
-    let counts : length anew ≡ c.args.position = stands.is_anew.as_long ∙ length-take-le c.args.position c.args.events.now (omega arith) in
+    let counts : length anew ≡ c.args.position = stands.is_renewed.as_long ∙ length-take-le c.args.position c.args.events.now (omega arith) in
     let is : c.renewed-event.result ≡ renewed anew e = c.renewed-event.ensures anew stands.is_heap counts in
     record {
       trace = anew;
@@ -37,9 +37,9 @@ returns-clause-stands c =
     let e = get_or events c.args.position none in
     let anew = c.args.anew.now.events in
     let stands = c.requires.stands in
-    let counts : length anew ≡ c.args.position = stands.is_anew.as_long ∙ length-take-le c.args.position events (omega arith) in
+    let counts : length anew ≡ c.args.position = stands.is_renewed.as_long ∙ length-take-le c.args.position events (omega arith) in
     let is : c.renewed-event.result ≡ renewed anew e = c.renewed-event.ensures anew stands.is_heap counts in
     let pushed : c.push.new.self.events ≡ anew ++ renewed anew e ∷ [] = c.in_ok-push.ensures.ok ∙ ap (λ (x : Event). anew ++ x ∷ []) is in
     let heap : IsHeapOf c.apply.new.self (anew ++ renewed anew e ∷ []) = subst (λ (x : Event). IsHeapOf c.apply.new.self (anew ++ x ∷ [])) is (c.apply.ensures.next anew stands.is_heap) in
-    subst (λ es. IsAnewSoFar es c.apply.new.self c.push.new.self.events) (sym (take-next events c.args.position e (slice_get-get_or events c.args.position none c.requires.within)))
-    (subst (IsAnewSoFar (take c.args.position events ++ e ∷ []) c.apply.new.self) (sym pushed) (IsAnewSoFar-push (take c.args.position events) e c.args.heap.now c.apply.new.self anew stands heap))
+    subst (λ es. IsRenewedSoFar es c.apply.new.self c.push.new.self.events) (sym (take-next events c.args.position e (slice_get-get_or events c.args.position none c.requires.within)))
+    (subst (IsRenewedSoFar (take c.args.position events ++ e ∷ []) c.apply.new.self) (sym pushed) (IsRenewedSoFar-push (take c.args.position events) e c.args.heap.now c.apply.new.self anew stands heap))

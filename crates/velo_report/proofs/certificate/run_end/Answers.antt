@@ -1,5 +1,5 @@
 use Rattle.std.proofs.lemmas.Bool.{both_ways}
-use Rattle.velo_report.proofs.OnRuns.{RunsSoFar-start, RunsSoFar-next, IsRun-end, small_next}
+use Rattle.velo_report.proofs.OnRuns.{RunsSoFar-start, RunsSoFar-next, IsOneTransaction-end, small_next}
 use Rattle.velo_report.proofs.certificate.run_end.Goals as goal
 
 pub loop-depth-init : goal.loop-depth-init
@@ -21,5 +21,5 @@ loop-depth-preserved c =
 
 pub returns : goal.returns
 returns c =
-    IsRun-end c.args.events.now c.args.order.now c.args.from c.requires.reorders c.requires.serial c.requires.start
+    IsOneTransaction-end c.args.events.now c.args.order.now c.args.from c.requires.reorders c.requires.serial c.requires.start
     c.loop-depth.end c.loop-depth.depth c.loop-depth.invariant (λ goes. both_ways c.goes_on.result c.loop-depth-test.false (c.goes_on.ensures.1 goes))

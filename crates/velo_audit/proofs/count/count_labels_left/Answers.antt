@@ -2,7 +2,7 @@ use Rattle.std.proofs.Common.{sym, subst}
 use Rattle.velo_filter.specs.Tables.{left_of}
 use Rattle.velo_audit.specs.Count.{IsCountedTo}
 use Rattle.velo_audit.proofs.OnCount.{IsCountedTo-start}
-use Rattle.velo_audit.proofs.count.count_atomic.Goals as goal
+use Rattle.velo_audit.proofs.count.count_labels_left.Goals as goal
 
 pub loop-position-init : goal.loop-position-init
 loop-position-init c = record {
