@@ -100,7 +100,7 @@ clash_of_schedule (schedule.Text text) has_text = None
 clash_of_schedule (schedule.Turns turns) has_text = if has_text then Some TwoSchedules else None
 clash_of_schedule (schedule.File path) has_text = if has_text then Some TwoSchedules else None
 
--- it has two schedules, or standard input is read twice, or by what it saves
+-- it has two schedules, or standard input is read twice, or its targets clash
 abbrev pub clash_of_replay : ReplayOptions → Bool → Option Clash
 clash_of_replay options has_text =
     option_or
@@ -122,10 +122,10 @@ clash_of_search options given =
 
 -- ---- an explanation
 
--- it is to have a form that there is not; or standard input is read twice, or one path is written twice
+-- it is asked for in a form that does not exist; or standard input is read twice, or one path is written twice
 abbrev pub clash_of_explain : ExplainOptions → Bool → Option Clash
-clash_of_explain options other_form =
-    if other_form
+clash_of_explain options neither =
+    if neither
     then Some NeitherTextNorJson
     else option_or
     (clash_of_inputs
@@ -135,7 +135,7 @@ clash_of_explain options other_form =
 
 -- ---- an audit
 
--- its answer is to have a form that there is not; or standard input is read twice
+-- its answer is asked for in a form that does not exist; or standard input is read twice
 abbrev pub clash_of_audit : AuditOptions → Bool → Option Clash
 clash_of_audit options other_form =
     if other_form
@@ -148,8 +148,8 @@ clash_of_audit options other_form =
 
 -- the same, with two forms
 abbrev pub clash_of_predict : PredictOptions → Bool → Option Clash
-clash_of_predict options other_form =
-    if other_form
+clash_of_predict options neither =
+    if neither
     then Some NeitherTextNorJson
     else clash_of_inputs
     (options.input.now ∷ path_if options.names ++ path_if options.sites

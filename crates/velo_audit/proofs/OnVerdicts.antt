@@ -15,8 +15,8 @@ use Rattle.velo_audit.specs.Audit.{CheckTells, RoundTells}
 use Rattle.velo_audit.specs.Cut.{AreBegun, IsCut, GoesTo, EndsAt}
 use Rattle.velo_audit.specs.Verdict.{IsRoundVerdict, Judges}
 use Rattle.velo_audit.specs.declared.cut.Cut.{Cut}
-use Rattle.velo_audit.specs.declared.pieces.Verdict.{Verdict}
-use Rattle.velo_audit.specs.declared.pieces.Verdict.TheVariants as verdict
+use Rattle.velo_audit.specs.declared.pieces.PiecesVerdict.{PiecesVerdict}
+use Rattle.velo_audit.specs.declared.pieces.PiecesVerdict.TheVariants as verdict
 use Rattle.velo_audit.specs.declared.told.Told.{Told}
 use Rattle.velo_audit.proofs.OnCuts.{RoundTells-none, RoundTells-some, IsCut-moved}
 
@@ -26,7 +26,7 @@ EndsAt-from left log events same cut end n at marks trace places goes many are l
     subst (λ es. EndsAt left es cut end marks trace places) same (subst (λ k. EndsAt left events cut k marks trace places) (sym at)
     (record { goes = goes; as_many = many; marks_are = are; later = later; within = within }))
 
-pub Judges-verdict : (with_witness : Bool) (log : List Event) (left : Omitted) (place : ℕ) (cut : Cut) (v : Verdict) → IsCut left log cut → IsRoundVerdict with_witness log left v → Judges with_witness log left place cut (Some v)
+pub Judges-verdict : (with_witness : Bool) (log : List Event) (left : Omitted) (place : ℕ) (cut : Cut) (v : PiecesVerdict) → IsCut left log cut → IsRoundVerdict with_witness log left v → Judges with_witness log left place cut (Some v)
 Judges-verdict with_witness log left place cut v is said = record {
   is_cut = is;
   verdict = λ w same. subst (IsRoundVerdict with_witness log left) (same_Some v w same) said;

@@ -26,7 +26,7 @@ const FEW_EVENTS: usize = 256;
 
 /// What the pieces say of a round.
 #[derive(Drop)]
-pub enum Verdict {
+pub enum PiecesVerdict {
     /// The rest has a cycle, and this is reported of its first alarm.
     Told(RoundTold),
     /// The rest has no cycle.
@@ -45,7 +45,7 @@ pub fn by_pieces(
     left: &LeftOut,
     cut: &mut Cut,
     with_witness: bool,
-) -> Result<Verdict, AuditFault>
+) -> Result<PiecesVerdict, AuditFault>
     requires goes_on { config.now.stop ≡ false }
     requires short { length log.now.events ≤ config.now.events }
     requires well_formed { IsWellFormed config.now.bounds log.now.events }
@@ -63,7 +63,7 @@ pub fn by_pieces(
         }
         count = count.saturating_mul(2);
     }
-    Ok(Verdict::NoCycle)
+    Ok(PiecesVerdict::NoCycle)
 }
 
 /// How many events the first piece has: so many that to begin it costs no more than to judge it.
@@ -84,7 +84,7 @@ fn judged(
     cut: &mut Cut,
     with_witness: bool,
     piece: Piece,
-) -> Result<Option<Verdict>, AuditFault>
+) -> Result<Option<PiecesVerdict>, AuditFault>
     requires goes_on { config.now.stop ≡ false }
     requires cut { IsCut (left_of left.now) log.now.events cut.old }
     requires piece { IsPiece (left_of left.now) log.now.events cut.old piece }
@@ -106,7 +106,7 @@ fn judged(
             judged
         }
         Err(LogReplayFault::Memory) => Err(AuditFault::Memory),
-        Err(_) => Ok(Some(Verdict::Unknown)),
+        Err(_) => Ok(Some(PiecesVerdict::Unknown)),
     }
 }
 
@@ -120,7 +120,7 @@ fn judged_by(
     places: &[u32],
     marks: Vec<u64>,
     end: usize,
-) -> Result<Option<Verdict>, AuditFault>
+) -> Result<Option<PiecesVerdict>, AuditFault>
     requires { (left : Omitted) × IsCut left log.now.events cut.old
         × EndsAt left log.now.events cut.old end marks.items closed.now.log places.now }
     ensures judges { IfOk result (λ judged. (left : Omitted) → IsCut left log.now.events cut.old
@@ -130,13 +130,13 @@ fn judged_by(
     ensures memory { OnErr result GrowthRefused }
 {
     if let Some(told) = told_in(alloc, with_witness, closed, places)? {
-        return Ok(Some(Verdict::Told(told)));
+        return Ok(Some(PiecesVerdict::Told(told)));
     }
     if end == log.len() {
-        return Ok(Some(Verdict::NoCycle));
+        return Ok(Some(PiecesVerdict::NoCycle));
     }
     if !is_quiet(closed) {
-        return Ok(Some(Verdict::Unknown));
+        return Ok(Some(PiecesVerdict::Unknown));
     }
     move_to(alloc, log, cut, closed, marks, end)?;
     Ok(None)

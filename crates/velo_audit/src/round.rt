@@ -8,7 +8,7 @@ ghost use Rattle.velo_filter.specs.Tables.{left_of};
 ghost use Rattle.velo_world.specs.Faults.{IsFaultOfLog};
 
 use crate::cut::Cut;
-use crate::pieces::{Verdict, by_pieces};
+use crate::pieces::{PiecesVerdict, by_pieces};
 use crate::told::{Told, told_of};
 use crate::witness::place_at;
 use std::alloc::Global;
@@ -68,9 +68,9 @@ pub fn round(
     ensures fault { IfErr result (IsRoundFault config.now log.now.events (left_of left.now)) }
 {
     match by_pieces(alloc, config, log, left, cut, with_witness)? {
-        Verdict::Told(told) => Ok(Some(told)),
-        Verdict::NoCycle => Ok(None),
-        Verdict::Unknown => whole_round(alloc, config, log, left, with_witness),
+        PiecesVerdict::Told(told) => Ok(Some(told)),
+        PiecesVerdict::NoCycle => Ok(None),
+        PiecesVerdict::Unknown => whole_round(alloc, config, log, left, with_witness),
     }
 }
 

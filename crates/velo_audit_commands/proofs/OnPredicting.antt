@@ -30,14 +30,14 @@ use Rattle.velo_inputs.specs.Siting.{HaveLengthOf}
 
 -- what a search of this log answers
 pub foretold_of : {E : Type 0} (values : Bool) (bounds : Bounds) (log searched : List Event) (left : Omitted) (result : Result PredictedFindings E) → IsSearched values log searched
-    → IfOk result (λ (f : PredictedFindings). AreFoundIn bounds searched left f.labels.items) → IfOk result (λ (f : PredictedFindings). AreDeadlocksIn bounds searched left f.deadlocks.items)
+    → IfOk result (λ (f : PredictedFindings). AreFoundIn bounds searched left f.cycles.items) → IfOk result (λ (f : PredictedFindings). AreDeadlocksIn bounds searched left f.deadlocks.items)
     → IfOk result (λ (f : PredictedFindings). ArePredictionsOf values bounds log left f)
-foretold_of values bounds log searched left (Ok f) is labels deadlocks = record { searched = searched; is_searched = is; labels = labels; deadlocks = deadlocks }
-foretold_of values bounds log searched left (Err e) is labels deadlocks = tt
+foretold_of values bounds log searched left (Ok f) is cycles deadlocks = record { searched = searched; is_searched = is; cycles = cycles; deadlocks = deadlocks }
+foretold_of values bounds log searched left (Err e) is cycles deadlocks = tt
 
 module _ (values : Bool) (bounds : Bounds) (log : List Event) (left : Omitted) (findings : PredictedFindings) (are : ArePredictionsOf values bounds log left findings) where
-  pub can_be_told : All CanBeTold findings.labels.items
-  can_be_told = CanBeTold-from bounds are.searched left findings.labels.items are.labels
+  pub can_be_told : All CanBeTold findings.cycles.items
+  can_be_told = CanBeTold-from bounds are.searched left findings.cycles.items are.cycles
 
   pub can_tell_deadlocks : All CanTellDeadlock findings.deadlocks.items
   can_tell_deadlocks = CanTellDeadlock-from bounds (rest_of left are.searched) findings.deadlocks.items are.deadlocks

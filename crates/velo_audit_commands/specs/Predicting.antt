@@ -52,7 +52,7 @@ pub record ArePredictionsOf (values : Bool) (bounds : Bounds) (log : List Event)
   -- The trace has a cycle, and the blocks told are those to blame at its first alarm. What is left out
   -- stays so, and maybe the begins and ends of labels that those before it blame. Each blames a label
   -- that is not left out and that none before it blames.
-  pub labels : AreFoundIn bounds searched omitted findings.labels.items
+  pub cycles : AreFoundIn bounds searched omitted findings.cycles.items
   -- After the trace threads wait in a circle (`IsDeadlock`), to do the events that are told. Each has a
   -- lock that is waited for in none before it.
   pub deadlocks : AreDeadlocksIn bounds searched omitted findings.deadlocks.items
@@ -81,10 +81,10 @@ abbrev pub predicted : NameLists → Option Table → PredictOptions → Bounds 
     → List Told → PredictedFindings → CommandAnswer
 predicted names sites options bounds log asked rounds findings =
     record {
-      saved = option_map (log_text bounds) (first_trace findings.labels.items findings.deadlocks.items);
+      saved = option_map (log_text bounds) (first_trace findings.cycles.items findings.deadlocks.items);
       printed = Some (predictions_page options.format names sites log options.input.now asked rounds
-          findings.labels.items findings.deadlocks.items findings.tries);
-      fate = Finished Done (is_something_told rounds findings.labels.items findings.deadlocks.items);
+          findings.cycles.items findings.deadlocks.items findings.tries);
+      fate = Finished Done (is_something_told rounds findings.cycles.items findings.deadlocks.items);
     }
 
 -- The rounds of the log are told, as by an audit with witnesses. Their labels are left out, and then

@@ -55,8 +55,8 @@ struct Inquiry<'i, 'n, 'a, 'o> {
 /// What the search found.
 #[derive(Drop)]
 pub struct PredictedFindings {
-    /// Labels that may not be atomic.
-    pub labels: Vec<PredictedCycle>,
+    /// Predictions with a cycle.
+    pub cycles: Vec<PredictedCycle>,
     /// Deadlocks.
     pub deadlocks: Vec<Deadlock>,
     /// How many delays were tried.
@@ -74,8 +74,8 @@ fn search_in(
     requires goes_on { config.now.stop ≡ false }
     requires few { length log.now.events ≤ MAX_EVENTS }
     requires well_formed { IsWellFormed config.now.bounds log.now.events }
-    ensures labels { IfOk result (λ findings. AreFoundIn config.now.bounds log.now.events
-        (left_of left.old) findings.labels.items) }
+    ensures cycles { IfOk result (λ findings. AreFoundIn config.now.bounds log.now.events
+        (left_of left.old) findings.cycles.items) }
     ensures deadlocks { IfOk result (λ findings. AreDeadlocksIn config.now.bounds log.now.events
         (left_of left.old) findings.deadlocks.items) }
 {
@@ -86,7 +86,7 @@ fn search_in(
     let stuck = search_deadlocks(alloc, config, log, options.tries, left)?;
     let cyclic = search(alloc, config, log, draws, left)?;
     Ok(PredictedFindings {
-        labels: cyclic.found,
+        cycles: cyclic.found,
         deadlocks: stuck.found,
         tries: cyclic.tries.saturating_add(stuck.tries),
     })
@@ -184,7 +184,7 @@ fn tell<F: Files, O: Sink>(
         (store F.disk files.old files.new) inquiry.now.options.now.target
         (writing O.contents O.failures out.old out.new) result }
 {
-    let founds = &findings.labels;
+    let founds = &findings.cycles;
     let deadlocks = &findings.deadlocks;
     let made = page_of_predictions(
         alloc,

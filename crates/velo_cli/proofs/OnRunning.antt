@@ -7,7 +7,7 @@ use Rattle.clap.specs.declared.parser.matches.ArgMatches.{ArgMatches}
 use Rattle.velo_delivery.specs.Disk.{Store}
 use Rattle.velo_arguments.specs.Asked.{Matches, AsksForNothing}
 use Rattle.velo_arguments.specs.CommandLine.{asked_by, command_line, faults_of}
-use Rattle.velo_cli.specs.Running.{Answers, Runs}
+use Rattle.velo_cli.specs.Running.{DoesOrTellsClash, Runs}
 use Rattle.velo_cli.specs.Usage.{Console, Tells, TellsError}
 use Rattle.velo_words.specs.declared.failing.SystemReason.{SystemReason}
 use Rattle.velo_arguments.proofs.OnCommandLine.{line_is_simple, line_is_simple_and_free}
@@ -26,14 +26,14 @@ matches_ask line words m is matches faultless nothing =
 -- the words were taken, and what they ask for was answered
 pub runs_asked : (line : App) (words : List Text) (m : ArgMatches) (store : Store) (failed : List ℕ → SystemReason → Type 0) (console : Console)
     → line ≡ command_line → HasMatchesOf line words m → (is_simple_and_free line ≡ true → fault_of line words ≡ [])
-    → Answers (subcommand_rows_of m) store failed console → Runs words store failed console
+    → DoesOrTellsClash (subcommand_rows_of m) store failed console → Runs words store failed console
 unfolding faults_of asked_by
 runs_asked line words m store failed console is matches faultless does =
     let same : subcommand_rows_of m ≡ subcommand_of command_line words =
     (subst (λ (x : App). HasMatchesOf x words m) is matches line_is_simple).1 in
     inl (
       subst (λ (x : App). is_simple_and_free x ≡ true → fault_of x words ≡ []) is faultless line_is_simple_and_free,
-      subst (λ (asked : Matches). Answers asked store failed console) same does,
+      subst (λ (asked : Matches). DoesOrTellsClash asked store failed console) same does,
     )
 
 -- the words were refused, and the reason was told

@@ -38,8 +38,8 @@ pub record TellsClash (asked : Matches) (console : Console) : Type 0 where
   pub told : Closes bad_usage (line_of_clash clash) console.stderr console.status
 
 -- what was asked for was done; or its options do not go together, and the files are as they were
-abbrev pub Answers : Matches → Store → (List ℕ → SystemReason → Type 0) → Console → Type 0
-Answers asked store failed console =
+abbrev pub DoesOrTellsClash : Matches → Store → (List ℕ → SystemReason → Type 0) → Console → Type 0
+DoesOrTellsClash asked store failed console =
     DoesRequest asked store failed console ⊎ (store.is_kept × TellsClash asked console)
 
 -- one of the faults of the words was reported, by some text; help and the version are among them
@@ -53,5 +53,5 @@ pub record TellsFault (words : List Text) (console : Console) : Type 0 where
 -- one of the faults was reported, or memory ran out before.
 abbrev pub Runs : List Text → Store → (List ℕ → SystemReason → Type 0) → Console → Type 0
 Runs words store failed console =
-    ((faults_of words ≡ []) × Answers (asked_by words) store failed console)
+    ((faults_of words ≡ []) × DoesOrTellsClash (asked_by words) store failed console)
     ⊎ (store.is_kept × (TellsFault words console ⊎ LacksMemoryOn console))

@@ -7,7 +7,7 @@ ghost use Rattle.velo_fate.specs.Fate.{Closes, Ends};
 ghost use Rattle.velo_delivery.specs.Writing.{writing};
 ghost use Rattle.velo_fate.specs.declared.fate.Fate.TheVariants as fate;
 ghost use Rattle.velo_arguments.specs.Asked.{AsksForNothing};
-ghost use Rattle.velo_cli.specs.Running.{Answers, Runs};
+ghost use Rattle.velo_cli.specs.Running.{DoesOrTellsClash, Runs};
 ghost use Rattle.velo_cli.specs.Usage.{bad_usage, console_of, not_utf8};
 
 use crate::telling::{tell_clash, tell_error, tell_fault};
@@ -80,7 +80,7 @@ fn do_asked<R: Threads + Wait + Sync, F: Files + Recall, O: Sink, E: Sink, P: Ex
     progress: &mut P,
 ) -> u8
     requires { ¬ AsksForNothing (subcommand_rows_of matches.now) }
-    ensures { Answers (subcommand_rows_of matches.now) (store F.disk files.old files.new)
+    ensures { DoesOrTellsClash (subcommand_rows_of matches.now) (store F.disk files.old files.new)
         (F.failed files.new)
         (console_of (out.new ≡ out.old)
         (writing O.contents O.failures out.old out.new)

@@ -19,13 +19,13 @@ schema = 1
 -- ---- the verdict
 
 -- what a log, or what is left of it, shows
-pub data Verdict : Type 0 where
+pub data ShownVerdict : Type 0 where
   -- a cycle, with an alarm at this position, by this evidence
-  Cyclic : ℕ → Evidence → Verdict
+  Cyclic : ℕ → Evidence → ShownVerdict
   -- no cycle in these events
-  Serial : List Event → Verdict
+  Serial : List Event → ShownVerdict
 
-abbrev pub verdict_name : Verdict → List ℕ
+abbrev pub verdict_name : ShownVerdict → List ℕ
 verdict_name (Cyclic p evidence) = codes "not serializable"
 verdict_name (Serial rest) = codes "serializable"
 
@@ -36,7 +36,7 @@ alarm_json known p evidence = object_of (
     ∷ (codes "witness", witness_json known evidence)
     ∷ [])
 
-abbrev pub alarm_or_null : Known → Verdict → Json
+abbrev pub alarm_or_null : Known → ShownVerdict → Json
 alarm_or_null known (Cyclic p evidence) = alarm_json known p evidence
 alarm_or_null known (Serial rest) = null
 
@@ -47,7 +47,7 @@ serial_json rest = object_of (
     ∷ (codes "transactions", count (transactions_of rest))
     ∷ [])
 
-abbrev pub serial_or_null : Verdict → Json
+abbrev pub serial_or_null : ShownVerdict → Json
 serial_or_null (Cyclic p evidence) = null
 serial_or_null (Serial rest) = serial_json rest
 
@@ -55,7 +55,7 @@ serial_or_null (Serial rest) = serial_json rest
 
 -- what was to be left out; how many events the log has; and the verdict on what is left of it, with its
 -- first alarm, or with how many events and transactions it has
-unfoldable pub explanation_json : Known → List ℕ → Asked → Verdict → Json
+unfoldable pub explanation_json : Known → List ℕ → Asked → ShownVerdict → Json
 explanation_json known path asked verdict = object_of (
     (codes "schema", count schema)
     ∷ (codes "log", string path)
@@ -67,6 +67,6 @@ explanation_json known path asked verdict = object_of (
     ∷ [])
 
 -- what the code has of the verdict
-abbrev pub verdict_of : Shown → Verdict
+abbrev pub verdict_of : Shown → ShownVerdict
 verdict_of (shown.Cyclic p evidence) = Cyclic p evidence.now
 verdict_of (shown.Serial rest) = Serial rest.now.events

@@ -5,14 +5,14 @@ use Rattle.velo_audit_text.specs.declared.words.Asked.{Asked}
 use Rattle.velo_delivery.specs.Disk.{Store}
 use Rattle.velo_delivery.specs.Writing.{Writing}
 use Rattle.velo_fate.specs.declared.fate.Fate.{Fate}
-use Rattle.velo_inputs.specs.Context.{DoesAsked, DoesBySites, IsContext, KnowsNoContext}
+use Rattle.velo_inputs.specs.Context.{ReadsListThen, ReadsSitesThen, IsContext, KnowsNoContext}
 use Rattle.velo_inputs.specs.Naming.{AreNamesOf}
 use Rattle.velo_inputs.specs.declared.context.ContextOptions.{ContextOptions}
 use Rattle.velo_names.specs.Names.{NameLists}
 use Rattle.velo_sites.specs.Sites.{Table}
 
 pub in_context : (does : NameLists → Asked → Option Table → Store → Writing → Fate → Type 0) (names : NameLists) (options : ContextOptions) (store : Store) (stdout : Writing) (f : Fate) → AreNamesOf store.disk options.names names
-    → DoesAsked (λ asked. DoesBySites (does names asked) options.sites) names options.ignored store stdout f
+    → ReadsListThen (λ asked. ReadsSitesThen (does names asked) options.sites) names options.ignored store stdout f
     → KnowsNoContext store options stdout f
     ⊎ ((names : NameLists) × (asked : Asked) × (sites : Option Table) × IsContext store.disk options names asked sites × does names asked sites store stdout f)
 in_context does names options store stdout f are (inl (lacks, nowhere)) = inl (inr (names, are, inl lacks), nowhere)

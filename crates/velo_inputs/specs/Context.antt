@@ -54,23 +54,23 @@ KnowsNoContext store options stdout f =
 -- ---- argument
 
 -- by these names the words of what is to be ignored are judged
-abbrev pub DoesKnown : (Asked → Store → Writing → Fate → Type 0) → NameLists → Ignored → List ℕ
+abbrev pub JudgesWordsThen : (Asked → Store → Writing → Fate → Type 0) → NameLists → Ignored → List ℕ
     → Store → Writing → Fate → Type 0
-DoesKnown does names ignored known store stdout f =
+JudgesWordsThen then_does names ignored known store stdout f =
     (AsksInVain names ignored f × WritesNowhere store stdout)
-    ⊎ ((asked : Asked) × IsAsked names known ignored asked × does asked store stdout f)
+    ⊎ ((asked : Asked) × IsAsked names known ignored asked × then_does asked store stdout f)
 
 -- the labels that are known are read before
-abbrev pub DoesAsked : (Asked → Store → Writing → Fate → Type 0) → NameLists → Ignored → Store
+abbrev pub ReadsListThen : (Asked → Store → Writing → Fate → Type 0) → NameLists → Ignored → Store
     → Writing → Fate → Type 0
-DoesAsked does names ignored store stdout f =
+ReadsListThen then_does names ignored store stdout f =
     (LacksLabels names store.disk ignored.known f × WritesNowhere store stdout)
     ⊎ ((known : List ℕ) × AreLabelsOf names store.disk ignored.known known
-    × DoesKnown does names ignored known store stdout f)
+    × JudgesWordsThen then_does names ignored known store stdout f)
 
 -- the sites are read
-abbrev pub DoesBySites : (Option Table → Store → Writing → Fate → Type 0) → Option (Bor (List ℕ))
+abbrev pub ReadsSitesThen : (Option Table → Store → Writing → Fate → Type 0) → Option (Bor (List ℕ))
     → Store → Writing → Fate → Type 0
-DoesBySites does path store stdout f =
+ReadsSitesThen then_does path store stdout f =
     (LacksSites store.disk path f × WritesNowhere store stdout)
-    ⊎ ((sites : Option Table) × AreSitesOf store.disk path sites × does sites store stdout f)
+    ⊎ ((sites : Option Table) × AreSitesOf store.disk path sites × then_does sites store stdout f)

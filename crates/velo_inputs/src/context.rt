@@ -4,7 +4,7 @@ ghost use Rattle.velo_audit_text.specs.declared.words.Asked.{Asked as AskedOf};
 ghost use Rattle.velo_delivery.specs.Disk.{Store, store};
 ghost use Rattle.velo_delivery.specs.Writing.{Writing, writing};
 ghost use Rattle.velo_fate.specs.declared.fate.Fate.{Fate as FateOf};
-ghost use Rattle.velo_inputs.specs.Context.{DoesAsked, DoesBySites, DoesKnown, IsContext, KnowsNoContext};
+ghost use Rattle.velo_inputs.specs.Context.{ReadsListThen, ReadsSitesThen, JudgesWordsThen, IsContext, KnowsNoContext};
 ghost use Rattle.velo_names.specs.Names.{NameLists};
 ghost use Rattle.velo_sites.specs.Sites.{Table};
 ghost use Rattle.velo_suppressions.specs.Answers.{numbers};
@@ -63,7 +63,7 @@ fn do_by_sites<C: InContext, F: Files, O: Sink>(
     files: &mut F,
     out: &mut O,
 ) -> Fate
-    ensures { DoesBySites (C.does command.now names.now asked.now) path.entry
+    ensures { ReadsSitesThen (C.does command.now names.now asked.now) path.entry
         (store F.disk files.old files.new) (writing O.contents O.failures out.old out.new) result }
 {
     let bytes = match read_given(alloc, path, MAX_SITES_BYTES, files) {
@@ -92,7 +92,7 @@ fn do_known<C: InContext, F: Files, O: Sink>(
     files: &mut F,
     out: &mut O,
 ) -> Fate
-    ensures { DoesKnown (λ asked. DoesBySites (C.does command.now names.now asked) options.now.sites)
+    ensures { JudgesWordsThen (λ asked. ReadsSitesThen (C.does command.now names.now asked) options.now.sites)
         names.now options.now.ignored (numbers labels.old.items)
         (store F.disk files.old files.new) (writing O.contents O.failures out.old out.new) result }
 {
@@ -128,7 +128,7 @@ fn do_by_asked<C: InContext, F: Files, O: Sink>(
     files: &mut F,
     out: &mut O,
 ) -> Fate
-    ensures { DoesAsked (λ asked. DoesBySites (C.does command.now names.now asked) options.now.sites)
+    ensures { ReadsListThen (λ asked. ReadsSitesThen (C.does command.now names.now asked) options.now.sites)
         names.now options.now.ignored (store F.disk files.old files.new)
         (writing O.contents O.failures out.old out.new) result }
 {

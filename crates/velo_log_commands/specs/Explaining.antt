@@ -19,8 +19,8 @@ use Rattle.velo_explain.specs.Picture.{named_picture_text}
 use Rattle.velo_explain.specs.Places.{sited_explanation_text}
 use Rattle.velo_explain.specs.Text.{clean_text, named_explanation_text}
 use Rattle.velo_audit_forms.specs.Answer.{line_text}
-use Rattle.velo_explain_forms.specs.Answer.{Verdict, explanation_json}
-use Rattle.velo_explain_forms.specs.Answer.Verdict.{Cyclic, Serial}
+use Rattle.velo_explain_forms.specs.Answer.{ShownVerdict, explanation_json}
+use Rattle.velo_explain_forms.specs.Answer.ShownVerdict.{Cyclic, Serial}
 use Rattle.velo_picture.specs.Drawing.{drawing_text}
 use Rattle.velo_request.specs.declared.request.ExplainOptions.{ExplainOptions}
 use Rattle.velo_request.specs.declared.request.TextOrJson.{TextOrJson}
@@ -40,14 +40,14 @@ is_whole asked =
     (length asked.labels.now == 0)
     && ((length asked.locks.now == 0) && ((length asked.variables.now == 0) && not asked.all_locks))
 
--- what comes before the words where something was: what an audit begins with, and a title
+-- what comes before the words where something is left out: what an audit begins with, and a title
 abbrev pub opening : NameLists → Asked → List ℕ
 opening names asked = asked_text names asked ++ codes "What is left of the log:\n"
 
 -- ---- the page of a verdict
 
--- In what manner a log at a path is explained: in this form, without what; in words after this text;
--- by these names, and with these sites
+-- How the log at a path is explained: in which form, without what was asked to be left out, after
+-- which text, by which names, with which sites
 pub record Manner : Type 0 where
   pub format : TextOrJson
   pub path : List ℕ
@@ -73,7 +73,7 @@ words_of names None log p evidence = named_explanation_text names log p evidence
 words_of names (Some sites) log p evidence = sited_explanation_text names sites log p evidence
 
 -- a verdict as one JSON object on a line
-abbrev pub json_page : Manner → List Event → Verdict → List ℕ
+abbrev pub json_page : Manner → List Event → ShownVerdict → List ℕ
 json_page manner log verdict =
     line_text (explanation_json (record { log = log; names = manner.names; sites = manner.sites })
     manner.path manner.asked verdict)

@@ -62,9 +62,9 @@ DrawsOrLacks answer drawing store options stdout f =
 -- an answer that explains so was delivered, or that memory was wanting
 abbrev pub Explains : (CommandAnswer → List ℕ → Type 0) → Store → ExplainOptions → Writing
     → Fate → Type 0
-Explains explains store options stdout f =
+Explains says store options stdout f =
     (answer : CommandAnswer) × (drawing : List ℕ)
-    × (explains answer drawing ⊎ LacksMemory answer)
+    × (says answer drawing ⊎ LacksMemory answer)
     × IsDeliveredInTurn store options.target options.drawing drawing stdout answer f
 
 -- so it was, of a log that the sites are of; or they are not, and nothing was written

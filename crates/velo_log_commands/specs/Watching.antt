@@ -218,7 +218,7 @@ FailsAfter terms read old new bounds log (watch_fault.Replay fault) =
 FailsAfter terms read old new bounds log watch_fault.Write =
     (e : Event) × BreaksAtAlarm terms read old new bounds (log ++ e ∷ [])
 
--- one event more happened; or the input is at its end, and is these events; or neither. `HasSeen` and
+-- one event more happened; or the input is at its end, and is these events; or why neither (`FailsAfter`). `HasSeen` and
 -- `IsAt` are what the watch at hand says of the events so far.
 abbrev pub StepsOn : Terms → Option (List ℕ) → Option (List ℕ) → Option (List ℕ) → Bounds
     → List Event → Result Bool WatchFault → Bounds → (List Event → Type 0) → (List Event → Type 0)

@@ -20,7 +20,7 @@ use velo_request::{ExplainOptions, TextOrJson};
 use velo_sites::Sites;
 use velo_traces::Trace;
 
-/// What is explained by which names, without what.
+/// By which names, without what, and by which options a log is explained.
 #[derive(Clone, Copy)]
 pub struct Inquiry<'i> {
     /// The names.
