@@ -9,7 +9,7 @@ use std::thread::Threads;
 use velo_bytes::Text;
 use velo_commands::{
     ExploreOptions, ExploreProgress, Limits, MAX_RUNS, MAX_STATES, Progress, RandomRuns, Request,
-    do_request, end_with,
+    TextOrJson, do_request, end_with,
 };
 use velo_events::MAX_EVENTS;
 
@@ -50,6 +50,7 @@ struct Row {
     certificate: bool,
     /// How many random runs are made, and their seed.
     random: Option<(u32, u64)>,
+    format: TextOrJson,
     /// After how many states the search is told that its time is over.
     over: Option<u64>,
     out: &'static str,
@@ -66,6 +67,7 @@ const ASKED: Row = Row {
     target: None,
     certificate: false,
     random: None,
+    format: TextOrJson::Text,
     over: None,
     out: "",
     err: "",
@@ -359,6 +361,7 @@ fn explore_it<R: Threads + Wait + Abort + Sync>(rt: &R, alloc: Global, row: &Row
         certificate: row.certificate,
         progress: false,
         random: runs_of(row.random),
+        format: row.format,
     });
     let mut out = Text::new(alloc);
     let mut err = Text::new(alloc);
