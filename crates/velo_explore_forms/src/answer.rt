@@ -1,8 +1,9 @@
 //! The whole answer.
-ghost use Rattle.std.specs.Prelude.{◌≡◌, ◌++◌, codes, IfOk};
+ghost use Rattle.std.specs.Prelude.{◌≡◌, ◌++◌, ◌∷◌, [], codes, IfOk};
 ghost use Rattle.json.specs.Print.{print};
+ghost use Rattle.json.specs.Token.{boolean, key, string};
 ghost use Rattle.json.specs.Tree.{json_tokens};
-ghost use Rattle.velo_explore_forms.specs.Answer.{all_json, exploration_json, line_text, random_json, tried_json};
+ghost use Rattle.velo_explore_forms.specs.Answer.{all_json, are_decided, exploration_json, line_text, random_json, tried_json};
 
 use crate::blame::add_blame;
 use crate::found::{add_finding, add_refused, are_decided};
@@ -10,6 +11,7 @@ use crate::survey::{Survey, Tried};
 use std::alloc::Global;
 use velo_bytes::append;
 use velo_events::Memory;
+use velo_explore::Findings;
 use velo_json::JsonWriter;
 use velo_workload::Workload;
 
@@ -53,6 +55,22 @@ fn add_tried(json: JsonWriter, tried: Tried) -> Result<JsonWriter, Memory>
     }
 }
 
+/// Adds the member with the path of the workload.
+fn add_path(json: JsonWriter, path: &str) -> Result<JsonWriter, Memory>
+    ensures { IfOk result (λ written. written ≡ json
+        ++ key (codes "workload") ∷ string path.now ∷ []) }
+{
+    json.key("workload")?.string(path.as_bytes())
+}
+
+/// Adds the member that says whether no finding is open.
+fn add_decided(json: JsonWriter, found: &Findings) -> Result<JsonWriter, Memory>
+    ensures { IfOk result (λ written. written ≡ json
+        ++ key (codes "decided") ∷ boolean (are_decided found.now) ∷ []) }
+{
+    json.key("decided")?.boolean(are_decided(found))
+}
+
 /// Adds the answer.
 #[tactic(auto, unfolding(crate::specs::Answer::exploration_json))]
 fn add_answer(
@@ -67,12 +85,9 @@ fn add_answer(
 {
     let found = &survey.shrunk.findings;
     let json = json.begin_object()?.key("schema")?.number(1)?;
-    let json = json
-        .key("workload")?
-        .string(path.as_bytes())?
-        .key("search")?;
-    let json = add_tried(json, survey.tried)?.key("decided")?;
-    let json = json.boolean(are_decided(found))?.key("alarm")?;
+    let json = add_path(json, path)?.key("search")?;
+    let json = add_tried(json, survey.tried)?;
+    let json = add_decided(json, found)?.key("alarm")?;
     let json = add_finding(json, alloc, &found.alarm)?.key("stuck")?;
     let json = add_finding(json, alloc, &found.stuck)?.key("refused")?;
     let json = add_refused(json, alloc, workload, &found.refused)?.key("blame")?;

@@ -2,6 +2,8 @@
 ghost use Rattle.std.specs.Prelude.{◌≡◌, ◌++◌, ◌∷◌, [], codes, drop, IfOk};
 ghost use Rattle.json.specs.Token.{key, string};
 ghost use Rattle.json.specs.Tree.{json_tokens};
+ghost use Rattle.velo_fate.specs.Fate.{number_of};
+ghost use Rattle.velo_json.specs.Tree.{count};
 ghost use Rattle.velo_schedule_text.specs.Schedule.{spaced};
 ghost use Rattle.velo_schedule_text.specs.Short.{short_text, stretches_of};
 ghost use Rattle.velo_explore_forms.specs.Answer.{are_decided, finding_json, finding_name, is_open, refusal_json, refusal_of_goal, refusal_or_null, refused_json, turns_or_null};
@@ -108,6 +110,14 @@ pub(crate) fn add_finding(
     json.end_object()
 }
 
+/// Adds the member with the number of a refusal.
+fn add_number(json: JsonWriter, refusal: Refusal) -> Result<JsonWriter, Memory>
+    ensures { IfOk result (λ written. written ≡ json
+        ++ key (codes "number") ∷ json_tokens (count (number_of refusal))) }
+{
+    json.key("number")?.number(u64::from(number_of(refusal)))
+}
+
 /// Adds a refusal.
 #[tactic(auto, unfolding(crate::specs::Answer::refusal_json))]
 fn add_refusal(
@@ -119,9 +129,9 @@ fn add_refusal(
     ensures { IfOk result (λ written. written
         ≡ json ++ json_tokens (refusal_json workload.now thread refusal)) }
 {
-    let json = json.begin_object()?.key("number")?;
-    let json = json.number(u64::from(number_of(refusal)))?;
-    add_thread(json, workload, thread)?.end_object()
+    let json = add_number(json.begin_object()?, refusal)?;
+    let json = add_thread(json, workload, thread)?;
+    json.end_object()
 }
 
 /// Adds the refusal that is shown, or null.
