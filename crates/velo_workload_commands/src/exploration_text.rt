@@ -136,11 +136,7 @@ fn add_blame(text: &mut Vec<u8>, workload: &Workload, blame: &ToBlame) -> Result
 }
 
 /// The text of what is reported of the schedules of a workload.
-fn text_of_survey(
-    alloc: Global,
-    workload: &Workload,
-    survey: &Survey,
-) -> Result<Vec<u8>, Memory>
+fn text_of_survey(alloc: Global, workload: &Workload, survey: &Survey) -> Result<Vec<u8>, Memory>
     ensures { IfOk result (λ text. text.items ≡ survey_text workload.now survey.now) }
 {
     let mut text = Vec::new(alloc);
