@@ -1,6 +1,4 @@
-use Rattle.std.proofs.Common.{⊤}
 use Rattle.velo_delivery.specs.declared.failure.Operand.TheVariants as operand
-use Rattle.velo_fate.specs.Fate.{fate_of_failure}
 use Rattle.velo_workload_commands.proofs.OnSaving.{run_saved, run_unsaved}
 use Rattle.velo_workload_commands.proofs.reporting.save_run.Goals as goal
 
