@@ -1,10 +1,10 @@
-"""Compares the JSON of audits, explanations and predictions with their text, and SARIF logs and JUnit reports with the JSON, which is
-validated where the Python module `jsonschema` is installed.
+"""Compares the JSON of audits, explanations, predictions and explorations with their text, and SARIF logs and JUnit reports with the
+JSON, which is validated where the Python module `jsonschema` is installed.
 
-    python3 tools/formats.py PROGRAM LOG..
+    python3 tools/formats.py PROGRAM LOG|WORKLOAD..
 
 PROGRAM is the built `velodrome`. If a file of names is beside a log (a.names beside a.log), it is given too, and so is a file of
-sites (a.sites). The last line is `N passed, N failed`; the status is 0 where none failed.
+sites (a.sites). A path that ends in `.work` is that of a workload, which is explored. The last line is `N passed, N failed`; the status is 0 where none failed.
 """
 import json
 import os
@@ -13,9 +13,10 @@ import sys
 import xml.etree.ElementTree
 
 DOCS = os.path.join(os.path.dirname(os.path.dirname(os.path.abspath(__file__))), "docs")
-SCHEMAS = ("audit.schema.json", "explain.schema.json", "predict.schema.json")
+COMMANDS = ("audit", "explain", "explore", "predict")
 AUDITS = ([], ["--no-witness"], ["--counts"], ["--innermost", "--by-count", "--counts"])
 EXPLANATIONS = ([], ["--ignore-lock", "0", "--ignore-variable", "0"], ["--ignore-locks"])
+EXPLORATIONS = ([], ["--first"], ["--states", "9"], ["--random", "20"])
 PREDICTIONS = (["--tries", "20"], ["--tries", "20", "--values"], ["--tries", "20", "--ignore-lock", "0", "--ignore-variable", "0"])
 
 
@@ -161,14 +162,38 @@ def prediction_faults(program, log, words, text, status, answer):
     ) if not right]
 
 
+def finding_line(word, finding):
+    """The line of a finding."""
+    refusal = finding.get("refusal")
+    about_it = [str(refusal["number"]), "thread", named(refusal["thread"])] if refusal else []
+    rest = [*about_it, *finding["turns"].split()] if finding["finding"] == "shown" else [{"never": "none", "open": "open"}[finding["finding"]]]
+    return " ".join([word, *rest])
+
+
+def exploration_faults(program, workload, words, text, status, answer):
+    search, blame, lines = answer["search"], answer["blame"], text.splitlines()
+    findings_of = {word: answer[word] for word in ("alarm", "stuck", "refused")}
+    states = {word: finding["finding"] for word, finding in findings_of.items()}
+    expected = ([f"{word} {search[word]}" for word in (("events", "states") if search["kind"] == "exhaustive" else ("seed", "runs"))]
+                + [finding_line(word, finding) for word, finding in findings_of.items()]
+                + [f"to blame {one['label']['name']} ({one['alarms']} of {blame['alarms']} alarms)" for one in blame["labels"]])
+    return [what for what, right in (
+        ("lines", lines[:len(expected)] == expected),
+        ("report", (len(lines) > len(expected)) == ("shown" in states.values())),
+        ("decided", answer["decided"] == ("open" not in states.values())),
+        ("status", status == (3 if states["alarm"] == "shown" else 0 if set(states.values()) == {"never"} else 4)),
+    ) if not right]
+
+
 def faults(program, command, log, words, validate):
     text, status = printed(program, command, log, words)
     out, same = printed(program, command, log, [*words, "--format", "json"])
-    if status not in (0, 3) or same != status:
+    if status not in ((0, 3, 4) if command == "explore" else (0, 3)) or same != status:
         return [f"status {status}, {same}"]
     if out.count("\n") != 1 or not out.endswith("\n"):
         return ["not one line"]
-    answer, more = json.loads(out), {"audit": audit_faults, "explain": explanation_faults, "predict": prediction_faults}[command]
+    answer, more = json.loads(out), {
+        "audit": audit_faults, "explain": explanation_faults, "explore": exploration_faults, "predict": prediction_faults}[command]
     return more(program, log, words, text, status, answer) + [error.message for error in validate[command](answer)]
 
 
@@ -178,14 +203,14 @@ def validators():
         import referencing
     except ImportError:
         print("not validated: the Python module jsonschema is not installed")
-        return {command: lambda answer: [] for command in ("audit", "explain", "predict")}
+        return {command: lambda answer: [] for command in COMMANDS}
     schemas = {}
-    for name in SCHEMAS:
-        with open(os.path.join(DOCS, name), encoding="utf-8") as it:
-            schemas[name] = json.load(it)
-    known = referencing.Registry().with_resources((name, referencing.Resource.from_contents(schemas[name])) for name in SCHEMAS)
-    audit, explain, predict = (jsonschema.Draft202012Validator(schemas[name], registry=known) for name in SCHEMAS)
-    return {"audit": audit.iter_errors, "explain": explain.iter_errors, "predict": predict.iter_errors}
+    for command in COMMANDS:
+        with open(os.path.join(DOCS, command + ".schema.json"), encoding="utf-8") as it:
+            schemas[command] = json.load(it)
+    known = referencing.Registry().with_resources(
+        (command + ".schema.json", referencing.Resource.from_contents(schema)) for command, schema in schemas.items())
+    return {command: jsonschema.Draft202012Validator(schema, registry=known).iter_errors for command, schema in schemas.items()}
 
 
 def main(words):
@@ -196,7 +221,7 @@ def main(words):
     tries = [(command, choice) for command, choices in (("audit", AUDITS), ("explain", EXPLANATIONS), ("predict", PREDICTIONS))
              for choice in choices]
     for log in words[1:]:
-        for command, choice in tries:
+        for command, choice in [("explore", choice) for choice in EXPLORATIONS] if log.endswith(".work") else tries:
             wrong = faults(os.path.abspath(words[0]), command, log, choice, validate)
             passed, failed = passed + (not wrong), failed + bool(wrong)
             if wrong:

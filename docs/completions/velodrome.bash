@@ -12,7 +12,7 @@ _velodrome() {
         run) words="--stop --why --log --names-out --events --nodes --certificate --help" ;;
         explain) words="--dot --svg --format --names --sites --not-atomic --ignore-label --ignore-lock --ignore-locks --ignore-variable --help" ;;
         carry) words="--log --why --help" ;;
-        explore) words="--states --seconds --first --progress --random --seed --log --names-out --events --nodes --certificate --help" ;;
+        explore) words="--states --seconds --first --progress --random --seed --format --log --names-out --events --nodes --certificate --help" ;;
         watch) words="--names --stop --endless --events --nodes --certificate --help" ;;
         audit) words="--no-witness --counts --by-count --innermost --format --names --sites --not-atomic --ignore-label --ignore-lock --ignore-locks --ignore-variable --events --nodes --help" ;;
         thin) words="--log --map --help" ;;

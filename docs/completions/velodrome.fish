@@ -54,6 +54,7 @@ complete -c velodrome -n '__fish_seen_subcommand_from explore' -l first -d 'End 
 complete -c velodrome -n '__fish_seen_subcommand_from explore' -l progress -d 'Print progress on standard error, also where that is no terminal'
 complete -c velodrome -n '__fish_seen_subcommand_from explore' -l random -x -d 'Make N random runs in place of the search, 1 to 1000000'
 complete -c velodrome -n '__fish_seen_subcommand_from explore' -l seed -x -d 'The seed of the random runs, 0 to 18446744073709551615 [default: 1]'
+complete -c velodrome -n '__fish_seen_subcommand_from explore' -l format -x -d 'Print the answer as text or json [default: text]'
 complete -c velodrome -n '__fish_seen_subcommand_from explore' -l log -r -d 'Write the log of the reported replay to OUT, before the report'
 complete -c velodrome -n '__fish_seen_subcommand_from explore' -l names-out -r -d 'Write the names of the workload to NAMES, after the log'
 complete -c velodrome -n '__fish_seen_subcommand_from explore' -l events -x -d 'The most events that the log may have, 1 to 16777216 [default: 1048576]'

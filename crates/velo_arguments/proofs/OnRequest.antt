@@ -242,6 +242,7 @@ an_exploring rows word has =
         certificate = is_true (one_of (codes "certificate") rows);
         progress = is_true (one_of (codes "progress") rows);
         random = random.0;
+        format = text_or_json_of (first_of (codes "format") rows);
         some_state = states.1;
         few_states = states.2;
       },
@@ -252,6 +253,7 @@ an_exploring rows word has =
         is_flag (one_of (codes "first") rows),
         is_flag (one_of (codes "progress") rows),
         random.1,
+        refl,
         path_of (first_of (codes "log") rows),
         path_of (first_of (codes "names-out") rows),
         limits.1,

@@ -269,8 +269,8 @@ pub explore_right : (words : List Text) → AreFaultless explore words
     → HasWord (codes "FILE") (rows_of_leaf explore words) × HasSearch (rows_of_leaf explore words)
 explore_right words e =
     let rows = rows_of_leaf explore words in
-    let level = level_has limits (leaf explore) words refl (makes_word (codes "FILE") refl, (makes_states, (makes_seconds, (makes_flag (codes "first") refl, (makes_flag (codes "progress") refl, (makes_random, (makes_seed, saved_made))))))) e in
-    (word_there (codes "FILE") rows level.passes (level.given.0 refl), (states_there rows level.passes (level.defaults.1.0 tt), seconds_there rows level.passes, limits_there rows level.passes (level.defaults.1.1.1.1.1.1.1.1.1.0 tt) (level.defaults.1.1.1.1.1.1.1.1.1.1.0 tt), runs_there rows level.passes, seed_there rows level.passes))
+    let level = level_has limits (leaf explore) words refl (makes_word (codes "FILE") refl, (makes_states, (makes_seconds, (makes_flag (codes "first") refl, (makes_flag (codes "progress") refl, (makes_random, (makes_seed, (makes_valued (codes "format") refl, saved_made)))))))) e in
+    (word_there (codes "FILE") rows level.passes (level.given.0 refl), (states_there rows level.passes (level.defaults.1.0 tt), seconds_there rows level.passes, limits_there rows level.passes (level.defaults.1.1.1.1.1.1.1.1.1.1.0 tt) (level.defaults.1.1.1.1.1.1.1.1.1.1.1.0 tt), runs_there rows level.passes, seed_there rows level.passes))
 
 pub watch_right : (words : List Text) → AreFaultless watch words
     → HasWord (codes "LOG") (rows_of_leaf watch words) × HasLimits (rows_of_leaf watch words)

@@ -194,10 +194,10 @@ explore_is_right : faults_of explore_words ≡ []
 unfolding faults_of walk_fault walked defaults_fault
 explore_is_right = refl
 
-explore_asks : (options : ExploreOptions) → options.input.now ≡ codes "w" → options.states ≡ 2097152 → options.seconds ≡ None → options.first ≡ false → options.progress ≡ false → options.random ≡ None
+explore_asks : (options : ExploreOptions) → options.input.now ≡ codes "w" → options.states ≡ 2097152 → options.seconds ≡ None → options.first ≡ false → options.progress ≡ false → options.random ≡ None → options.format ≡ text_or_json.Text
     → options.target ≡ None → options.names_target ≡ None → options.limits.events ≡ 1048576 → options.limits.nodes ≡ 1024 → options.certificate ≡ false → AsksFor (asked_by explore_words) (Explore options)
 unfolding asked_by walked
-explore_asks options file states seconds first progress random log names events nodes certificate = (
+explore_asks options file states seconds first progress random format log names events nodes certificate = (
   refl,
   (
     ap Some (sym file),
@@ -206,6 +206,7 @@ explore_asks options file states seconds first progress random log names events 
     is_unset options.first first,
     is_unset options.progress progress,
     rw random refl,
+    format,
     ap (option_map (λ path. path.now)) (sym log),
     ap (option_map (λ path. path.now)) (sym names),
     (writes (codes "1048576") 32 options.limits.events refl refl events, writes (codes "1024") 16 options.limits.nodes refl refl nodes),

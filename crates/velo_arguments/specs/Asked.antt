@@ -154,6 +154,7 @@ AsksExplore rows options =
     × IsFlag (one_of (codes "first") rows) options.first
     × IsFlag (one_of (codes "progress") rows) options.progress
     × AreRandomRuns rows options.random
+    × (options.format ≡ text_or_json_of (first_of (codes "format") rows))
     × IsPath (codes "log") rows options.target
     × IsPath (codes "names-out") rows options.names_target
     × AreLimits rows options.limits × IsFlag (one_of (codes "certificate") rows) options.certificate

@@ -88,7 +88,7 @@ run_options = flag (codes "stop") ∷ flag (codes "why") ∷ saved_options
 abbrev pub search_options : List Rule
 search_options =
     states ∷ seconds ∷ flag (codes "first") ∷ flag (codes "progress") ∷ random ∷ seed
-    ∷ saved_options
+    ∷ valued (codes "format") ∷ saved_options
 
 -- what is left out of a log
 abbrev pub left_out_options : List Rule

@@ -16,9 +16,11 @@ use Rattle.velo_request.specs.declared.request.Request.{Request}
 use Rattle.velo_request.specs.declared.request.Request.TheVariants.{Audit, Carry, Check, Explain, Explore, Predict, Replay, Run, Thin, Verify, Watch, WatchEndless}
 use Rattle.velo_request.specs.declared.request.ScheduleSource.{ScheduleSource}
 use Rattle.velo_request.specs.declared.request.ScheduleSource.TheVariants as schedule
+use Rattle.velo_request.specs.declared.request.TextOrJson.{TextOrJson}
+use Rattle.velo_request.specs.declared.request.TextOrJson.TheVariants.{Json, Text}
 use Rattle.velo_arguments.specs.Asked.{Matches, AsksFor, form_named, text_or_json_named}
 use Rattle.velo_arguments.specs.declared.together.Clash.{Clash}
-use Rattle.velo_arguments.specs.declared.together.Clash.TheVariants.{DrawingIsPicture, EndlessCertificate, InputTwice, MapIsLog, NamesWithoutLog, NeitherTextNorJson, NoSuchForm, OnePath, SearchByChance, SeedAlone, TwoSchedules}
+use Rattle.velo_arguments.specs.declared.together.Clash.TheVariants.{DrawingIsPicture, EndlessCertificate, InputTwice, JsonCertificate, MapIsLog, NamesWithoutLog, NeitherTextNorJson, NoSuchForm, OnePath, SearchByChance, SeedAlone, TwoSchedules}
 use Rattle.velo_arguments.specs.declared.together.Given.{Given}
 
 -- ---- paths
@@ -120,6 +122,22 @@ clash_of_search options given =
     clash_of_chance options.random
     (given.states || (options.first || (options.progress || is_some options.seconds))) given.seed
 
+-- a certificate stands behind a report, which a JSON object does not have
+abbrev pub clash_of_certificate : TextOrJson → Bool → Option Clash
+clash_of_certificate Json certificate = if certificate then Some JsonCertificate else None
+clash_of_certificate Text certificate = None
+
+-- it is to have a form that there is not, or a certificate that its form has not; or by its search,
+-- or by what it saves
+abbrev pub clash_of_explore : ExploreOptions → Given → Option Clash
+clash_of_explore options given =
+    if given.neither_text_nor_json
+    then Some NeitherTextNorJson
+    else option_or
+    (option_or (clash_of_certificate options.format options.certificate)
+    (clash_of_search options given))
+    (clash_of_targets options.target options.names_target)
+
 -- ---- an explanation
 
 -- it is asked for in a form that does not exist; or standard input is read twice, or one path is written twice
@@ -173,9 +191,7 @@ clash_of (Replay options) given = clash_of_replay options given.schedule
 clash_of (Run options) given = clash_of_targets options.target options.names_target
 clash_of (Explain options) given = clash_of_explain options given.neither_text_nor_json
 clash_of (Carry options) given = None
-clash_of (Explore options) given =
-    option_or (clash_of_search options given)
-    (clash_of_targets options.target options.names_target)
+clash_of (Explore options) given = clash_of_explore options given
 clash_of (Watch options) given = clash_of_inputs (options.input.now ∷ path_if options.names)
 clash_of (WatchEndless options) given = clash_of_endless options given.certificate
 clash_of (Audit options) given = clash_of_audit options given.other_form
@@ -196,6 +212,7 @@ pub record IsApart (asked : Matches) (clash : Clash) : Type 0 where
 
 abbrev pub line_of_clash : Clash → List ℕ
 line_of_clash InputTwice = codes "error: standard input can be read once\n"
+line_of_clash JsonCertificate = codes "error: --format json does not go with --certificate\n"
 line_of_clash NamesWithoutLog = codes "error: --names-out goes only with --log\n"
 line_of_clash NeitherTextNorJson = codes "error: --format takes text or json\n"
 line_of_clash NoSuchForm = codes "error: --format takes text, json, sarif or junit\n"

@@ -141,6 +141,7 @@ fn explore<'a>(alloc: Global) -> Result<Command<'a>, Memory>
         PROGRESS,
         RANDOM,
         RUN_SEED,
+        TEXT_OR_JSON,
         FOUND_LOG,
         NAMES_OUT,
         EVENTS,

@@ -268,6 +268,9 @@ more states are looked at when so many seconds have passed; how many that are di
 runs has it. --random goes with neither --states nor --seconds nor --first nor --progress. --seed needs
 --random.
 
+--format json prints the findings and whom they blame for other programs, as one JSON object, and no
+report. docs/FORMATS.md describes it. --certificate does not go with it.
+
 If standard error is a terminal, a search of more than two seconds shows its progress in one line, and
 clears it at the end. With --progress the lines begin at once, also where standard error is no terminal;
 there each line stays, at most one in two seconds.
@@ -280,7 +283,8 @@ Standard input is not compared with OUT and NAMES.
 Statuses, each with the lines on standard error:
   0  every schedule was tried, or every run made, and nothing was found; or help
   2  usage; 'error: --random goes with neither --states nor --seconds nor --first nor --progress';
-     'error: --seed goes only with --random'; 'error: --names-out goes only with --log';
+     'error: --seed goes only with --random'; 'error: --format takes text or json';
+     'error: --format json does not go with --certificate'; 'error: --names-out goes only with --log';
      'error: FILE and OUT are one file', the same of FILE and NAMES, and of OUT and NAMES; the text is
      no workload: 'workload fault K line N'
   3  an alarm was found: no serial reordering of the run by its schedule exists

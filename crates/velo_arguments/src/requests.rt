@@ -224,6 +224,7 @@ fn explore_options<'a>(found: &ArgMatches<'a>) -> Option<ExploreOptions<'a>>
         first: found.get_flag("first"),
         progress: found.get_flag("progress"),
         random: random_if(found)?,
+        format: text_or_json_of(found.get_str("format")),
         target: found.get_str("log"),
         names_target: found.get_str("names-out"),
         limits: limits_of(found)?,

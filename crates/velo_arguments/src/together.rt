@@ -5,14 +5,14 @@ ghost use Rattle.std.specs.Str.{bytes_eq};
 ghost use Rattle.clap.specs.Takes.{is_given};
 ghost use Rattle.clap.specs.Words.{found_of, rows_of, subcommand_rows_of};
 ghost use Rattle.velo_arguments.specs.Asked.{AsksForNothing};
-ghost use Rattle.velo_arguments.specs.Together.{IsApart, IsTogether, clash_of, clash_of_audit, clash_of_chance, clash_of_drawing, clash_of_endless, clash_of_explain, clash_of_inputs, clash_of_map, clash_of_predict, clash_of_replay, clash_of_schedule, clash_of_search, clash_of_targets, given_by, given_in, is_other_form, is_neither_text_nor_json, line_of_clash, path_if, schedule_path_if};
+ghost use Rattle.velo_arguments.specs.Together.{IsApart, IsTogether, clash_of, clash_of_audit, clash_of_certificate, clash_of_chance, clash_of_drawing, clash_of_endless, clash_of_explain, clash_of_explore, clash_of_inputs, clash_of_map, clash_of_predict, clash_of_replay, clash_of_schedule, clash_of_search, clash_of_targets, given_by, given_in, is_other_form, is_neither_text_nor_json, line_of_clash, path_if, schedule_path_if};
 
 use crate::requests::{form_named, request_of, text_or_json_named};
 use clap::ArgMatches;
 use clap::parser::ValueSource;
 use velo_request::{
     AuditOptions, EndlessOptions, ExplainOptions, ExploreOptions, PredictOptions, RandomRuns,
-    ReplayOptions, Request, ScheduleSource,
+    ReplayOptions, Request, ScheduleSource, TextOrJson,
 };
 
 /// Why the options of a request do not go together.
@@ -24,11 +24,13 @@ pub enum Clash {
     EndlessCertificate,
     /// Both inputs are standard input.
     InputTwice,
+    /// A JSON object is to have a certificate behind it.
+    JsonCertificate,
     /// A thinned log and its map are to be saved at one path.
     MapIsLog,
     /// The names of a run are to be saved, and its log is not.
     NamesWithoutLog,
-    /// The form of an explanation or of predictions is to be neither of the two.
+    /// The form of an explanation, an exploration or predictions is to be neither of the two.
     NeitherTextNorJson,
     /// No form of an answer has this name.
     NoSuchForm,
@@ -131,10 +133,7 @@ fn clash_of(request: &Request, given: Given) -> Option<Clash>
         Request::Run(options) => clash_of_targets(options.target, options.names_target),
         Request::Explain(options) => clash_of_explain(options, given.neither_text_nor_json),
         Request::Carry(_) => None,
-        Request::Explore(options) => clash_of_search(options, given).or(clash_of_targets(
-            options.target,
-            options.names_target,
-        )),
+        Request::Explore(options) => clash_of_explore(options, given),
         Request::Watch(options) => clash_of_inputs(options.input, options.names),
         Request::WatchEndless(options) => clash_of_endless(options, given.certificate),
         Request::Audit(options) => clash_of_audit(options, given.other_form),
@@ -298,6 +297,29 @@ fn clash_of_endless(options: &EndlessOptions, has_certificate: bool) -> Option<C
     clash_of_inputs(options.input, options.names)
 }
 
+/// An exploration has one of two forms, a certificate behind a text alone, and no clash of its search
+/// or its paths.
+fn clash_of_explore(options: &ExploreOptions, given: Given) -> Option<Clash>
+    ensures { result ≡ clash_of_explore options.now given }
+{
+    if given.neither_text_nor_json {
+        return Some(Clash::NeitherTextNorJson);
+    }
+    clash_of_certificate(options.format, options.certificate)
+        .or(clash_of_search(options, given))
+        .or(clash_of_targets(options.target, options.names_target))
+}
+
+/// A certificate stands behind a report, which a JSON object does not have.
+fn clash_of_certificate(format: TextOrJson, certificate: bool) -> Option<Clash>
+    ensures { result ≡ clash_of_certificate format certificate }
+{
+    match format {
+        TextOrJson::Json if certificate => Some(Clash::JsonCertificate),
+        TextOrJson::Json | TextOrJson::Text => None,
+    }
+}
+
 /// A search tries every schedule or random ones, and either has its own options.
 fn clash_of_search(options: &ExploreOptions, given: Given) -> Option<Clash>
     ensures { result ≡ clash_of_search options.now given }
@@ -344,6 +366,7 @@ pub fn line_of_clash(clash: Clash) -> &'static [u8]
         Clash::DrawingIsPicture => b"error: OUT and SVG are one file\n",
         Clash::EndlessCertificate => b"error: --endless does not go with --certificate\n",
         Clash::InputTwice => b"error: standard input can be read once\n",
+        Clash::JsonCertificate => b"error: --format json does not go with --certificate\n",
         Clash::MapIsLog => b"error: OUT and MAP are one file\n",
         Clash::NamesWithoutLog => b"error: --names-out goes only with --log\n",
         Clash::NeitherTextNorJson => b"error: --format takes text or json\n",

@@ -86,7 +86,7 @@ pub struct Ignored<'a> {
     pub all_locks: bool,
 }
 
-/// In which form an explanation or predictions are printed.
+/// In which form an explanation, an exploration or predictions are printed.
 #[derive(Clone, Copy, Debug, PartialEq, Eq)]
 pub enum TextOrJson {
     /// As text, for a person.
@@ -171,6 +171,8 @@ pub struct ExploreOptions<'a> {
     pub progress: bool,
     /// The random runs in place of the search, if they are asked for.
     pub random: Option<RandomRuns>,
+    /// The form in which the findings are printed.
+    pub format: TextOrJson,
     ghost some_state: { 1 ≤ states },
     ghost few_states: { states ≤ MAX_STATES },
 }

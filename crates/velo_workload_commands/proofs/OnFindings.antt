@@ -36,12 +36,15 @@ use Rattle.velo_delivery.specs.Disk.{Store}
 use Rattle.velo_delivery.specs.Writing.{Writes, Writing}
 use Rattle.velo_request.specs.declared.request.ExploreOptions.{ExploreOptions}
 use Rattle.velo_request.specs.declared.request.RandomRuns.{RandomRuns}
+use Rattle.velo_request.specs.declared.request.RunOptions.{RunOptions}
+use Rattle.velo_request.specs.declared.request.TextOrJson.{TextOrJson}
+use Rattle.velo_request.specs.declared.request.TextOrJson.TheVariants.{Json, Text}
 use Rattle.velo_random.specs.declared.tally.RunTally.{RunTally}
 use Rattle.velo_random.specs.Tallies.{IsTriedBy, rank}
-use Rattle.velo_workload_commands.specs.declared.survey.Survey.{Survey}
+use Rattle.velo_explore_forms.specs.declared.survey.Survey.{Survey}
 use Rattle.velo_workload_commands.specs.ByChance.{IsBlameOf}
-use Rattle.velo_workload_commands.specs.Exploring.{IsExplored, IsSaidOf, IsSurveyBy, IsSurveyOf, fate_of_goal, fate_of_rest, fate_of_survey, run_of, survey_text, waits_after}
-use Rattle.velo_workload_commands.specs.Playing.{IsConfigOf, IsReported}
+use Rattle.velo_workload_commands.specs.Exploring.{IsExplored, IsSaidOf, IsSurveyBy, IsSurveyOf, fate_of_goal, fate_of_rest, fate_of_survey, run_of, survey_page, survey_text, waits_after}
+use Rattle.velo_workload_commands.specs.Playing.{IsConfigOf, IsReported, with_log}
 use Rattle.velo_workload_commands.specs.Reporting.{IsNoFileFailure}
 use Rattle.velo_workload_commands.specs.Steps.{IsReportable}
 use Rattle.velo_fate.proofs.OnDelivery.{in_turn_reads}
@@ -138,14 +141,16 @@ module _ (program : Program) (config : Config) where
   caused_survey : (options : ExploreOptions) (over : Bool) (survey : Survey) → IsSurveyOf program config options over survey → ComesByRefusal Growths (fate_of_survey survey)
   caused_survey options over survey so = caused_first survey.shrunk.findings (first_of survey.shrunk.findings) survey.shrunk.first (first_by options over options.random survey so)
 
-said_fate : (program : Program) (certificate : Bool) (survey : Survey) (first : Option Replay) (answer : CommandAnswer) → IsSaidOf program certificate survey first answer → answer.fate ≡ fate_of_survey survey
-said_fate program certificate survey None answer says = ap (λ (a : CommandAnswer). a.fate) says
-said_fate program certificate survey (Some replay) answer says = ap (λ (a : CommandAnswer). a.fate) says.said
+said_fate : (form : TextOrJson) (program : Program) (options : RunOptions) (survey : Survey) (first : Option Replay) (answer : CommandAnswer) → IsSaidOf form program options survey first answer
+    → answer.fate ≡ fate_of_survey survey
+said_fate form program options survey None answer says = ap (λ (a : CommandAnswer). a.fate) says
+said_fate Text program options survey (Some replay) answer says = ap (λ (a : CommandAnswer). a.fate) says.said
+said_fate Json program options survey (Some replay) answer says = ap (λ (a : CommandAnswer). a.fate) says
 
 -- of what is said of an exploration
 pub caused : (options : ExploreOptions) (program : Program) (answer : CommandAnswer) → IsExplored options program answer → ComesByRefusal Growths answer.fate
 caused options program answer e =
-    subst (ComesByRefusal Growths) (sym (said_fate program options.certificate e.survey e.survey.shrunk.first answer e.says)) (caused_survey program e.config options e.over e.survey e.is_so)
+    subst (ComesByRefusal Growths) (sym (said_fate options.format program (run_of options) e.survey e.survey.shrunk.first answer e.says)) (caused_survey program e.config options e.over e.survey e.is_so)
 
 -- ---- what it comes to
 
@@ -186,7 +191,7 @@ explores_reads store names stdout options program answer n is f h = in_turn_read
   where
     by_fate : IsExplored options program answer ⊎ LacksMemory answer → failures_told answer.fate n ≡ n
     by_fate (inl e) =
-        ap (λ (f : Fate). failures_told f n) (said_fate program options.certificate e.survey e.survey.shrunk.first answer e.says) ∙ (quiet_survey e.survey).read n
+        ap (λ (f : Fate). failures_told f n) (said_fate options.format program (run_of options) e.survey e.survey.shrunk.first answer e.says) ∙ (quiet_survey e.survey).read n
     by_fate (inr lacks) = same_fate answer _ n lacks.1 refl
 
 pub printed_plain : (stdout : Writing) (text : List ℕ) (end : Fate) → IsNoFileFailure end → Writes stdout text → IsPrinted stdout (printing text end) end
@@ -200,21 +205,32 @@ printed_alone store target path names stdout text end f plain kept printed = pri
 
 -- ---- what is said
 
--- the replay is reported behind what is told
-pub said_reported : (program : Program) (certificate : Bool) (survey : Survey) (replay : Replay) (answer : CommandAnswer) (text waits : List ℕ) (end : Fate) → survey.shrunk.first ≡ Some replay → text ≡ survey_text program survey
-    → waits ≡ waits_after program replay → end ≡ fate_of_survey survey → IsReported program certificate text replay.closed waits end answer ⊎ LacksMemory answer
-    → IsSaidOf program certificate survey survey.shrunk.first answer ⊎ LacksMemory answer
-said_reported program certificate survey replay answer text waits end is text_is waits_is end_is (inl r) =
-    inl (subst (λ (o : Option Replay). IsSaidOf program certificate survey o answer) (sym is)
-    (subst (λ (e : Fate). IsReported program certificate (survey_text program survey) replay.closed (waits_after program replay) e answer) end_is
-    (subst (λ (w : List ℕ). IsReported program certificate (survey_text program survey) replay.closed w end answer) waits_is
-    (subst (λ (t : List ℕ). IsReported program certificate t replay.closed waits end answer) text_is r))))
-said_reported program certificate survey replay answer text waits end is text_is waits_is end_is (inr lacks) = inr lacks
+-- the replay is reported behind what is told as text
+pub said_reported : (form : TextOrJson) (program : Program) (options : RunOptions) (survey : Survey) (replay : Replay) (answer : CommandAnswer) (page : List ℕ) (end : Fate) → form ≡ Text
+    → survey.shrunk.first ≡ Some replay → page ≡ survey_page form program options.input.now survey → end ≡ fate_of_survey survey
+    → IsReported program options.certificate page replay.closed (waits_after program replay) end answer ⊎ LacksMemory answer
+    → IsSaidOf form program options survey survey.shrunk.first answer ⊎ LacksMemory answer
+said_reported Text program options survey replay answer page end form_is is page_is end_is (inl r) =
+    inl (subst (λ (o : Option Replay). IsSaidOf Text program options survey o answer) (sym is)
+    (subst (λ (e : Fate). IsReported program options.certificate (survey_text program survey) replay.closed (waits_after program replay) e answer) end_is
+    (subst (λ (t : List ℕ). IsReported program options.certificate t replay.closed (waits_after program replay) end answer) page_is r)))
+said_reported Json program options survey replay answer page end form_is is page_is end_is (inl r) = cc
+said_reported form program options survey replay answer page end form_is is page_is end_is (inr lacks) = inr lacks
+
+-- what is told as JSON is printed alone, and the log of the replay is saved
+pub said_alone : (form : TextOrJson) (program : Program) (options : RunOptions) (survey : Survey) (replay : Replay) (answer : CommandAnswer) (page : List ℕ) (end : Fate) → form ≡ Json
+    → survey.shrunk.first ≡ Some replay → page ≡ survey_page form program options.input.now survey → end ≡ fate_of_survey survey → (answer ≡ with_log replay.closed page end) ⊎ LacksMemory answer
+    → IsSaidOf form program options survey survey.shrunk.first answer ⊎ LacksMemory answer
+said_alone Json program options survey replay answer page end form_is is page_is end_is (inl s) =
+    inl (subst (λ (o : Option Replay). IsSaidOf Json program options survey o answer) (sym is)
+    (s ∙ ap (λ (t : List ℕ). with_log replay.closed t end) page_is ∙ ap (with_log replay.closed (survey_page Json program options.input.now survey)) end_is))
+said_alone Text program options survey replay answer page end form_is is page_is end_is (inl s) = cc
+said_alone form program options survey replay answer page end form_is is page_is end_is (inr lacks) = inr lacks
 
 -- the exploration is what is said
 pub explored : (program : Program) (config : Config) (options : ExploreOptions) (over : Bool) (survey : Survey) (answer : CommandAnswer) → IsConfigOf program (run_of options) config
     → (over ≡ true → is_some options.seconds ≡ true) → IsSurveyOf program config options over survey
-    → IsSaidOf program options.certificate survey survey.shrunk.first answer ⊎ LacksMemory answer → IsExplored options program answer ⊎ LacksMemory answer
+    → IsSaidOf options.format program (run_of options) survey survey.shrunk.first answer ⊎ LacksMemory answer → IsExplored options program answer ⊎ LacksMemory answer
 explored program config options over survey answer configured limited so (inl says) =
     inl (record { config = config; configured = configured; over = over; limited = limited; survey = survey; is_so = so; says = says })
 explored program config options over survey answer configured limited so (inr lacks) = inr lacks

@@ -4,26 +4,19 @@ use Rattle.std.specs.Prelude.{◌⊎◌, ◌++◌, ⊤, ℕ, Bool, true, false, 
 use Rattle.std.specs.Borrow.{Bor}
 use Rattle.velo_bytes.proofs.OnDevices.{appends_nothing, appends_then, beginning_then}
 use Rattle.velo_bytes.specs.Device.{with_failure}
-use Rattle.velo_delivery.specs.declared.answer.Save.{Save}
-use Rattle.velo_delivery.specs.declared.failure.Failure.{Failure}
-use Rattle.velo_delivery.specs.declared.failure.Operand.{Operand}
-use Rattle.velo_delivery.specs.Answers.{AreAllSaved, IsOneUnsaved}
-use Rattle.velo_delivery.specs.Disk.{Disk, store}
+use Rattle.velo_delivery.specs.Disk.{Store}
 use Rattle.velo_delivery.specs.Writing.{BreaksOff, Delivers, Writing, Writes, WritesNothing, writing}
 use Rattle.velo_events.specs.declared.event.Event.{Event}
 use Rattle.velo_fate.specs.declared.fate.Fate.{Fate}
 use Rattle.velo_fate.specs.declared.fate.Fate.TheVariants as fate
-use Rattle.velo_fate.specs.declared.saved.Saved.{Saved}
 use Rattle.velo_fate.specs.Delivery.{CommandAnswer, IsDeliveredInTurn, IsTaken, LacksMemory}
-use Rattle.velo_fate.specs.Fate.{fate_of_failure}
-use Rattle.velo_fate.specs.Saving.{IsSavedText, text_of_log}
+use Rattle.velo_fate.specs.Saving.{text_of_log}
 use Rattle.velo_fate.specs.Verdict.{KnowsAlarm, IsOrderOrCycle, IsOutputOf}
 use Rattle.velo_fate.proofs.OnVerdicts.{output_exists}
 use Rattle.velo_workload.specs.Program.{Program}
 use Rattle.velo_workload_commands.specs.declared.page.Page.{Page}
-use Rattle.velo_workload_commands.specs.Playing.{AreNamesOfProgram, IsReported, text_of_names}
-use Rattle.velo_workload_commands.specs.Reporting.{AreNamesFor, IsListFor, IsNoFileFailure, IsPageText}
-use Rattle.velo_workload_commands.proofs.OnSaving.{both, run_saved, run_unsaved}
+use Rattle.velo_workload_commands.specs.Playing.{AreNamesOfProgram, IsReported, text_of_names, with_log}
+use Rattle.velo_workload_commands.specs.Reporting.{AreNamesFor, IsListFor, IsNoFileFailure, IsPageText, IsSavedInTurn}
 use Rattle.velo_workload_commands.proofs.OnTurns.{in_turn_named, saved_in_turn, unsaved_in_turn}
 
 -- ---- one text behind another
@@ -73,26 +66,23 @@ is-certified false log list (Some l) is h = absurd (subst (IsListFor false log) 
 
 -- ---- a report
 
-module _ {F : Type 0} (disk : F → Disk) (first left : F) (names : Bor (List ℕ)) (named at : Operand) (target path : Option (Bor (List ℕ)))
+module _ (store : Store) (names : List ℕ) (target path : Option (Bor (List ℕ)))
     (page : Page) (end : Fate) (plain : IsNoFileFailure end) (stdout : Writing)
-    (program : Program) (certificate : Bool) (are : AreNamesOfProgram program page.names) (is : is_some page.list ≡ certificate) (for : AreNamesFor path program names.now) where
+    (program : Program) (certificate : Bool) (are : AreNamesOfProgram program page.names) (is : is_some page.list ≡ certificate) (for : AreNamesFor path program names) where
   abbrev log : List ℕ
   log = text_of_log page.closed.now
 
-  abbrev saves : List (Save Saved)
-  saves = both disk first left names named page.closed at target path
-
   -- what is said with this text
   abbrev said : List ℕ → CommandAnswer
-  said text = record { saved = Some log; printed = Some text; fate = end }
+  said text = with_log page.closed.now text end
 
   -- the run is reported
   abbrev pub Reported : Fate → Type 0
   Reported f =
       (answer : CommandAnswer) × (IsReported program certificate page.before.now page.closed.now page.after.now end answer ⊎ LacksMemory answer)
-      × IsDeliveredInTurn (store disk first left) target path (text_of_names program) stdout answer f
+      × IsDeliveredInTurn store target path (text_of_names program) stdout answer f
 
-  by_text : (text : List ℕ) (f : Fate) → IsPageText page text → IsDeliveredInTurn (store disk first left) target path names.now stdout (said text) f → Reported f
+  by_text : (text : List ℕ) (f : Fate) → IsPageText page text → IsDeliveredInTurn store target path names stdout (said text) f → Reported f
   by_text text f has out = (
     said text,
     inl (record {
@@ -102,29 +92,25 @@ module _ {F : Type 0} (disk : F → Disk) (first left : F) (names : Bor (List �
       is_report = subst (λ (b : Bool). IsOutputOf page.names b page.closed.now has.0) is has.1;
       said = ap said has.2;
     }),
-    in_turn_named (store disk first left) target names.now stdout (said text) f path program for out,
+    in_turn_named store target names stdout (said text) f path program for out,
   )
 
-  pub unsaved-report : IfSome page.list (λ list. IsOrderOrCycle page.closed.now.log list.now) → KnowsAlarm page.closed.now.log → (f : Failure)
-      → IsOneUnsaved IsSavedText (store disk first left) saves f → WritesNothing stdout → Reported (fate_of_failure f)
-  unsaved-report certifies judged f unsaved nothing =
+  pub unsaved-report : (X : Type 0) → IfSome page.list (λ list. IsOrderOrCycle page.closed.now.log list.now) → KnowsAlarm page.closed.now.log → (f : Fate)
+      → IsSavedInTurn {X = X} store target path names log (Err f) → WritesNothing stdout → Reported f
+  unsaved-report X certifies judged f unsaved nothing =
       let any = page-exists page certifies judged in
-      by_text any.0 (fate_of_failure f) any.1
-      (unsaved_in_turn (store disk first left) target names.now log stdout (Some any.0) end (fate_of_failure f) ⊤ path
-      (run_unsaved disk first left names named page.closed at target ⊤ path f unsaved) nothing)
+      by_text any.0 f any.1 (unsaved_in_turn store target names log stdout (Some any.0) end f X path unsaved nothing)
 
   taken : (text : List ℕ) (f : Fate) → f ≡ end → Writes stdout text → IsTaken stdout (Some text) end f
   taken text fate.WriteFailed same went = absurd (plain.written (sym same))
   taken text f same went = (same, went)
 
-  pub printed-report : AreAllSaved IsSavedText (store disk first left) saves → (text : List ℕ) → IsPageText page text → Writes stdout text → Reported end
-  printed-report saved text has went =
+  pub printed-report : {X : Type 0} (x : X) → IsSavedInTurn store target path names log (Ok x) → (text : List ℕ) → IsPageText page text → Writes stdout text → Reported end
+  printed-report x saved text has went =
       by_text text end has
-      (saved_in_turn (store disk first left) target names.now log stdout (Some text) end end tt path
-      (run_saved disk first left names named page.closed at target ⊤ tt path saved) plain.opened (taken text end refl went))
+      (saved_in_turn store target names log stdout (Some text) end end x path saved plain.opened (taken text end refl went))
 
-  pub broken-report : AreAllSaved IsSavedText (store disk first left) saves → (text : List ℕ) → IsPageText page text → BreaksOff stdout text → Reported fate.WriteFailed
-  broken-report saved text has broke =
+  pub broken-report : {X : Type 0} (x : X) → IsSavedInTurn store target path names log (Ok x) → (text : List ℕ) → IsPageText page text → BreaksOff stdout text → Reported fate.WriteFailed
+  broken-report x saved text has broke =
       by_text text fate.WriteFailed has
-      (saved_in_turn (store disk first left) target names.now log stdout (Some text) end fate.WriteFailed tt path
-      (run_saved disk first left names named page.closed at target ⊤ tt path saved) plain.opened broke)
+      (saved_in_turn store target names log stdout (Some text) end fate.WriteFailed x path saved plain.opened broke)

@@ -34,7 +34,7 @@ use Rattle.velo_fate.specs.Delivery.{Saves}
 use Rattle.velo_fate.specs.Fate.{fate_of_failure}
 use Rattle.velo_workload_commands.specs.Playing.{FitsNames, listed, text_of_names}
 use Rattle.velo_fate.specs.Saving.{text_of_log, IsSavedText}
-use Rattle.velo_workload_commands.specs.Steps.{IsSavedInTurn}
+use Rattle.velo_workload_commands.specs.Reporting.{IsSavedInTurn}
 use Rattle.velo_fate.proofs.OnSaving.{whole_saved, log_unsaved, bytes_unsaved, bytes_at}
 
 -- ---- what was saved one after another

@@ -7,8 +7,7 @@ use Rattle.velo_fate.specs.declared.fate.Fate.TheVariants as fate
 use Rattle.velo_fate.specs.Delivery.{CommandAnswer, DeliversBy, FailsSaving, IsDelivered, IsDeliveredInTurn, IsTaken}
 use Rattle.velo_delivery.specs.Disk.{Store, behind}
 use Rattle.velo_workload_commands.specs.Playing.{text_of_names}
-use Rattle.velo_workload_commands.specs.Reporting.{AreNamesFor}
-use Rattle.velo_workload_commands.specs.Steps.{IsSavedInTurn}
+use Rattle.velo_workload_commands.specs.Reporting.{AreNamesFor, IsSavedInTurn}
 use Rattle.velo_workload.specs.Program.{Program}
 use Rattle.velo_delivery.specs.Writing.{Writing, WritesNothing}
 use Rattle.velo_fate.proofs.OnDelivery.{printed_put}

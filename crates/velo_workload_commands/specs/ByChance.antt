@@ -9,9 +9,9 @@ use Rattle.velo_events.specs.declared.event.ThreadId.{ThreadId}
 use Rattle.velo_request.specs.declared.request.RandomRuns.{RandomRuns}
 use Rattle.velo_shrink.specs.Simple.{IsShrunkFrom}
 use Rattle.velo_workload.specs.Program.{Program}
-use Rattle.velo_workload_commands.specs.declared.survey.Survey.{Survey}
-use Rattle.velo_workload_commands.specs.declared.survey.ToBlame.{ToBlame}
-use Rattle.velo_workload_commands.specs.declared.survey.Tried.TheVariants.{ByChance}
+use Rattle.velo_explore_forms.specs.declared.survey.Survey.{Survey}
+use Rattle.velo_explore_forms.specs.declared.survey.ToBlame.{ToBlame}
+use Rattle.velo_explore_forms.specs.declared.survey.Tried.TheVariants.{ByChance}
 
 -- ---- who is to blame
 

@@ -15,6 +15,7 @@ use Rattle.velo_explore.specs.declared.goal.Goal.{Goal}
 use Rattle.velo_explore.specs.declared.goal.Goal.TheVariants.{Alarm, Refused}
 use Rattle.velo_explore.specs.declared.goal.Goal.TheVariants as goals
 use Rattle.velo_explore.specs.Goals.{finding_of, first_of}
+use Rattle.velo_explore_forms.specs.Answer.{exploration_json, line_text}
 use Rattle.velo_explore.specs.Told.{AreAlarms, IsLeftOpen, IsTold, IsUntried, OnOpen}
 use Rattle.velo_shrink.specs.declared.findings.Replay.{Replay}
 use Rattle.velo_shrink.specs.Simple.{IsShrunkFrom}
@@ -28,15 +29,17 @@ use Rattle.velo_fate.specs.declared.fate.Fate.TheVariants as fate
 use Rattle.velo_request.specs.declared.request.ExploreOptions.{ExploreOptions}
 use Rattle.velo_request.specs.declared.request.RandomRuns.{RandomRuns}
 use Rattle.velo_request.specs.declared.request.RunOptions.{RunOptions}
+use Rattle.velo_request.specs.declared.request.TextOrJson.{TextOrJson}
+use Rattle.velo_request.specs.declared.request.TextOrJson.TheVariants.{Json, Text}
 use Rattle.velo_workload_commands.specs.declared.blaming.TheConstants.{MAX_BLAMING}
-use Rattle.velo_workload_commands.specs.declared.survey.ToBlame.{ToBlame}
-use Rattle.velo_workload_commands.specs.declared.survey.Survey.{Survey}
-use Rattle.velo_workload_commands.specs.declared.survey.Tried.{Tried}
-use Rattle.velo_workload_commands.specs.declared.survey.Tried.TheVariants as how
+use Rattle.velo_explore_forms.specs.declared.survey.ToBlame.{ToBlame}
+use Rattle.velo_explore_forms.specs.declared.survey.Survey.{Survey}
+use Rattle.velo_explore_forms.specs.declared.survey.Tried.{Tried}
+use Rattle.velo_explore_forms.specs.declared.survey.Tried.TheVariants as how
 use Rattle.velo_workload_commands.specs.ByChance.{IsBlameOf, IsByChance}
 use Rattle.velo_fate.specs.Delivery.{CommandAnswer, LacksMemory, printing, silent}
 use Rattle.velo_fate.specs.Fate.{number_of}
-use Rattle.velo_workload_commands.specs.Playing.{IsConfigOf, IsReported, IsWorkload, IsUnread, text_of_names}
+use Rattle.velo_workload_commands.specs.Playing.{IsConfigOf, IsReported, IsWorkload, IsUnread, text_of_names, with_log}
 use Rattle.velo_schedule_text.specs.Schedule.{spaced}
 use Rattle.velo_schedule_text.specs.Short.{stretches_of}
 
@@ -142,6 +145,11 @@ survey_text program survey =
     tried_text survey.tried ++ found_text program survey.shrunk.findings
     ++ blame_text program survey.blame
 
+-- in the form that was asked for: the text, or one JSON object, which has the path of the workload
+abbrev pub survey_page : TextOrJson → Program → List ℕ → Survey → List ℕ
+survey_page Text program path survey = survey_text program survey
+survey_page Json program path survey = line_text (exploration_json program path survey)
+
 -- ---- what it comes to
 
 abbrev pub fate_of_goal : Goal → Fate
@@ -192,14 +200,19 @@ waits_of goal program log = []
 abbrev pub waits_after : Program → Replay → List ℕ
 waits_after program replay = waits_of replay.goal program replay.closed.log
 
--- The survey is printed, then the report of the replay of the first finding, and after that of a
--- deadlock who waits for what. If none is shown the text is printed alone, and nothing is saved.
-abbrev pub IsSaidOf : Program → Bool → Survey → Option Replay → CommandAnswer → Type 0
-IsSaidOf program certificate survey (Some replay) answer =
-    IsReported program certificate (survey_text program survey) replay.closed (waits_after program replay)
-    (fate_of_survey survey) answer
-IsSaidOf program certificate survey None answer =
-    answer ≡ printing (survey_text program survey) (fate_of_survey survey)
+-- The survey is printed. As text, then the report of the replay of the first finding, and after that
+-- of a deadlock who waits for what; a JSON object alone, and the log of that replay is to be saved. If
+-- no finding is shown the survey is printed alone, and nothing is saved.
+abbrev pub IsSaidOf : TextOrJson → Program → RunOptions → Survey → Option Replay → CommandAnswer
+    → Type 0
+IsSaidOf form program options survey None answer =
+    answer ≡ printing (survey_page form program options.input.now survey) (fate_of_survey survey)
+IsSaidOf Text program options survey (Some replay) answer =
+    IsReported program options.certificate (survey_text program survey) replay.closed
+    (waits_after program replay) (fate_of_survey survey) answer
+IsSaidOf Json program options survey (Some replay) answer =
+    answer ≡ with_log replay.closed (survey_page Json program options.input.now survey)
+    (fate_of_survey survey)
 
 -- The schedules of the program are tried within the limits that were asked for, and this is said.
 -- Only with --seconds may the search have been told that its time is over.
@@ -211,7 +224,7 @@ pub record IsExplored (options : ExploreOptions) (program : Program) (answer : C
   pub limited : over ≡ true → is_some options.seconds ≡ true
   pub survey : Survey
   pub is_so : IsSurveyOf program config options over survey
-  pub says : IsSaidOf program options.certificate survey survey.shrunk.first answer
+  pub says : IsSaidOf options.format program (run_of options) survey survey.shrunk.first answer
 
 -- What an exploration of the workload that was read has to say, and the text of its names; or
 -- nothing, for a reason.

@@ -152,6 +152,10 @@ listed program =
 abbrev pub text_of_names : Program → List ℕ
 text_of_names program = names_text (listed program)
 
+-- the text of the log is to be saved, this is printed, and it comes to this end
+abbrev pub with_log : WorldState → List ℕ → Fate → CommandAnswer
+with_log w text end = record { saved = Some (text_of_log w); printed = Some text; fate = end }
+
 -- The text of the log is to be saved. The report of the log by the program's names, with its
 -- certificate if that is asked for, is printed between these texts; and it comes to this end.
 pub record IsReported (program : Program) (certificate : Bool) (before : List ℕ) (w : WorldState)
@@ -160,11 +164,7 @@ pub record IsReported (program : Program) (certificate : Bool) (before : List �
   pub are_names : AreNamesOfProgram program names
   pub report : List ℕ
   pub is_report : IsOutputOf names certificate w report
-  pub said : answer ≡ record {
-    saved = Some (text_of_log w);
-    printed = Some (before ++ (report ++ after));
-    fate = end;
-  }
+  pub said : answer ≡ with_log w (before ++ (report ++ after)) end
 
 -- only the ending is said
 abbrev pub IsSilentEnding : Ending → CommandAnswer → Type 0

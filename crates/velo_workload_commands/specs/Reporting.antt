@@ -1,19 +1,19 @@
 -- Words of the contracts within the crate: how a run is reported. What the commands do is said without them.
 use Rattle.std.specs.Borrow.{Bor}
-use Rattle.std.specs.Prelude.{◌≡◌, ◌≢◌, ◌⊎◌, ◌++◌, ⊤, ℕ, Bool, true, false, List, Option, Some, None, is_some}
+use Rattle.std.specs.Prelude.{◌≡◌, ◌≢◌, ◌⊎◌, ◌++◌, ⊤, ℕ, Bool, true, false, List, Option, Some, None, Result, is_some}
 use Rattle.velo_events.specs.declared.event.Event.{Event}
 use Rattle.velo_report.specs.declared.names.Names.{Names}
 use Rattle.velo_workload.specs.Program.{Program}
 use Rattle.velo_world.specs.World.{WorldState}
-use Rattle.velo_delivery.specs.Disk.{Store}
+use Rattle.velo_delivery.specs.Disk.{Store, behind, up_to}
 use Rattle.velo_delivery.specs.Writing.{Writing}
 use Rattle.velo_fate.specs.declared.fate.Fate.{Fate}
 use Rattle.velo_fate.specs.declared.fate.Fate.TheVariants.{CannotOpen, WriteFailed}
-use Rattle.velo_fate.specs.Delivery.{CommandAnswer, IsDeliveredInTurn, LacksMemory}
-use Rattle.velo_fate.specs.Saving.{text_of_log}
+use Rattle.velo_fate.specs.Delivery.{CommandAnswer, IsDeliveredInTurn, IsPrinted, LacksMemory, Saves, printing}
+use Rattle.velo_fate.specs.Saving.{IsSavedAt, IsUnsavedAt}
 use Rattle.velo_fate.specs.Verdict.{IsOrderOrCycle, IsOutputOf}
 use Rattle.velo_request.specs.declared.request.RunOptions.{RunOptions}
-use Rattle.velo_workload_commands.specs.Playing.{IsReported, text_of_names}
+use Rattle.velo_workload_commands.specs.Playing.{IsReported, text_of_names, with_log}
 use Rattle.velo_workload_commands.specs.declared.page.Page.{Page}
 use Rattle.velo_workload_commands.specs.declared.reporting.RunReport.{RunReport}
 
@@ -38,6 +38,26 @@ IsListFor certificate log list = ⊥
 pub record IsNoFileFailure (f : Fate) : Type 0 where
   pub opened : f ≢ CannotOpen
   pub written : f ≢ WriteFailed
+
+-- what writing a log came to, and then names at their path, if there is one
+abbrev pub IsSavedInTurn : {X : Type 0} → Store → Option (Bor (List ℕ)) → Option (Bor (List ℕ))
+    → List ℕ → List ℕ → Result X Fate → Type 0
+IsSavedInTurn store target None names log result = IsSavedAt store target log result
+IsSavedInTurn store target (Some path) names log result =
+    IsUnsavedAt store target log result
+    ⊎ ((between : store.State) × Saves (up_to store between) target (Some log)
+    × IsSavedAt (behind store between) (Some path) names result)
+
+-- what printing a text alone came to
+abbrev pub PrintsAlone : List ℕ → Fate → Writing → Fate → Type 0
+PrintsAlone text end stdout f = IsPrinted stdout (printing text end) f
+
+-- what saving a log came to, and printing a text alone
+abbrev pub SavesAndPrints : Program → RunOptions → WorldState → List ℕ → Fate → Store → Writing → Fate
+    → Type 0
+SavesAndPrints program options w text end store stdout f =
+    (answer : CommandAnswer) × ((answer ≡ with_log w text end) ⊎ LacksMemory answer)
+    × IsDeliveredInTurn store options.target options.names_target (text_of_names program) stdout answer f
 
 -- what reporting a run came to
 abbrev pub Reports : Program → RunOptions → RunReport → Store → Writing → Fate → Type 0

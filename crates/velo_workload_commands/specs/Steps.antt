@@ -1,35 +1,23 @@
 -- Words of the contracts within the crate: how far each step has come. What the commands do is
 -- said without them.
-use Rattle.std.specs.Borrow.{Bor}
-use Rattle.std.specs.Prelude.{◌≡◌, ◌⊎◌, ℕ, List, Option, Some, None, Result}
+use Rattle.std.specs.Prelude.{◌≡◌, ◌⊎◌, ℕ, List}
 use Rattle.velo_worker.specs.declared.ending.Ending.{Ending}
 use Rattle.velo_workload.specs.Program.{Program}
 use Rattle.velo_world.specs.World.{WorldState}
 use Rattle.velo_fate.specs.declared.fate.Fate.{Fate}
 use Rattle.velo_request.specs.declared.request.ExploreOptions.{ExploreOptions}
 use Rattle.velo_request.specs.declared.request.RunOptions.{RunOptions}
+use Rattle.velo_request.specs.declared.request.TextOrJson.{TextOrJson}
 use Rattle.velo_shrink.specs.declared.findings.Replay.{Replay}
-use Rattle.velo_workload_commands.specs.declared.survey.Survey.{Survey}
-use Rattle.velo_workload_commands.specs.Exploring.{IsExplored, IsSaidOf}
+use Rattle.velo_explore_forms.specs.declared.survey.Survey.{Survey}
+use Rattle.velo_workload_commands.specs.Exploring.{IsExplored, IsSaidOf, waits_after}
 use Rattle.velo_fate.specs.Verdict.{KnowsAlarm}
-use Rattle.velo_fate.specs.Delivery.{CommandAnswer, IsDeliveredInTurn, IsPrinted, LacksMemory, Saves, printing}
-use Rattle.velo_delivery.specs.Disk.{Disk, Store, behind, up_to}
+use Rattle.velo_fate.specs.Delivery.{CommandAnswer, IsDeliveredInTurn, LacksMemory}
+use Rattle.velo_delivery.specs.Disk.{Disk, Store}
 use Rattle.velo_fate.specs.Barred.{IsBarredRun}
-use Rattle.velo_workload_commands.specs.Playing.{IsRunAnswer, IsSaidOfRun, Play, text_of_names, workload_file}
-use Rattle.velo_fate.specs.Saving.{IsSavedAt, IsUnsavedAt}
+use Rattle.velo_workload_commands.specs.Playing.{IsReported, IsRunAnswer, IsSaidOfRun, Play, text_of_names, workload_file}
 use Rattle.velo_fate.specs.Format.{ReadsNone}
 use Rattle.velo_delivery.specs.Writing.{Writing}
-
--- ---- the target
-
--- what writing a log came to, and then names at their path, if there is one
-abbrev pub IsSavedInTurn : {X : Type 0} → Store → Option (Bor (List ℕ)) → Option (Bor (List ℕ))
-    → List ℕ → List ℕ → Result X Fate → Type 0
-IsSavedInTurn store target None names log result = IsSavedAt store target log result
-IsSavedInTurn store target (Some path) names log result =
-    IsUnsavedAt store target log result
-    ⊎ ((between : store.State) × Saves (up_to store between) target (Some log)
-    × IsSavedAt (behind store between) (Some path) names result)
 
 -- ---- a run
 
@@ -63,15 +51,19 @@ pub record IsReportable (program : Program) (replay : Replay) : Type 0 where
   pub bounds : replay.closed.config.bounds ≡ program.bounds
   pub alarm : KnowsAlarm replay.closed.log
 
--- what printing a text alone came to
-abbrev pub PrintsAlone : List ℕ → Fate → Writing → Fate → Type 0
-PrintsAlone text end stdout f = IsPrinted stdout (printing text end) f
+-- what reporting a replay behind a text came to
+abbrev pub ReportsReplay : Program → RunOptions → Replay → List ℕ → Fate → Store → Writing → Fate → Type 0
+ReportsReplay program options replay text end store stdout f =
+    (answer : CommandAnswer)
+    × (IsReported program options.certificate text replay.closed (waits_after program replay) end answer
+    ⊎ LacksMemory answer)
+    × IsDeliveredInTurn store options.target options.names_target (text_of_names program) stdout answer f
 
 -- what saying a survey of the schedules came to
-abbrev pub SaysSurvey : Program → Survey → RunOptions → Store → Writing → Fate → Type 0
-SaysSurvey program survey options store stdout f =
+abbrev pub SaysSurvey : TextOrJson → Program → Survey → RunOptions → Store → Writing → Fate → Type 0
+SaysSurvey form program survey options store stdout f =
     (answer : CommandAnswer)
-    × (IsSaidOf program options.certificate survey survey.shrunk.first answer ⊎ LacksMemory answer)
+    × (IsSaidOf form program options survey survey.shrunk.first answer ⊎ LacksMemory answer)
     × IsDeliveredInTurn store options.target options.names_target (text_of_names program) stdout answer f
 
 -- what exploring a workload came to

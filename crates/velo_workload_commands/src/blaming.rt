@@ -3,9 +3,9 @@ ghost use Rattle.std.specs.Prelude.{◌≡◌, IfOk, map, take};
 ghost use Rattle.velo_workload_commands.specs.ByChance.{IsBlameOf};
 ghost use Rattle.velo_workload_commands.specs.Exploring.{most_to_blame};
 
-use crate::survey::ToBlame;
 use std::alloc::Global;
 use velo_events::{Config, Memory, ThreadId};
+use velo_explore_forms::ToBlame;
 use velo_random::{RunTally, try_all};
 use velo_workload::Workload;
 

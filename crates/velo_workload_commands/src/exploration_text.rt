@@ -1,14 +1,15 @@
 //! The text of what is reported of the schedules of a workload.
 ghost use Rattle.std.specs.Prelude.{◌≡◌, ◌++◌, slice_get, IfOk, OnOk};
-ghost use Rattle.velo_workload_commands.specs.Exploring.{blame_text, blamed_text, finding_text, found_text, goal_text, label_text, name_text, survey_text, tried_text};
+ghost use Rattle.velo_workload_commands.specs.Exploring.{blame_text, blamed_text, finding_text, found_text, goal_text, label_text, name_text, survey_page, survey_text, tried_text};
 
-use crate::survey::{Survey, ToBlame, Tried};
 use std::alloc::Global;
 use velo_bytes::{append, append_number};
 use velo_events::{Label, Memory, ThreadId};
 use velo_explore::{Finding, Findings, Goal};
+use velo_explore_forms::{Survey, ToBlame, Tried, exploration_json};
 use velo_fate::number_of;
 use velo_random::BlamedLabel;
+use velo_request::TextOrJson;
 use velo_schedule_text::append_turns;
 use velo_workload::Workload;
 
@@ -135,14 +136,7 @@ fn add_blame(text: &mut Vec<u8>, workload: &Workload, blame: &ToBlame) -> Result
 }
 
 /// The text of what is reported of the schedules of a workload.
-///
-/// # Errors
-/// `Memory` where a growth was refused.
-pub fn text_of_survey(
-    alloc: Global,
-    workload: &Workload,
-    survey: &Survey,
-) -> Result<Vec<u8>, Memory>
+fn text_of_survey(alloc: Global, workload: &Workload, survey: &Survey) -> Result<Vec<u8>, Memory>
     ensures { IfOk result (λ text. text.items ≡ survey_text workload.now survey.now) }
 {
     let mut text = Vec::new(alloc);
@@ -150,4 +144,24 @@ pub fn text_of_survey(
     add_found(&mut text, workload, &survey.shrunk.findings)?;
     add_blame(&mut text, workload, &survey.blame)?;
     Ok(text)
+}
+
+/// What is reported of the schedules of the workload at a path, in the form that was asked for.
+///
+/// # Errors
+/// `Memory` where a growth was refused.
+pub fn page_of_survey(
+    alloc: Global,
+    workload: &Workload,
+    form: TextOrJson,
+    path: &str,
+    survey: &Survey,
+) -> Result<Vec<u8>, Memory>
+    ensures { IfOk result (λ page. page.items
+        ≡ survey_page form workload.now path.now survey.now) }
+{
+    match form {
+        TextOrJson::Text => text_of_survey(alloc, workload, survey),
+        TextOrJson::Json => exploration_json(alloc, workload, path, survey),
+    }
 }

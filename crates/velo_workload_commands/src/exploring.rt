@@ -3,24 +3,25 @@ ghost use Rattle.std.specs.Prelude.{◌≡◌, IfOk, IfSome};
 ghost use Rattle.velo_delivery.specs.Disk.{store};
 ghost use Rattle.velo_delivery.specs.Writing.{writing};
 ghost use Rattle.velo_workload_commands.specs.Commands.{DoesExplore};
-ghost use Rattle.velo_workload_commands.specs.Exploring.{fate_of_findings, fate_of_goal, fate_of_rest, is_never, run_of, survey_text, waits_after};
+ghost use Rattle.velo_workload_commands.specs.Exploring.{fate_of_findings, fate_of_goal, fate_of_rest, is_never, run_of, survey_page, waits_after};
 ghost use Rattle.velo_workload_commands.specs.Reporting.{IsNoFileFailure};
-ghost use Rattle.velo_workload_commands.specs.Steps.{Explores, IsReportable, PrintsAlone, SaysSurvey};
+ghost use Rattle.velo_workload_commands.specs.Steps.{Explores, IsReportable, ReportsReplay, SaysSurvey};
 
-use crate::exploration_text::text_of_survey;
+use crate::exploration_text::page_of_survey;
 use crate::findings::survey_of;
+use crate::page::print_alone;
 use crate::progress::ExploreProgress;
-use crate::reporting::{RunReport, report_run};
-use crate::survey::Survey;
+use crate::reporting::{RunReport, report_run, save_and_print};
 use crate::work::{config_of_run, open_workload};
 use std::alloc::Global;
-use velo_bytes::{Sink, WriteFault, write_all};
+use velo_bytes::Sink;
 use velo_deadlock::waits_of;
 use velo_delivery::Files;
 use velo_events::Memory;
 use velo_explore::{Finding, Findings, Goal};
+use velo_explore_forms::Survey;
 use velo_fate::Fate;
-use velo_request::{ExploreOptions, RunOptions};
+use velo_request::{ExploreOptions, RunOptions, TextOrJson};
 use velo_shrink::Replay;
 use velo_worker::Ending;
 use velo_workload::Workload;
@@ -105,37 +106,23 @@ fn waits_after(alloc: Global, workload: &Workload, replay: &Replay) -> Result<Ve
     }
 }
 
-/// Prints a text alone.
-fn print_alone<O: Sink>(text: &[u8], end: Fate, out: &mut O) -> Fate
-    requires { IsNoFileFailure end }
-    ensures { PrintsAlone text.now end (writing O.contents O.failures out.old out.new) result }
-{
-    match write_all(out, text) {
-        Ok(()) => end,
-        Err(WriteFault) => Fate::WriteFailed,
-    }
-}
-
-/// Prints what is reported of the schedules of a workload, of which this is the text, and reports the
-/// replay, if there is one.
-fn report_first<F: Files, O: Sink>(
+/// Reports a replay behind a text, and for a deadlock who waits for what.
+fn report_replay<F: Files, O: Sink>(
     alloc: Global,
     workload: &Workload,
-    survey: &Survey,
+    replay: &Replay,
     text: &[u8],
+    end: Fate,
     options: &RunOptions,
     files: &mut F,
     out: &mut O,
 ) -> Fate
-    requires first { IfSome survey.now.shrunk.first (IsReportable workload.now) }
-    requires text { text.now ≡ survey_text workload.now survey.now }
-    ensures { SaysSurvey workload.now survey.now options.now (store F.disk files.old files.new)
+    requires reportable { IsReportable workload.now replay.now }
+    requires plain { IsNoFileFailure end }
+    ensures { ReportsReplay workload.now options.now replay.now text.now end
+        (store F.disk files.old files.new)
         (writing O.contents O.failures out.old out.new) result }
 {
-    let end = fate_of(&survey.shrunk.findings);
-    let Some(replay) = &survey.shrunk.first else {
-        return print_alone(text, end, out);
-    };
     match waits_after(alloc, workload, replay) {
         Ok(waits) => {
             let report = RunReport {
@@ -150,24 +137,59 @@ fn report_first<F: Files, O: Sink>(
     }
 }
 
+/// Prints what is reported of the schedules of a workload, which is this page, and saves the log of the
+/// replay, if there is one. Behind a text the replay is reported.
+fn report_first<F: Files, O: Sink>(
+    alloc: Global,
+    workload: &Workload,
+    survey: &Survey,
+    form: TextOrJson,
+    page: &[u8],
+    options: &RunOptions,
+    files: &mut F,
+    out: &mut O,
+) -> Fate
+    requires first { IfSome survey.now.shrunk.first (IsReportable workload.now) }
+    requires page { page.now ≡ survey_page form workload.now options.now.input.now survey.now }
+    ensures { SaysSurvey form workload.now survey.now options.now
+        (store F.disk files.old files.new)
+        (writing O.contents O.failures out.old out.new) result }
+{
+    let end = fate_of(&survey.shrunk.findings);
+    let Some(replay) = &survey.shrunk.first else {
+        return print_alone(page, end, out);
+    };
+    match form {
+        TextOrJson::Text => {
+            report_replay(alloc, workload, replay, page, end, options, files, out)
+        }
+        TextOrJson::Json => {
+            let closed = &replay.closed;
+            save_and_print(alloc, workload, closed, page, end, options, files, out)
+        }
+    }
+}
+
 /// Prints what is reported of the schedules of a workload, and reports the replay of the first finding,
 /// if there is one.
 fn report_survey<F: Files, O: Sink>(
     alloc: Global,
     workload: &Workload,
     survey: &Survey,
+    form: TextOrJson,
     options: &RunOptions,
     files: &mut F,
     out: &mut O,
 ) -> Fate
     requires { IfSome survey.now.shrunk.first (IsReportable workload.now) }
-    ensures { SaysSurvey workload.now survey.now options.now (store F.disk files.old files.new)
+    ensures { SaysSurvey form workload.now survey.now options.now
+        (store F.disk files.old files.new)
         (writing O.contents O.failures out.old out.new) result }
 {
-    match text_of_survey(alloc, workload, survey) {
-        Ok(text) => {
-            let fate = report_first(alloc, workload, survey, &text, options, files, out);
-            drop(text);
+    match page_of_survey(alloc, workload, form, options.input, survey) {
+        Ok(page) => {
+            let fate = report_first(alloc, workload, survey, form, &page, options, files, out);
+            drop(page);
             fate
         }
         Err(Memory) => Fate::Memory,
@@ -193,7 +215,8 @@ fn explore_workload<F: Files, O: Sink, P: ExploreProgress>(
     progress.end();
     match survey {
         Ok(survey) => {
-            let fate = report_survey(alloc, workload, &survey, &run, files, out);
+            let form = options.format;
+            let fate = report_survey(alloc, workload, &survey, form, &run, files, out);
             drop(survey);
             fate
         }

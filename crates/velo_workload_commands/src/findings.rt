@@ -4,10 +4,10 @@ ghost use Rattle.velo_workload_commands.specs.ByChance.{IsByChance};
 ghost use Rattle.velo_workload_commands.specs.Exploring.{IsExplorationOf, IsSurveyOf};
 
 use crate::blaming::blame_of;
-use crate::survey::{Survey, ToBlame, Tried};
 use std::alloc::Global;
 use velo_events::{Config, Memory};
 use velo_explore::{Exploration, Progress, explore};
+use velo_explore_forms::{Survey, ToBlame, Tried};
 use velo_random::{RunTally, try_by_chance};
 use velo_request::{ExploreOptions, RandomRuns};
 use velo_shrink::shrink_findings;

@@ -12,7 +12,6 @@ mod replaying;
 mod reporting;
 mod running;
 mod scheduling;
-mod survey;
 mod work;
 
 pub use blaming::MAX_BLAMING;

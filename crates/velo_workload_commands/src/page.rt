@@ -3,10 +3,10 @@ ghost use Rattle.std.specs.Prelude.{IfSome};
 ghost use Rattle.velo_delivery.specs.Answers.{WritesText};
 ghost use Rattle.velo_delivery.specs.Writing.{writing};
 ghost use Rattle.velo_fate.specs.Verdict.{KnowsAlarm, IsOrderOrCycle};
-ghost use Rattle.velo_workload_commands.specs.Reporting.{IsPageText};
+ghost use Rattle.velo_workload_commands.specs.Reporting.{IsNoFileFailure, IsPageText, PrintsAlone};
 
 use velo_bytes::{Sink, WriteFault, write_all};
-use velo_fate::write_output;
+use velo_fate::{Fate, write_output};
 use velo_report::Names;
 use velo_world::Closed;
 
@@ -36,4 +36,15 @@ pub fn print_page<O: Sink>(page: &Page, out: &mut O) -> Result<(), WriteFault>
     write_all(out, page.before)?;
     write_output(page.closed, &page.names, page.list, out)?;
     write_all(out, page.after)
+}
+
+/// Prints a text alone.
+pub fn print_alone<O: Sink>(text: &[u8], end: Fate, out: &mut O) -> Fate
+    requires { IsNoFileFailure end }
+    ensures { PrintsAlone text.now end (writing O.contents O.failures out.old out.new) result }
+{
+    match write_all(out, text) {
+        Ok(()) => end,
+        Err(WriteFault) => Fate::WriteFailed,
+    }
 }

@@ -3,11 +3,13 @@
 ghost use Rattle.std.specs.Prelude.{◌≡◌, IfOk, IfSome, option_map};
 ghost use Rattle.velo_delivery.specs.Disk.{store};
 ghost use Rattle.velo_delivery.specs.Writing.{writing};
+ghost use Rattle.velo_fate.specs.Delivery.{IsDeliveredInTurn};
+ghost use Rattle.velo_fate.specs.Saving.{text_of_log};
 ghost use Rattle.velo_fate.specs.Verdict.{KnowsAlarm};
-ghost use Rattle.velo_workload_commands.specs.Playing.{text_of_names};
-ghost use Rattle.velo_workload_commands.specs.Reporting.{AreNamesFor, IsListFor, IsNoFileFailure, Reports};
+ghost use Rattle.velo_workload_commands.specs.Playing.{text_of_names, with_log};
+ghost use Rattle.velo_workload_commands.specs.Reporting.{AreNamesFor, IsListFor, IsNoFileFailure, IsSavedInTurn, Reports, SavesAndPrints};
 
-use crate::page::{Page, print_page};
+use crate::page::{Page, print_alone, print_page};
 use std::alloc::Global;
 use velo_bytes::{Sink, WriteFault};
 use velo_delivery::{Files, Operand, Save, save_all};
@@ -102,6 +104,34 @@ fn lent(list: &Option<Vec<usize>>) -> Option<&[usize]>
     }
 }
 
+/// Saves the log of a run and the names of its workload, where there are paths for them.
+fn save_run<F: Files>(
+    closed: &Closed,
+    names: &[u8],
+    options: &RunOptions,
+    files: &mut F,
+) -> Result<(), Fate>
+    ensures { IsSavedInTurn (store F.disk files.old files.new) options.now.target
+        options.now.names_target names.now (text_of_log closed.now) result }
+{
+    let saves = [
+        Save {
+            operand: Operand::Out,
+            path: options.target,
+            text: Saved::Log(closed),
+        },
+        Save {
+            operand: Operand::NamesOut,
+            path: options.names_target,
+            text: Saved::Bytes(names),
+        },
+    ];
+    match save_all(&saves, files) {
+        Ok(()) => Ok(()),
+        Err(failure) => Err(fate_of_failure(failure)),
+    }
+}
+
 /// Saves the log of a run and the names of its workload, where there are paths for them, and prints
 /// the report.
 fn put_report<F: Files, O: Sink>(
@@ -120,18 +150,6 @@ fn put_report<F: Files, O: Sink>(
     ensures { Reports workload.now options.now report.now (store F.disk files.old files.new)
         (writing O.contents O.failures out.old out.new) result }
 {
-    let saves = [
-        Save {
-            operand: Operand::Out,
-            path: options.target,
-            text: Saved::Log(report.closed),
-        },
-        Save {
-            operand: Operand::NamesOut,
-            path: options.names_target,
-            text: Saved::Bytes(made.names.as_slice()),
-        },
-    ];
     let page = Page {
         before: report.before,
         closed: report.closed,
@@ -142,9 +160,9 @@ fn put_report<F: Files, O: Sink>(
         list: lent(&made.list),
         after: report.after,
     };
-    match save_all(&saves, files) {
+    match save_run(report.closed, made.names.as_slice(), options, files) {
         Ok(()) => {}
-        Err(failure) => return fate_of_failure(failure),
+        Err(fate) => return fate,
     }
     match print_page(&page, out) {
         Ok(()) => report.end,
@@ -172,6 +190,55 @@ pub fn report_run<F: Files, O: Sink>(
         Ok(made) => {
             let fate = put_report(workload, report, &made, options, files, out);
             drop(made);
+            fate
+        }
+        Err(Memory) => Fate::Memory,
+    }
+}
+
+/// Saves the log of a run and the names of its workload, where there are paths for them, and prints a
+/// text alone.
+fn put_alone<F: Files, O: Sink>(
+    closed: &Closed,
+    names: &[u8],
+    text: &[u8],
+    end: Fate,
+    options: &RunOptions,
+    files: &mut F,
+    out: &mut O,
+) -> Fate
+    requires { IsNoFileFailure end }
+    ensures { IsDeliveredInTurn (store F.disk files.old files.new) options.now.target
+        options.now.names_target names.now (writing O.contents O.failures out.old out.new)
+        (with_log closed.now text.now end) result }
+{
+    match save_run(closed, names, options, files) {
+        Ok(()) => print_alone(text, end, out),
+        Err(fate) => fate,
+    }
+}
+
+/// Saves the log of a run and the names of its workload, where there are paths for them, and prints a
+/// text alone. The names are made before anything is opened.
+pub fn save_and_print<F: Files, O: Sink>(
+    alloc: Global,
+    workload: &Workload,
+    closed: &Closed,
+    text: &[u8],
+    end: Fate,
+    options: &RunOptions,
+    files: &mut F,
+    out: &mut O,
+) -> Fate
+    requires { IsNoFileFailure end }
+    ensures { SavesAndPrints workload.now options.now closed.now text.now end
+        (store F.disk files.old files.new)
+        (writing O.contents O.failures out.old out.new) result }
+{
+    match names_for(alloc, workload, options.names_target) {
+        Ok(names) => {
+            let fate = put_alone(closed, &names, text, end, options, files, out);
+            drop(names);
             fate
         }
         Err(Memory) => Fate::Memory,

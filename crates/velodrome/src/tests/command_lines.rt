@@ -142,7 +142,7 @@ static WRONG_WORDS: [&[&str]; 49] = [
 ];
 
 /// Right words that do not go together, with the line that says so.
-static WORDS_APART: [(&[&str], &str); 29] = [
+static WORDS_APART: [(&[&str], &str); 32] = [
     (
         &["velodrome", "check", "-", "--names", "-"],
         "error: standard input can be read once\n",
@@ -288,6 +288,25 @@ static WORDS_APART: [(&[&str], &str); 29] = [
     (
         &["velodrome", "explain", "a.log", "--format", "junit"],
         "error: --format takes text or json\n",
+    ),
+    (
+        &["velodrome", "explore", "w", "--format=sarif", "--seed=1"],
+        "error: --format takes text or json\n",
+    ),
+    (
+        &[
+            "velodrome",
+            "explore",
+            "w",
+            "--certificate",
+            "--format=json",
+            "--names-out=n",
+        ],
+        "error: --format json does not go with --certificate\n",
+    ),
+    (
+        &["velodrome", "explore", "w", "--format=json", "--seed", "1"],
+        "error: --seed goes only with --random\n",
     ),
     (
         &["velodrome", "predict", "a.log", "--format", "sarif"],

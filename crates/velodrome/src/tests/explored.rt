@@ -9,7 +9,7 @@ use std::thread::Threads;
 use velo_bytes::Text;
 use velo_commands::{
     ExploreOptions, ExploreProgress, Limits, MAX_RUNS, MAX_STATES, Progress, RandomRuns, Request,
-    do_request, end_with,
+    TextOrJson, do_request, end_with,
 };
 use velo_events::MAX_EVENTS;
 
@@ -50,6 +50,7 @@ struct Row {
     certificate: bool,
     /// How many random runs are made, and their seed.
     random: Option<(u32, u64)>,
+    format: TextOrJson,
     /// After how many states the search is told that its time is over.
     over: Option<u64>,
     out: &'static str,
@@ -66,6 +67,7 @@ const ASKED: Row = Row {
     target: None,
     certificate: false,
     random: None,
+    format: TextOrJson::Text,
     over: None,
     out: "",
     err: "",
@@ -73,7 +75,7 @@ const ASKED: Row = Row {
     status: 0,
 };
 
-static ROWS: [Row; 27] = [
+static ROWS: [Row; 30] = [
     Row {
         target: Some("o"),
         out: "events 9\nstates 8\nalarm 0*3 1 0\nstuck none\nrefused none\nto blame inc (1 of 1 alarms)\nevents 9\nthread 0 main 7\nthread 1 a 2\nverdict alarm 4\ntransaction 1\nblame 1 inc\n",
@@ -276,6 +278,36 @@ static ROWS: [Row; 27] = [
         status: 4,
         ..ASKED
     },
+    // for other programs
+    Row {
+        format: TextOrJson::Json,
+        target: Some("o"),
+        out: "{\"schema\":1,\"workload\":\"w\",\"search\":{\"kind\":\"exhaustive\",\"events\":9,\"states\":8},\"decided\":true,\"alarm\":{\"finding\":\"shown\",\"turns\":\"0*3 1 0\"},\"stuck\":{\"finding\":\"never\",\"turns\":null},\"refused\":{\"finding\":\"never\",\"turns\":null,\"refusal\":null},\"blame\":{\"alarms\":1,\"labels\":[{\"label\":{\"number\":0,\"name\":\"inc\"},\"alarms\":1}]}}\n",
+        log: Some(
+            "vlog 2 2 1 0\n0 fork 1\n0 begin 0\n0 rd 0 0\n1 wr 0 5\n0 wr 0 1\n0 end\n1 exit\n0 join 1\n0 exit\n",
+        ),
+        status: 3,
+        ..ASKED
+    },
+    Row {
+        workload: UNHELD,
+        random: Some((1, 1)),
+        format: TextOrJson::Json,
+        out: "{\"schema\":1,\"workload\":\"w\",\"search\":{\"kind\":\"random\",\"seed\":1,\"runs\":1},\"decided\":true,\"alarm\":{\"finding\":\"never\",\"turns\":null},\"stuck\":{\"finding\":\"never\",\"turns\":null},\"refused\":{\"finding\":\"shown\",\"turns\":\"0 1\",\"refusal\":{\"number\":8,\"thread\":{\"number\":1,\"name\":\"a\"}}},\"blame\":{\"alarms\":0,\"labels\":[]}}\n",
+        err: "refused 8 thread 1\n",
+        status: 4,
+        ..ASKED
+    },
+    Row {
+        workload: LOCKED,
+        states: 3,
+        target: Some("o"),
+        format: TextOrJson::Json,
+        out: "{\"schema\":1,\"workload\":\"w\",\"search\":{\"kind\":\"exhaustive\",\"events\":13,\"states\":3},\"decided\":false,\"alarm\":{\"finding\":\"open\",\"turns\":null},\"stuck\":{\"finding\":\"open\",\"turns\":null},\"refused\":{\"finding\":\"open\",\"turns\":null,\"refusal\":null},\"blame\":{\"alarms\":0,\"labels\":[]}}\n",
+        err: "open\n",
+        status: 4,
+        ..ASKED
+    },
     Row {
         workload: CROSSING,
         target: Some("full"),
@@ -359,6 +391,7 @@ fn explore_it<R: Threads + Wait + Abort + Sync>(rt: &R, alloc: Global, row: &Row
         certificate: row.certificate,
         progress: false,
         random: runs_of(row.random),
+        format: row.format,
     });
     let mut out = Text::new(alloc);
     let mut err = Text::new(alloc);

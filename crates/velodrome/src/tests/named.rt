@@ -9,7 +9,7 @@ use velo_bytes::{Bytes, Text, WriterSink};
 use velo_cli::Recall;
 use velo_commands::{
     ExploreOptions, Fate, Files, Limits, Quiet, ReplayOptions, Request, RunOptions, ScheduleSource,
-    do_request, end_with,
+    TextOrJson, do_request, end_with,
 };
 use velo_events::MAX_EVENTS;
 
@@ -156,6 +156,7 @@ fn request_of<'a>(
             certificate: false,
             progress: false,
             random: None,
+            format: TextOrJson::Text,
         }),
     }
 }

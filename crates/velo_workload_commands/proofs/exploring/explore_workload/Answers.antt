@@ -18,7 +18,7 @@ pub returns-in-Ok : goal.returns-in-Ok
 returns-in-Ok g c =
     let said =
     subst
-    (λ (o : RunOptions). SaysSurvey c.args.workload.now c.in-Ok.survey o (store g.F.Files.disk c.args.files.now c.report_survey-fate.new.files)
+    (λ (o : RunOptions). SaysSurvey c.args.options.now.format c.args.workload.now c.in-Ok.survey o (store g.F.Files.disk c.args.files.now c.report_survey-fate.new.files)
     (writing g.O.Sink.contents g.O.Sink.failures c.args.out.now c.report_survey-fate.new.out) c.report_survey-fate.result)
     c.run_of-run.ensures c.report_survey-fate.ensures in (
       said.0,

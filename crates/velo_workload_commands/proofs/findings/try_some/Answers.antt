@@ -3,7 +3,7 @@ use Rattle.velo_random.specs.Tallies.{IsTried}
 use Rattle.velo_random.proofs.OnRuns.{count-tried}
 use Rattle.velo_explore.specs.Goals.{finding_of}
 use Rattle.velo_explore.proofs.OnFindings.{witness-shows}
-use Rattle.velo_workload_commands.specs.declared.survey.Tried.TheVariants as how
+use Rattle.velo_explore_forms.specs.declared.survey.Tried.TheVariants as how
 use Rattle.velo_workload_commands.proofs.findings.try_some.Goals as goal
 
 pub shrink_findings-requires-clause-shows : goal.shrink_findings-requires-clause-shows

@@ -1,6 +1,6 @@
 use Rattle.velo_delivery.specs.Writing.{writing}
 use Rattle.velo_workload_commands.proofs.OnFindings.{printed_plain}
-use Rattle.velo_workload_commands.proofs.exploring.print_alone.Goals as goal
+use Rattle.velo_workload_commands.proofs.page.print_alone.Goals as goal
 
 pub returns-in-Ok : goal.returns-in-Ok
 returns-in-Ok g c =

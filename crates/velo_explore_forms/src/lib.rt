@@ -1,0 +1,11 @@
+//! What is reported of the schedules of a workload, for other programs: one JSON object.
+#![tactic(auto)]
+
+mod answer;
+mod blame;
+mod found;
+mod named;
+mod survey;
+
+pub use answer::exploration_json;
+pub use survey::{Survey, ToBlame, Tried};
