@@ -127,8 +127,8 @@ abbrev pub clash_of_certificate : TextOrJson → Bool → Option Clash
 clash_of_certificate Json certificate = if certificate then Some JsonCertificate else None
 clash_of_certificate Text certificate = None
 
--- it is to have a form that there is not, or a certificate that its form has not; or by its search,
--- or by what it saves
+-- it is asked for in a form that does not exist, or with a certificate, which its form does not have;
+-- or its search or its targets clash
 abbrev pub clash_of_explore : ExploreOptions → Given → Option Clash
 clash_of_explore options given =
     if given.neither_text_nor_json
