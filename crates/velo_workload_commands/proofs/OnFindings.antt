@@ -205,6 +205,12 @@ printed_alone store target path names stdout text end f plain kept printed = pri
 
 -- ---- what is said
 
+-- where nothing is shown
+pub said_without : (form : TextOrJson) (program : Program) (options : RunOptions) (survey : Survey) → survey.shrunk.first ≡ None
+    → IsSaidOf form program options survey survey.shrunk.first (printing (survey_page form program options.input.now survey) (fate_of_survey survey))
+said_without form program options survey is =
+    subst (λ (o : Option Replay). IsSaidOf form program options survey o (printing (survey_page form program options.input.now survey) (fate_of_survey survey))) (sym is) refl
+
 -- the replay is reported behind what is told as text
 pub said_reported : (form : TextOrJson) (program : Program) (options : RunOptions) (survey : Survey) (replay : Replay) (answer : CommandAnswer) (page : List ℕ) (end : Fate) → form ≡ Text
     → survey.shrunk.first ≡ Some replay → page ≡ survey_page form program options.input.now survey → end ≡ fate_of_survey survey
