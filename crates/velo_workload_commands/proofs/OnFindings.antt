@@ -2,7 +2,7 @@
 use Rattle.std.proofs.Common.{◌≡◌, ◌∙◌, ap, arith, inl, inr, refl, subst, sym, take, ⊎_elim}
 use Rattle.std.proofs.lemmas.List.{take_all}
 use Rattle.std.proofs.lemmas.Bool.{cases_lt, false≢true}
-use Rattle.std.specs.Prelude.{◌⊎◌, ℕ, Bool, true, false, List, is_some, length, map, min, Option, Some, None, Result, IfOk, IfSome, if◌then◌else◌}
+use Rattle.std.specs.Prelude.{◌⊎◌, ℕ, Bool, true, false, List, is_some, length, map, min, Option, Some, None, IfSome, if◌then◌else◌}
 use Rattle.std.specs.Option.{option_map_or}
 use Rattle.std.specs.Borrow.{Bor}
 use Rattle.std.specs.Global.{Vec}
@@ -30,7 +30,7 @@ use Rattle.velo_workload.specs.Program.{Program}
 use Rattle.velo_fate.specs.declared.fate.Fate.{Fate}
 use Rattle.velo_fate.specs.declared.fate.Fate.TheVariants as fate
 use Rattle.velo_fate.specs.Causes.{ComesByRefusal, Growths}
-use Rattle.velo_fate.specs.Delivery.{CommandAnswer, IsDelivered, IsDeliveredInTurn, IsPrinted, LacksMemory, printing, silent}
+use Rattle.velo_fate.specs.Delivery.{CommandAnswer, IsDeliveredInTurn, IsPrinted, LacksMemory, printing}
 use Rattle.velo_fate.specs.Failures.{failures_told}
 use Rattle.velo_delivery.specs.Disk.{Store}
 use Rattle.velo_delivery.specs.Writing.{Writes, Writing}
@@ -204,6 +204,12 @@ pub printed_alone : (store : Store) (target path : Option (Bor (List ℕ))) (nam
 printed_alone store target path names stdout text end f plain kept printed = printed_put store target stdout None None (Some text) end kept plain.opened f printed
 
 -- ---- what is said
+
+-- where nothing is shown
+pub said_without : (form : TextOrJson) (program : Program) (options : RunOptions) (survey : Survey) → survey.shrunk.first ≡ None
+    → IsSaidOf form program options survey survey.shrunk.first (printing (survey_page form program options.input.now survey) (fate_of_survey survey))
+said_without form program options survey is =
+    subst (λ (o : Option Replay). IsSaidOf form program options survey o (printing (survey_page form program options.input.now survey) (fate_of_survey survey))) (sym is) refl
 
 -- the replay is reported behind what is told as text
 pub said_reported : (form : TextOrJson) (program : Program) (options : RunOptions) (survey : Survey) (replay : Replay) (answer : CommandAnswer) (page : List ℕ) (end : Fate) → form ≡ Text

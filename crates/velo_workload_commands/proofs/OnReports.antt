@@ -1,6 +1,6 @@
 -- What becomes of a report on its way out.
 use Rattle.std.proofs.Common.{◌≡◌, ◌∙◌, ap, append-nil, inl, refl, subst, sym}
-use Rattle.std.specs.Prelude.{◌⊎◌, ◌++◌, ⊤, ℕ, Bool, true, false, [], List, option_map, Option, Some, None, Result, Ok, Err, IfSome, is_some}
+use Rattle.std.specs.Prelude.{◌⊎◌, ◌++◌, ℕ, Bool, true, false, [], List, option_map, Option, Some, None, Result, Ok, Err, IfSome, is_some}
 use Rattle.std.specs.Borrow.{Bor}
 use Rattle.velo_bytes.proofs.OnDevices.{appends_nothing, appends_then, beginning_then}
 use Rattle.velo_bytes.specs.Device.{with_failure}

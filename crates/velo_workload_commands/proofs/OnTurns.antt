@@ -1,5 +1,5 @@
 -- What becomes of an answer whose log is saved, and then names.
-use Rattle.std.proofs.Common.{◌≡◌, inl, inr, refl, subst}
+use Rattle.std.proofs.Common.{◌≡◌, inl, inr, subst}
 use Rattle.std.specs.Prelude.{ℕ, List, Option, Some, None, Err, Ok}
 use Rattle.std.specs.Borrow.{Bor}
 use Rattle.velo_fate.specs.declared.fate.Fate.{Fate}

@@ -59,13 +59,14 @@ DoesReplay options store stdout f =
     × DoesPlay (ByTurns schedule) options.run store stdout f)
 
 -- ---- velodrome explore FILE [--states N] [--seconds N] [--first] [--progress] [--random N] [--seed S]
--- ---- [--log OUT] [--names-out NAMES] [--events N] [--nodes N] [--certificate]
+-- ---- [--format FORM] [--log OUT] [--names-out NAMES] [--events N] [--nodes N] [--certificate]
 
 -- FILE is read whole, and all its schedules are tried; or with --random so many that are drawn by
 -- chance (`ByChance`). If one of them was found to have an alarm, a deadlock or a refusal, the log of
 -- its replay is saved at OUT, and then the names of the workload at NAMES. What was found and who is
--- to blame goes to standard output, and then the report of this replay, and its certificate, and after
--- that of a deadlock who waits for what; or nothing, for a reason (`Exploring`).
+-- to blame goes to standard output: with --format json as one JSON object; else as text, and then the
+-- report of this replay, and its certificate, and after that of a deadlock who waits for what; or
+-- nothing, for a reason (`Exploring`).
 abbrev pub DoesExplore : ExploreOptions → Store → Writing → Fate → Type 0
 DoesExplore options store stdout f =
     DoesNotPlay store options.input.now options.target options.names_target stdout f

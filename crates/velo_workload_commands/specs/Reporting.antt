@@ -2,7 +2,6 @@
 use Rattle.std.specs.Borrow.{Bor}
 use Rattle.std.specs.Prelude.{◌≡◌, ◌≢◌, ◌⊎◌, ◌++◌, ⊤, ℕ, Bool, true, false, List, Option, Some, None, Result, is_some}
 use Rattle.velo_events.specs.declared.event.Event.{Event}
-use Rattle.velo_report.specs.declared.names.Names.{Names}
 use Rattle.velo_workload.specs.Program.{Program}
 use Rattle.velo_world.specs.World.{WorldState}
 use Rattle.velo_delivery.specs.Disk.{Store, behind, up_to}

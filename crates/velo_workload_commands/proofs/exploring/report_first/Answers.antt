@@ -6,7 +6,7 @@ use Rattle.velo_delivery.specs.Writing.{writing}
 use Rattle.velo_workload_commands.specs.Exploring.{fate_of_survey, survey_page}
 use Rattle.velo_workload_commands.specs.Playing.{text_of_names}
 use Rattle.velo_workload_commands.specs.Reporting.{IsNoFileFailure}
-use Rattle.velo_workload_commands.proofs.OnFindings.{plain_survey, printed_alone, said_alone, said_reported}
+use Rattle.velo_workload_commands.proofs.OnFindings.{plain_survey, printed_alone, said_alone, said_reported, said_without}
 use Rattle.velo_workload_commands.proofs.exploring.report_first.Goals as goal
 
 pub print_alone-requires : goal.print_alone-requires
@@ -23,7 +23,7 @@ returns-in_default g c =
     subst (λ (e : Fate). IsPrinted stdout (printing page e) c.print_alone.result) c.fate_of-end.ensures
     (subst (λ (t : List ℕ). IsPrinted stdout (printing t c.fate_of-end.result) c.print_alone.result) c.requires.page c.print_alone.ensures) in (
       printing page (fate_of_survey survey),
-      inl (rw c.in_default.is refl),
+      inl (said_without c.args.form program options survey c.in_default.is),
       printed_alone (store g.F.Files.disk c.args.files.now c.args.files.now) options.target options.names_target (text_of_names program) stdout page
           (fate_of_survey survey) c.print_alone.result (plain_survey survey) refl printed,
     )

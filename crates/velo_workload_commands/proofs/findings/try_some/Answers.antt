@@ -1,4 +1,4 @@
-use Rattle.std.proofs.Common.{◌∙◌, ℕ, ap, refl, subst}
+use Rattle.std.proofs.Common.{ℕ, ap, refl, subst}
 use Rattle.velo_random.specs.Tallies.{IsTried}
 use Rattle.velo_random.proofs.OnRuns.{count-tried}
 use Rattle.velo_explore.specs.Goals.{finding_of}
