@@ -26,3 +26,5 @@ pub mod OnNotes
 pub mod OnHolds
 pub mod OnNoting
 pub mod OnTrails
+pub mod OnBounds
+pub mod OnFitting

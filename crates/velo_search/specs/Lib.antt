@@ -5,6 +5,7 @@ pub mod Kept
 pub mod States
 pub mod Plain
 pub mod Runs
+pub mod Fitting
 pub mod Faults
 pub mod Free
 pub mod Notes

@@ -1,8 +1,10 @@
 //! Every schedule of a workload, by a search of the states that its runs can be in.
 #![tactic(auto)]
 
+mod bounding;
 mod copied;
 mod fault;
+mod fitting;
 mod found;
 mod free;
 mod group;
@@ -30,6 +32,7 @@ mod state;
 mod step;
 mod trail;
 
+pub use bounding::search;
 pub use fault::Fault;
 pub use found::Found;
 pub use group::Group;
@@ -40,6 +43,5 @@ pub use progress::{Progress, Quiet};
 pub use schedules::{MAX_ALARMS, Schedules};
 pub use scripts::Scripts;
 pub use searched::Searched;
-pub use searching::search;
 pub use seen::ThreadsSeen;
 pub use state::State;

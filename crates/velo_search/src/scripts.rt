@@ -2,10 +2,11 @@
 ghost use Rattle.std.specs.Prelude.{◌≡◌, false, map, slice_get, IfOk};
 ghost use Rattle.std.specs.Option.{option_map_or};
 
+use crate::fitting::fitted;
 use crate::free::{free_ones, is_marked};
 use std::alloc::Global;
 use std::marker::Model;
-use velo_events::{Kind, Memory, ThreadId};
+use velo_events::{Bounds, Kind, Memory, ThreadId};
 
 /// The operations of each thread, in their order, without values.
 #[derive(Drop)]
@@ -30,6 +31,7 @@ impl Model for Scripts {
 }
 
 impl Scripts {
+    ghost use Rattle.velo_search.specs.Fitting.{AreAlike, IsWithin};
     ghost use Rattle.velo_search.specs.Free.{is_free_at};
     ghost use Rattle.velo_search.specs.Runs.{script_of};
 
@@ -65,5 +67,13 @@ impl Scripts {
             (slice_get (script_of self.now.kinds thread.0) index) false }
     {
         is_marked(&self.free, usize::from(thread.0), index as usize)
+    }
+
+    /// The bounds without the variables and locks behind the last that an operation names.
+    pub fn fitted(&self, bounds: Bounds) -> Bounds
+        ensures most { IsWithin result bounds }
+        ensures alike { AreAlike bounds result self.now.kinds }
+    {
+        fitted(&self.threads, bounds)
     }
 }

@@ -1,0 +1,203 @@
+-- In bounds in which the operations of scripts name as much, the scripts have the same runs, and these the same faults.
+use Rattle.std.proofs.Common.{◌≡◌, ℕ, ◌+◌, ◌<◌, ◌≤◌, ◌*◌, Bool, true, false, not, List, [], ◌∷◌, ◌++◌, length, take, drop, Option, Some, None, refl, sym, ap, ◌∙◌, subst, arith, ⊎_elim, inl, inr}
+use Rattle.std.specs.Prelude.{⊤, ◌&&◌, ◌||◌, ◌↔◌, All, IfSome, nat_le, nat_lt, if◌then◌else◌, slice_get, IsTrue, IsFalse}
+use Rattle.std.proofs.lemmas.Bool.{cases_Bool, cases_lt, leb-false, lt-leb, leb-true, le-leb, or_from, or_parts, false≢true, false_from_ne_true}
+use Rattle.std.proofs.lemmas.List.{take-append-drop, take_more}
+use Rattle.std.proofs.lemmas.Option.{slice_get_within, get_or_from_slice_get}
+use Rattle.velo_events.specs.declared.config.Bounds.{Bounds}
+use Rattle.velo_events.specs.declared.event.Event.{Event}
+use Rattle.velo_events.specs.declared.event.Kind.{Kind}
+use Rattle.velo_events.specs.declared.event.Kind.TheVariants.{Read, Write, Acquire, Release, AcquireShared, ReleaseShared, Begin, End, Fork, Join, Exit}
+use Rattle.velo_events.specs.declared.event.ThreadId.{ThreadId}
+use Rattle.velo_events.specs.declared.refusal.Refusal.{Refusal}
+use Rattle.velo_events.specs.Block.{any_below}
+use Rattle.velo_events.specs.Event.{thread_of, variable_of, lock_of, thread_forked_or_joined}
+use Rattle.velo_events.specs.Heap.{shares_in}
+use Rattle.velo_events.specs.Meaning.{holds, holds_a_lock, is_beyond, is_shared_beside, refusal_of}
+use Rattle.velo_events.specs.Tally.{events_of}
+use Rattle.velo_events.specs.WellFormed.{IsWellFormed, MayFollow, NamesKnown}
+use Rattle.velo_events.proofs.OnBlocks.{any_below-none}
+use Rattle.velo_events.proofs.OnWellFormed.{Facts, Facts-from, any_below-never, count_below, count_below-none, count_below-zero, is_held_by, held_by, shares_of}
+use Rattle.velo_search.specs.declared.schedules.Schedules.{Schedules}
+use Rattle.velo_search.specs.declared.found.Found.{Found}
+use Rattle.velo_search.specs.Faults.{Fault, Cycle, Stuck, Refusing, IsFault, IsIdle, IsRefused, IsStuck, IsTurnedDown, IsWaiting, SomeRefused}
+use Rattle.velo_search.specs.Fitting.{AreAlike}
+use Rattle.velo_search.specs.Runs.{script_of, IsRunOf, Never, NeverWithin}
+use Rattle.velo_search.specs.Search.{AreStatesSpent, IsSearchCut, IsTriedBelow, IsTrueOf, SomeRun, has_fault, ways}
+use Rattle.velo_search.specs.Told.{has_ended}
+use Rattle.velo_search.specs.Trail.{LeadToCycles, LeadsTo, turns_for}
+use Rattle.velo_search.proofs.OnRuns.{IsNext-last, IsRunOf-before}
+
+pub AreAlike-back : (one other : Bounds) (scripts : List (List Kind)) → AreAlike one other scripts → AreAlike other one scripts
+AreAlike-back one other scripts alike = record {
+  threads = sym alike.threads;
+  names = λ t i k due. let both = alike.names t i k due in (both.1, both.0);
+}
+
+-- ---- one operation
+
+-- a number is beyond both counts or none
+beyond-alike : (x m n : ℕ) → (x < m → x < n) → (x < n → x < m) → nat_le m x ≡ nat_le n x
+beyond-alike x m n there back = ⊎_elim
+    (λ past. past ∙ sym (le-leb n x (let far = leb-true m x past in ⊎_elim (λ below. absurd (let near = back below in omega (arith, far, near))) (λ above. above) (cases_lt x n))))
+    (λ within. within ∙ sym (lt-leb n x (there (leb-false m x within))))
+    (cases_Bool (nat_le m x))
+
+module _ (one other : Bounds) (same : one.threads ≡ other.threads) (k : Kind) (names : NamesKnown one k ↔ NamesKnown other k) where
+  variable-alike : is_beyond (variable_of k) one.variables ≡ is_beyond (variable_of k) other.variables
+  variable-alike = at k names
+    where
+      at : (k : Kind) → (NamesKnown one k ↔ NamesKnown other k) → is_beyond (variable_of k) one.variables ≡ is_beyond (variable_of k) other.variables
+      at (Read x v) both = beyond-alike x.0 _ _ both.0 both.1
+      at (Write x v) both = beyond-alike x.0 _ _ both.0 both.1
+      at _ both = refl
+
+  lock-alike : is_beyond (lock_of k) one.locks ≡ is_beyond (lock_of k) other.locks
+  lock-alike = at k names
+    where
+      at : (k : Kind) → (NamesKnown one k ↔ NamesKnown other k) → is_beyond (lock_of k) one.locks ≡ is_beyond (lock_of k) other.locks
+      at (Acquire m) both = beyond-alike m.0 _ _ both.0 both.1
+      at (Release m) both = beyond-alike m.0 _ _ both.0 both.1
+      at (AcquireShared m) both = beyond-alike m.0 _ _ both.0 both.1
+      at (ReleaseShared m) both = beyond-alike m.0 _ _ both.0 both.1
+      at _ both = refl
+
+-- ---- the locks that a thread holds
+
+-- where it holds none of the first, it holds none of the second
+none-held : (one other : Bounds) (log : List Event) (t : ℕ) → Facts one log → Facts other log → IsFalse (holds_a_lock one log t) → IsFalse (holds_a_lock other log t)
+unfolding holds_a_lock
+none-held one other log t here there none =
+    let free : (m : ℕ) → m < one.locks → IsFalse (holds log t m) = λ m l. any_below-none one.locks (holds log t) none m l in
+    let no_held = count_below-zero one.locks (is_held_by log t) (any_below-never one.locks _ (λ m l. (or_parts _ _ (free m l)).0)) in
+    let no_shared = count_below-zero one.locks (λ m. shares_in log m t) (any_below-never one.locks _ (λ m l. (or_parts _ _ (free m l)).1)) in
+    let held : count_below other.locks (is_held_by log t) ≡ 0 = omega (arith, here.held t, there.held t, no_held) in
+    let shared : count_below other.locks (λ m. shares_in log m t) ≡ 0 = omega (arith, here.shared t, there.shared t, no_shared) in
+    any_below-never other.locks (holds log t) (λ m l. or_from _ _
+    (any_below-none other.locks _ (count_below-none other.locks (is_held_by log t) held) m l)
+    (any_below-none other.locks _ (count_below-none other.locks _ shared) m l))
+
+-- so it holds some of both or of none
+held-alike : (one other : Bounds) (log : List Event) (t : ℕ) → Facts one log → Facts other log → holds_a_lock one log t ≡ holds_a_lock other log t
+held-alike one other log t here there = ⊎_elim
+    (λ some. some ∙ sym (⊎_elim (λ also. also) (λ none. absurd (false≢true (sym (none-held other one log t there here none) ∙ some))) (cases_Bool (holds_a_lock other log t))))
+    (λ none. none ∙ sym (none-held one other log t here there none))
+    (cases_Bool (holds_a_lock one log t))
+
+-- ---- refusals
+
+refusal-alike : (one other : Bounds) (log : List Event) (t : ℕ) (k : Kind) → one.threads ≡ other.threads → (NamesKnown one k ↔ NamesKnown other k) → Facts one log → Facts other log →
+    refusal_of one log t k ≡ refusal_of other log t k
+unfolding refusal_of is_shared_beside holds_a_lock
+refusal-alike one other log t k same names here there = rw (same, variable-alike one other same k names, lock-alike one other same k names, held-alike one other log t here there) refl
+
+-- ---- runs
+
+module _ (one other : Bounds) (scripts : List (List Kind)) (alike : AreAlike one other scripts) where
+  -- each event of a run does an operation of the scripts
+  named : (log : List Event) (i : ℕ) (e : Event) → IsRunOf one scripts log → slice_get log i ≡ Some e → NamesKnown one e.kind ↔ NamesKnown other e.kind
+  named log i e run here =
+      let first : take (i + 1) log ≡ take i log ++ e ∷ [] =
+      take_more log i e (slice_get_within log i e here) ∙ ap (λ f. take i log ++ f ∷ []) (get_or_from_slice_get log i e e here) in
+      let split : (take i log ++ e ∷ []) ++ drop (i + 1) log ≡ log = ap (λ xs. xs ++ drop (i + 1) log) (sym first) ∙ take-append-drop (i + 1) log in
+      let next = IsNext-last one scripts (take i log) e (IsRunOf-before one scripts (take i log ++ e ∷ []) (drop (i + 1) log) (subst (IsRunOf one scripts) (sym split) run)) in
+      alike.names (thread_of e) (events_of (take i log) (thread_of e)) e.kind next.due
+
+  -- the runs are the same
+  pub IsRunOf-alike : (log : List Event) → IsRunOf one scripts log → IsRunOf other scripts log
+  IsRunOf-alike log run = record {
+    well_formed = record {
+      each = λ i e here.
+          let follows = run.well_formed.each i e here in
+          record {
+            known_thread = subst (λ n. thread_of e < n) alike.threads follows.known_thread;
+            known_names = (named log i e run here).0 follows.known_names;
+            born = follows.born;
+            not_exited = follows.not_exited;
+            in_turn = follows.in_turn;
+          };
+    };
+    own = run.own;
+  }
+
+  -- ---- faults
+
+  turned-alike : (log : List Event) (t : ℕ) (r : Refusal) → IsRunOf one scripts log → IsTurnedDown one scripts log t r → IsTurnedDown other scripts log t r
+  turned-alike log t r run turned = record {
+    kind = turned.kind;
+    due = turned.due;
+    refused =
+        sym (refusal-alike one other log t turned.kind alike.threads (alike.names t (events_of log t) turned.kind turned.due)
+        (Facts-from one log run.well_formed) (Facts-from other log (IsRunOf-alike log run).well_formed))
+        ∙ turned.refused;
+    born = turned.born;
+  }
+
+  waiting-alike : (log : List Event) (t : ℕ) → IsRunOf one scripts log → IsWaiting one scripts log t → IsWaiting other scripts log t
+  waiting-alike log t run w = record { refusal = w.refusal; turned = turned-alike log t w.refusal run w.turned; waits = w.waits }
+
+  refused-alike : (log : List Event) (t : ℕ) → IsRunOf one scripts log → IsRefused one scripts log t → IsRefused other scripts log t
+  refused-alike log t run w = record { refusal = w.refusal; turned = turned-alike log t w.refusal run w.turned; for_good = w.for_good }
+
+  -- and have the same faults
+  pub IsFault-alike : (fault : Fault) (log : List Event) → IsRunOf one scripts log → IsFault one scripts fault log → IsFault other scripts fault log
+  IsFault-alike Cycle log run bad = bad
+  IsFault-alike Stuck log run bad = record {
+    each = λ t below. ⊎_elim (λ idle. inl idle) (λ waits. inr (waiting-alike log t run waits)) (bad.each t (subst (λ n. t < n) (sym alike.threads) below));
+    some = (bad.some.0, subst (λ n. bad.some.0 < n) alike.threads bad.some.1, waiting-alike log bad.some.0 run bad.some.2);
+  }
+  IsFault-alike Refusing log run bad = record {
+    some = (bad.some.0, subst (λ n. bad.some.0 < n) alike.threads bad.some.1, refused-alike log bad.some.0 run bad.some.2);
+  }
+
+-- ---- what a search finds out
+
+module _ (one other : Bounds) (scripts : List (List Kind)) (alike : AreAlike one other scripts) where
+  back : AreAlike other one scripts
+  back = AreAlike-back one other scripts alike
+
+  pub IsTrueOf-alike : (found : Found) → IsTrueOf one scripts found → IsTrueOf other scripts found
+  IsTrueOf-alike found all = λ fault has.
+      let some = all fault has in
+      record { log = some.log; run = IsRunOf-alike one other scripts alike some.log some.run; bad = IsFault-alike one other scripts alike fault some.log some.run some.bad }
+
+  pub NeverWithin-alike : (n : ℕ) (fault : Fault) (log : List Event) → NeverWithin n (IsFault one scripts fault) one scripts log → NeverWithin n (IsFault other scripts fault) other scripts log
+  NeverWithin-alike n fault log never = λ more few run bad.
+      never more few (IsRunOf-alike other one scripts back (log ++ more) run) (IsFault-alike other one scripts back fault (log ++ more) run bad)
+
+  pub Never-alike : (fault : Fault) (log : List Event) → Never (IsFault one scripts fault) one scripts log → Never (IsFault other scripts fault) other scripts log
+  Never-alike fault log never = λ more run bad.
+      never more (IsRunOf-alike other one scripts back (log ++ more) run) (IsFault-alike other one scripts back fault (log ++ more) run bad)
+
+  pub LeadsTo-alike : (fault : Fault) (turns : List ThreadId) → LeadsTo one scripts fault turns → LeadsTo other scripts fault turns
+  LeadsTo-alike fault turns leads = record {
+    log = leads.log;
+    run = IsRunOf-alike one other scripts alike leads.log leads.run;
+    by = leads.by;
+    bad = IsFault-alike one other scripts alike fault leads.log leads.run leads.bad;
+  }
+
+  pub shown-alike : (fault : Fault) (turns : Option (List ThreadId)) → IfSome turns (LeadsTo one scripts fault) → IfSome turns (LeadsTo other scripts fault)
+  shown-alike fault None none = none
+  shown-alike fault (Some turns) leads = LeadsTo-alike fault turns leads
+
+  pub LeadToCycles-alike : (first : Bool) (shown : Schedules) → LeadToCycles one scripts first shown → LeadToCycles other scripts first shown
+  LeadToCycles-alike first shown all = record {
+    lead = λ i d l. LeadsTo-alike Cycle _ (all.lead i d l);
+    few = all.few;
+    none = all.none;
+    some = all.some;
+  }
+
+  pub IsSearchCut-alike : (most : ℕ) (first over : Bool) (found : Found) (states : ℕ) → IsSearchCut one scripts most first over found states → IsSearchCut other scripts most first over found states
+  IsSearchCut-alike most first over found states cut = ⊎_elim
+      (λ ended. inl ended)
+      (λ rest. ⊎_elim (λ says. inr (inl says)) (λ spent. inr (inr (record {
+        all = subst (λ n. most ≤ states * n) alike.threads spent.all;
+        events = spent.events;
+        tried = record {
+          none = λ fault has. NeverWithin-alike spent.events fault [] (spent.tried.none fault has);
+          few = subst (λ n. states ≤ ways n spent.events) alike.threads spent.tried.few;
+        };
+      }))) rest)
+      cut
