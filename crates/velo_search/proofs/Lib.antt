@@ -28,3 +28,5 @@ pub mod OnNoting
 pub mod OnTrails
 pub mod OnBounds
 pub mod OnFitting
+pub mod OnRenamed
+pub mod OnRenamedRuns

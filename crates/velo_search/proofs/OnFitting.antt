@@ -11,8 +11,8 @@ use Rattle.velo_events.specs.declared.event.Kind.TheVariants.{Read, Write, Acqui
 use Rattle.velo_events.specs.declared.event.ThreadId.{ThreadId}
 use Rattle.velo_events.specs.declared.refusal.Refusal.{Refusal}
 use Rattle.velo_events.specs.Block.{any_below}
-use Rattle.velo_events.specs.Event.{thread_of, variable_of, lock_of, thread_forked_or_joined}
-use Rattle.velo_events.specs.Heap.{shares_in}
+use Rattle.velo_events.specs.Event.{thread_of, variable_of, lock_of, thread_forked_or_joined, is_acquire_by, is_release_by, is_acquire_shared_by, is_release_shared_by}
+use Rattle.velo_events.specs.Heap.{shares_in, times}
 use Rattle.velo_events.specs.Meaning.{holds, holds_a_lock, is_beyond, is_shared_beside, refusal_of}
 use Rattle.velo_events.specs.Tally.{events_of}
 use Rattle.velo_events.specs.WellFormed.{IsWellFormed, MayFollow, NamesKnown}
@@ -37,7 +37,7 @@ AreAlike-back one other scripts alike = record {
 -- ---- one operation
 
 -- a number is beyond both counts or none
-beyond-alike : (x m n : ℕ) → (x < m → x < n) → (x < n → x < m) → nat_le m x ≡ nat_le n x
+pub beyond-alike : (x m n : ℕ) → (x < m → x < n) → (x < n → x < m) → nat_le m x ≡ nat_le n x
 beyond-alike x m n there back = ⊎_elim
     (λ past. past ∙ sym (le-leb n x (let far = leb-true m x past in ⊎_elim (λ below. absurd (let near = back below in omega (arith, far, near))) (λ above. above) (cases_lt x n))))
     (λ within. within ∙ sym (lt-leb n x (there (leb-false m x within))))
@@ -64,24 +64,33 @@ module _ (one other : Bounds) (same : one.threads ≡ other.threads) (k : Kind) 
 
 -- ---- the locks that a thread holds
 
--- where it holds none of the first, it holds none of the second
-none-held : (one other : Bounds) (log : List Event) (t : ℕ) → Facts one log → Facts other log → IsFalse (holds_a_lock one log t) → IsFalse (holds_a_lock other log t)
+-- A thread acquires and releases as often in both logs
+pub record AreAsOften (log after : List Event) (t : ℕ) : Type 0 where
+  pub acquires : times (is_acquire_by t) after ≡ times (is_acquire_by t) log
+  pub releases : times (is_release_by t) after ≡ times (is_release_by t) log
+  pub shares : times (is_acquire_shared_by t) after ≡ times (is_acquire_shared_by t) log
+  pub unshares : times (is_release_shared_by t) after ≡ times (is_release_shared_by t) log
+
+-- where it holds none after the first, it holds none after the second
+none-held : (one other : Bounds) (log after : List Event) (t : ℕ) → Facts one log → Facts other after → AreAsOften log after t → IsFalse (holds_a_lock one log t) → IsFalse (holds_a_lock other after t)
 unfolding holds_a_lock
-none-held one other log t here there none =
+none-held one other log after t here there often none =
     let free : (m : ℕ) → m < one.locks → IsFalse (holds log t m) = λ m l. any_below-none one.locks (holds log t) none m l in
-    let no_held = count_below-zero one.locks (is_held_by log t) (any_below-never one.locks _ (λ m l. (or_parts _ _ (free m l)).0)) in
-    let no_shared = count_below-zero one.locks (λ m. shares_in log m t) (any_below-never one.locks _ (λ m l. (or_parts _ _ (free m l)).1)) in
-    let held : count_below other.locks (is_held_by log t) ≡ 0 = omega (arith, here.held t, there.held t, no_held) in
-    let shared : count_below other.locks (λ m. shares_in log m t) ≡ 0 = omega (arith, here.shared t, there.shared t, no_shared) in
-    any_below-never other.locks (holds log t) (λ m l. or_from _ _
-    (any_below-none other.locks _ (count_below-none other.locks (is_held_by log t) held) m l)
+    let no_held : count_below one.locks (is_held_by log t) ≡ 0 = count_below-zero one.locks (is_held_by log t) (any_below-never one.locks (is_held_by log t) (λ m l. (or_parts _ _ (free m l)).0)) in
+    let no_shared : count_below one.locks (λ m. shares_in log m t) ≡ 0 = count_below-zero one.locks (λ m. shares_in log m t) (any_below-never one.locks (λ m. shares_in log m t) (λ m l. (or_parts _ _ (free m l)).1)) in
+    let held : count_below other.locks (is_held_by after t) ≡ 0 = omega (arith, here.held t, there.held t, no_held, often.acquires, often.releases) in
+    let shared : count_below other.locks (λ m. shares_in after m t) ≡ 0 = omega (arith, here.shared t, there.shared t, no_shared, often.shares, often.unshares) in
+    any_below-never other.locks (holds after t) (λ m l. or_from _ _
+    (any_below-none other.locks _ (count_below-none other.locks (is_held_by after t) held) m l)
     (any_below-none other.locks _ (count_below-none other.locks _ shared) m l))
 
--- so it holds some of both or of none
-held-alike : (one other : Bounds) (log : List Event) (t : ℕ) → Facts one log → Facts other log → holds_a_lock one log t ≡ holds_a_lock other log t
-held-alike one other log t here there = ⊎_elim
-    (λ some. some ∙ sym (⊎_elim (λ also. also) (λ none. absurd (false≢true (sym (none-held other one log t there here none) ∙ some))) (cases_Bool (holds_a_lock other log t))))
-    (λ none. none ∙ sym (none-held one other log t here there none))
+-- so it holds some after both or after none
+pub held-alike : (one other : Bounds) (log after : List Event) (t : ℕ) → Facts one log → Facts other after → AreAsOften log after t → holds_a_lock one log t ≡ holds_a_lock other after t
+held-alike one other log after t here there often =
+    let back : AreAsOften after log t = record { acquires = sym often.acquires; releases = sym often.releases; shares = sym often.shares; unshares = sym often.unshares } in
+    ⊎_elim
+    (λ some. some ∙ sym (⊎_elim (λ also. also) (λ none. absurd (false≢true (sym (none-held other one after log t there here back none) ∙ some))) (cases_Bool (holds_a_lock other after t))))
+    (λ none. none ∙ sym (none-held one other log after t here there often none))
     (cases_Bool (holds_a_lock one log t))
 
 -- ---- refusals
@@ -89,7 +98,7 @@ held-alike one other log t here there = ⊎_elim
 refusal-alike : (one other : Bounds) (log : List Event) (t : ℕ) (k : Kind) → one.threads ≡ other.threads → (NamesKnown one k ↔ NamesKnown other k) → Facts one log → Facts other log →
     refusal_of one log t k ≡ refusal_of other log t k
 unfolding refusal_of is_shared_beside holds_a_lock
-refusal-alike one other log t k same names here there = rw (same, variable-alike one other same k names, lock-alike one other same k names, held-alike one other log t here there) refl
+refusal-alike one other log t k same names here there = rw (same, variable-alike one other same k names, lock-alike one other same k names, held-alike one other log log t here there (record { acquires = refl; releases = refl; shares = refl; unshares = refl })) refl
 
 -- ---- runs
 

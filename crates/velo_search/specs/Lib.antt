@@ -6,6 +6,7 @@ pub mod States
 pub mod Plain
 pub mod Runs
 pub mod Fitting
+pub mod Naming
 pub mod Faults
 pub mod Free
 pub mod Notes
