@@ -28,5 +28,6 @@ pub mod OnNoting
 pub mod OnTrails
 pub mod OnBounds
 pub mod OnFitting
+pub mod OnExchanges
 pub mod OnRenamed
 pub mod OnRenamedRuns

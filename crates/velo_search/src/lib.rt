@@ -3,6 +3,7 @@
 
 mod bounding;
 mod copied;
+mod exchange;
 mod fault;
 mod fitting;
 mod found;
@@ -17,6 +18,7 @@ mod listing;
 mod looked;
 mod mark;
 mod marks;
+mod naming;
 mod next;
 mod note;
 mod notes;
