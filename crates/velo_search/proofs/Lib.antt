@@ -31,3 +31,4 @@ pub mod OnFitting
 pub mod OnExchanges
 pub mod OnRenamed
 pub mod OnRenamedRuns
+pub mod OnSearchedAs

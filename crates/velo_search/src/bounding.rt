@@ -1,4 +1,4 @@
-//! A search of the runs of scripts, to which a variable or lock behind the last that they name is nothing.
+//! A search of the runs of scripts, in which variables and locks that they do not name have no part.
 ghost use Rattle.std.specs.Prelude.{◌≡◌, ◌≤◌, ◌&&◌, true, false, [], is_some, IfOk, IfSome, IsTrue};
 ghost use Rattle.velo_search.specs.Faults.{Fault, IsFault};
 ghost use Rattle.velo_search.specs.Fitting.{IsWithin};
@@ -62,7 +62,9 @@ pub fn search<P: Progress>(
     ensures alarms { IfOk result
         (λ x. LeadToCycles config.now.bounds scripts.now.kinds first x.schedules) }
 {
-    let needed = within(config, scripts.fitted(config.bounds));
-    let searched = search_states(alloc, &needed, scripts, most_states, first, progress)?;
+    let naming = scripts.naming(alloc, config.bounds)?;
+    let renamed = scripts.renamed(alloc, &naming)?;
+    let needed = within(config, renamed.fitted(config.bounds));
+    let searched = search_states(alloc, &needed, &renamed, most_states, first, progress)?;
     Ok(searched)
 }
