@@ -1,5 +1,5 @@
 -- Two numbers of paired lists are exchanged, and the lists are paired.
-use Rattle.std.proofs.Common.{◌≡◌, ◌≢◌, ℕ, suc, ◌+◌, ◌<◌, ◌≤◌, List, [], ◌∷◌, ◌++◌, length, length-append, refl, sym, ap, ◌∙◌, subst, arith, ⊎_elim}
+use Rattle.std.proofs.Common.{◌≡◌, ◌≢◌, ℕ, ◌<◌, List, [], ◌∷◌, ◌++◌, length, length-append, refl, sym, ap, ◌∙◌, subst, arith, ⊎_elim}
 use Rattle.std.specs.Prelude.{slice_set}
 use Rattle.std.proofs.lemmas.Bool.{cases_eq, cases_lt}
 use Rattle.std.proofs.Math.Seq.{get_or-append_seam}
@@ -23,9 +23,9 @@ pub identity-next : (xs : List ℕ) (n : ℕ) → length xs ≡ n → ((x : ℕ)
 identity-next xs n count each x = ⊎_elim
     (λ below. get_or_append_left xs (n ∷ []) x x below ∙ each x)
     (λ above. ⊎_elim
-      (λ is. subst (λ k. number_in (xs ++ n ∷ []) k ≡ k) (sym is) (get_or-append_seam xs n [] (length xs) ∙ sym count))
-      (λ differ. get_or_past (xs ++ n ∷ []) x x (let long = length-append xs (n ∷ []) in omega (arith, above, differ, long)))
-      (cases_eq x (length xs)))
+    (λ is. subst (λ k. number_in (xs ++ n ∷ []) k ≡ k) (sym is) (get_or-append_seam xs n [] (length xs) ∙ sym count))
+    (λ differ. get_or_past (xs ++ n ∷ []) x x (let long = length-append xs (n ∷ []) in omega (arith, above, differ, long)))
+    (cases_eq x (length xs)))
     (cases_lt x (length xs))
 
 -- lists that are the identity are paired
@@ -62,19 +62,19 @@ swapped-returns to back returns gives x y x_there other_there y_there had_there 
     let after = swapped back to y x in
     ⊎_elim
     (λ other.
-      ap (number_in after) (at-other to back returns x y x_there other_there z other)
-      ∙ (at-other back to gives y x y_there had_there (number_in to x) refl ∙ sym other))
+    ap (number_in after) (at-other to back returns x y x_there other_there z other)
+    ∙ (at-other back to gives y x y_there had_there (number_in to x) refl ∙ sym other))
     (λ differ. ⊎_elim
-      (λ own.
-        let y_apart : y ≢ number_in to x = λ is. differ (own ∙ (sym (returns x) ∙ ap (number_in back) (sym is))) in
-        ap (number_in after) (at-own to back returns x y x_there other_there z differ own)
-        ∙ (at-own back to gives y x y_there had_there y y_apart refl ∙ sym own))
-      (λ not_own.
-        let apart : number_in to z ≢ number_in to x = λ is. not_own (sym (returns z) ∙ (ap (number_in back) is ∙ returns x)) in
-        let not_given : number_in to z ≢ y = λ is. differ (sym (returns z) ∙ ap (number_in back) is) in
-        ap (number_in after) (at-rest to back returns x y x_there other_there z differ not_own)
-        ∙ (at-rest back to gives y x y_there had_there (number_in to z) apart not_given ∙ returns z))
-      (cases_eq z x))
+    (λ own.
+    let y_apart : y ≢ number_in to x = λ is. differ (own ∙ (sym (returns x) ∙ ap (number_in back) (sym is))) in
+    ap (number_in after) (at-own to back returns x y x_there other_there z differ own)
+    ∙ (at-own back to gives y x y_there had_there y y_apart refl ∙ sym own))
+    (λ not_own.
+    let apart : number_in to z ≢ number_in to x = λ is. not_own (sym (returns z) ∙ (ap (number_in back) is ∙ returns x)) in
+    let not_given : number_in to z ≢ y = λ is. differ (sym (returns z) ∙ ap (number_in back) is) in
+    ap (number_in after) (at-rest to back returns x y x_there other_there z differ not_own)
+    ∙ (at-rest back to gives y x y_there had_there (number_in to z) apart not_given ∙ returns z))
+    (cases_eq z x))
     (cases_eq z (number_in back y))
 
 swapped-within : (to back : List ℕ) → ((z : ℕ) → number_in back (number_in to z) ≡ z) → (x y n : ℕ) → x < length to → number_in back y < length to → y < n → ((z : ℕ) → z < length to → number_in to z < n) →
@@ -82,9 +82,9 @@ swapped-within : (to back : List ℕ) → ((z : ℕ) → number_in back (number_
 swapped-within to back returns x y n x_there other_there y_within within z l = ⊎_elim
     (λ other. subst (λ k. k < n) (sym (at-other to back returns x y x_there other_there z other)) (within x x_there))
     (λ differ. ⊎_elim
-      (λ own. subst (λ k. k < n) (sym (at-own to back returns x y x_there other_there z differ own)) y_within)
-      (λ not_own. subst (λ k. k < n) (sym (at-rest to back returns x y x_there other_there z differ not_own)) (within z l))
-      (cases_eq z x))
+    (λ own. subst (λ k. k < n) (sym (at-own to back returns x y x_there other_there z differ own)) y_within)
+    (λ not_own. subst (λ k. k < n) (sym (at-rest to back returns x y x_there other_there z differ not_own)) (within z l))
+    (cases_eq z x))
     (cases_eq z (number_in back y))
 
 pub length-swapped : (to back : List ℕ) (x y : ℕ) → length (swapped to back x y) ≡ length to

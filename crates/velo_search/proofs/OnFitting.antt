@@ -1,31 +1,24 @@
 -- In bounds in which the operations of scripts name as much, the scripts have the same runs, and these the same faults.
-use Rattle.std.proofs.Common.{◌≡◌, ℕ, ◌+◌, ◌<◌, ◌≤◌, ◌*◌, Bool, true, false, not, List, [], ◌∷◌, ◌++◌, length, take, drop, Option, Some, None, refl, sym, ap, ◌∙◌, subst, arith, ⊎_elim, inl, inr}
-use Rattle.std.specs.Prelude.{⊤, ◌&&◌, ◌||◌, ◌↔◌, All, IfSome, nat_le, nat_lt, if◌then◌else◌, slice_get, IsTrue, IsFalse}
-use Rattle.std.proofs.lemmas.Bool.{cases_Bool, cases_lt, leb-false, lt-leb, leb-true, le-leb, or_from, or_parts, false≢true, false_from_ne_true}
+use Rattle.std.proofs.Common.{◌≡◌, ℕ, ◌+◌, ◌<◌, List, [], ◌∷◌, ◌++◌, take, drop, Some, refl, sym, ap, ◌∙◌, subst, arith, ⊎_elim, inl, inr}
+use Rattle.std.specs.Prelude.{◌↔◌, nat_le, slice_get, IsFalse}
+use Rattle.std.proofs.lemmas.Bool.{cases_Bool, cases_lt, leb-false, lt-leb, leb-true, le-leb, or_from, or_parts, false≢true}
 use Rattle.std.proofs.lemmas.List.{take-append-drop, take_more}
 use Rattle.std.proofs.lemmas.Option.{slice_get_within, get_or_from_slice_get}
 use Rattle.velo_events.specs.declared.config.Bounds.{Bounds}
 use Rattle.velo_events.specs.declared.event.Event.{Event}
 use Rattle.velo_events.specs.declared.event.Kind.{Kind}
-use Rattle.velo_events.specs.declared.event.Kind.TheVariants.{Read, Write, Acquire, Release, AcquireShared, ReleaseShared, Begin, End, Fork, Join, Exit}
-use Rattle.velo_events.specs.declared.event.ThreadId.{ThreadId}
+use Rattle.velo_events.specs.declared.event.Kind.TheVariants.{Read, Write, Acquire, Release, AcquireShared, ReleaseShared}
 use Rattle.velo_events.specs.declared.refusal.Refusal.{Refusal}
-use Rattle.velo_events.specs.Block.{any_below}
-use Rattle.velo_events.specs.Event.{thread_of, variable_of, lock_of, thread_forked_or_joined, is_acquire_by, is_release_by, is_acquire_shared_by, is_release_shared_by}
+use Rattle.velo_events.specs.Event.{thread_of, variable_of, lock_of, is_acquire_by, is_release_by, is_acquire_shared_by, is_release_shared_by}
 use Rattle.velo_events.specs.Heap.{shares_in, times}
 use Rattle.velo_events.specs.Meaning.{holds, holds_a_lock, is_beyond, is_shared_beside, refusal_of}
 use Rattle.velo_events.specs.Tally.{events_of}
-use Rattle.velo_events.specs.WellFormed.{IsWellFormed, MayFollow, NamesKnown}
+use Rattle.velo_events.specs.WellFormed.{NamesKnown}
 use Rattle.velo_events.proofs.OnBlocks.{any_below-none}
-use Rattle.velo_events.proofs.OnWellFormed.{Facts, Facts-from, any_below-never, count_below, count_below-none, count_below-zero, is_held_by, held_by, shares_of}
-use Rattle.velo_search.specs.declared.schedules.Schedules.{Schedules}
-use Rattle.velo_search.specs.declared.found.Found.{Found}
-use Rattle.velo_search.specs.Faults.{Fault, Cycle, Stuck, Refusing, IsFault, IsIdle, IsRefused, IsStuck, IsTurnedDown, IsWaiting, SomeRefused}
+use Rattle.velo_events.proofs.OnWellFormed.{Facts, Facts-from, any_below-never, count_below, count_below-none, count_below-zero, is_held_by}
+use Rattle.velo_search.specs.Faults.{Fault, Cycle, Stuck, Refusing, IsFault, IsRefused, IsTurnedDown, IsWaiting}
 use Rattle.velo_search.specs.Fitting.{AreAlike}
-use Rattle.velo_search.specs.Runs.{script_of, IsRunOf, Never, NeverWithin}
-use Rattle.velo_search.specs.Search.{AreStatesSpent, IsSearchCut, IsTriedBelow, IsTrueOf, SomeRun, has_fault, ways}
-use Rattle.velo_search.specs.Told.{has_ended}
-use Rattle.velo_search.specs.Trail.{LeadToCycles, LeadsTo, turns_for}
+use Rattle.velo_search.specs.Runs.{IsRunOf}
 use Rattle.velo_search.proofs.OnRuns.{IsNext-last, IsRunOf-before}
 
 pub AreAlike-back : (one other : Bounds) (scripts : List (List Kind)) → AreAlike one other scripts → AreAlike other one scripts
@@ -76,8 +69,8 @@ none-held : (one other : Bounds) (log after : List Event) (t : ℕ) → Facts on
 unfolding holds_a_lock
 none-held one other log after t here there often none =
     let free : (m : ℕ) → m < one.locks → IsFalse (holds log t m) = λ m l. any_below-none one.locks (holds log t) none m l in
-    let no_held : count_below one.locks (is_held_by log t) ≡ 0 = count_below-zero one.locks (is_held_by log t) (any_below-never one.locks (is_held_by log t) (λ m l. (or_parts _ _ (free m l)).0)) in
-    let no_shared : count_below one.locks (λ m. shares_in log m t) ≡ 0 = count_below-zero one.locks (λ m. shares_in log m t) (any_below-never one.locks (λ m. shares_in log m t) (λ m l. (or_parts _ _ (free m l)).1)) in
+    let no_held : count_below one.locks (is_held_by log t) ≡ 0 = count_below-zero one.locks (is_held_by log t) (any_below-never one.locks (is_held_by log t) (λ m l. (or_parts (is_held_by log t m) (shares_in log m t) (free m l)).0)) in
+    let no_shared : count_below one.locks (λ m. shares_in log m t) ≡ 0 = count_below-zero one.locks (λ m. shares_in log m t) (any_below-never one.locks (λ m. shares_in log m t) (λ m l. (or_parts (is_held_by log t m) (shares_in log m t) (free m l)).1)) in
     let held : count_below other.locks (is_held_by after t) ≡ 0 = omega (arith, here.held t, there.held t, no_held, often.acquires, often.releases) in
     let shared : count_below other.locks (λ m. shares_in after m t) ≡ 0 = omega (arith, here.shared t, there.shared t, no_shared, often.shares, often.unshares) in
     any_below-never other.locks (holds after t) (λ m l. or_from _ _

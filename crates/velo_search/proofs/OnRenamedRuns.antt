@@ -1,6 +1,6 @@
 -- With other numbers for their variables and locks scripts have the same runs, but for the numbers, and these the same faults.
-use Rattle.std.proofs.Common.{◌≡◌, ℕ, ◌<◌, ◌≤◌, Bool, true, false, cond, List, [], ◌∷◌, ◌++◌, length, take, map, Option, Some, None, refl, sym, ap, ◌∙◌, subst, arith, ⊎_elim, inl, inr}
-use Rattle.std.specs.Prelude.{◌&&◌, ◌||◌, ◌==◌, filter, not, nat_le, nat_lt, if◌then◌else◌, option_map, slice_get, IsTrue, IsFalse}
+use Rattle.std.proofs.Common.{◌≡◌, ℕ, ◌<◌, Bool, true, false, cond, List, [], ◌∷◌, take, map, Option, Some, None, refl, sym, ap, ◌∙◌, subst, arith, ⊎_elim, inl, inr}
+use Rattle.std.specs.Prelude.{◌&&◌, ◌==◌, filter, not, nat_le, nat_lt, if◌then◌else◌, option_map, slice_get}
 use Rattle.std.proofs.Math.ListN.{get_or-map}
 use Rattle.std.proofs.lemmas.Bool.{cases_Bool, cases_lt, leb-false, leb-true, le-leb, lt-leb}
 use Rattle.std.proofs.lemmas.List.{take-map}
@@ -12,9 +12,8 @@ use Rattle.velo_events.specs.declared.event.Kind.TheVariants.{Read, Write, Acqui
 use Rattle.velo_events.specs.declared.event.Status.{Status}
 use Rattle.velo_events.specs.declared.refusal.Refusal.{Refusal}
 use Rattle.velo_events.specs.declared.limits.TheConstants.{MAX_OPEN_BLOCKS}
-use Rattle.velo_events.specs.Block.{any_below}
-use Rattle.velo_events.specs.Event.{thread_of, variable_of, lock_of, thread_forked, thread_joined, is_begin, is_end, is_exit, is_by, is_begin_by, is_end_by, is_acquire_by, is_release_by, is_acquire_shared_by, is_release_shared_by, is_exit_by, is_fork_of, is_join_of}
-use Rattle.velo_events.specs.Heap.{depth_in, holder_in, shares_in, status_in, times}
+use Rattle.velo_events.specs.Event.{thread_of, variable_of, lock_of, is_begin, is_end, is_exit, is_by, is_begin_by, is_end_by, is_acquire_by, is_release_by, is_acquire_shared_by, is_release_shared_by, is_exit_by, is_fork_of, is_join_of}
+use Rattle.velo_events.specs.Heap.{depth_in}
 use Rattle.velo_events.specs.Meaning.{holds_a_lock, is_beyond, is_busy, is_held_already, is_live, is_shared_beside, is_unheld, refusal_of, status_is}
 use Rattle.velo_events.specs.Tally.{events_of}
 use Rattle.velo_events.specs.WellFormed.{IsInTurn, IsWellFormed, MayFollow, NamesKnown}

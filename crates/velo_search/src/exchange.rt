@@ -13,7 +13,7 @@ pub struct Exchange {
     to: Vec<u16>,
     /// That for which it is given.
     back: Vec<u16>,
-    /// So many stay.
+    /// The numbers below are settled: they stay where they are.
     settled: u16,
     ghost paired: { ArePaired to.items back.items },
     ghost few: { length to.items < 2 ^ 16 },
@@ -42,7 +42,7 @@ fn identity(alloc: Global, count: u16) -> Result<Vec<u16>, Memory>
     Ok(list)
 }
 
-/// Gives one number for another, and for that for which it was given what this one had.
+/// Gives the number for this one, and what this one had for that for which the number was given.
 fn swap(to: &mut Vec<u16>, back: &mut Vec<u16>, one: u16, number: u16)
     requires paired { ArePaired to.old.items back.old.items }
     requires one { one < length to.old.items }
@@ -75,7 +75,7 @@ impl Exchange {
         })
     }
 
-    /// Gives the least number that may change for this one, unless that of this one stays. Then it stays.
+    /// Gives this one the first number that is not settled, and settles it, unless that of this one is settled.
     pub fn settle(&mut self, one: u16)
         ensures { length self.new.to.items ≡ length self.old.to.items }
     {
@@ -97,7 +97,7 @@ impl Exchange {
         number_in(&self.to, one)
     }
 
-    /// How many stay.
+    /// How many numbers are settled.
     pub fn settled(&self) -> u16 {
         self.settled
     }

@@ -73,7 +73,7 @@ impl Scripts {
     }
 
     /// The bounds without the variables and locks behind the last that an operation names.
-    pub fn fitted(&self, bounds: Bounds) -> Bounds
+    pub(crate) fn fitted(&self, bounds: Bounds) -> Bounds
         ensures most { IsWithin result bounds }
         ensures alike { AreAlike bounds result self.now.kinds }
     {
@@ -84,7 +84,7 @@ impl Scripts {
     ///
     /// # Errors
     /// `Memory` where a growth was refused.
-    pub fn naming(&self, alloc: Global, bounds: Bounds) -> Result<Naming, Memory>
+    pub(crate) fn naming(&self, alloc: Global, bounds: Bounds) -> Result<Naming, Memory>
         ensures { IfOk result (IsNamingOf bounds) }
     {
         Naming::of_scripts(alloc, bounds, &self.threads)
@@ -94,7 +94,7 @@ impl Scripts {
     ///
     /// # Errors
     /// `Memory` where a growth was refused.
-    pub fn renamed(&self, alloc: Global, naming: &Naming) -> Result<Scripts, Memory>
+    pub(crate) fn renamed(&self, alloc: Global, naming: &Naming) -> Result<Scripts, Memory>
         ensures { IfOk result (λ scripts. scripts.kinds ≡ renamed_scripts (numbers_of naming.now) self.now.kinds) }
     {
         let threads = naming.scripts(alloc, &self.threads)?;

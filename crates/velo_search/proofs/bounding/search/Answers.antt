@@ -1,4 +1,4 @@
-use Rattle.std.proofs.Common.{◌≡◌, ◌&&◌, sym, subst}
+use Rattle.std.proofs.Common.{◌&&◌, sym, subst}
 use Rattle.velo_events.specs.declared.config.Bounds.{Bounds}
 use Rattle.velo_search.specs.Fitting.{AreAlike}
 use Rattle.velo_search.specs.Names.{numbers_back, numbers_of}
