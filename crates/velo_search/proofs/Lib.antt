@@ -26,3 +26,9 @@ pub mod OnNotes
 pub mod OnHolds
 pub mod OnNoting
 pub mod OnTrails
+pub mod OnBounds
+pub mod OnFitting
+pub mod OnExchanges
+pub mod OnRenamed
+pub mod OnRenamedRuns
+pub mod OnSearchedAs

@@ -5,6 +5,10 @@ pub mod Kept
 pub mod States
 pub mod Plain
 pub mod Runs
+pub mod Fitting
+pub mod Naming
+pub mod Exchanges
+pub mod Names
 pub mod Faults
 pub mod Free
 pub mod Notes

@@ -1,8 +1,11 @@
 //! Every schedule of a workload, by a search of the states that its runs can be in.
 #![tactic(auto)]
 
+mod bounding;
 mod copied;
+mod exchange;
 mod fault;
+mod fitting;
 mod found;
 mod free;
 mod group;
@@ -15,6 +18,7 @@ mod listing;
 mod looked;
 mod mark;
 mod marks;
+mod naming;
 mod next;
 mod note;
 mod notes;
@@ -30,6 +34,7 @@ mod state;
 mod step;
 mod trail;
 
+pub use bounding::search;
 pub use fault::Fault;
 pub use found::Found;
 pub use group::Group;
@@ -40,6 +45,5 @@ pub use progress::{Progress, Quiet};
 pub use schedules::{MAX_ALARMS, Schedules};
 pub use scripts::Scripts;
 pub use searched::Searched;
-pub use searching::search;
 pub use seen::ThreadsSeen;
 pub use state::State;

@@ -2,10 +2,12 @@
 ghost use Rattle.std.specs.Prelude.{◌≡◌, false, map, slice_get, IfOk};
 ghost use Rattle.std.specs.Option.{option_map_or};
 
+use crate::fitting::fitted;
 use crate::free::{free_ones, is_marked};
+use crate::naming::Naming;
 use std::alloc::Global;
 use std::marker::Model;
-use velo_events::{Kind, Memory, ThreadId};
+use velo_events::{Bounds, Kind, Memory, ThreadId};
 
 /// The operations of each thread, in their order, without values.
 #[derive(Drop)]
@@ -30,7 +32,10 @@ impl Model for Scripts {
 }
 
 impl Scripts {
+    ghost use Rattle.velo_search.specs.Fitting.{AreAlike, IsWithin};
     ghost use Rattle.velo_search.specs.Free.{is_free_at};
+    ghost use Rattle.velo_search.specs.Names.{numbers_of, IsNamingOf};
+    ghost use Rattle.velo_search.specs.Naming.{renamed_scripts};
     ghost use Rattle.velo_search.specs.Runs.{script_of};
 
     /// These operations of each thread. As guards of free operations so many locks are looked at.
@@ -65,5 +70,34 @@ impl Scripts {
             (slice_get (script_of self.now.kinds thread.0) index) false }
     {
         is_marked(&self.free, usize::from(thread.0), index as usize)
+    }
+
+    /// The bounds without the variables and locks behind the last that an operation names.
+    pub(crate) fn fitted(&self, bounds: Bounds) -> Bounds
+        ensures most { IsWithin result bounds }
+        ensures alike { AreAlike bounds result self.now.kinds }
+    {
+        fitted(&self.threads, bounds)
+    }
+
+    /// Numbers for the variables and locks of the bounds, which begin with those that an operation names.
+    ///
+    /// # Errors
+    /// `Memory` where a growth was refused.
+    pub(crate) fn naming(&self, alloc: Global, bounds: Bounds) -> Result<Naming, Memory>
+        ensures { IfOk result (IsNamingOf bounds) }
+    {
+        Naming::of_scripts(alloc, bounds, &self.threads)
+    }
+
+    /// The scripts with these numbers. As guards of free operations the locks are looked at that have one of the first.
+    ///
+    /// # Errors
+    /// `Memory` where a growth was refused.
+    pub(crate) fn renamed(&self, alloc: Global, naming: &Naming) -> Result<Scripts, Memory>
+        ensures { IfOk result (λ scripts. scripts.kinds ≡ renamed_scripts (numbers_of naming.now) self.now.kinds) }
+    {
+        let threads = naming.scripts(alloc, &self.threads)?;
+        Scripts::new(alloc, threads, naming.named_locks())
     }
 }

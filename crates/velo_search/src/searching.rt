@@ -337,16 +337,11 @@ fn first_level(
     Ok(level)
 }
 
-/// Tries the runs of the scripts, event by event, free ones at once, as long as no more than so
-/// many states are to be looked at, and with `first` until something is found. What was found is
-/// there in any case; what was not found is not there, where everything was tried. `progress` is
-/// called after each level, and asked before each state: once it says that the search is over, no
-/// more states are looked at. The turns of a run are handed out for each fault that was found; with
-/// `first` for the foremost alone.
+/// Tries the runs of the scripts as [`search`](crate::search) does, in the bounds of the configuration.
 ///
 /// # Errors
 /// `Memory` where a growth was refused.
-pub fn search<P: Progress>(
+pub(crate) fn search_states<P: Progress>(
     alloc: Global,
     config: &Config,
     scripts: &Scripts,

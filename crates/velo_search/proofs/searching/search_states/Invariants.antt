@@ -4,7 +4,7 @@ use Rattle.velo_search.specs.Faults.{Fault, IsFault}
 use Rattle.velo_search.specs.Runs.{NeverWithin}
 use Rattle.velo_search.specs.Search.{IsClean, IsTrueOf, has_fault, ways}
 use Rattle.velo_search.specs.Trail.{AreShown, IsNoted, IsReachedBy}
-use Rattle.velo_search.proofs.searching.search.Given as goal
+use Rattle.velo_search.proofs.searching.search_states.Given as goal
 
 abbrev pub invariant-loop-states : goal.invariant-loop-states
 invariant-loop-states g l = record {

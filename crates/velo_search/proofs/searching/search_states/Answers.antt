@@ -12,7 +12,7 @@ use Rattle.velo_search.proofs.OnCounts.{few-level, ways-level}
 use Rattle.velo_search.proofs.OnRuns.{never-any}
 use Rattle.velo_search.proofs.OnTold.{ended-cut, nothing-true, goes_on-nothing, spent-cut}
 use Rattle.velo_search.proofs.OnTrails.{shown-goes_on, shown-nothing}
-use Rattle.velo_search.proofs.searching.search.Goals as goal
+use Rattle.velo_search.proofs.searching.search_states.Goals as goal
 
 pub loop-states-init : goal.loop-states-init
 loop-states-init g c =
