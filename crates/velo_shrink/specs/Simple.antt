@@ -90,7 +90,7 @@ IsSayable schedule = SaysTurns (short_text schedule) schedule
 -- the schedule that was found was made simple, and can't be told then, or does not show its goal in one more replay
 abbrev pub CannotBeTold : Program → Config → Witness → Type 0
 CannotBeTold program config found =
-    (simple : Witness) × SimplifiesWitness program config found simple
+    (simple : Witness) × SimplifiesWitness program config found simple × Shows program config simple
     × ((¬ IsSayable simple.schedule.items) ⊎ DoesNotShow program config simple.goal simple.schedule.items)
 
 -- a finding is told by its schedule, made simple; or it is left open. Any other is told as it was

@@ -7,6 +7,7 @@ returns-then-not-is_sayable c = record {
   simple = (
     record { goal = c.args.witness.goal; schedule = c.in_ok-schedule.schedule },
     (refl, c.in_ok-schedule.ensures.simple),
+    c.in_ok-schedule.ensures.shows,
     inl (not_sayable c.is_sayable.result c.in_ok-schedule.schedule.items c.deref.result.now c.is_sayable.ensures c.deref.ensures.value c.if-not-is_sayable.true),
   );
   shows = tt;
@@ -21,6 +22,7 @@ returns-else-branch c =
       simple = (
         record { goal = c.args.witness.goal; schedule = c.in_ok-schedule.schedule },
         (refl, c.in_ok-schedule.ensures.simple),
+        c.in_ok-schedule.ensures.shows,
         inr none.1,
       );
       shows = tt;
