@@ -114,6 +114,7 @@ module _ (program : Program) (config : Config) (same : config.bounds ≡ program
         ending = w.outcome.ending;
         closed = h.closed;
         replays = subst (λ ts. Replays program ts config w.outcome.ending h.closed) (sym (append-nil schedule)) h.replays;
+        memory = h.memory;
         cut = ⊎_elim
             (λ cycle. absurd (false≢true (sym (no_alarm w.outcome.alarm w.outcome.ending w.none) ∙ h.cycle.1 cycle)))
             (λ cut. cut)
@@ -130,6 +131,7 @@ module _ (program : Program) (config : Config) (same : config.bounds ≡ program
         ending = w.outcome.ending;
         closed = h.closed;
         replays = subst (λ ts. Replays program ts config w.outcome.ending h.closed) (sym (append-nil schedule)) h.replays;
+        memory = h.memory;
         cut = ⊎_elim
             (λ stuck. absurd (none-some Stuck (sym w.none ∙ ap (goal_in faults.Stuck w.outcome.alarm) stuck)))
             (λ cut. cut)
@@ -147,6 +149,7 @@ module _ (program : Program) (config : Config) (same : config.bounds ≡ program
         ending = w.outcome.ending;
         closed = w.is_outcome.closed;
         replays = w.is_outcome.replays;
+        memory = w.is_outcome.memory;
         cut = ⊎_elim
             (λ refused. absurd (false≢true (sym (not_refused w.outcome.alarm w.outcome.ending w.none) ∙ refused)))
             (λ cut. cut)
