@@ -19,12 +19,14 @@ use Rattle.velo_worker.specs.declared.ending.Ending.TheVariants as endings
 use Rattle.velo_worker.specs.Schedule.{Replays}
 use Rattle.velo_explore.specs.declared.finding.Finding.{Finding}
 use Rattle.velo_explore.specs.declared.finding.Finding.TheVariants.{Shown, Never, Open}
+use Rattle.velo_explore.specs.declared.finding.Findings.{Findings}
+use Rattle.velo_explore.specs.declared.finding.Witness.{Witness}
 use Rattle.velo_explore.specs.declared.goal.Goal.{Goal}
 use Rattle.velo_explore.specs.declared.goal.Goal.TheVariants.{Alarm, Stuck, Refused}
 use Rattle.velo_explore.specs.declared.outcome.RunOutcome.{RunOutcome}
-use Rattle.velo_explore.specs.Goals.{KnowsAlarm, Reached, Reaches, fault_of, goal_in}
+use Rattle.velo_explore.specs.Goals.{KnowsAlarm, Reached, Reaches, fault_of, finding_of, goal_in}
 use Rattle.velo_explore.specs.Logs.{ends_refused, is_for_room}
-use Rattle.velo_explore.specs.Told.{AreAlarms, IsMissed, HasOutcome, LacksFault, IfShown}
+use Rattle.velo_explore.specs.Told.{AreAlarms, FollowsRun, IsMissed, HasOutcome, LacksFault, IfShown}
 use Rattle.velo_explore.specs.Bodies.{all_scripts}
 use Rattle.velo_search.specs.declared.fault.Fault.TheVariants as faults
 use Rattle.velo_search.specs.declared.fault.Fault.{Fault}
@@ -112,6 +114,7 @@ module _ (program : Program) (config : Config) (same : config.bounds ≡ program
         ending = w.outcome.ending;
         closed = h.closed;
         replays = subst (λ ts. Replays program ts config w.outcome.ending h.closed) (sym (append-nil schedule)) h.replays;
+        memory = h.memory;
         cut = ⊎_elim
             (λ cycle. absurd (false≢true (sym (no_alarm w.outcome.alarm w.outcome.ending w.none) ∙ h.cycle.1 cycle)))
             (λ cut. cut)
@@ -128,6 +131,7 @@ module _ (program : Program) (config : Config) (same : config.bounds ≡ program
         ending = w.outcome.ending;
         closed = h.closed;
         replays = subst (λ ts. Replays program ts config w.outcome.ending h.closed) (sym (append-nil schedule)) h.replays;
+        memory = h.memory;
         cut = ⊎_elim
             (λ stuck. absurd (none-some Stuck (sym w.none ∙ ap (goal_in faults.Stuck w.outcome.alarm) stuck)))
             (λ cut. cut)
@@ -145,6 +149,7 @@ module _ (program : Program) (config : Config) (same : config.bounds ≡ program
         ending = w.outcome.ending;
         closed = w.is_outcome.closed;
         replays = w.is_outcome.replays;
+        memory = w.is_outcome.memory;
         cut = ⊎_elim
             (λ refused. absurd (false≢true (sym (not_refused w.outcome.alarm w.outcome.ending w.none) ∙ refused)))
             (λ cut. cut)
@@ -170,6 +175,27 @@ IfSome-mapped f P (Some x) h = h
 pub of_mapped : {X Y : Type 0} (f : X → Y) (P : Type 0) (o : Option X) → IsTrue (is_some (option_map f o)) → IfSome o (λ x. P) → P
 of_mapped f P None none h = absurd (false≢true none)
 of_mapped f P (Some x) some h = h
+
+-- ---- the run that is followed
+
+-- by its turns, or by one turn more
+pub follows-it : {E : Type 0} (program : Program) (fault : Fault) (run turns : List ThreadId) → LeadsTo program.bounds (all_scripts program) fault run → turns ≡ run → (result : Result (Option Witness) E)
+    → IfOk result (λ found. IfSome found (λ w. w.schedule.items ≡ turns)) → IfOk result (λ found. IfSome found (FollowsRun program fault))
+follows-it program fault run turns leads same (Ok (Some w)) is = record { run = run; leads = leads; more = []; turns = is ∙ (same ∙ sym (append-nil run)); few = omega arith }
+follows-it program fault run turns leads same (Ok None) is = tt
+follows-it program fault run turns leads same (Err e) is = tt
+
+pub follows-one_more : {E : Type 0} (program : Program) (fault : Fault) (run turns : List ThreadId) → LeadsTo program.bounds (all_scripts program) fault run → turns ≡ run → (result : Result (Option Witness) E)
+    → IfOk result (λ found. IfSome found (λ w. (t : ThreadId) × (w.schedule.items ≡ turns ++ t ∷ []))) → IfOk result (λ found. IfSome found (FollowsRun program fault))
+follows-one_more program fault run turns leads same (Ok (Some w)) (t, is) =
+    record { run = run; leads = leads; more = t ∷ []; turns = is ∙ ap (λ (l : List ThreadId). l ++ t ∷ []) same; few = omega arith }
+follows-one_more program fault run turns leads same (Ok None) is = tt
+follows-one_more program fault run turns leads same (Err e) is = tt
+
+pub found-one_more : (found : Option Witness) (schedule longer : List ThreadId) (t : ThreadId) → longer ≡ schedule ++ t ∷ [] → IfSome found (λ w. w.schedule.items ≡ longer)
+    → IfSome found (λ w. (u : ThreadId) × (w.schedule.items ≡ schedule ++ u ∷ []))
+found-one_more (Some w) schedule longer t same is = (t, is ∙ same)
+found-one_more None schedule longer t same is = tt
 
 -- ---- the schedules to alarms
 
@@ -197,6 +223,9 @@ alarms-told program config same first alarm shown cycles from = record {
 }
 
 -- where nothing was tried
+pub none-shown : (program : Program) (findings : Findings) → ((fault : Fault) → finding_of findings fault ≡ Open) → (fault : Fault) → IfShown (finding_of findings fault) (FollowsRun program fault)
+none-shown program findings unknown fault = subst (λ (f : Finding). IfShown f (FollowsRun program fault)) (sym (unknown fault)) tt
+
 pub no-alarms : (program : Program) (config : Config) (first : Bool) (alarm : Finding) (alarms : List (Vec ThreadId)) → alarm ≡ Open → alarms ≡ [] → AreAlarms program config first alarm (map (λ v. v.items) alarms)
 no-alarms program config first alarm alarms unknown none =
     subst (λ (f : Finding). AreAlarms program config first f (map (λ v. v.items) alarms)) (sym unknown)

@@ -70,11 +70,12 @@ pub record Reached (program : Program) (config : Config) (goal : Goal) (turns : 
   pub closed : WorldState
   pub replay : IsReplayOf program config goal turns closed
 
--- it replays by them to a run that does not show the goal
+-- it replays by them, with memory for its run, to one that does not show the goal
 pub record DoesNotShow (program : Program) (config : Config) (goal : Goal) (turns : List ThreadId) : Type 0 where
   pub ending : Ending
   pub closed : WorldState
   pub replays : Replays program turns config ending closed
+  pub memory : lacks_memory ending ≡ false
   pub has_not : ¬ Reaches goal ending closed
 
 -- its replay shows what it is a witness of

@@ -8,7 +8,7 @@ ghost use Rattle.velo_search.specs.Trail.{LeadToCycles, LeadsTo, turns_for};
 ghost use Rattle.velo_explore.specs.declared.finding.Finding.TheVariants.{Open};
 ghost use Rattle.velo_explore.specs.Bodies.{all_scripts};
 ghost use Rattle.velo_explore.specs.Goals.{finding_of};
-ghost use Rattle.velo_explore.specs.Told.{AreAlarms, AreSpent, IsLeftOpen, IsSomewhere, IsTold, IsUntried, NeverHas, OnOpen};
+ghost use Rattle.velo_explore.specs.Told.{AreAlarms, AreSpent, FollowsRun, IfShown, IsLeftOpen, IsSomewhere, IsTold, IsUntried, NeverHas, OnOpen};
 
 use crate::exploration::Exploration;
 use crate::finding::{Finding, Findings};
@@ -47,6 +47,8 @@ pub fn explore<P: Progress>(
     ensures states { IfOk result (λ x. x.states ≤ most_states) }
     ensures told { IfOk result (λ x. (fault : FaultOf) →
         IsTold workload.now config fault (finding_of x.findings fault)) }
+    ensures follows { IfOk result (λ x. (fault : FaultOf) →
+        IfShown (finding_of x.findings fault) (FollowsRun workload.now fault)) }
     ensures left_open { IfOk result (λ x. (fault : FaultOf) → OnOpen (finding_of x.findings fault)
         (IsLeftOpen workload.now config most_states first
         (P.may_end progress.old && P.says_over progress.new) x.states x.findings fault)) }

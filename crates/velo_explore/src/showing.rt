@@ -1,8 +1,9 @@
 //! Replays, and the schedules whose replays show what was looked for.
 ghost use Rattle.std.specs.Prelude.{◌≡◌, ◌↔◌, ◌<◌, ◌++◌, ◌∷◌, [], ℕ, true, false, is_some, length, IsTrue, IfNone, IfOk, IfSome};
+ghost use Rattle.velo_events.specs.declared.event.ThreadId.{ThreadId as Turn};
 ghost use Rattle.velo_worker.specs.Schedule.{Replays};
 ghost use Rattle.velo_explore.specs.Goals.{IsWitness, lacks_memory};
-ghost use Rattle.velo_explore.specs.Told.{IsMissed, HasOutcome, IsTold, LacksFault, NeverHas, OnOpen, IfShown};
+ghost use Rattle.velo_explore.specs.Told.{FollowsRun, IsMissed, HasOutcome, IsTold, LacksFault, NeverHas, OnOpen, IfShown};
 ghost use Rattle.velo_explore.specs.Bodies.{all_scripts};
 ghost use Rattle.velo_search.specs.declared.fault.Fault.TheVariants.{Refusing};
 ghost use Rattle.velo_search.specs.Trail.{LeadsTo};
@@ -71,6 +72,8 @@ fn witness_by(
     ensures shows { IfOk result (λ found. IfSome found (IsWitness workload.now config fault)) }
     ensures none { IfOk result
         (λ found. IfNone found (LacksFault workload.now config fault schedule.items)) }
+    ensures by { IfOk result (λ found.
+        IfSome found (λ witness. witness.schedule.items ≡ schedule.items)) }
 {
     let outcome = outcome_of(alloc, workload, &schedule, config)?;
     match outcome.goal(fault) {
@@ -108,6 +111,8 @@ fn refused_after(
     ensures shows { IfOk result (λ found. IfSome found (IsWitness workload.now config Refusing)) }
     ensures none { IfOk result (λ found. IfNone found ((t : ℕ) → t < workload.now.bounds.threads →
         LacksFault workload.now config Refusing (schedule.now ++ record { 0 = t } ∷ []))) }
+    ensures one_more { IfOk result (λ found. IfSome found
+        (λ witness. (t : Turn) × (witness.schedule.items ≡ schedule.now ++ t ∷ []))) }
 {
     for thread in 0..workload.bounds().threads {
         let longer = with_turn(alloc, schedule, ThreadId(thread))?;
@@ -133,6 +138,7 @@ fn witness_of(
     requires leads { LeadsTo workload.now.bounds (all_scripts workload.now) fault turns.items }
     ensures shows { IfOk result (λ found. IfSome found (IsWitness workload.now config fault)) }
     ensures none { IfOk result (λ found. IfNone found (IsMissed workload.now config fault)) }
+    ensures follows { IfOk result (λ found. IfSome found (FollowsRun workload.now fault)) }
 {
     match fault {
         Fault::Refusing => refused_after(alloc, workload, config, &turns),
@@ -160,6 +166,7 @@ pub(crate) fn tell(
     ensures never { IfOk result (λ f. (ruled_out ≡ true) ↔ (f ≡ Never)) }
     ensures missed { IfOk result (λ f. OnOpen f ((ruled_out ≡ false) × IfSome found
         (λ turns. IsMissed workload.now config fault))) }
+    ensures follows { IfOk result (λ f. IfShown f (FollowsRun workload.now fault)) }
     ensures from { IfOk result (λ f. IfShown f (λ witness. IsTrue (is_some found))) }
 {
     if ruled_out {

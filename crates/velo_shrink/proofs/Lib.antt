@@ -1,1 +1,2 @@
 pub mod OnShown
+pub mod OnStrangers

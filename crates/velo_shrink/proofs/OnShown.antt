@@ -1,10 +1,11 @@
 -- How soon a run reaches a goal, and what is made of its schedule.
-use Rattle.std.proofs.Common.{◌≡◌, ◌∙◌, ◌+◌, ◌-◌, ◌<◌, ◌≤◌, ℕ, zero, suc, Bool, true, false, List, [], length, take, Option, Some, None, Result, Ok, Err, ap, arith, inl, inr, refl, sym, subst, ⊎_elim}
+use Rattle.std.proofs.Common.{◌≡◌, ◌∙◌, ◌+◌, ◌-◌, ◌<◌, ◌≤◌, ℕ, zero, suc, Bool, true, false, List, [], drop, length, take, Option, Some, None, Result, Ok, Err, ap, arith, inl, inr, refl, sym, subst, ⊎_elim}
 use Rattle.std.specs.Borrow.{Bor}
 use Rattle.std.specs.Global.{Vec}
 use Rattle.std.specs.Option.{option_or}
 use Rattle.std.specs.Prelude.{◌⊎◌, ◌↔◌, All, IfNone, IfOk, IfSome, IsFalse, IsTrue, is_some}
 use Rattle.std.proofs.lemmas.Bool.{cases_lt, false≢true}
+use Rattle.std.proofs.lemmas.List.Elements.{All-append, All-drop, All-take}
 use Rattle.std.proofs.lemmas.Option.{none-some, same_Some}
 use Rattle.velo_events.specs.declared.config.Config.{Config}
 use Rattle.velo_events.specs.declared.event.ThreadId.{ThreadId}
@@ -30,7 +31,6 @@ use Rattle.velo_shrink.specs.Simple.{IsAbove, IsLimited, IsNeeded, IsReplayBy, I
 use Rattle.velo_schedule_text.specs.declared.limits.TheConstants.{MAX_TURNS}
 use Rattle.velo_schedule_text.specs.Short.{short_text}
 use Rattle.velo_schedule_text.proofs.OnShort.{short_reads_back}
-use Rattle.velo_schedule_text.proofs.OnTexts.{threads_of_schedule}
 
 -- what a run reaches, its turns reach
 pub reached : {X E : Type 0} (program : Program) (config : Config) (goal : Goal) (turns : List ThreadId) (ending : Ending) (closed : WorldState) → Replays program turns config ending closed → lacks_memory ending ≡ false
@@ -105,6 +105,12 @@ pub needed : (program : Program) (config limits : Config) (goal : Goal) (turns o
 needed program config limits goal turns others i limited is misses =
     record { limits = limits; limited = limited; misses = subst (λ (o : List ThreadId). Misses (length turns - 1) program limits goal o) is misses }
 
+-- without one of them they are of threads that there may be
+pub threads-without : (i : ℕ) (turns others : List ThreadId) → others ≡ without i turns → All (λ t. t.0 < MAX_THREADS) turns → All (λ t. t.0 < MAX_THREADS) others
+threads-without i turns others is all =
+    let P = λ (t : ThreadId). t.0 < MAX_THREADS in
+    subst (All P) (sym is) (All-append P (take i turns) (drop (i + 1) turns) (All-take P i turns all) (All-drop P (i + 1) turns all))
+
 -- there are more than n of them, or none
 pub above-none : (n : ℕ) (found : Option (Vec ThreadId)) → found ≡ None → IsAbove n found
 above-none n None is = tt
@@ -125,33 +131,31 @@ at_is_none (Some y) is given = absurd (false≢true (sym is))
 -- ---- the best schedule
 
 module _ (program : Program) (config : Config) (goal : Goal) (schedule best now : Vec ThreadId) where
-  -- it shows the goal, and is no longer than the one that was found
+  -- it shows the goal, is no longer than the one that was found, and its turns are of threads that there may be
   abbrev IsGood : Type 0
-  IsGood = Reached program config goal now.items × (length now.items ≤ length schedule.items)
+  IsGood = Reached program config goal now.items × (length now.items ≤ length schedule.items) × All (λ t. t.0 < MAX_THREADS) now.items
 
   pub best-next : (turns : Vec ThreadId) (lent : List ThreadId) (found : Option (Vec ThreadId)) → found ≡ Some turns → now ≡ turns → lent ≡ best.items → length best.items ≤ length schedule.items
-      → IfSome found (λ t. Reached program config goal t.items) → IfSome found (λ t. length t.items ≤ length lent) → IsGood
-  best-next turns lent (Some t) is same value few shows shorter =
+      → IfSome found (λ t. Reached program config goal t.items) → IfSome found (λ t. length t.items ≤ length lent) → IfSome found (λ turns. All (λ t. t.0 < MAX_THREADS) turns.items) → IsGood
+  best-next turns lent (Some t) is same value few shows shorter threads =
       let one = same_Some t turns is ∙ sym same in (
         subst (λ (v : Vec ThreadId). Reached program config goal v.items) one shows,
         (let long = ap (λ (v : Vec ThreadId). length v.items) one in let lends = ap (λ (l : List ThreadId). length l) value in omega (arith, shorter, long, lends, few)),
+        subst (λ (v : Vec ThreadId). All (λ (t : ThreadId). t.0 < MAX_THREADS) v.items) one threads,
       )
-  best-next turns lent None is same value few shows shorter = absurd (none-some turns is)
+  best-next turns lent None is same value few shows shorter threads = absurd (none-some turns is)
 
-  pub best-stays : now ≡ best → Reached program config goal best.items → length best.items ≤ length schedule.items → IsGood
-  best-stays same shows few =
-      (subst (λ (v : Vec ThreadId). Reached program config goal v.items) (sym same) shows, subst (λ (v : Vec ThreadId). length v.items ≤ length schedule.items) (sym same) few)
+  pub best-stays : now ≡ best → Reached program config goal best.items → length best.items ≤ length schedule.items → All (λ t. t.0 < MAX_THREADS) best.items → IsGood
+  best-stays same shows few threads = (
+    subst (λ (v : Vec ThreadId). Reached program config goal v.items) (sym same) shows,
+    subst (λ (v : Vec ThreadId). length v.items ≤ length schedule.items) (sym same) few,
+    subst (λ (v : Vec ThreadId). All (λ (t : ThreadId). t.0 < MAX_THREADS) v.items) (sym same) threads,
+  )
 
 -- ---- what can be said
 
 pub sayable_by : (schedule : List ThreadId) → length schedule ≤ MAX_TURNS → All (λ t. t.0 < MAX_THREADS) schedule → IsSayable schedule
 sayable_by schedule few threads = short_reads_back schedule threads few
-
-pub threads_of_sayable : (schedule : List ThreadId) → IsSayable schedule → All (λ t. t.0 < MAX_THREADS) schedule
-threads_of_sayable schedule h = threads_of_schedule (short_text schedule) schedule h
-
-pub not_sayable : (result : Bool) (schedule lent : List ThreadId) → IsTrue result ↔ IsSayable lent → lent ≡ schedule → result ≡ false → ¬ IsSayable schedule
-not_sayable result schedule lent is same none = λ h. false≢true (sym none ∙ is.1 (subst IsSayable (sym same) h))
 
 -- ---- the replay of the first finding
 

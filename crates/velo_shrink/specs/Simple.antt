@@ -22,6 +22,7 @@ use Rattle.velo_explore.specs.Told.{IfShown}
 use Rattle.velo_shrink.specs.declared.findings.Replay.{Replay}
 use Rattle.velo_shrink.specs.declared.findings.Shrunk.{Shrunk}
 use Rattle.velo_shrink.specs.declared.minimizing.TheConstants.{MAX_MINIMAL}
+use Rattle.velo_schedule_text.specs.declared.limits.TheConstants.{MAX_TURNS}
 use Rattle.velo_schedule_text.specs.Schedule.{SaysTurns}
 use Rattle.velo_schedule_text.specs.Short.{short_text}
 
@@ -87,11 +88,13 @@ SimplifiesWitness program config found told =
 abbrev pub IsSayable : List ThreadId → Type 0
 IsSayable schedule = SaysTurns (short_text schedule) schedule
 
--- the schedule that was found was made simple, and can't be told then, or does not show its goal in one more replay
+-- The schedule that was found was made simple. It shows its goal, but has more turns than a text may,
+-- or does not show it in one more replay. By the same turns and limits two replays with memory differ only
+-- where one of them finds no node for an event (`FillsGraph` of `velo_world`).
 abbrev pub CannotBeTold : Program → Config → Witness → Type 0
 CannotBeTold program config found =
-    (simple : Witness) × SimplifiesWitness program config found simple
-    × ((¬ IsSayable simple.schedule.items) ⊎ DoesNotShow program config simple.goal simple.schedule.items)
+    (simple : Witness) × SimplifiesWitness program config found simple × Shows program config simple
+    × ((MAX_TURNS < length simple.schedule.items) ⊎ DoesNotShow program config simple.goal simple.schedule.items)
 
 -- a finding is told by its schedule, made simple; or it is left open. Any other is told as it was
 abbrev pub SimplifiesFinding : Program → Config → Finding → Finding → Type 0

@@ -1,15 +1,14 @@
 //! The schedules of findings, made simple, as far as their texts can say them.
-ghost use Rattle.std.specs.Prelude.{◌≡◌, ◌<◌, ◌↔◌, All, IfNone, IfOk, IfSome, IsTrue, None, false, true};
-ghost use Rattle.velo_events.specs.declared.limits.TheConstants.{MAX_THREADS};
+ghost use Rattle.std.specs.Prelude.{◌≡◌, IfNone, IfOk, IfSome, None, false, true};
 ghost use Rattle.velo_explore.specs.declared.finding.Finding.TheVariants.{Shown};
 ghost use Rattle.velo_explore.specs.Goals.{DoesNotShow, Shows, finding_of};
 ghost use Rattle.velo_search.specs.declared.fault.Fault.{Fault};
 ghost use Rattle.velo_explore.specs.Told.{IfShown};
-ghost use Rattle.velo_shrink.specs.Simple.{IsReplayBy, IsSayable, IsShrunkFrom, IsToldBy, KeepsReplay};
+ghost use Rattle.velo_shrink.specs.Simple.{IsReplayBy, IsShrunkFrom, IsToldBy, KeepsReplay};
 
 use crate::shrinking::{MAX_TRIES, shrink};
 use std::alloc::Global;
-use velo_events::{Config, MAX_THREADS, Memory, ThreadId};
+use velo_events::{Config, Memory};
 use velo_explore::{Finding, Findings, Goal, Witness, replayed};
 use velo_schedule_text::MAX_TURNS;
 use velo_workload::Workload;
@@ -32,25 +31,6 @@ pub struct Shrunk {
     /// The replay of the first of them, if one is shown: the alarm, else the deadlock, else the
     /// refusal.
     pub first: Option<Replay>,
-}
-
-/// Whether all turns are of threads that there may be.
-fn are_threads(schedule: &[ThreadId]) -> bool
-    ensures { IsTrue result ↔ All (λ t. t.0 < MAX_THREADS) schedule.now }
-{
-    for turn in schedule {
-        if turn.0 >= MAX_THREADS {
-            return false;
-        }
-    }
-    true
-}
-
-/// Whether a replay takes the text of the schedule.
-fn is_sayable(schedule: &[ThreadId]) -> bool
-    ensures { IsTrue result ↔ IsSayable schedule.now }
-{
-    schedule.len() <= MAX_TURNS && are_threads(schedule)
 }
 
 /// The replay by a witness, if it shows its goal again.
@@ -112,7 +92,7 @@ fn shrink_witness(
 {
     let Witness { goal, schedule } = witness;
     let schedule = shrink(alloc, workload, goal, schedule, MAX_TRIES, config)?;
-    if !is_sayable(&schedule) {
+    if schedule.len() > MAX_TURNS {
         return Ok(Finding::Open);
     }
     let simple = Witness { goal, schedule };
@@ -174,8 +154,8 @@ fn shrink_each(
 }
 
 /// Makes the schedule of each finding simple: see [`shrink`], and keeps the replay of the first of
-/// them. One is left open whose simple schedule no text can say, or that would be the first and is not
-/// shown by one more replay; any other stays as it was. The configuration has to be that by which they
+/// them. One is left open whose simple schedule has more turns than a text can say, or that would be the first
+/// and is not shown by one more replay; any other stays as it was. The configuration has to be that by which they
 /// were found.
 ///
 /// # Errors

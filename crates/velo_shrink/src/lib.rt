@@ -7,6 +7,7 @@ mod findings;
 mod minimizing;
 mod plan;
 mod shrinking;
+mod threads;
 mod trying;
 
 pub use findings::{Replay, Shrunk, shrink_findings};

@@ -1,11 +1,12 @@
 //! Leaving out single turns of a schedule, until none can be left out.
-ghost use Rattle.std.specs.Prelude.{◌≡◌, ◌+◌, ◌<◌, ◌≤◌, length, IfNone, IfOk, IfSome};
+ghost use Rattle.std.specs.Prelude.{◌≡◌, ◌+◌, ◌<◌, ◌≤◌, All, length, IfNone, IfOk, IfSome};
+ghost use Rattle.velo_events.specs.declared.limits.TheConstants.{MAX_THREADS};
 ghost use Rattle.velo_explore.specs.Goals.{Reached};
 ghost use Rattle.velo_shrink.specs.Simple.{IsMinimal, IsNeeded};
 
 use crate::budget::Budget;
 use crate::edit::without_turn;
-use crate::trying::{config_of_try, tried};
+use crate::trying::{config_of_try, shows_again, tried};
 use std::alloc::Global;
 use velo_events::{Config, Memory, ThreadId};
 use velo_explore::Goal;
@@ -27,9 +28,12 @@ fn leave_out(
 ) -> Result<Option<Vec<ThreadId>>, Memory>
     requires bounds { config.bounds ≡ workload.now.bounds }
     requires place { place < length schedule.now }
+    requires threads { All (λ t. t.0 < MAX_THREADS) schedule.now }
     ensures shows { IfOk result (λ found. IfSome found (λ turns. Reached workload.now config goal turns.items)) }
     ensures shorter { IfOk result (λ found.
         IfSome found (λ turns. length turns.items < length schedule.now)) }
+    ensures threads { IfOk result (λ found.
+        IfSome found (λ turns. All (λ t. t.0 < MAX_THREADS) turns.items)) }
     ensures needed { IfOk result (λ found.
         IfNone found (IsNeeded workload.now config goal schedule.now place)) }
 {
@@ -41,7 +45,7 @@ fn leave_out(
     if turns.len() > others.len() {
         return Ok(None);
     }
-    if tried(alloc, workload, goal, &turns, config, budget)?.is_some() {
+    if shows_again(alloc, workload, goal, &turns, config, budget)? {
         return Ok(Some(turns));
     }
     match tried(alloc, workload, goal, &others, config, budget)? {
@@ -60,9 +64,12 @@ fn leave_one_out(
     budget: &mut Budget,
 ) -> Result<Option<Vec<ThreadId>>, Memory>
     requires bounds { config.bounds ≡ workload.now.bounds }
+    requires threads { All (λ t. t.0 < MAX_THREADS) schedule.now }
     ensures shows { IfOk result (λ found. IfSome found (λ turns. Reached workload.now config goal turns.items)) }
     ensures shorter { IfOk result (λ found.
         IfSome found (λ turns. length turns.items < length schedule.now)) }
+    ensures threads { IfOk result (λ found.
+        IfSome found (λ turns. All (λ t. t.0 < MAX_THREADS) turns.items)) }
     ensures minimal { IfOk result (λ found.
         IfNone found (IsMinimal workload.now config goal schedule.now)) }
 {
@@ -89,8 +96,10 @@ pub(crate) fn minimal(
 ) -> Result<Vec<ThreadId>, Memory>
     requires bounds { config.bounds ≡ workload.now.bounds }
     requires shows { Reached workload.now config goal schedule.items }
+    requires threads { All (λ t. t.0 < MAX_THREADS) schedule.items }
     ensures shows { IfOk result (λ turns. Reached workload.now config goal turns.items) }
     ensures shorter { IfOk result (λ turns. length turns.items ≤ length schedule.items) }
+    ensures threads { IfOk result (λ turns. All (λ t. t.0 < MAX_THREADS) turns.items) }
     ensures minimal { IfOk result (λ turns. IsMinimal workload.now config goal turns.items) }
 {
     let mut best = schedule;

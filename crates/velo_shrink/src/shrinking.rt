@@ -1,5 +1,6 @@
 //! Trying one change of a schedule after another.
-ghost use Rattle.std.specs.Prelude.{◌≡◌, ◌≤◌, length, IfOk};
+ghost use Rattle.std.specs.Prelude.{◌≡◌, ◌<◌, ◌≤◌, All, length, IfOk};
+ghost use Rattle.velo_events.specs.declared.limits.TheConstants.{MAX_THREADS};
 ghost use Rattle.velo_explore.specs.Goals.{Reached};
 ghost use Rattle.velo_shrink.specs.Simple.{Simplifies};
 
@@ -7,6 +8,7 @@ use crate::budget::Budget;
 use crate::edit::edited;
 use crate::minimizing::{MAX_MINIMAL, minimal};
 use crate::plan::Plan;
+use crate::threads::of_its_threads;
 use crate::trying::simpler;
 use std::alloc::Global;
 use velo_events::{Config, Memory, ThreadId};
@@ -31,8 +33,10 @@ fn simplest(
 ) -> Result<Vec<ThreadId>, Memory>
     requires bounds { config.bounds ≡ workload.now.bounds }
     requires shows { Reached workload.now config goal schedule.items }
+    requires threads { All (λ t. t.0 < MAX_THREADS) schedule.items }
     ensures shows { IfOk result (λ turns. Reached workload.now config goal turns.items) }
     ensures shorter { IfOk result (λ turns. length turns.items ≤ length schedule.items) }
+    ensures threads { IfOk result (λ turns. All (λ t. t.0 < MAX_THREADS) turns.items) }
 {
     let mut best = schedule;
     let mut plan = Plan::new();
@@ -64,6 +68,8 @@ fn simplest(
 /// together some 20,000,000 turns and events are done. Where a try shows the finding, the threads of its own events up to
 /// there are the next schedule, if they are simpler and show it again.
 ///
+/// Turns of threads that the workload does not have are left out.
+///
 /// If at most [`MAX_MINIMAL`] turns are left then, single ones are left out until none can be, however many tries this takes:
 /// without any one of them a replay does not come to the finding within as many turns as are left.
 ///
@@ -82,17 +88,11 @@ pub fn shrink(
     ensures shows { IfOk result (λ turns. Reached workload.now config goal turns.items) }
     ensures simple { IfOk result (λ turns.
         Simplifies workload.now config goal schedule.items turns.items) }
+    ensures threads { IfOk result (λ turns. All (λ t. t.0 < MAX_THREADS) turns.items) }
 {
+    let own = of_its_threads(alloc, workload, &schedule)?;
     let mut budget = Budget::new(MAX_STEPS);
-    let best = simplest(
-        alloc,
-        workload,
-        goal,
-        schedule,
-        most_tries,
-        config,
-        &mut budget,
-    )?;
+    let best = simplest(alloc, workload, goal, own, most_tries, config, &mut budget)?;
     if best.len() > MAX_MINIMAL {
         return Ok(best);
     }

@@ -1,10 +1,12 @@
 //! One try: a schedule is replayed, and taken up if it shows the goal and is simpler.
-ghost use Rattle.std.specs.Prelude.{◌≡◌, ◌≤◌, ℕ, length, IsTrue, IfOk, IfSome};
+ghost use Rattle.std.specs.Prelude.{◌≡◌, ◌<◌, ◌≤◌, ℕ, true, All, length, IsTrue, IfOk, IfSome};
+ghost use Rattle.velo_events.specs.declared.limits.TheConstants.{MAX_THREADS};
 ghost use Rattle.velo_worker.specs.declared.ending.Ending.{Ending as EndingOf};
 ghost use Rattle.velo_explore.specs.Goals.{KnowsAlarm, Reached, Reaches};
 ghost use Rattle.velo_shrink.specs.Simple.{IsAbove, IsLimited, Misses, ReachesWithin, stops};
 
 use crate::budget::Budget;
+use crate::threads::are_threads;
 use std::alloc::Global;
 use velo_events::growth::reserve;
 use velo_events::{Config, Memory, ThreadId};
@@ -142,6 +144,29 @@ fn is_simpler(one: &[ThreadId], other: &[ThreadId]) -> bool
     }
 }
 
+/// Whether the turns are of threads that there may be, and their replay shows the goal.
+///
+/// # Errors
+/// `Memory` where a growth was refused.
+pub(crate) fn shows_again(
+    alloc: Global,
+    workload: &Workload,
+    goal: Goal,
+    turns: &[ThreadId],
+    config: Config,
+    budget: &mut Budget,
+) -> Result<bool, Memory>
+    requires bounds { config.bounds ≡ workload.now.bounds }
+    ensures shows { IfOk result (λ again. again ≡ true → Reached workload.now config goal turns.now) }
+    ensures threads { IfOk result (λ again. again ≡ true → All (λ t. t.0 < MAX_THREADS) turns.now) }
+{
+    if !are_threads(turns) {
+        return Ok(false);
+    }
+    let found = tried(alloc, workload, goal, turns, config, budget)?;
+    Ok(found.is_some())
+}
+
 /// Tries a schedule in place of the best one. What the run did up to where it shows the goal is answered, if it does, if that
 /// is simpler than the best, and if it shows the goal again.
 ///
@@ -161,6 +186,8 @@ pub(crate) fn simpler(
         IfSome found (λ turns. Reached workload.now config goal turns.items)) }
     ensures shorter { IfOk result (λ found.
         IfSome found (λ turns. length turns.items ≤ length best.now)) }
+    ensures threads { IfOk result (λ found.
+        IfSome found (λ turns. All (λ t. t.0 < MAX_THREADS) turns.items)) }
 {
     let in_try = config_of_try(goal, config, best.len());
     let Some(turns) = tried(alloc, workload, goal, candidate, in_try, budget)? else {
@@ -169,8 +196,9 @@ pub(crate) fn simpler(
     if !is_simpler(&turns, best) {
         return Ok(None);
     }
-    match tried(alloc, workload, goal, &turns, config, budget)? {
-        Some(_) => Ok(Some(turns)),
-        None => Ok(None),
+    if shows_again(alloc, workload, goal, &turns, config, budget)? {
+        Ok(Some(turns))
+    } else {
+        Ok(None)
     }
 }

@@ -16,7 +16,7 @@ use Rattle.velo_explore.specs.declared.goal.Goal.TheVariants.{Alarm, Refused}
 use Rattle.velo_explore.specs.declared.goal.Goal.TheVariants as goals
 use Rattle.velo_explore.specs.Goals.{finding_of, first_of}
 use Rattle.velo_explore_forms.specs.Answer.{exploration_json, line_text}
-use Rattle.velo_explore.specs.Told.{AreAlarms, IsLeftOpen, IsTold, IsUntried, OnOpen}
+use Rattle.velo_explore.specs.Told.{AreAlarms, FollowsRun, IfShown, IsLeftOpen, IsTold, IsUntried, OnOpen}
 use Rattle.velo_shrink.specs.declared.findings.Replay.{Replay}
 use Rattle.velo_shrink.specs.Simple.{IsShrunkFrom}
 use Rattle.velo_deadlock.specs.Waits.{waits_text}
@@ -50,7 +50,8 @@ abbrev pub most_to_blame : Bool → ℕ
 most_to_blame first = if first then 0 else MAX_BLAMING
 
 -- What a search may say of the program's schedules. `over`: whether it was told that its time is
--- over. What is shown is so; what is never shown is so by no schedule; what is open is so for a cause.
+-- over. What is shown is so, by the turns of a run of the bodies' operations; what is never shown is so
+-- by no schedule; what is open is so for a cause.
 -- If the bodies have more events than a log may have, nothing is tried. Each schedule that it hands out
 -- leads to an alarm.
 pub record IsSearchOf (program : Program) (config : Config) (options : ExploreOptions) (over : Bool)
@@ -58,6 +59,7 @@ pub record IsSearchOf (program : Program) (config : Config) (options : ExploreOp
   pub events : search.events ≡ min (sum_by body_events program.bodies) (2 ^ 64 - 1)
   pub states : search.states ≤ options.states
   pub told : (fault : Fault) → IsTold program config fault (finding_of search.findings fault)
+  pub follows : (fault : Fault) → IfShown (finding_of search.findings fault) (FollowsRun program fault)
   pub left_open : (fault : Fault) → OnOpen (finding_of search.findings fault)
       (IsLeftOpen program config options.states options.first over search.states search.findings fault)
   pub untried : config.events < sum_by body_events program.bodies → IsUntried search.states search.findings

@@ -8,8 +8,8 @@ use Rattle.velo_search.proofs.OnTrails.{shown-all}
 use Rattle.velo_explore.specs.declared.finding.Findings.{Findings}
 use Rattle.velo_explore.specs.Bodies.{all_scripts}
 use Rattle.velo_explore.specs.Goals.{finding_of}
-use Rattle.velo_explore.specs.Told.{IsLeftOpen, IsMet, IsTold, OnOpen}
-use Rattle.velo_explore.proofs.OnShown.{IfSome-mapped, alarms-told, no-alarms}
+use Rattle.velo_explore.specs.Told.{FollowsRun, IfShown, IsLeftOpen, IsMet, IsTold, OnOpen}
+use Rattle.velo_explore.proofs.OnShown.{IfSome-mapped, alarms-told, no-alarms, none-shown}
 use Rattle.velo_explore.proofs.OnTold.{cut-told, each_fault, first-told, met-told, open-told, ruled-out}
 use Rattle.velo_explore.proofs.exploring.explore.Goals as goal
 
@@ -47,6 +47,14 @@ pub returns-clause-told : goal.returns-clause-told
 returns-clause-told g c =
     let found : Findings = record { alarm = c.in_ok-alarm.alarm; stuck = c.in_ok-stuck.stuck; refused = c.in_ok-refused.refused } in
     each_fault (λ (f : Fault). IsTold c.args.workload.now c.args.config f (finding_of found f)) c.in_ok-alarm.ensures.told c.in_ok-stuck.ensures.told c.in_ok-refused.ensures.told
+
+pub returns-clause-follows : goal.returns-clause-follows
+returns-clause-follows g c =
+    let found : Findings = record { alarm = c.in_ok-alarm.alarm; stuck = c.in_ok-stuck.stuck; refused = c.in_ok-refused.refused } in
+    each_fault (λ (f : Fault). IfShown (finding_of found f) (FollowsRun c.args.workload.now f)) c.in_ok-alarm.ensures.follows c.in_ok-stuck.ensures.follows c.in_ok-refused.ensures.follows
+
+pub returns-then-events-from-clause-follows : goal.returns-then-events-from-clause-follows
+returns-then-events-from-clause-follows g c = none-shown c.args.workload.now c.untried.result.findings c.untried.ensures.findings
 
 pub returns-clause-left_open : goal.returns-clause-left_open
 returns-clause-left_open g c =

@@ -4,7 +4,7 @@ use Rattle.velo_events.specs.declared.config.Bounds.{Bounds}
 use Rattle.velo_events.specs.declared.event.ThreadId.{ThreadId}
 use Rattle.velo_search.specs.declared.fault.Fault.TheVariants.{Refusing}
 use Rattle.velo_explore.specs.Told.{LacksFault}
-use Rattle.velo_explore.proofs.OnShown.{at_is_none}
+use Rattle.velo_explore.proofs.OnShown.{at_is_none, found-one_more}
 use Rattle.velo_explore.proofs.showing.refused_after.Goals as goal
 
 pub loop-thread-preserved : goal.loop-thread-preserved
@@ -16,6 +16,9 @@ loop-thread-preserved c = λ t l.
     (λ past. subst (λ (k : ℕ). LacksFault program c.args.config Refusing (c.args.schedule.now ++ record { 0 = k } ∷ [])) (let same : c.loop-thread.thread ≡ t = omega (arith, past, l) in same)
     (subst (λ (turns : List ThreadId). LacksFault program c.args.config Refusing turns) c.in_ok-longer.ensures none))
     (cases_lt t c.loop-thread.thread)
+
+pub returns-then-is_some-clause-one_more : goal.returns-then-is_some-clause-one_more
+returns-then-is_some-clause-one_more c = found-one_more c.in_ok-found.found c.args.schedule.now c.in_ok-longer.longer.items _ c.in_ok-longer.ensures c.in_ok-found.ensures.by
 
 pub returns-clause-none : goal.returns-clause-none
 returns-clause-none c = λ t l.

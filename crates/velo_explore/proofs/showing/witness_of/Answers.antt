@@ -1,9 +1,9 @@
-use Rattle.std.proofs.Common.{List, sym, subst}
+use Rattle.std.proofs.Common.{List, refl, sym, subst}
 use Rattle.velo_events.specs.declared.event.ThreadId.{ThreadId}
 use Rattle.velo_search.specs.declared.fault.Fault.TheVariants.{Refusing}
 use Rattle.velo_search.specs.Trail.{LeadsTo}
 use Rattle.velo_explore.specs.Bodies.{all_scripts}
-use Rattle.velo_explore.proofs.OnShown.{missed-alarm, missed-refusal, missed-stuck, where_none}
+use Rattle.velo_explore.proofs.OnShown.{follows-it, follows-one_more, missed-alarm, missed-refusal, missed-stuck, where_none}
 use Rattle.velo_explore.proofs.showing.witness_of.Goals as goal
 
 pub returns-in-Refusing-clause-shows : goal.returns-in-Refusing-clause-shows
@@ -17,6 +17,16 @@ returns-in-Refusing-clause-none c =
     (λ lacks. missed-refusal program c.args.config c.requires.bounds c.deref.result.now lacks
     (subst (λ (turns : List ThreadId). LeadsTo program.bounds (all_scripts program) Refusing turns) (sym c.deref.ensures.value) (rw c.in-Refusing.is at c.requires.leads)))
     c.refused_after.ensures.none)
+
+pub returns-in-Refusing-clause-follows : goal.returns-in-Refusing-clause-follows
+returns-in-Refusing-clause-follows c =
+    follows-one_more c.args.workload.now c.args.fault c.args.turns.items c.deref.result.now c.requires.leads c.deref.ensures.value c.refused_after.result c.refused_after.ensures.one_more
+
+pub returns-in-Cycle-clause-follows : goal.returns-in-Cycle-clause-follows
+returns-in-Cycle-clause-follows c = follows-it c.args.workload.now c.args.fault c.args.turns.items c.args.turns.items c.requires.leads refl c.witness_by.result c.witness_by.ensures.by
+
+pub returns-in-Stuck-clause-follows : goal.returns-in-Stuck-clause-follows
+returns-in-Stuck-clause-follows c = follows-it c.args.workload.now c.args.fault c.args.turns.items c.args.turns.items c.requires.leads refl c.witness_by-in-Stuck.result c.witness_by-in-Stuck.ensures.by
 
 pub returns-in-Cycle-clause-shows : goal.returns-in-Cycle-clause-shows
 returns-in-Cycle-clause-shows c = rw c.in-Cycle.is c.witness_by.ensures.shows

@@ -22,5 +22,6 @@ returns-else-is_reached-clause-none c = record {
   closed = c.in_ok-closed.closed;
   replays =
       subst (λ turns. Replays c.args.workload.now turns c.args.config c.in_ok-closed.ending c.in_ok-closed.closed) c.deref.ensures.value c.in_ok-closed.ensures.run;
+  memory = c.in_ok-closed.ensures.memory;
   has_not = λ h. false≢true (sym c.if-is_reached.false ∙ c.is_reached.ensures.reached.1 h);
 }

@@ -2,7 +2,7 @@ use Rattle.std.proofs.Common.{◌≡◌, ◌∙◌, ◌-◌, ◌<◌, ℕ, List,
 use Rattle.velo_events.specs.declared.event.ThreadId.{ThreadId}
 use Rattle.velo_explore.specs.Goals.{Reached}
 use Rattle.velo_shrink.specs.Simple.{IsLimited}
-use Rattle.velo_shrink.proofs.OnShown.{above-none, above-some, at_is_some, at_some, needed}
+use Rattle.velo_shrink.proofs.OnShown.{above-none, above-some, at_is_some, at_some, needed, threads-without}
 use Rattle.velo_shrink.proofs.minimizing.leave_out.Goals as goal
 
 pub returns-in_default-clause-needed : goal.returns-in_default-clause-needed
@@ -23,18 +23,20 @@ returns-then-len-clause-needed c =
     (inr (subst (λ (k : ℕ). IsLimited k c.args.goal c.args.config c.config_of_try-limits.result) count c.config_of_try-limits.ensures))
     (c.deref.ensures.value ∙ c.in_ok-others.ensures.turns) (c.in_ok-turns.ensures.misses n (above-some n c.in_ok-turns.field-0 c.in-Some.turns c.in-Some.is more))
 
-pub returns-then-is_some-clause-shows : goal.returns-then-is_some-clause-shows
-returns-then-is_some-clause-shows c =
-    subst (λ (turns : List ThreadId). Reached c.args.workload.now c.args.config c.args.goal turns) c.deref-2.ensures.value
-    (at_is_some c.in_ok-tried.field-0 (sym c.is_some.ensures ∙ c.if-is_some.true) c.in_ok-tried.ensures.reached)
+pub returns-then-branch-clause-shows : goal.returns-then-branch-clause-shows
+returns-then-branch-clause-shows c =
+    subst (λ (turns : List ThreadId). Reached c.args.workload.now c.args.config c.args.goal turns) c.deref-2.ensures.value (c.in_ok-shows_again.ensures.shows c.if-branch.true)
 
 pub returns-in-Some-2-clause-shows : goal.returns-in-Some-2-clause-shows
 returns-in-Some-2-clause-shows c =
     subst (λ (turns : List ThreadId). Reached c.args.workload.now c.args.config c.args.goal turns) c.deref-3.ensures.value
-    (at_some c.in_ok-tried-2.field-0 c.in-Some-2.field-0 c.in-Some-2.is c.in_ok-tried-2.ensures.reached)
+    (at_some c.in_ok-tried.field-0 c.in-Some-2.field-0 c.in-Some-2.is c.in_ok-tried.ensures.reached)
+
+pub returns-in-Some-2-clause-threads : goal.returns-in-Some-2-clause-threads
+returns-in-Some-2-clause-threads c = threads-without c.args.place c.args.schedule.now c.in_ok-others.others.items c.in_ok-others.ensures.turns c.requires.threads
 
 pub returns-in-None-clause-needed : goal.returns-in-None-clause-needed
 returns-in-None-clause-needed c =
     let n = length c.args.schedule.now - 1 in
     needed c.args.workload.now c.args.config c.args.config c.args.goal c.args.schedule.now c.deref-3.result.now c.args.place (inl refl)
-    (c.deref-3.ensures.value ∙ c.in_ok-others.ensures.turns) (c.in_ok-tried-2.ensures.misses n (above-none n c.in_ok-tried-2.field-0 c.in-None.is))
+    (c.deref-3.ensures.value ∙ c.in_ok-others.ensures.turns) (c.in_ok-tried.ensures.misses n (above-none n c.in_ok-tried.field-0 c.in-None.is))

@@ -26,6 +26,7 @@ returns g c =
         events = c.in_ok-events.ensures.events;
         states = omega (arith, c.in_ok-events.ensures.states, c.from-most_states.ensures);
         told = c.in_ok-events.ensures.told;
+        follows = c.in_ok-events.ensures.follows;
         left_open = λ fault.
             subst (λ (n : ℕ). OnOpen (finding_of search.findings fault) (IsLeftOpen program c.args.config n options.first over search.states search.findings fault))
             c.from-most_states.ensures (c.in_ok-events.ensures.left_open fault);

@@ -3,7 +3,7 @@ use Rattle.std.proofs.lemmas.List.{take_all}
 use Rattle.std.proofs.lemmas.List.Elements.{All-more}
 use Rattle.velo_events.specs.declared.event.ThreadId.{ThreadId}
 use Rattle.velo_events.specs.declared.limits.TheConstants.{MAX_THREADS}
-use Rattle.velo_shrink.proofs.findings.are_threads.Goals as goal
+use Rattle.velo_shrink.proofs.threads.are_threads.Goals as goal
 
 abbrev no_thread : ThreadId
 no_thread = record { 0 = 0 }
