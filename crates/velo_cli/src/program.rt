@@ -96,6 +96,7 @@ fn do_asked<R: Threads + Wait + Sync, F: Files + Recall, O: Sink, E: Sink, P: Ex
 }
 
 /// Reports why the words of the command line could not be had, and returns the status to end with.
+/// Any kind but `InvalidData` is reported as out of memory.
 pub fn end_without_words<E: Sink>(kind: io::ErrorKind, err: &mut E) -> u8
     ensures not_utf8 { kind ≡ InvalidData → Closes bad_usage not_utf8
         (writing E.contents E.failures err.old err.new) result }

@@ -1,13 +1,13 @@
 //! What is said of a file that has a fault.
 ghost use Rattle.std.specs.Prelude.{◌≡◌, IfOk};
-ghost use Rattle.velo_fault_words.specs.Faults.{fault_words};
+ghost use Rattle.velo_fault_words.specs.Faults.{fault_words, last_line_for, most_bytes_for, most_up_to};
 
 use crate::beside::{list_words, names_words, report_words, sites_words};
 use crate::log::log_words;
 use crate::work::work_words;
 use std::alloc::Global;
 use velo_claims::{MAX_REPORT_BYTES, ReportFault};
-use velo_events::Memory;
+use velo_events::{MAX_EVENTS, Memory};
 use velo_explain::Page;
 use velo_logtext::LogFault;
 use velo_names::{MAX_NAMES_BYTES, NamesFault};
@@ -32,14 +32,21 @@ pub enum FileFault {
     Report(ReportFault),
 }
 
-/// The most bytes that are read to say what is wrong with a line of a log: as many as the lines up
-/// to it can have, and some more.
-pub fn most_up_to(line: usize) -> usize {
-    line.saturating_mul(65).saturating_add(128)
+/// The most lines that a log has: its header, and one for each event.
+const MAX_LINES: usize = MAX_EVENTS as usize + 1;
+
+/// The most bytes of a log that are read to say what is wrong in a line of it: as many as the lines
+/// up to it can have, and some more.
+pub fn most_up_to(line: usize) -> usize
+    ensures { result ≡ most_up_to line }
+{
+    65 * line.min(MAX_LINES) + 128
 }
 
 /// The last line of a log that is read to say what its fault is.
-fn last_line_of(fault: LogFault) -> usize {
+fn last_line_for(fault: LogFault) -> usize
+    ensures { result ≡ last_line_for fault }
+{
     match fault {
         LogFault::BadLine(n) | LogFault::Truncated(n) => n,
         _ => 1,
@@ -47,9 +54,11 @@ fn last_line_of(fault: LogFault) -> usize {
 }
 
 /// The most bytes of a file that are read to say what is wrong with it.
-pub fn most_bytes_for(fault: FileFault) -> usize {
+pub fn most_bytes_for(fault: FileFault) -> usize
+    ensures { result ≡ most_bytes_for fault }
+{
     match fault {
-        FileFault::Log(fault) => most_up_to(last_line_of(fault)),
+        FileFault::Log(fault) => most_up_to(last_line_for(fault)),
         FileFault::Work(_) => MAX_WORKLOAD_BYTES,
         FileFault::Names(_) | FileFault::List(_) => MAX_NAMES_BYTES,
         FileFault::Sites(_) => MAX_SITES_BYTES,

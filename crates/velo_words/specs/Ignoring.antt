@@ -12,7 +12,7 @@ use Rattle.velo_request.specs.declared.request.Ignorable.TheVariants.{Label, Loc
 use Rattle.velo_request.specs.declared.request.Ignored.{Ignored}
 use Rattle.velo_request.specs.declared.request.Request.{Request}
 use Rattle.velo_request.specs.declared.request.Request.TheVariants.{Audit, Explain, Predict}
-use Rattle.velo_words.specs.Given.{names_of}
+use Rattle.velo_words.specs.Given.{names_explained_of}
 use Rattle.velo_fault_words.specs.Lines.{shown_line}
 use Rattle.velo_fault_words.specs.Place.{whole_words}
 
@@ -95,4 +95,5 @@ SaysVainIn disk (Some path) what ignored words = SaysVainAt disk path what ignor
 -- what is said where something that was to be ignored means nothing
 abbrev pub SaysVain : Disk → Request → Ignorable → List ℕ → Type 0
 SaysVain disk request what words =
-    IfSome (ignored_of request) (λ ignored. SaysVainIn disk (names_of request) what ignored words)
+    IfSome (ignored_of request)
+    (λ ignored. SaysVainIn disk (names_explained_of request) what ignored words)

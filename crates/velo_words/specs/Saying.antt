@@ -6,6 +6,7 @@ use Rattle.velo_delivery.specs.Writing.{Writing}
 use Rattle.velo_events.specs.declared.config.Bounds.{Bounds}
 use Rattle.velo_events.specs.declared.event.Event.{Event}
 use Rattle.velo_events.specs.declared.refusal.Refusal.{Refusal}
+use Rattle.velo_explain.specs.Pieces.{line_of}
 use Rattle.velo_fate.specs.Fate.{Closes, Ends, last_line_of, status_of}
 use Rattle.velo_fate.specs.Format.{Reads, bytes_up_to}
 use Rattle.velo_fate.specs.declared.fate.Fate.{Fate}
@@ -25,11 +26,11 @@ use Rattle.velo_words.specs.declared.failing.SystemReason.{SystemReason}
 use Rattle.velo_words.specs.Ended.{SaysEnd, SaysOpen}
 use Rattle.velo_words.specs.Events.{HasEvent}
 use Rattle.velo_words.specs.Failing.{SaysFailure}
-use Rattle.velo_fault_words.specs.Faults.{fault_words}
+use Rattle.velo_fault_words.specs.Faults.{fault_words, most_bytes_for, most_up_to}
 use Rattle.velo_fault_words.specs.Beside.{other_sites_words}
-use Rattle.velo_words.specs.Given.{list_of, names_of, schedule_of, sites_of}
+use Rattle.velo_words.specs.Given.{names_explained_of, schedule_of}
 use Rattle.velo_words.specs.Ignoring.{SaysVain}
-use Rattle.velo_words.specs.Roles.{report_of}
+use Rattle.velo_words.specs.Roles.{known_of, report_of, sites_of}
 use Rattle.velo_fault_words.specs.Schedule.{numbers_words, schedule_words, turns_words}
 use Rattle.velo_fault_words.specs.declared.faults.FileFault.{FileFault}
 use Rattle.velo_fault_words.specs.declared.faults.FileFault.TheVariants as file
@@ -55,12 +56,11 @@ work_of (Run options) = if options.why then Some options.input.now else None
 work_of (Replay options) = if options.run.why then Some options.run.input.now else None
 work_of _ = None
 
--- what is said of a fault of the file at a path: its words, by bytes that the file gave when it was
--- read once more, all of them or more than so many
+-- what is said of a fault of the file at a path: its words, by the bytes that the file gave when it
+-- was read once more, all of them or more than the fault asks for
 pub record SaysFault (disk : Disk) (path : List ℕ) (fault : FileFault) (words : List ℕ) : Type 0 where
-  pub most : ℕ
   pub bytes : List ℕ
-  pub read : Reads (bytes_up_to most) disk path bytes
+  pub read : Reads (bytes_up_to (most_bytes_for fault)) disk path bytes
   pub said : words ≡ fault_words path bytes fault
 
 -- what is said of a text that is no schedule, by the option that has it, or by the bytes that its
@@ -86,12 +86,12 @@ pub record IsTextAt (path : List ℕ) (refusal : Option Refusal) (p : ℕ) (byte
   pub there : HasEvent bytes p bounds before event
   pub said : words ≡ event_words path refusal bounds before event
 
--- what is said of the event at a position of the log at a path, by bytes that the file gave
+-- what is said of the event at a position of the log at a path, by the bytes that the file gave: all
+-- of them, or more than the lines up to that of the event have
 pub record SaysEvent (disk : Disk) (path : List ℕ) (refusal : Option Refusal) (p : ℕ)
     (words : List ℕ) : Type 0 where
-  pub most : ℕ
   pub bytes : List ℕ
-  pub read : Reads (bytes_up_to most) disk path bytes
+  pub read : Reads (bytes_up_to (most_up_to (line_of p))) disk path bytes
   pub said : IsTextAt path refusal p bytes words
 
 -- what is said of a fate
@@ -110,7 +110,7 @@ IsSaid disk request (fate.Schedule schedule_fault.Bad) words =
     IfSome (schedule_of request) (λ source. SaysSchedule disk source words)
 IsSaid disk request (fate.Names names_fault.Memory) words = ⊥
 IsSaid disk request (fate.Names fault) words =
-    IfSome (names_of request) (λ path. SaysFault disk path (file.Names fault) words)
+    IfSome (names_explained_of request) (λ path. SaysFault disk path (file.Names fault) words)
 IsSaid disk request (fate.Sites sites_fault.Memory) words = ⊥
 IsSaid disk request (fate.Sites fault) words =
     IfSome (sites_of request) (λ path. SaysFault disk path (file.Sites fault) words)
@@ -123,7 +123,7 @@ IsSaid disk request (fate.Ignored what) words = SaysVain disk request what words
 IsSaid disk request fate.Open words = SaysOpen request words
 IsSaid disk request (fate.List list_fault.Memory) words = ⊥
 IsSaid disk request (fate.List fault) words =
-    IfSome (list_of request) (λ path. SaysFault disk path (file.List fault) words)
+    IfSome (known_of request) (λ path. SaysFault disk path (file.List fault) words)
 IsSaid disk request f words = ⊥
 
 -- The program ends by its fate: with its line and its status; or what is said of the fate, or of the

@@ -3,7 +3,7 @@ ghost use Rattle.std.specs.Prelude.{◌≡◌, ◌==◌, IfOk, IfSome, Some, fal
 ghost use Rattle.velo_names.specs.Names.{meant_by, no_names};
 ghost use Rattle.velo_words.specs.Ignoring.{SaysVain, SaysVainAt, SaysVainBy, SaysVainOf, first_in_vain, ignored_of, kind_of, option_of, vain_help, vain_reason, vain_words, words_of};
 
-use crate::given::names_of;
+use crate::given::names_explained_of;
 use std::alloc::Global;
 use velo_delivery::Files;
 use velo_events::Memory;
@@ -181,7 +181,7 @@ pub(crate) fn words_in_vain<F: Files>(
     ensures { IfSome result (SaysVain (F.disk files.now) request.now what) }
 {
     let ignored = ignored_of(request)?;
-    match names_of(request) {
+    match names_explained_of(request) {
         Some(path) => words_by_file(alloc, path, what, ignored, files),
         None => words_without_names(alloc, what, ignored),
     }

@@ -94,7 +94,8 @@ fn turns_of<'a>(request: &Request<'a>) -> Option<&'a str>
     }
 }
 
-fn names_of<'a>(request: &Request<'a>) -> Option<&'a str>
+/// The path of the names, if the request has one.
+pub fn names_of<'a>(request: &Request<'a>) -> Option<&'a str>
     ensures { option_map (λ path. path.now) result ≡ names_of request.now }
 {
     match request {
@@ -108,7 +109,8 @@ fn names_of<'a>(request: &Request<'a>) -> Option<&'a str>
     }
 }
 
-fn known_of<'a>(request: &Request<'a>) -> Option<&'a str>
+/// The path of the list of known labels, if the request has one.
+pub fn known_of<'a>(request: &Request<'a>) -> Option<&'a str>
     ensures { option_map (λ path. path.now) result ≡ known_of request.now }
 {
     match request {
@@ -119,7 +121,8 @@ fn known_of<'a>(request: &Request<'a>) -> Option<&'a str>
     }
 }
 
-fn sites_of<'a>(request: &Request<'a>) -> Option<&'a str>
+/// The path of the sites, if the request has one.
+pub fn sites_of<'a>(request: &Request<'a>) -> Option<&'a str>
     ensures { option_map (λ path. path.now) result ≡ sites_of request.now }
 {
     match request {

@@ -11,10 +11,10 @@ ghost use Rattle.velo_words.specs.Saying.{EndsInWords, IsSaid, IsTextAt, SaysEve
 use crate::ended::{words_of_end, words_of_open};
 use crate::events::events_up_to;
 use crate::failing::{Recall, words_of_failure};
-use crate::given::{list_of, names_of, schedule_of, sites_of};
+use crate::given::{names_explained_of, schedule_of};
 use crate::ignoring::words_in_vain;
 use crate::refused::{refused_words, wrong_value_words};
-use crate::roles::report_of;
+use crate::roles::{known_of, report_of, sites_of};
 use std::alloc::Global;
 use velo_bytes::{Bytes, Sink, WriteFault, write_all};
 use velo_claims::ReportFault;
@@ -195,7 +195,12 @@ fn words_of<F: Files>(alloc: Global, request: &Request, fate: Fate, files: &F) -
         }
         Fate::Names(NamesFault::Memory) => None,
         Fate::Names(fault) => {
-            words_of_file(alloc, names_of(request)?, FileFault::Names(fault), files)
+            words_of_file(
+                alloc,
+                names_explained_of(request)?,
+                FileFault::Names(fault),
+                files,
+            )
         }
         Fate::Sites(SitesFault::Memory) => None,
         Fate::Sites(fault) => {
@@ -210,7 +215,7 @@ fn words_of<F: Files>(alloc: Global, request: &Request, fate: Fate, files: &F) -
         Fate::Open => words_of_open(alloc, request),
         Fate::List(ListFault::Memory) => None,
         Fate::List(fault) => {
-            words_of_file(alloc, list_of(request)?, FileFault::List(fault), files)
+            words_of_file(alloc, known_of(request)?, FileFault::List(fault), files)
         }
         _ => None,
     }
