@@ -1,11 +1,11 @@
 -- How the program ends where no request is done.
-use Rattle.std.specs.Prelude.{◌⊎◌, ℕ, List, [], codes}
+use Rattle.std.specs.Prelude.{◌≡◌, ◌⊎◌, ℕ, List, codes}
 use Rattle.clap.specs.declared.error.kind.ErrorKind.{ErrorKind}
 use Rattle.clap.specs.declared.error.kind.ErrorKind.TheVariants.{DisplayHelp, DisplayVersion, OutOfMemory}
 use Rattle.velo_events.specs.Refusals.{GrowthRefused}
 use Rattle.velo_fate.specs.Fate.{Closes, Ends}
 use Rattle.velo_fate.specs.declared.fate.Fate.TheVariants.{Memory, WriteFailed}
-use Rattle.velo_delivery.specs.Writing.{BreaksOff, Writes, Writing}
+use Rattle.velo_delivery.specs.Writing.{BreaksOff, Writes, WritesNothing, Writing}
 
 -- the status where the words are at fault
 abbrev pub bad_usage : ℕ
@@ -27,11 +27,11 @@ abbrev pub console_of : Type 0 → Writing → Writing → ℕ → Console
 console_of is_kept stdout stderr status =
     record { stdout = stdout; is_kept = is_kept; stderr = stderr; status = status }
 
--- the text went to standard output, and the end is a good one without a line; or it broke off, and
--- the end is that of a failed write
+-- the text went to standard output, the status is 0, and nothing went to standard error; or the text
+-- broke off, and the end is that of a failed write
 abbrev pub ShowsHelp : Console → List ℕ → Type 0
 ShowsHelp console text =
-    (Writes console.stdout text × Closes 0 [] console.stderr console.status)
+    (Writes console.stdout text × (console.status ≡ 0) × WritesNothing console.stderr)
     ⊎ (BreaksOff console.stdout text × Ends WriteFailed console.stderr console.status)
 
 -- an error of this kind was reported by this text: help and the version were printed; after any
