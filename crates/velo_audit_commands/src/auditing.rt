@@ -15,7 +15,7 @@ ghost use Rattle.velo_delivery.specs.Writing.{writing};
 use crate::command::Command;
 use crate::page::page_of;
 use std::alloc::Global;
-use velo_audit::{AuditFault, Told, audit_checked, count_atomic};
+use velo_audit::{AuditFault, Told, audit_checked, count_labels_left};
 use velo_audit_text::Asked;
 use velo_bytes::{Sink, Source};
 use velo_delivery::{Files, Operand};
@@ -73,7 +73,7 @@ fn tell_rounds<O: Sink>(
     ensures { PrintsRounds names.now sites.now log.now.events asked.now options.now rounds.now
         (writing O.contents O.failures out.old out.new) result }
 {
-    let atomic = match count_atomic(alloc, log, left) {
+    let atomic = match count_labels_left(alloc, log, left) {
         Ok(atomic) => atomic,
         Err(Memory) => return Fate::Memory,
     };
