@@ -13,19 +13,19 @@ ghost use Rattle.velo_audit_commands.specs.Auditing.{IsAuditPage, IsAuditText, l
 ghost use Rattle.velo_audit_commands.specs.Predicting.{predictions_page};
 ghost use Rattle.velo_inputs.specs.Leaving.{left_out_at_first};
 
+use crate::command::Inquiry;
 use std::alloc::Global;
 use velo_audit::Told;
 use velo_audit_findings::{audit_junit, audit_sarif};
 use velo_audit_forms::audit_json;
 use velo_audit_text::{Asked, Listed, Listing, audit_text, listed_of, listing_text};
-use velo_delays::{Deadlock, PredictedCycle};
 use velo_events::{Bounds, Memory};
 use velo_explain::Page;
 use velo_filter::thin;
 use velo_inputs::left_out;
 use velo_names::Names;
 use velo_predict_forms::predictions_json;
-use velo_predict_text::predictions_text;
+use velo_predict_text::{PredictedFindings, predictions_text};
 use velo_request::{AuditOptions, OutputFormat, PredictOptions, TextOrJson};
 use velo_sites::Sites;
 use velo_tally::marks_of;
@@ -194,32 +194,37 @@ pub(crate) fn page_of(
 /// # Errors
 /// `Memory` if an allocation failed.
 pub(crate) fn page_of_predictions(
-    alloc: Global,
+    inquiry: &Inquiry<PredictOptions>,
     log: &Trace,
-    names: &Names,
-    sites: &Option<Sites>,
-    asked: &Asked,
-    options: &PredictOptions,
-    rounds: &[Told],
-    founds: &[PredictedCycle],
-    deadlocks: &[Deadlock],
-    tries: u64,
+    findings: &PredictedFindings,
 ) -> Result<Page, Memory>
     requires few { length log.now.events ≤ MAX_EVENTS }
     requires can_come_about { CanComeAbout log.now.events }
-    requires truly { All (TellsTruly log.now.events) rounds.now }
-    requires founds { All CanBeTold founds.now }
-    requires deadlocks { All CanTellDeadlock deadlocks.now }
-    ensures { IfOk result (λ page. page ≡ predictions_page options.now.format names.now sites.now
-        log.now.events options.now.input.now asked.now rounds.now founds.now deadlocks.now tries) }
+    requires truly { All (TellsTruly log.now.events) findings.now.rounds.items }
+    requires cycles { All CanBeTold findings.now.cycles.items }
+    requires deadlocks { All CanTellDeadlock findings.now.deadlocks.items }
+    ensures { IfOk result (λ page. page ≡ predictions_page inquiry.now.options.now.format
+        inquiry.now.names.now inquiry.now.sites.now log.now.events inquiry.now.options.now.input.now
+        inquiry.now.asked.now findings.now) }
 {
-    let input = options.input;
-    match options.format {
+    let input = inquiry.options.input;
+    match inquiry.options.format {
         TextOrJson::Text => predictions_text(
-            alloc, names, sites, log, asked, rounds, founds, deadlocks, tries,
+            inquiry.alloc,
+            inquiry.names,
+            inquiry.sites,
+            log,
+            inquiry.asked,
+            findings,
         ),
         TextOrJson::Json => predictions_json(
-            alloc, names, sites, log, input, asked, rounds, founds, deadlocks, tries,
+            inquiry.alloc,
+            inquiry.names,
+            inquiry.sites,
+            log,
+            input,
+            inquiry.asked,
+            findings,
         ),
     }
 }
