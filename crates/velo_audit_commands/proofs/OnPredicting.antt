@@ -12,6 +12,7 @@ use Rattle.velo_audit_text.specs.declared.words.Asked.{Asked}
 use Rattle.velo_delays.specs.Deadlock.{AreDeadlocksIn}
 use Rattle.velo_delays.specs.Found.{AreFoundIn}
 use Rattle.velo_predict_text.specs.Text.{CanBeTold, CanTellDeadlock}
+use Rattle.velo_predict_text.specs.declared.findings.PredictedFindings.{PredictedFindings}
 use Rattle.velo_predict_text.proofs.OnFound.{CanBeTold-from, CanTellDeadlock-from}
 use Rattle.velo_fate.specs.declared.fate.Fate.{Fate}
 use Rattle.velo_fate.specs.declared.fate.Fate.TheVariants as fate
@@ -21,7 +22,6 @@ use Rattle.velo_fate.proofs.OnDelivery.{delivered_reads, printed_put, same_fate}
 use Rattle.velo_delivery.specs.Disk.{Store}
 use Rattle.velo_delivery.specs.Writing.{Writing, WritesNothing}
 use Rattle.velo_request.specs.declared.request.PredictOptions.{PredictOptions}
-use Rattle.velo_audit_commands.specs.declared.predicting.PredictedFindings.{PredictedFindings}
 use Rattle.velo_audit_commands.specs.Auditing.{AreRoundsOf, LacksRounds, left_out_at_last}
 use Rattle.velo_inputs.specs.Leaving.{left_out_at_first}
 use Rattle.velo_audit_commands.specs.Predicting.{ArePredictionsOf, IsSearched, Predicts, PredictsIfOf, PredictsSited, predicted}
@@ -42,21 +42,27 @@ module _ (values : Bool) (bounds : Bounds) (log : List Event) (left : Omitted) (
   pub can_tell_deadlocks : All CanTellDeadlock findings.deadlocks.items
   can_tell_deadlocks = CanTellDeadlock-from bounds (rest_of left are.searched) findings.deadlocks.items are.deadlocks
 
+-- predictions of a log without what the rounds told before leave out
+pub predictions_behind : (values : Bool) (bounds : Bounds) (log : List Event) (left first : Omitted) (rounds : List Told) (findings : PredictedFindings) → findings.rounds.items ≡ rounds → left ≡ left_out_at_last log first rounds
+    → ArePredictionsOf values bounds log left findings → ArePredictionsOf values bounds log (left_out_at_last log first findings.rounds.items) findings
+predictions_behind values bounds log left first rounds findings told behind are =
+    subst (λ (l : Omitted). ArePredictionsOf values bounds log l findings) (behind ∙ sym (ap (λ (rs : List Told). left_out_at_last log first rs) told)) are
+
 module _ (names : NameLists) (sites : Option Table) (asked : Asked) (options : PredictOptions) (store : Store) (stdout : Writing) where
   -- an answer without a word
   silent_delivered : (target : Option (Bor (List ℕ))) (f g : Fate) → silent f ≡ silent g → IsDelivered store target stdout (silent g) g → IsDelivered store target stdout (silent f) f
   silent_delivered target f g is put = subst (λ (h : Fate). IsDelivered store target stdout (silent h) h) (sym (ap (λ (a : CommandAnswer). a.fate) is)) put
 
   -- what was found is told, or memory was wanting
-  pub told_so : (bounds : Bounds) (log : List Event) (rounds : List Told) (findings : PredictedFindings) (f : Fate) → AreRoundsOf true log (left_out_at_first asked) rounds
-      → ArePredictionsOf options.values bounds log (left_out_at_last log (left_out_at_first asked) rounds) findings → DeliversOrLacks (predicted names sites options bounds log asked rounds findings) store options.target stdout f
+  pub told_so : (bounds : Bounds) (log : List Event) (findings : PredictedFindings) (f : Fate) → AreRoundsOf true log (left_out_at_first asked) findings.rounds.items
+      → ArePredictionsOf options.values bounds log (left_out_at_last log (left_out_at_first asked) findings.rounds.items) findings → DeliversOrLacks (predicted names sites options bounds log asked findings) store options.target stdout f
       → Predicts names sites asked options bounds log store stdout f
-  told_so bounds log rounds findings f are foretold (inl put) = (
-    predicted names sites options bounds log asked rounds findings,
-    inl (inl (record { rounds = rounds; are_rounds = are; findings = findings; are_predictions = foretold; said = refl })),
+  told_so bounds log findings f are foretold (inl put) = (
+    predicted names sites options bounds log asked findings,
+    inl (inl (record { findings = findings; are_rounds = are; are_predictions = foretold; said = refl })),
     put,
   )
-  told_so bounds log rounds findings f are foretold (inr lacks) =
+  told_so bounds log findings f are foretold (inr lacks) =
       (silent fate.Memory, inr (lacks.0, refl), subst (λ (g : Fate). IsDelivered store options.target stdout (silent fate.Memory) g) (sym lacks.1) (refl, lacks.2, lacks.3))
 
   -- there are no rounds, and nothing is told

@@ -7,7 +7,6 @@ use Rattle.velo_logtext.specs.Text.{log_text}
 use Rattle.velo_names.specs.Names.{NameLists}
 use Rattle.velo_sites.specs.Sites.{Table}
 use Rattle.velo_filter.specs.Left.{Omitted}
-use Rattle.velo_audit.specs.declared.told.Told.{Told}
 use Rattle.velo_audit_text.specs.declared.words.Asked.{Asked}
 use Rattle.velo_delays.specs.declared.judged.PredictedCycle.{PredictedCycle}
 use Rattle.velo_delays.specs.declared.stuck.Deadlock.{Deadlock}
@@ -15,6 +14,7 @@ use Rattle.velo_delays.specs.Anew.{IsRenewed}
 use Rattle.velo_delays.specs.Deadlock.{AreDeadlocksIn}
 use Rattle.velo_delays.specs.Found.{AreFoundIn}
 use Rattle.velo_predict_text.specs.Text.{is_something_told, predictions_text}
+use Rattle.velo_predict_text.specs.declared.findings.PredictedFindings.{PredictedFindings}
 use Rattle.velo_audit_forms.specs.Answer.{line_text}
 use Rattle.velo_predict_forms.specs.Answer.{predictions_json}
 use Rattle.velo_worker.specs.declared.ending.Ending.TheVariants.{Done}
@@ -28,7 +28,6 @@ use Rattle.velo_delivery.specs.Writing.{Writing}
 use Rattle.velo_request.specs.declared.request.TextOrJson.{TextOrJson}
 use Rattle.velo_request.specs.declared.request.TextOrJson.TheVariants.{Json, Text}
 use Rattle.velo_request.specs.declared.request.PredictOptions.{PredictOptions}
-use Rattle.velo_audit_commands.specs.declared.predicting.PredictedFindings.{PredictedFindings}
 use Rattle.velo_audit_commands.specs.Auditing.{AreRoundsOf, HasFullGraph, IsOfOtherLog, left_out_at_last}
 use Rattle.velo_inputs.specs.Leaving.{left_out_at_first}
 use Rattle.velo_inputs.specs.Input.{ComesAbout, IsUnchecked}
@@ -61,30 +60,28 @@ pub record ArePredictionsOf (values : Bool) (bounds : Bounds) (log : List Event)
 
 -- the trace that is told first, if there is one
 abbrev pub first_trace : List PredictedCycle → List Deadlock → Option (List Event)
-first_trace (found ∷ founds) deadlocks = Some found.trace.events
+first_trace (found ∷ cycles) deadlocks = Some found.trace.events
 first_trace [] (deadlock ∷ deadlocks) = Some deadlock.trace.events
 first_trace [] [] = None
 
 -- The page of the rounds and the predictions in the form that was asked for: a text, or one JSON
 -- object, which has the path of the log
 abbrev pub predictions_page : TextOrJson → NameLists → Option Table → List Event → List ℕ → Asked
-    → List Told → List PredictedCycle → List Deadlock → ℕ → List ℕ
-predictions_page Text names sites log path asked rounds founds deadlocks tries =
-    predictions_text names sites log asked rounds founds deadlocks tries
-predictions_page Json names sites log path asked rounds founds deadlocks tries =
-    line_text (predictions_json (record { log = log; names = names; sites = sites }) path asked rounds
-    founds deadlocks tries)
+    → PredictedFindings → List ℕ
+predictions_page Text names sites log path asked findings =
+    predictions_text names sites log asked findings
+predictions_page Json names sites log path asked findings =
+    line_text (predictions_json (record { log = log; names = names; sites = sites }) path asked findings)
 
 -- this trace is to be saved as a log, and the rounds of the log itself and the predictions are to be
 -- printed; it is an alarm where something is told
 abbrev pub predicted : NameLists → Option Table → PredictOptions → Bounds → List Event → Asked
-    → List Told → PredictedFindings → CommandAnswer
-predicted names sites options bounds log asked rounds findings =
+    → PredictedFindings → CommandAnswer
+predicted names sites options bounds log asked findings =
     record {
       saved = option_map (log_text bounds) (first_trace findings.cycles.items findings.deadlocks.items);
-      printed = Some (predictions_page options.format names sites log options.input.now asked rounds
-          findings.cycles.items findings.deadlocks.items findings.tries);
-      fate = Finished Done (is_something_told rounds findings.cycles.items findings.deadlocks.items);
+      printed = Some (predictions_page options.format names sites log options.input.now asked findings);
+      fate = Finished Done (is_something_told findings);
     }
 
 -- The rounds of the log are told, as by an audit with witnesses. Their labels are left out, and then
@@ -92,12 +89,11 @@ predicted names sites options bounds log asked rounds findings =
 pub record TellsPredictions (names : NameLists) (sites : Option Table) (asked : Asked)
     (options : PredictOptions) (bounds : Bounds) (log : List Event)
     (answer : CommandAnswer) : Type 0 where
-  pub rounds : List Told
-  pub are_rounds : AreRoundsOf true log (left_out_at_first asked) rounds
   pub findings : PredictedFindings
+  pub are_rounds : AreRoundsOf true log (left_out_at_first asked) findings.rounds.items
   pub are_predictions : ArePredictionsOf options.values bounds log
-      (left_out_at_last log (left_out_at_first asked) rounds) findings
-  pub said : answer ≡ predicted names sites options bounds log asked rounds findings
+      (left_out_at_last log (left_out_at_first asked) findings.rounds.items) findings
+  pub said : answer ≡ predicted names sites options bounds log asked findings
 
 abbrev pub PredictsEvents : NameLists → Option Table → Asked → PredictOptions → Bounds → List Event
     → CommandAnswer → Type 0

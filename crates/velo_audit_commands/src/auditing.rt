@@ -12,10 +12,10 @@ ghost use Rattle.velo_audit_commands.specs.Commands.{AuditsLog, DoesAudit};
 ghost use Rattle.velo_delivery.specs.Reading.{reading};
 ghost use Rattle.velo_delivery.specs.Writing.{writing};
 
-use crate::command::Command;
+use crate::command::{Command, Inquiry};
 use crate::page::page_of;
 use std::alloc::Global;
-use velo_audit::{AuditFault, Told, audit_checked, count_atomic};
+use velo_audit::{AuditFault, Told, audit_checked, count_labels_left};
 use velo_audit_text::Asked;
 use velo_bytes::{Sink, Source};
 use velo_delivery::{Files, Operand};
@@ -54,13 +54,9 @@ fn is_found(rounds: &[Told]) -> bool
 
 /// Prints the rounds, as a whole.
 fn tell_rounds<O: Sink>(
-    alloc: Global,
+    inquiry: &Inquiry<AuditOptions>,
     bounds: Bounds,
     log: &Trace,
-    names: &Names,
-    sites: &Option<Sites>,
-    asked: &Asked,
-    options: &AuditOptions,
     rounds: &[Told],
     left: &LeftOut,
     out: &mut O,
@@ -69,17 +65,16 @@ fn tell_rounds<O: Sink>(
     requires well_formed { IsWellFormed bounds log.now.events }
     requires truly { All (TellsTruly log.now.events) rounds.now }
     requires left { left_of left.now
-        ≡ left_out_at_last log.now.events (left_out_at_first asked.now) rounds.now }
-    ensures { PrintsRounds names.now sites.now log.now.events asked.now options.now rounds.now
+        ≡ left_out_at_last log.now.events (left_out_at_first inquiry.now.asked.now) rounds.now }
+    ensures { PrintsRounds inquiry.now.names.now inquiry.now.sites.now log.now.events
+        inquiry.now.asked.now inquiry.now.options.now rounds.now
         (writing O.contents O.failures out.old out.new) result }
 {
-    let atomic = match count_atomic(alloc, log, left) {
+    let atomic = match count_labels_left(inquiry.alloc, log, left) {
         Ok(atomic) => atomic,
         Err(Memory) => return Fate::Memory,
     };
-    match page_of(
-        alloc, bounds, log, names, sites, asked, options, rounds, atomic,
-    ) {
+    match page_of(inquiry, bounds, log, rounds, atomic) {
         Ok(text) => print(text.as_slice(), is_found(rounds), out),
         Err(Memory) => Fate::Memory,
     }
@@ -122,36 +117,30 @@ pub fn rounds_of(
 
 /// Audits the log of a closed world, of which so much is left out at first.
 fn audit_rest<O: Sink>(
-    alloc: Global,
+    inquiry: &Inquiry<AuditOptions>,
     closed: &Closed,
-    names: &Names,
-    sites: &Option<Sites>,
-    asked: &Asked,
-    options: &AuditOptions,
     left: &mut LeftOut,
     out: &mut O,
 ) -> Fate
-    requires short { length closed.now.log ≤ options.now.limits.events }
-    requires left { left_of left.old ≡ left_out_at_first asked.now }
-    ensures { Audits names.now sites.now asked.now options.now closed.now.config.bounds
-        closed.now.log (writing O.contents O.failures out.old out.new) result }
+    requires short { length closed.now.log ≤ inquiry.now.options.now.limits.events }
+    requires left { left_of left.old ≡ left_out_at_first inquiry.now.asked.now }
+    ensures { Audits inquiry.now.names.now inquiry.now.sites.now inquiry.now.asked.now
+        inquiry.now.options.now closed.now.config.bounds closed.now.log
+        (writing O.contents O.failures out.old out.new) result }
 {
-    let config = config_of_rounds(closed, options.limits);
+    let config = config_of_rounds(closed, inquiry.options.limits);
     let log = closed.log();
     match rounds_of(
-        alloc,
+        inquiry.alloc,
         &config,
         log,
         is_clean(closed),
-        asked,
-        options.witness,
+        inquiry.asked,
+        inquiry.options.witness,
         left,
     ) {
         Ok(rounds) => {
-            let bounds = config.bounds;
-            let fate = tell_rounds(
-                alloc, bounds, log, names, sites, asked, options, &rounds, left, out,
-            );
+            let fate = tell_rounds(inquiry, config.bounds, log, &rounds, left, out);
             drop(rounds);
             fate
         }
@@ -160,22 +149,15 @@ fn audit_rest<O: Sink>(
 }
 
 /// Audits the log of a closed world.
-fn audit_closed<O: Sink>(
-    alloc: Global,
-    closed: &Closed,
-    names: &Names,
-    sites: &Option<Sites>,
-    asked: &Asked,
-    options: &AuditOptions,
-    out: &mut O,
-) -> Fate
-    requires short { length closed.now.log ≤ options.now.limits.events }
-    ensures { Audits names.now sites.now asked.now options.now closed.now.config.bounds
-        closed.now.log (writing O.contents O.failures out.old out.new) result }
+fn audit_closed<O: Sink>(inquiry: &Inquiry<AuditOptions>, closed: &Closed, out: &mut O) -> Fate
+    requires short { length closed.now.log ≤ inquiry.now.options.now.limits.events }
+    ensures { Audits inquiry.now.names.now inquiry.now.sites.now inquiry.now.asked.now
+        inquiry.now.options.now closed.now.config.bounds closed.now.log
+        (writing O.contents O.failures out.old out.new) result }
 {
-    match left_out(alloc, asked) {
+    match left_out(inquiry.alloc, inquiry.asked) {
         Ok(mut left) => {
-            let fate = audit_rest(alloc, closed, names, sites, asked, options, &mut left, out);
+            let fate = audit_rest(inquiry, closed, &mut left, out);
             drop(left);
             fate
         }
@@ -184,42 +166,33 @@ fn audit_closed<O: Sink>(
 }
 
 /// Audits the log of a closed world, if the sites are of it.
-fn audit_if_of<O: Sink>(
-    alloc: Global,
-    closed: &Closed,
-    names: &Names,
-    sites: &Option<Sites>,
-    asked: &Asked,
-    options: &AuditOptions,
-    out: &mut O,
-) -> Fate
-    requires short { length closed.now.log ≤ options.now.limits.events }
-    ensures { AuditsIfOf names.now sites.now asked.now options.now closed.now.config.bounds
-        closed.now.log (writing O.contents O.failures out.old out.new) result }
+fn audit_if_of<O: Sink>(inquiry: &Inquiry<AuditOptions>, closed: &Closed, out: &mut O) -> Fate
+    requires short { length closed.now.log ≤ inquiry.now.options.now.limits.events }
+    ensures { AuditsIfOf inquiry.now.names.now inquiry.now.sites.now inquiry.now.asked.now
+        inquiry.now.options.now closed.now.config.bounds closed.now.log
+        (writing O.contents O.failures out.old out.new) result }
 {
-    if !are_of_log(sites, closed.log()) {
+    if !are_of_log(inquiry.sites, closed.log()) {
         return Fate::OtherSites;
     }
-    audit_closed(alloc, closed, names, sites, asked, options, out)
+    audit_closed(inquiry, closed, out)
 }
 
 /// Reads a whole log, does its events, and audits it.
 fn audit_log<I: Source, O: Sink>(
-    alloc: Global,
-    options: &AuditOptions,
-    names: &Names,
-    sites: &Option<Sites>,
-    asked: &Asked,
+    inquiry: &Inquiry<AuditOptions>,
     source: &mut I,
     out: &mut O,
 ) -> Fate
-    ensures { AuditsInput names.now sites.now asked.now options.now
+    ensures { AuditsInput inquiry.now.names.now inquiry.now.sites.now inquiry.now.asked.now
+        inquiry.now.options.now
         (reading I.remaining I.failures source.old source.new)
         (writing O.contents O.failures out.old out.new) result }
 {
-    match do_input(alloc, source, options.limits.events, options.limits.nodes) {
+    let limits = inquiry.options.limits;
+    match do_input(inquiry.alloc, source, limits.events, limits.nodes) {
         Ok(closed) => {
-            let fate = audit_if_of(alloc, &closed, names, sites, asked, options, out);
+            let fate = audit_if_of(inquiry, &closed, out);
             drop(closed);
             fate
         }
@@ -228,20 +201,13 @@ fn audit_log<I: Source, O: Sink>(
 }
 
 /// Audits the log that was asked for, and reports it by the names and with the sites.
-fn audit_input<F: Files, O: Sink>(
-    alloc: Global,
-    options: &AuditOptions,
-    names: &Names,
-    sites: &Option<Sites>,
-    asked: &Asked,
-    files: &F,
-    out: &mut O,
-) -> Fate
-    ensures { AuditsLog names.now sites.now asked.now options.now (store F.disk files.now files.now)
+fn audit_input<F: Files, O: Sink>(inquiry: &Inquiry<AuditOptions>, files: &F, out: &mut O) -> Fate
+    ensures { AuditsLog inquiry.now.names.now inquiry.now.sites.now inquiry.now.asked.now
+        inquiry.now.options.now (store F.disk files.now files.now)
         (writing O.contents O.failures out.old out.new) result }
 {
-    match open_input(files, Operand::Log, options.input, None) {
-        Ok(mut log) => audit_log(alloc, options, names, sites, asked, &mut log, out),
+    match open_input(files, Operand::Log, inquiry.options.input, None) {
+        Ok(mut log) => audit_log(inquiry, &mut log, out),
         Err(fate) => fate,
     }
 }
@@ -258,7 +224,14 @@ impl InContext for Command<'_, AuditOptions<'_>> {
         files: &mut F,
         out: &mut O,
     ) -> Fate {
-        audit_input(alloc, self.options, names, sites, asked, files, out)
+        let inquiry = Inquiry {
+            alloc,
+            names,
+            sites,
+            asked,
+            options: self.options,
+        };
+        audit_input(&inquiry, files, out)
     }
 }
 

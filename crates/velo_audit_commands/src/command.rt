@@ -1,7 +1,27 @@
 //! A command, by what it was asked for.
+use std::alloc::Global;
+use velo_audit_text::Asked;
+use velo_names::Names;
+use velo_sites::Sites;
+
 /// A command that is done in a context: what it was asked for.
 #[derive(Clone, Copy)]
 pub struct Command<'o, O> {
     /// What it was asked for.
     pub options: &'o O,
+}
+
+/// By which names, with which sites, without what, and by which options a log is told of.
+#[derive(Clone, Copy)]
+pub struct Inquiry<'i, O> {
+    /// Where pages are allocated.
+    pub alloc: Global,
+    /// The names.
+    pub names: &'i Names<'i>,
+    /// Where the events happened, if it is known.
+    pub sites: &'i Option<Sites<'i>>,
+    /// What is left out.
+    pub asked: &'i Asked<'i>,
+    /// What was asked for.
+    pub options: &'i O,
 }

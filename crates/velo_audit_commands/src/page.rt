@@ -13,21 +13,18 @@ ghost use Rattle.velo_audit_commands.specs.Auditing.{IsAuditPage, IsAuditText, l
 ghost use Rattle.velo_audit_commands.specs.Predicting.{predictions_page};
 ghost use Rattle.velo_inputs.specs.Leaving.{left_out_at_first};
 
-use std::alloc::Global;
+use crate::command::Inquiry;
 use velo_audit::Told;
 use velo_audit_findings::{audit_junit, audit_sarif};
 use velo_audit_forms::audit_json;
-use velo_audit_text::{Asked, Listed, Listing, audit_text, listed_of, listing_text};
-use velo_delays::{Deadlock, PredictedCycle};
+use velo_audit_text::{Listed, Listing, audit_text, listed_of, listing_text};
 use velo_events::{Bounds, Memory};
 use velo_explain::Page;
 use velo_filter::thin;
 use velo_inputs::left_out;
-use velo_names::Names;
 use velo_predict_forms::predictions_json;
-use velo_predict_text::predictions_text;
+use velo_predict_text::{PredictedFindings, predictions_text};
 use velo_request::{AuditOptions, OutputFormat, PredictOptions, TextOrJson};
-use velo_sites::Sites;
 use velo_tally::marks_of;
 use velo_traces::Trace;
 
@@ -47,12 +44,9 @@ fn listing_of(options: &AuditOptions) -> Option<Listing>
 
 /// The text of the rounds where their labels are listed as was asked for.
 fn listed(
-    alloc: Global,
+    inquiry: &Inquiry<AuditOptions>,
     bounds: Bounds,
     log: &Trace,
-    names: &Names,
-    sites: &Option<Sites>,
-    asked: &Asked,
     listing: Listing,
     rounds: &[Told],
     atomic: usize,
@@ -60,18 +54,19 @@ fn listed(
     requires few { length log.now.events ≤ MAX_EVENTS }
     requires well_formed { IsWellFormed bounds log.now.events }
     requires truly { All (TellsTruly log.now.events) rounds.now }
-    ensures { IfOk result (λ page. IsListingText names.now sites.now log.now.events asked.now listing
-        (rest_of (left_out_at_first asked.now) log.now.events) rounds.now atomic page) }
+    ensures { IfOk result (λ page. IsListingText inquiry.now.names.now inquiry.now.sites.now
+        log.now.events inquiry.now.asked.now listing
+        (rest_of (left_out_at_first inquiry.now.asked.now) log.now.events) rounds.now atomic page) }
 {
-    let left = left_out(alloc, asked)?;
-    let first = thin(alloc, log, &left)?;
-    let marks = marks_of(alloc, bounds, &first.trace)?;
+    let left = left_out(inquiry.alloc, inquiry.asked)?;
+    let first = thin(inquiry.alloc, log, &left)?;
+    let marks = marks_of(inquiry.alloc, bounds, &first.trace)?;
     listing_text(
-        alloc,
-        names,
-        sites,
+        inquiry.alloc,
+        inquiry.names,
+        inquiry.sites,
         log,
-        asked,
+        inquiry.asked,
         listing,
         &first.trace,
         &marks,
@@ -82,12 +77,9 @@ fn listed(
 
 /// The text of the rounds.
 fn text_of(
-    alloc: Global,
+    inquiry: &Inquiry<AuditOptions>,
     bounds: Bounds,
     log: &Trace,
-    names: &Names,
-    sites: &Option<Sites>,
-    asked: &Asked,
     listing: Option<Listing>,
     rounds: &[Told],
     atomic: usize,
@@ -95,46 +87,48 @@ fn text_of(
     requires few { length log.now.events ≤ MAX_EVENTS }
     requires well_formed { IsWellFormed bounds log.now.events }
     requires truly { All (TellsTruly log.now.events) rounds.now }
-    ensures { IfOk result (λ page.
-        IsAuditText names.now sites.now log.now.events asked.now listing rounds.now atomic page) }
+    ensures { IfOk result (λ page. IsAuditText inquiry.now.names.now inquiry.now.sites.now
+        log.now.events inquiry.now.asked.now listing rounds.now atomic page) }
 {
     match listing {
-        None => audit_text(alloc, names, sites, log, asked, rounds, atomic),
-        Some(listing) => listed(
-            alloc, bounds, log, names, sites, asked, listing, rounds, atomic,
+        None => audit_text(
+            inquiry.alloc,
+            inquiry.names,
+            inquiry.sites,
+            log,
+            inquiry.asked,
+            rounds,
+            atomic,
         ),
+        Some(listing) => listed(inquiry, bounds, log, listing, rounds, atomic),
     }
 }
 
 /// The labels that are listed as was asked for.
 fn listed_labels(
-    alloc: Global,
+    inquiry: &Inquiry<AuditOptions>,
     bounds: Bounds,
     log: &Trace,
-    asked: &Asked,
     listing: Listing,
     rounds: &[Told],
 ) -> Result<Listed, Memory>
     requires few { length log.now.events ≤ MAX_EVENTS }
     requires well_formed { IsWellFormed bounds log.now.events }
-    ensures { IfOk result (λ listed. IsListed (rest_of (left_out_at_first asked.now) log.now.events)
+    ensures { IfOk result (λ listed. IsListed
+        (rest_of (left_out_at_first inquiry.now.asked.now) log.now.events)
         listing rounds.now listed.entries.items listed.others) }
 {
-    let left = left_out(alloc, asked)?;
-    let rest = thin(alloc, log, &left)?;
-    let marks = marks_of(alloc, bounds, &rest.trace)?;
-    listed_of(alloc, listing, rounds, &rest.trace, &marks)
+    let left = left_out(inquiry.alloc, inquiry.asked)?;
+    let rest = thin(inquiry.alloc, log, &left)?;
+    let marks = marks_of(inquiry.alloc, bounds, &rest.trace)?;
+    listed_of(inquiry.alloc, listing, rounds, &rest.trace, &marks)
 }
 
 /// The rounds as one JSON object.
 fn json_of(
-    alloc: Global,
+    inquiry: &Inquiry<AuditOptions>,
     bounds: Bounds,
     log: &Trace,
-    names: &Names,
-    sites: &Option<Sites>,
-    path: &str,
-    asked: &Asked,
     listing: Option<Listing>,
     rounds: &[Told],
     atomic: usize,
@@ -142,13 +136,19 @@ fn json_of(
     requires few { length log.now.events ≤ MAX_EVENTS }
     requires well_formed { IsWellFormed bounds log.now.events }
     ensures { IfOk result (λ page. IsJsonText
-        (record { log = log.now.events; names = names.now; sites = sites.now }) path.now asked.now
-        listing (rest_of (left_out_at_first asked.now) log.now.events) rounds.now atomic page) }
+        (record { log = log.now.events; names = inquiry.now.names.now; sites = inquiry.now.sites.now })
+        inquiry.now.options.now.input.now inquiry.now.asked.now listing
+        (rest_of (left_out_at_first inquiry.now.asked.now) log.now.events) rounds.now atomic page) }
 {
+    let alloc = inquiry.alloc;
+    let names = inquiry.names;
+    let sites = inquiry.sites;
+    let asked = inquiry.asked;
+    let path = inquiry.options.input;
     let Some(listing) = listing else {
         return audit_json(alloc, names, sites, log, path, asked, None, rounds, atomic);
     };
-    let listed = listed_labels(alloc, bounds, log, asked, listing, rounds)?;
+    let listed = listed_labels(inquiry, bounds, log, listing, rounds)?;
     let some = Some(&listed);
     let page = audit_json(alloc, names, sites, log, path, asked, some, rounds, atomic)?;
     Ok(page)
@@ -159,31 +159,26 @@ fn json_of(
 /// # Errors
 /// `Memory` if an allocation failed.
 pub(crate) fn page_of(
-    alloc: Global,
+    inquiry: &Inquiry<AuditOptions>,
     bounds: Bounds,
     log: &Trace,
-    names: &Names,
-    sites: &Option<Sites>,
-    asked: &Asked,
-    options: &AuditOptions,
     rounds: &[Told],
     atomic: usize,
 ) -> Result<Page, Memory>
     requires few { length log.now.events ≤ MAX_EVENTS }
     requires well_formed { IsWellFormed bounds log.now.events }
     requires truly { All (TellsTruly log.now.events) rounds.now }
-    ensures { IfOk result (λ page.
-        IsAuditPage names.now sites.now log.now.events asked.now options.now rounds.now atomic page) }
+    ensures { IfOk result (λ page. IsAuditPage inquiry.now.names.now inquiry.now.sites.now
+        log.now.events inquiry.now.asked.now inquiry.now.options.now rounds.now atomic page) }
 {
+    let alloc = inquiry.alloc;
+    let names = inquiry.names;
+    let options = inquiry.options;
     let listing = listing_of(options);
     let path = options.input;
     match options.format {
-        OutputFormat::Text => text_of(
-            alloc, bounds, log, names, sites, asked, listing, rounds, atomic,
-        ),
-        OutputFormat::Json => json_of(
-            alloc, bounds, log, names, sites, path, asked, listing, rounds, atomic,
-        ),
+        OutputFormat::Text => text_of(inquiry, bounds, log, listing, rounds, atomic),
+        OutputFormat::Json => json_of(inquiry, bounds, log, listing, rounds, atomic),
         OutputFormat::Sarif => audit_sarif(alloc, names, log, path, rounds),
         OutputFormat::Junit => audit_junit(alloc, names, log, path, rounds),
     }
@@ -194,32 +189,37 @@ pub(crate) fn page_of(
 /// # Errors
 /// `Memory` if an allocation failed.
 pub(crate) fn page_of_predictions(
-    alloc: Global,
+    inquiry: &Inquiry<PredictOptions>,
     log: &Trace,
-    names: &Names,
-    sites: &Option<Sites>,
-    asked: &Asked,
-    options: &PredictOptions,
-    rounds: &[Told],
-    founds: &[PredictedCycle],
-    deadlocks: &[Deadlock],
-    tries: u64,
+    findings: &PredictedFindings,
 ) -> Result<Page, Memory>
     requires few { length log.now.events ≤ MAX_EVENTS }
     requires can_come_about { CanComeAbout log.now.events }
-    requires truly { All (TellsTruly log.now.events) rounds.now }
-    requires founds { All CanBeTold founds.now }
-    requires deadlocks { All CanTellDeadlock deadlocks.now }
-    ensures { IfOk result (λ page. page ≡ predictions_page options.now.format names.now sites.now
-        log.now.events options.now.input.now asked.now rounds.now founds.now deadlocks.now tries) }
+    requires truly { All (TellsTruly log.now.events) findings.now.rounds.items }
+    requires cycles { All CanBeTold findings.now.cycles.items }
+    requires deadlocks { All CanTellDeadlock findings.now.deadlocks.items }
+    ensures { IfOk result (λ page. page ≡ predictions_page inquiry.now.options.now.format
+        inquiry.now.names.now inquiry.now.sites.now log.now.events inquiry.now.options.now.input.now
+        inquiry.now.asked.now findings.now) }
 {
-    let input = options.input;
-    match options.format {
+    let input = inquiry.options.input;
+    match inquiry.options.format {
         TextOrJson::Text => predictions_text(
-            alloc, names, sites, log, asked, rounds, founds, deadlocks, tries,
+            inquiry.alloc,
+            inquiry.names,
+            inquiry.sites,
+            log,
+            inquiry.asked,
+            findings,
         ),
         TextOrJson::Json => predictions_json(
-            alloc, names, sites, log, input, asked, rounds, founds, deadlocks, tries,
+            inquiry.alloc,
+            inquiry.names,
+            inquiry.sites,
+            log,
+            input,
+            inquiry.asked,
+            findings,
         ),
     }
 }

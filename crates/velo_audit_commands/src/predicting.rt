@@ -19,7 +19,7 @@ ghost use Rattle.velo_audit_commands.specs.Predicting.{ArePredictionsOf, Predict
 ghost use Rattle.velo_inputs.specs.Sending.{DeliversOrLacks};
 
 use crate::auditing::{is_clean, rounds_of};
-use crate::command::Command;
+use crate::command::{Command, Inquiry};
 use crate::page::page_of_predictions;
 use std::alloc::Global;
 use velo_audit::Told;
@@ -35,90 +35,74 @@ use velo_inputs::{
     print, save_text,
 };
 use velo_names::Names;
-use velo_predict_text::{is_something_told, trace_text};
+use velo_predict_text::{PredictedFindings, is_something_told, trace_text};
 use velo_request::PredictOptions;
 use velo_sites::Sites;
 use velo_traces::Trace;
 use velo_world::Closed;
 
-/// What predict was asked for, by which names, and without what.
-#[derive(Clone, Copy)]
-struct Inquiry<'i, 'n, 'a, 'o> {
-    /// The names.
-    names: &'i Names<'n>,
-    /// What is left out.
-    asked: &'i Asked<'a>,
-    /// What it was asked for.
-    options: &'i PredictOptions<'o>,
-}
-
-/// What the search found.
-#[derive(Drop)]
-pub struct PredictedFindings {
-    /// Predictions with a cycle.
-    pub cycles: Vec<PredictedCycle>,
-    /// Deadlocks.
-    pub deadlocks: Vec<Deadlock>,
-    /// How many delays were tried.
-    pub tries: u64,
-}
-
-/// Predictions of a log without what is left out. The labels that they blame are left out, too.
+/// Rounds of a log, and predictions of it without what is left out. The labels that these blame are
+/// left out, too.
 fn search_in(
-    alloc: Global,
+    inquiry: &Inquiry<PredictOptions>,
     config: &Config,
     log: &Trace,
-    options: &PredictOptions,
+    rounds: Vec<Told>,
     left: &mut LeftOut,
 ) -> Result<PredictedFindings, Memory>
     requires goes_on { config.now.stop ≡ false }
     requires few { length log.now.events ≤ MAX_EVENTS }
     requires well_formed { IsWellFormed config.now.bounds log.now.events }
+    ensures rounds { IfOk result (λ findings. findings.rounds.items ≡ rounds.items) }
     ensures cycles { IfOk result (λ findings. AreFoundIn config.now.bounds log.now.events
         (left_of left.old) findings.cycles.items) }
     ensures deadlocks { IfOk result (λ findings. AreDeadlocksIn config.now.bounds log.now.events
         (left_of left.old) findings.deadlocks.items) }
 {
+    let options = inquiry.options;
     let draws = Draws {
         tries: options.tries,
         seed: options.seed,
     };
-    let stuck = search_deadlocks(alloc, config, log, options.tries, left)?;
-    let cyclic = search(alloc, config, log, draws, left)?;
+    let stuck = search_deadlocks(inquiry.alloc, config, log, options.tries, left)?;
+    let cyclic = search(inquiry.alloc, config, log, draws, left)?;
     Ok(PredictedFindings {
+        rounds,
         cycles: cyclic.found,
         deadlocks: stuck.found,
         tries: cyclic.tries.saturating_add(stuck.tries),
     })
 }
 
-/// Predictions of a log without what is left out, by its values or by those that tell where they come
-/// from. The labels that they blame are left out, too.
+/// Rounds of a log, and predictions of it without what is left out, by its values or by those that tell
+/// where they come from. The labels that these blame are left out, too.
 fn search_log(
-    alloc: Global,
+    inquiry: &Inquiry<PredictOptions>,
     config: &Config,
     log: &Trace,
-    options: &PredictOptions,
+    rounds: Vec<Told>,
     left: &mut LeftOut,
 ) -> Result<PredictedFindings, Memory>
     requires goes_on { config.now.stop ≡ false }
     requires few { length log.now.events ≤ MAX_EVENTS }
     requires well_formed { IsWellFormed config.now.bounds log.now.events }
-    ensures { IfOk result (λ findings. ArePredictionsOf options.now.values config.now.bounds
-        log.now.events (left_of left.old) findings) }
+    ensures rounds { IfOk result (λ findings. findings.rounds.items ≡ rounds.items) }
+    ensures predictions { IfOk result (λ findings. ArePredictionsOf inquiry.now.options.now.values
+        config.now.bounds log.now.events (left_of left.old) findings) }
 {
+    let options = inquiry.options;
     if options.values {
-        return search_in(alloc, config, log, options, left);
+        return search_in(inquiry, config, log, rounds, left);
     }
-    let anew = with_lines(alloc, config, log)?;
-    search_in(alloc, config, &anew, options, left)
+    let anew = with_lines(inquiry.alloc, config, log)?;
+    search_in(inquiry, config, &anew, rounds, left)
 }
 
 /// The trace that is told first, if there is one.
-fn first_trace<'f>(founds: &'f [PredictedCycle], deadlocks: &'f [Deadlock]) -> Option<&'f [Event]>
-    ensures { option_copied result ≡ first_trace founds.now deadlocks.now }
+fn first_trace<'f>(cycles: &'f [PredictedCycle], deadlocks: &'f [Deadlock]) -> Option<&'f [Event]>
+    ensures { option_copied result ≡ first_trace cycles.now deadlocks.now }
 {
-    match (founds.first(), deadlocks.first()) {
+    match (cycles.first(), deadlocks.first()) {
         (Some(found), _) => Some(found.trace.as_slice()),
         (None, Some(deadlock)) => Some(deadlock.trace.as_slice()),
         (None, None) => None,
@@ -127,12 +111,11 @@ fn first_trace<'f>(founds: &'f [PredictedCycle], deadlocks: &'f [Deadlock]) -> O
 
 /// Saves the trace as a log at the target, if there are both, and then prints the words.
 fn save_and_print<F: Files, O: Sink>(
-    alloc: Global,
+    inquiry: &Inquiry<PredictOptions>,
     bounds: Bounds,
     words: &[u8],
     alarm: bool,
     trace: Option<&[Event]>,
-    target: Option<&str>,
     files: &mut F,
     out: &mut O,
 ) -> Fate
@@ -142,16 +125,16 @@ fn save_and_print<F: Files, O: Sink>(
           printed = Some words.now;
           fate = Finished Done alarm;
         })
-        (store F.disk files.old files.new) target.entry
+        (store F.disk files.old files.new) inquiry.now.options.now.target
         (writing O.contents O.failures out.old out.new) result }
 {
     let Some(events) = trace else {
         return print(words, alarm, out);
     };
-    let Some(path) = target else {
+    let Some(path) = inquiry.options.target else {
         return print(words, alarm, out);
     };
-    let log = match trace_text(alloc, bounds, events) {
+    let log = match trace_text(inquiry.alloc, bounds, events) {
         Ok(log) => log,
         Err(Memory) => return Fate::Memory,
     };
@@ -161,70 +144,43 @@ fn save_and_print<F: Files, O: Sink>(
     }
 }
 
-/// Tells the rounds of a log, and what was found. The page is made before anything is written.
+/// Tells what a log shows and foretells. The page is made before anything is written.
 fn tell<F: Files, O: Sink>(
-    alloc: Global,
+    inquiry: &Inquiry<PredictOptions>,
     bounds: Bounds,
     log: &Trace,
-    inquiry: &Inquiry,
-    sites: &Option<Sites>,
-    rounds: &[Told],
     findings: &PredictedFindings,
     files: &mut F,
     out: &mut O,
 ) -> Fate
     requires few { length log.now.events ≤ MAX_EVENTS }
     requires well_formed { IsWellFormed bounds log.now.events }
-    requires rounds { AreRoundsOf true log.now.events (left_out_at_first inquiry.now.asked.now) rounds.now }
+    requires rounds { AreRoundsOf true log.now.events (left_out_at_first inquiry.now.asked.now)
+        findings.now.rounds.items }
     requires found { ArePredictionsOf inquiry.now.options.now.values bounds log.now.events
-        (left_out_at_last log.now.events (left_out_at_first inquiry.now.asked.now) rounds.now)
-        findings.now }
-    ensures { DeliversOrLacks (predicted inquiry.now.names.now sites.now inquiry.now.options.now
-        bounds log.now.events inquiry.now.asked.now rounds.now findings.now)
+        (left_out_at_last log.now.events (left_out_at_first inquiry.now.asked.now)
+        findings.now.rounds.items) findings.now }
+    ensures { DeliversOrLacks (predicted inquiry.now.names.now inquiry.now.sites.now
+        inquiry.now.options.now bounds log.now.events inquiry.now.asked.now findings.now)
         (store F.disk files.old files.new) inquiry.now.options.now.target
         (writing O.contents O.failures out.old out.new) result }
 {
-    let founds = &findings.cycles;
-    let deadlocks = &findings.deadlocks;
-    let made = page_of_predictions(
-        alloc,
-        log,
-        inquiry.names,
-        sites,
-        inquiry.asked,
-        inquiry.options,
-        rounds,
-        founds,
-        deadlocks,
-        findings.tries,
-    );
+    let made = page_of_predictions(inquiry, log, findings);
     let words = match made {
         Ok(words) => words,
         Err(Memory) => return Fate::Memory,
     };
-    let alarm = is_something_told(rounds, founds, deadlocks);
-    let trace = first_trace(founds, deadlocks);
-    let target = inquiry.options.target;
-    save_and_print(
-        alloc,
-        bounds,
-        words.as_slice(),
-        alarm,
-        trace,
-        target,
-        files,
-        out,
-    )
+    let alarm = is_something_told(findings);
+    let trace = first_trace(&findings.cycles, &findings.deadlocks);
+    save_and_print(inquiry, bounds, words.as_slice(), alarm, trace, files, out)
 }
 
 /// Searches a log whose rounds are these, and tells what they and the search found.
 fn predict_after<F: Files, O: Sink>(
-    alloc: Global,
+    inquiry: &Inquiry<PredictOptions>,
     config: &Config,
     log: &Trace,
-    inquiry: &Inquiry,
-    sites: &Option<Sites>,
-    rounds: &[Told],
+    rounds: Vec<Told>,
     left: &mut LeftOut,
     files: &mut F,
     out: &mut O,
@@ -232,19 +188,16 @@ fn predict_after<F: Files, O: Sink>(
     requires goes_on { config.now.stop ≡ false }
     requires few { length log.now.events ≤ MAX_EVENTS }
     requires well_formed { IsWellFormed config.now.bounds log.now.events }
-    requires rounds { AreRoundsOf true log.now.events (left_out_at_first inquiry.now.asked.now) rounds.now }
+    requires rounds { AreRoundsOf true log.now.events (left_out_at_first inquiry.now.asked.now) rounds.items }
     requires left { left_of left.old
-        ≡ left_out_at_last log.now.events (left_out_at_first inquiry.now.asked.now) rounds.now }
-    ensures { Predicts inquiry.now.names.now sites.now inquiry.now.asked.now inquiry.now.options.now
-        config.now.bounds log.now.events (store F.disk files.old files.new)
+        ≡ left_out_at_last log.now.events (left_out_at_first inquiry.now.asked.now) rounds.items }
+    ensures { Predicts inquiry.now.names.now inquiry.now.sites.now inquiry.now.asked.now
+        inquiry.now.options.now config.now.bounds log.now.events (store F.disk files.old files.new)
         (writing O.contents O.failures out.old out.new) result }
 {
-    match search_log(alloc, config, log, inquiry.options, left) {
+    match search_log(inquiry, config, log, rounds, left) {
         Ok(findings) => {
-            let bounds = config.bounds;
-            let fate = tell(
-                alloc, bounds, log, inquiry, sites, rounds, &findings, files, out,
-            );
+            let fate = tell(inquiry, config.bounds, log, &findings, files, out);
             drop(findings);
             fate
         }
@@ -254,24 +207,22 @@ fn predict_after<F: Files, O: Sink>(
 
 /// Predicts by the log of a closed world, of which so much is left out at first.
 fn predict_rest<F: Files, O: Sink>(
-    alloc: Global,
+    inquiry: &Inquiry<PredictOptions>,
     closed: &Closed,
-    inquiry: &Inquiry,
-    sites: &Option<Sites>,
     left: &mut LeftOut,
     files: &mut F,
     out: &mut O,
 ) -> Fate
     requires short { length closed.now.log ≤ inquiry.now.options.now.limits.events }
     requires left { left_of left.old ≡ left_out_at_first inquiry.now.asked.now }
-    ensures { Predicts inquiry.now.names.now sites.now inquiry.now.asked.now inquiry.now.options.now
+    ensures { Predicts inquiry.now.names.now inquiry.now.sites.now inquiry.now.asked.now inquiry.now.options.now
         closed.now.config.bounds closed.now.log (store F.disk files.old files.new)
         (writing O.contents O.failures out.old out.new) result }
 {
     let config = config_of_rounds(closed, inquiry.options.limits);
     let log = closed.log();
     match rounds_of(
-        alloc,
+        inquiry.alloc,
         &config,
         log,
         is_clean(closed),
@@ -279,34 +230,26 @@ fn predict_rest<F: Files, O: Sink>(
         true,
         left,
     ) {
-        Ok(rounds) => {
-            let fate = predict_after(
-                alloc, &config, log, inquiry, sites, &rounds, left, files, out,
-            );
-            drop(rounds);
-            fate
-        }
+        Ok(rounds) => predict_after(inquiry, &config, log, rounds, left, files, out),
         Err(fate) => fate,
     }
 }
 
 /// Predicts by the log of a closed world.
 fn predict_closed<F: Files, O: Sink>(
-    alloc: Global,
+    inquiry: &Inquiry<PredictOptions>,
     closed: &Closed,
-    inquiry: &Inquiry,
-    sites: &Option<Sites>,
     files: &mut F,
     out: &mut O,
 ) -> Fate
     requires short { length closed.now.log ≤ inquiry.now.options.now.limits.events }
-    ensures { Predicts inquiry.now.names.now sites.now inquiry.now.asked.now inquiry.now.options.now
+    ensures { Predicts inquiry.now.names.now inquiry.now.sites.now inquiry.now.asked.now inquiry.now.options.now
         closed.now.config.bounds closed.now.log (store F.disk files.old files.new)
         (writing O.contents O.failures out.old out.new) result }
 {
-    match left_out(alloc, inquiry.asked) {
+    match left_out(inquiry.alloc, inquiry.asked) {
         Ok(mut left) => {
-            let fate = predict_rest(alloc, closed, inquiry, sites, &mut left, files, out);
+            let fate = predict_rest(inquiry, closed, &mut left, files, out);
             drop(left);
             fate
         }
@@ -316,42 +259,38 @@ fn predict_closed<F: Files, O: Sink>(
 
 /// Predicts by the log of a closed world, if the sites are of it.
 fn predict_if_of<F: Files, O: Sink>(
-    alloc: Global,
+    inquiry: &Inquiry<PredictOptions>,
     closed: &Closed,
-    inquiry: &Inquiry,
-    sites: &Option<Sites>,
     files: &mut F,
     out: &mut O,
 ) -> Fate
     requires short { length closed.now.log ≤ inquiry.now.options.now.limits.events }
-    ensures { PredictsIfOf inquiry.now.names.now sites.now inquiry.now.asked.now
+    ensures { PredictsIfOf inquiry.now.names.now inquiry.now.sites.now inquiry.now.asked.now
         inquiry.now.options.now closed.now.config.bounds closed.now.log
         (store F.disk files.old files.new) (writing O.contents O.failures out.old out.new) result }
 {
-    if !are_of_log(sites, closed.log()) {
+    if !are_of_log(inquiry.sites, closed.log()) {
         return Fate::OtherSites;
     }
-    predict_closed(alloc, closed, inquiry, sites, files, out)
+    predict_closed(inquiry, closed, files, out)
 }
 
 /// Reads a whole log, does its events, and predicts by it.
 fn predict_log<I: Source, F: Files, O: Sink>(
-    alloc: Global,
-    inquiry: &Inquiry,
-    sites: &Option<Sites>,
+    inquiry: &Inquiry<PredictOptions>,
     source: &mut I,
     files: &mut F,
     out: &mut O,
 ) -> Fate
-    ensures { PredictsInput inquiry.now.names.now sites.now inquiry.now.asked.now inquiry.now.options.now
+    ensures { PredictsInput inquiry.now.names.now inquiry.now.sites.now inquiry.now.asked.now inquiry.now.options.now
         (store F.disk files.old files.new)
         (reading I.remaining I.failures source.old source.new)
         (writing O.contents O.failures out.old out.new) result }
 {
     let limits = inquiry.options.limits;
-    match do_input(alloc, source, limits.events, limits.nodes) {
+    match do_input(inquiry.alloc, source, limits.events, limits.nodes) {
         Ok(closed) => {
-            let fate = predict_if_of(alloc, &closed, inquiry, sites, files, out);
+            let fate = predict_if_of(inquiry, &closed, files, out);
             drop(closed);
             fate
         }
@@ -361,18 +300,16 @@ fn predict_log<I: Source, F: Files, O: Sink>(
 
 /// Predicts by the log that was asked for.
 fn predict_input<F: Files, O: Sink>(
-    alloc: Global,
-    inquiry: &Inquiry,
-    sites: &Option<Sites>,
+    inquiry: &Inquiry<PredictOptions>,
     files: &mut F,
     out: &mut O,
 ) -> Fate
-    ensures { PredictsLog inquiry.now.names.now sites.now inquiry.now.asked.now inquiry.now.options.now
+    ensures { PredictsLog inquiry.now.names.now inquiry.now.sites.now inquiry.now.asked.now inquiry.now.options.now
         (store F.disk files.old files.new) (writing O.contents O.failures out.old out.new) result }
 {
     let options = inquiry.options;
     match open_input(files, Operand::Log, options.input, options.target) {
-        Ok(mut log) => predict_log(alloc, inquiry, sites, &mut log, files, out),
+        Ok(mut log) => predict_log(inquiry, &mut log, files, out),
         Err(fate) => fate,
     }
 }
@@ -390,11 +327,13 @@ impl InContext for Command<'_, PredictOptions<'_>> {
         out: &mut O,
     ) -> Fate {
         let inquiry = Inquiry {
+            alloc,
             names,
+            sites,
             asked,
             options: self.options,
         };
-        predict_input(alloc, &inquiry, sites, files, out)
+        predict_input(&inquiry, files, out)
     }
 }
 

@@ -5,7 +5,6 @@ use Rattle.velo_events.specs.declared.event.Event.{Event}
 use Rattle.velo_names.specs.declared.kind.NameKind.TheVariants as kind
 use Rattle.velo_names.specs.Names.{NameLists}
 use Rattle.velo_explain.specs.Pieces.{event_text, name_about}
-use Rattle.velo_audit.specs.declared.told.Told.{Told}
 use Rattle.velo_audit_text.specs.declared.words.Asked.{Asked}
 use Rattle.velo_audit_forms.specs.Events.{Known, event_at_json, named_json}
 use Rattle.velo_audit_forms.specs.Alarms.{alarm_json}
@@ -14,6 +13,7 @@ use Rattle.velo_delays.specs.declared.judged.Differing.{Differing}
 use Rattle.velo_delays.specs.declared.judged.PredictedCycle.{PredictedCycle}
 use Rattle.velo_delays.specs.declared.stuck.Deadlock.{Deadlock}
 use Rattle.velo_predict_text.specs.Text.{is_something_told}
+use Rattle.velo_predict_text.specs.declared.findings.PredictedFindings.{PredictedFindings}
 use Rattle.velo_json.specs.Tree.{array_of, count, object_of, string_or_null}
 
 -- the schema of docs/predict.schema.json
@@ -68,19 +68,22 @@ deadlock_json names deadlock = stuck_json (as_log names deadlock.trace.events) d
 
 -- the labels that may not be atomic, then the deadlocks
 abbrev pub predictions_of : NameLists → List PredictedCycle → List Deadlock → List Json
-predictions_of names founds deadlocks =
-    map (found_json names) founds ++ map (deadlock_json names) deadlocks
+predictions_of names cycles deadlocks =
+    map (found_json names) cycles ++ map (deadlock_json names) deadlocks
 
 -- whether anything is told; what was to be left out, and the rounds of the log itself, both as an audit
 -- tells them; the predictions; and how many delays were tried
-unfoldable pub predictions_json : Known → List ℕ → Asked → List Told → List PredictedCycle
-    → List Deadlock → ℕ → Json
-predictions_json known path asked rounds founds deadlocks tries = object_of (
+unfoldable pub predictions_json : Known → List ℕ → Asked → PredictedFindings → Json
+predictions_json known path asked findings = object_of (
     (codes "schema", count schema)
     ∷ (codes "log", string path)
-    ∷ (codes "found", boolean (is_something_told rounds founds deadlocks))
+    ∷ (codes "found", boolean (is_something_told findings))
     ∷ (codes "left_out", asked_json known.names asked)
-    ∷ (codes "alarms", array_of (alarm_json known) rounds)
-    ∷ (codes "predictions", array_of (λ json. json) (predictions_of known.names founds deadlocks))
-    ∷ (codes "tries", count tries)
+    ∷ (codes "alarms", array_of (alarm_json known) findings.rounds.items)
+    ∷ (
+      codes "predictions",
+      array_of (λ json. json) (predictions_of known.names
+          findings.cycles.items findings.deadlocks.items),
+    )
+    ∷ (codes "tries", count findings.tries)
     ∷ [])

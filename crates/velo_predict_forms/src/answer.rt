@@ -12,30 +12,22 @@ ghost use Rattle.velo_predict_forms.specs.Answer.{predictions_json};
 
 use crate::found::add_predictions;
 use std::alloc::Global;
-use velo_audit::Told;
 use velo_audit_forms::{Background, add_alarms, add_asked, add_log, line_of};
 use velo_audit_text::Asked;
-use velo_delays::{Deadlock, PredictedCycle};
 use velo_events::Memory;
 use velo_explain::Page;
 use velo_json::JsonWriter;
 use velo_names::Names;
-use velo_predict_text::is_something_told;
+use velo_predict_text::{PredictedFindings, is_something_told};
 use velo_sites::Sites;
 use velo_traces::Trace;
 
 /// Adds the member that says whether anything is told.
-fn add_whether_found(
-    json: JsonWriter,
-    rounds: &[Told],
-    founds: &[PredictedCycle],
-    deadlocks: &[Deadlock],
-) -> Result<JsonWriter, Memory>
+fn add_whether_found(json: JsonWriter, findings: &PredictedFindings) -> Result<JsonWriter, Memory>
     ensures { IfOk result (λ written. written ≡ json
-        ++ key (codes "found") ∷ boolean (is_something_told rounds.now founds.now deadlocks.now) ∷ []) }
+        ++ key (codes "found") ∷ boolean (is_something_told findings.now) ∷ []) }
 {
-    json.key("found")?
-        .boolean(is_something_told(rounds, founds, deadlocks))
+    json.key("found")?.boolean(is_something_told(findings))
 }
 
 /// Adds the answer.
@@ -45,25 +37,28 @@ fn add_answer(
     log: &Background,
     path: &str,
     asked: &Asked,
-    rounds: &[Told],
-    founds: &[PredictedCycle],
-    deadlocks: &[Deadlock],
-    tries: u64,
+    findings: &PredictedFindings,
 ) -> Result<JsonWriter, Memory>
     requires few { length log.now.events.now ≤ MAX_EVENTS }
     requires open { FewAreOpen log.now.events.now }
-    requires founds { All CanBeTold founds.now }
-    requires deadlocks { All CanTellDeadlock deadlocks.now }
+    requires cycles { All CanBeTold findings.now.cycles.items }
+    requires deadlocks { All CanTellDeadlock findings.now.deadlocks.items }
     ensures { IfOk result (λ written. written ≡ json ++ json_tokens (predictions_json
-        (known_of log.now) path.now asked.now rounds.now founds.now deadlocks.now tries)) }
+        (known_of log.now) path.now asked.now findings.now)) }
 {
     let json = json.begin_object()?.key("schema")?.number(1)?;
     let json = add_log(json, path)?;
-    let json = add_whether_found(json, rounds, founds, deadlocks)?.key("left_out")?;
+    let json = add_whether_found(json, findings)?.key("left_out")?;
     let json = add_asked(json, log, asked)?;
-    let json = add_alarms(json, log, rounds)?;
-    let json = add_predictions(json, log.alloc, log.names, founds, deadlocks)?.key("tries")?;
-    json.number(tries)?.end_object()
+    let json = add_alarms(json, log, &findings.rounds)?;
+    let json = add_predictions(
+        json,
+        log.alloc,
+        log.names,
+        &findings.cycles,
+        &findings.deadlocks,
+    )?;
+    json.key("tries")?.number(findings.tries)?.end_object()
 }
 
 /// What a log at a path shows and foretells, as one JSON object on a line: what was to be left out,
@@ -79,18 +74,15 @@ pub fn predictions_json(
     log: &Trace,
     path: &str,
     asked: &Asked,
-    rounds: &[Told],
-    founds: &[PredictedCycle],
-    deadlocks: &[Deadlock],
-    tries: u64,
+    findings: &PredictedFindings,
 ) -> Result<Page, Memory>
     requires few { length log.now.events ≤ MAX_EVENTS }
     requires can_come_about { CanComeAbout log.now.events }
-    requires founds { All CanBeTold founds.now }
-    requires deadlocks { All CanTellDeadlock deadlocks.now }
+    requires cycles { All CanBeTold findings.now.cycles.items }
+    requires deadlocks { All CanTellDeadlock findings.now.deadlocks.items }
     ensures { IfOk result (λ page. page ≡ line_text (predictions_json
         (record { log = log.now.events; names = names.now; sites = sites.now })
-        path.now asked.now rounds.now founds.now deadlocks.now tries)) }
+        path.now asked.now findings.now)) }
 {
     let background = Background {
         alloc,
@@ -99,15 +91,6 @@ pub fn predictions_json(
         events: log.as_slice(),
     };
     let json = JsonWriter::new(alloc);
-    let json = add_answer(
-        json,
-        &background,
-        path,
-        asked,
-        rounds,
-        founds,
-        deadlocks,
-        tries,
-    )?;
+    let json = add_answer(json, &background, path, asked, findings)?;
     line_of(alloc, json)
 }

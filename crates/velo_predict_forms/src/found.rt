@@ -95,18 +95,18 @@ fn add_deadlock(
 }
 
 /// Adds the labels that may not be atomic, one trace after another.
-fn add_each_found(
+fn add_each_cycle(
     json: JsonWriter,
     alloc: Global,
     names: &Names,
-    founds: &[PredictedCycle],
+    cycles: &[PredictedCycle],
 ) -> Result<JsonWriter, Memory>
-    requires { All CanBeTold founds.now }
+    requires { All CanBeTold cycles.now }
     ensures { IfOk result (λ written. written ≡ json ++ flat_map (λ f. json_tokens
-        (found_json names.now f)) founds.now) }
+        (found_json names.now f)) cycles.now) }
 {
     let mut written = json;
-    for found in founds {
+    for found in cycles {
         written = add_found(written, alloc, names, found)?;
     }
     Ok(written)
@@ -135,17 +135,17 @@ pub(crate) fn add_predictions(
     json: JsonWriter,
     alloc: Global,
     names: &Names,
-    founds: &[PredictedCycle],
+    cycles: &[PredictedCycle],
     deadlocks: &[Deadlock],
 ) -> Result<JsonWriter, Memory>
-    requires founds { All CanBeTold founds.now }
+    requires cycles { All CanBeTold cycles.now }
     requires deadlocks { All CanTellDeadlock deadlocks.now }
     ensures { IfOk result (λ written. written ≡ json
         ++ key (codes "predictions") ∷ json_tokens
-        (array_of (λ json. json) (predictions_of names.now founds.now deadlocks.now))) }
+        (array_of (λ json. json) (predictions_of names.now cycles.now deadlocks.now))) }
 {
     let begun = json.key("predictions")?.begin_array()?;
-    let labels = add_each_found(begun, alloc, names, founds)?;
+    let labels = add_each_cycle(begun, alloc, names, cycles)?;
     let written = add_each_deadlock(labels, alloc, names, deadlocks)?.end_array()?;
     Ok(written)
 }

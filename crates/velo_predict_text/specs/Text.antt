@@ -1,5 +1,5 @@
 -- What a log shows and foretells, as text.
-use Rattle.std.specs.Prelude.{ℕ, ◌<◌, ◌≤◌, Bool, true, false, List, [], ◌∷◌, ◌++◌, length, codes, decimal, All, Option, None}
+use Rattle.std.specs.Prelude.{ℕ, ◌<◌, ◌≤◌, ◌||◌, Bool, true, false, List, [], ◌∷◌, ◌++◌, length, codes, decimal, All, Option, None}
 use Rattle.std.specs.List.{flat_map}
 use Rattle.velo_events.specs.declared.limits.TheConstants.{MAX_EVENTS}
 use Rattle.velo_events.specs.declared.event.Event.{Event}
@@ -13,13 +13,13 @@ use Rattle.velo_explain.specs.Text.{line_of}
 use Rattle.velo_audit.specs.Witness.{IsWitnessWithin}
 use Rattle.velo_sites.specs.Sites.{Table}
 use Rattle.velo_audit_text.specs.Names.{named}
-use Rattle.velo_audit.specs.declared.told.Told.{Told}
 use Rattle.velo_audit_text.specs.declared.words.Asked.{Asked}
 use Rattle.velo_audit_text.specs.Text.{optional_witness_text, told_text}
 use Rattle.velo_audit_text.specs.Words.{asked_text}
 use Rattle.velo_delays.specs.declared.judged.Differing.{Differing}
 use Rattle.velo_delays.specs.declared.judged.PredictedCycle.{PredictedCycle}
 use Rattle.velo_delays.specs.declared.stuck.Deadlock.{Deadlock}
+use Rattle.velo_predict_text.specs.declared.findings.PredictedFindings.{PredictedFindings}
 
 -- "not atomic? 7 flush"
 unfoldable pub maybe_text : NameLists → Block → List ℕ
@@ -62,10 +62,14 @@ deadlock_text names deadlock =
     ++ (flat_map (difference_text names deadlock.trace.events) deadlock.differing.items
     ++ flat_map (waiting_text names) deadlock.waiting.items))
 
+abbrev is_there : {X : Type 0} → List X → Bool
+is_there [] = false
+is_there (x ∷ xs) = true
+
 -- a round told something of the log itself, or something was predicted
-abbrev pub is_something_told : List Told → List PredictedCycle → List Deadlock → Bool
-is_something_told [] [] [] = false
-is_something_told rounds founds deadlocks = true
+abbrev pub is_something_told : PredictedFindings → Bool
+is_something_told findings =
+    is_there findings.rounds.items || (is_there findings.cycles.items || is_there findings.deadlocks.items)
 
 -- "nothing found in 600 tries"; "nothing else found in 600 tries" after something
 abbrev pub nothing_text : Bool → List ℕ
@@ -77,13 +81,13 @@ end_text something tries = joined (nothing_text something ∷ decimal tries ∷ 
 
 -- what was to be left out and the rounds of the log itself, both as an audit prints them; the labels that may not be atomic, and the
 -- deadlocks; and how many delays were tried
-abbrev pub predictions_text : NameLists → Option Table → List Event → Asked → List Told → List PredictedCycle → List Deadlock → ℕ → List ℕ
-predictions_text names sites log asked rounds founds deadlocks tries =
+abbrev pub predictions_text : NameLists → Option Table → List Event → Asked → PredictedFindings → List ℕ
+predictions_text names sites log asked findings =
     asked_text names asked
-    ++ (flat_map (told_text names sites log) rounds
-    ++ (flat_map (found_text names) founds
-    ++ (flat_map (deadlock_text names) deadlocks
-    ++ end_text (is_something_told rounds founds deadlocks) tries)))
+    ++ (flat_map (told_text names sites log) findings.rounds.items
+    ++ (flat_map (found_text names) findings.cycles.items
+    ++ (flat_map (deadlock_text names) findings.deadlocks.items
+    ++ end_text (is_something_told findings) findings.tries)))
 
 -- ---- what can be told. Private contracts cite these words
 

@@ -2,8 +2,10 @@
 //! the log and the cycle of its trace; and a trace as a log.
 #![tactic(auto)]
 
+mod findings;
 mod log;
 mod text;
 
+pub use findings::PredictedFindings;
 pub use log::trace_text;
 pub use text::{is_something_told, predictions_text};

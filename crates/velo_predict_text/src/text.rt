@@ -6,8 +6,8 @@ ghost use Rattle.velo_filter.specs.Thinned.{CanComeAbout};
 ghost use Rattle.velo_audit.specs.Audit.{TellsTruly};
 ghost use Rattle.velo_predict_text.specs.Text.{CanBeTold, CanTellDeadlock, maybe_text, size_text, difference_text, found_text, waiting_text, circle_text, deadlock_text, is_something_told, nothing_text, end_text, predictions_text};
 
+use crate::findings::PredictedFindings;
 use std::alloc::Global;
-use velo_audit::Told;
 use velo_audit_text::{Asked, add_asked, add_rounds, add_witness_if_any};
 use velo_delays::{Deadlock, Differing, PredictedCycle};
 use velo_events::{Event, Memory};
@@ -182,13 +182,10 @@ fn add_deadlocks(page: &mut Page, names: &Names, deadlocks: &[Deadlock]) -> Resu
 }
 
 /// Whether there is something to tell: a label of the log itself, or a prediction.
-pub fn is_something_told(rounds: &[Told], founds: &[PredictedCycle], deadlocks: &[Deadlock]) -> bool
-    ensures { result ≡ is_something_told rounds.now founds.now deadlocks.now }
+pub fn is_something_told(findings: &PredictedFindings) -> bool
+    ensures { result ≡ is_something_told findings.now }
 {
-    match (rounds.first(), founds.first(), deadlocks.first()) {
-        (None, None, None) => false,
-        _ => true,
-    }
+    !findings.rounds.is_empty() || !findings.cycles.is_empty() || !findings.deadlocks.is_empty()
 }
 
 /// How the line of the tries begins.
@@ -213,17 +210,17 @@ fn add_end(page: &mut Page, something: bool, tries: u64) -> Result<(), Memory>
     ])
 }
 
-/// Adds all that was found.
-fn add_all(
+/// Adds the predictions with a cycle.
+fn add_cycles(
     page: &mut Page,
     names: &Names,
     alloc: Global,
-    founds: &[PredictedCycle],
+    cycles: &[PredictedCycle],
 ) -> Result<(), Memory>
-    requires { All CanBeTold founds.now }
-    ensures { OnOk result (page.new ≡ page.old ++ flat_map (found_text names.now) founds.now) }
+    requires { All CanBeTold cycles.now }
+    ensures { OnOk result (page.new ≡ page.old ++ flat_map (found_text names.now) cycles.now) }
 {
-    for found in founds {
+    for found in cycles {
         add_found(page, names, alloc, found)?;
     }
     Ok(())
@@ -242,24 +239,27 @@ pub fn predictions_text(
     sites: &Option<Sites>,
     log: &Trace,
     asked: &Asked,
-    rounds: &[Told],
-    founds: &[PredictedCycle],
-    deadlocks: &[Deadlock],
-    tries: u64,
+    findings: &PredictedFindings,
 ) -> Result<Page, Memory>
     requires few { length log.now.events ≤ MAX_EVENTS }
     requires can_come_about { CanComeAbout log.now.events }
-    requires truly { All (TellsTruly log.now.events) rounds.now }
-    requires founds { All CanBeTold founds.now }
-    requires deadlocks { All CanTellDeadlock deadlocks.now }
-    ensures { IfOk result (λ page. page ≡ predictions_text names.now sites.now log.now.events asked.now rounds.now founds.now deadlocks.now tries) }
+    requires truly { All (TellsTruly log.now.events) findings.now.rounds.items }
+    requires cycles { All CanBeTold findings.now.cycles.items }
+    requires deadlocks { All CanTellDeadlock findings.now.deadlocks.items }
+    ensures { IfOk result (λ page. page ≡ predictions_text names.now sites.now log.now.events asked.now findings.now) }
 {
     let mut page = Page::new(alloc);
     add_asked(&mut page, names, asked)?;
-    add_rounds(&mut page, names, sites, alloc, log.as_slice(), rounds)?;
-    add_all(&mut page, names, alloc, founds)?;
-    add_deadlocks(&mut page, names, deadlocks)?;
-    let something = is_something_told(rounds, founds, deadlocks);
-    add_end(&mut page, something, tries)?;
+    add_rounds(
+        &mut page,
+        names,
+        sites,
+        alloc,
+        log.as_slice(),
+        &findings.rounds,
+    )?;
+    add_cycles(&mut page, names, alloc, &findings.cycles)?;
+    add_deadlocks(&mut page, names, &findings.deadlocks)?;
+    add_end(&mut page, is_something_told(findings), findings.tries)?;
     Ok(page)
 }

@@ -15,7 +15,7 @@ returns-in-Ok g c =
       c.in-Ok.ensures.given c.audit_log.new.source,
       done.0,
       done.1.1,
-      audit_put c.args.names.now c.args.sites.now c.args.asked.now c.args.options.now stdout kept _ done.1.0 done.1.1 refl c.audit_log.result done.1.2,
+      audit_put c.args.inquiry.now.names.now c.args.inquiry.now.sites.now c.args.inquiry.now.asked.now c.args.inquiry.now.options.now stdout kept _ done.1.0 done.1.1 refl c.audit_log.result done.1.2,
     )
 
 pub returns-in-Err : goal.returns-in-Err

@@ -11,7 +11,7 @@ returns-in-Ok g c =
     let stdout = writing g.O.Sink.contents g.O.Sink.failures c.args.out.now c.audit_if_of-fate.new.out in
     let closed = c.in-Ok.closed in (
       c.in-Ok.ensures.read
-          ∙ sym (audits_reads c.args.names.now c.args.sites.now c.args.asked.now c.args.options.now stdout closed.config.bounds closed.log told.0 _ told.1 c.audit_if_of-fate.result told.2),
+          ∙ sym (audits_reads c.args.inquiry.now.names.now c.args.inquiry.now.sites.now c.args.inquiry.now.asked.now c.args.inquiry.now.options.now stdout closed.config.bounds closed.log told.0 _ told.1 c.audit_if_of-fate.result told.2),
       (
         told.0,
         ⊎_elim

@@ -9,6 +9,6 @@ returns-in-Err g c = inr (search rules, refl, (refl, refl))
 
 pub returns-in-Ok-page_of : goal.returns-in-Ok-page_of
 returns-in-Ok-page_of g c =
-    told_put c.args.names.now c.args.sites.now c.args.log.now.events c.args.asked.now c.args.options.now c.args.rounds.now (left_of c.args.left.now) _ _ _ _
+    told_put c.args.inquiry.now.names.now c.args.inquiry.now.sites.now c.args.log.now.events c.args.inquiry.now.asked.now c.args.inquiry.now.options.now c.args.rounds.now (left_of c.args.left.now) _ _ _ _
     c.as_slice.ensures c.in-Ok-page_of.ensures c.in-Ok.ensures c.requires.left c.is_found.ensures
     (writing g.O.Sink.contents g.O.Sink.failures c.args.out.now c.print.new.out) c.print.result c.print.ensures

@@ -14,7 +14,7 @@ audit_json-requires-2-clause-can_come_about c = record { bounds = c.args.bounds;
 
 pub returns : goal.returns
 returns c =
-    let log = c.args.log.now.events in let rest = rest_of (left_out_at_first c.args.asked.now) log in
-    let lists : IsJsonText (record { log = log; names = c.args.names.now; sites = c.args.sites.now }) c.args.path.now c.args.asked.now (Some c.in-Some.listing) rest c.args.rounds.now c.args.atomic c.in_ok-page.page
+    let log = c.args.log.now.events in let rest = rest_of (left_out_at_first c.args.inquiry.now.asked.now) log in
+    let lists : IsJsonText (record { log = log; names = c.args.inquiry.now.names.now; sites = c.args.inquiry.now.sites.now }) c.args.inquiry.now.options.now.input.now c.args.inquiry.now.asked.now (Some c.in-Some.listing) rest c.args.rounds.now c.args.atomic c.in_ok-page.page
     = record { listed = c.in_ok-listed.listed; is_listed = c.in_ok-listed.ensures; text = c.in_ok-page.ensures } in
-    subst (λ (l : Option Listing). IsJsonText (record { log = log; names = c.args.names.now; sites = c.args.sites.now }) c.args.path.now c.args.asked.now l rest c.args.rounds.now c.args.atomic c.in_ok-page.page) (sym c.in-Some.is) lists
+    subst (λ (l : Option Listing). IsJsonText (record { log = log; names = c.args.inquiry.now.names.now; sites = c.args.inquiry.now.sites.now }) c.args.inquiry.now.options.now.input.now c.args.inquiry.now.asked.now l rest c.args.rounds.now c.args.atomic c.in_ok-page.page) (sym c.in-Some.is) lists

@@ -16,5 +16,5 @@ listing_text-requires-clause-can_come_about c = record { bounds = c.args.bounds;
 
 pub returns : goal.returns
 returns c =
-    subst (λ (es : List Event). IfOk c.listing_text.result (λ page. IsListingText c.args.names.now c.args.sites.now c.args.log.now.events c.args.asked.now c.args.listing es c.args.rounds.now c.args.atomic page))
+    subst (λ (es : List Event). IfOk c.listing_text.result (λ page. IsListingText c.args.inquiry.now.names.now c.args.inquiry.now.sites.now c.args.log.now.events c.args.inquiry.now.asked.now c.args.listing es c.args.rounds.now c.args.atomic page))
     (c.in_ok-first.ensures.events ∙ ap (λ (l : Omitted). rest_of l c.args.log.now.events) c.in_ok-left.ensures) c.listing_text.ensures

@@ -9,13 +9,13 @@ use Rattle.velo_audit_commands.proofs.predicting.predict_if_of.Goals as goal
 pub returns-then-not-are_of_log : goal.returns-then-not-are_of_log
 returns-then-not-are_of_log g c =
     let inquiry = c.args.inquiry.now in
-    predicted_other inquiry.names.now c.args.sites.now inquiry.asked.now inquiry.options.now (store g.F.Files.disk c.args.files.now c.args.files.now)
+    predicted_other inquiry.names.now inquiry.sites.now inquiry.asked.now inquiry.options.now (store g.F.Files.disk c.args.files.now c.args.files.now)
     (writing g.O.Sink.contents g.O.Sink.failures c.args.out.now c.args.out.now) c.args.closed.now.config.bounds c.args.closed.now.log
-    (subst (λ (l : List Event). ¬ HaveLengthOf c.args.sites.now l) c.log.ensures.events (c.are_of_log.ensures.other c.if-not-are_of_log.true)) refl (refl, refl)
+    (subst (λ (l : List Event). ¬ HaveLengthOf inquiry.sites.now l) c.log.ensures.events (c.are_of_log.ensures.other c.if-not-are_of_log.true)) refl (refl, refl)
 
 pub returns : goal.returns
 returns g c =
     let inquiry = c.args.inquiry.now in
-    predicted_of inquiry.names.now c.args.sites.now inquiry.asked.now inquiry.options.now (store g.F.Files.disk c.args.files.now c.predict_closed.new.files)
+    predicted_of inquiry.names.now inquiry.sites.now inquiry.asked.now inquiry.options.now (store g.F.Files.disk c.args.files.now c.predict_closed.new.files)
     (writing g.O.Sink.contents g.O.Sink.failures c.args.out.now c.predict_closed.new.out) c.args.closed.now.config.bounds c.args.closed.now.log c.predict_closed.result
-    (subst (λ (l : List Event). HaveLengthOf c.args.sites.now l) c.log.ensures.events (c.are_of_log.ensures.same c.if-not-are_of_log.false)) c.predict_closed.ensures
+    (subst (λ (l : List Event). HaveLengthOf inquiry.sites.now l) c.log.ensures.events (c.are_of_log.ensures.same c.if-not-are_of_log.false)) c.predict_closed.ensures

@@ -14,7 +14,7 @@ returns-in-Ok g c =
     let closed = c.in-Ok.closed in
     let inquiry = c.args.inquiry.now in (
       c.in-Ok.ensures.read
-          ∙ sym (predicts_reads inquiry.names.now c.args.sites.now inquiry.asked.now inquiry.options.now files stdout closed.config.bounds closed.log told.0 _ told.1 c.predict_if_of-fate.result told.2),
+          ∙ sym (predicts_reads inquiry.names.now inquiry.sites.now inquiry.asked.now inquiry.options.now files stdout closed.config.bounds closed.log told.0 _ told.1 c.predict_if_of-fate.result told.2),
       (
         told.0,
         ⊎_elim

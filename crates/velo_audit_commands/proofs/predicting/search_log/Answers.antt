@@ -4,15 +4,15 @@ use Rattle.velo_audit_commands.specs.Predicting.{IsSearched}
 use Rattle.velo_audit_commands.proofs.OnPredicting.{foretold_of}
 use Rattle.velo_audit_commands.proofs.predicting.search_log.Goals as goal
 
-pub returns-then-options : goal.returns-then-options
-returns-then-options c =
+pub returns-then-options-clause-predictions : goal.returns-then-options-clause-predictions
+returns-then-options-clause-predictions c =
     let log = c.args.log.now.events in
-    foretold_of c.args.options.now.values c.args.config.now.bounds log log (left_of c.args.left.now) c.search_in.result
+    foretold_of c.args.inquiry.now.options.now.values c.args.config.now.bounds log log (left_of c.args.left.now) c.search_in.result
     (subst (λ b. IsSearched b log log) (sym c.if-options.true) refl) c.search_in.ensures.cycles c.search_in.ensures.deadlocks
 
-pub returns : goal.returns
-returns c =
+pub returns-clause-predictions : goal.returns-clause-predictions
+returns-clause-predictions c =
     let log = c.args.log.now.events in
     let anew = c.in_ok-anew.anew.events in
-    foretold_of c.args.options.now.values c.args.config.now.bounds log anew (left_of c.args.left.now) c.search_in-2.result
+    foretold_of c.args.inquiry.now.options.now.values c.args.config.now.bounds log anew (left_of c.args.left.now) c.search_in-2.result
     (subst (λ b. IsSearched b log anew) (sym c.if-options.false) c.in_ok-anew.ensures.anew) c.search_in-2.ensures.cycles c.search_in-2.ensures.deadlocks

@@ -2,7 +2,7 @@ use Rattle.std.proofs.Common.{◌≡◌, ◌++◌, take}
 use Rattle.std.specs.List.{flat_map}
 use Rattle.json.specs.Tree.{json_tokens}
 use Rattle.velo_predict_forms.specs.Answer.{found_json}
-use Rattle.velo_predict_forms.proofs.found.add_each_found.Given as goal
+use Rattle.velo_predict_forms.proofs.found.add_each_cycle.Given as goal
 
 abbrev pub invariant-loop-found : goal.invariant-loop-found
-invariant-loop-found l = l.written ≡ l.fn.json ++ flat_map (λ x. json_tokens (found_json l.names x)) (take l.found-index l.founds)
+invariant-loop-found l = l.written ≡ l.fn.json ++ flat_map (λ x. json_tokens (found_json l.names x)) (take l.found-index l.cycles)
