@@ -1,6 +1,6 @@
 -- What a search for predictions comes to.
 use Rattle.std.proofs.Common.{◌≡◌, ◌∙◌, ap, inl, inr, refl, subst, sym, ⊎_elim}
-use Rattle.std.specs.Prelude.{◌⊎◌, ℕ, Bool, true, All, IfOk, List, Option, Some, None, Result, Ok, Err}
+use Rattle.std.specs.Prelude.{◌⊎◌, ℕ, Bool, true, All, IfOk, List, Option, Result, Ok, Err}
 use Rattle.std.specs.Borrow.{Bor}
 use Rattle.velo_events.specs.declared.config.Bounds.{Bounds}
 use Rattle.velo_events.specs.declared.event.Event.{Event}
@@ -16,9 +16,9 @@ use Rattle.velo_predict_text.specs.declared.findings.PredictedFindings.{Predicte
 use Rattle.velo_predict_text.proofs.OnFound.{CanBeTold-from, CanTellDeadlock-from}
 use Rattle.velo_fate.specs.declared.fate.Fate.{Fate}
 use Rattle.velo_fate.specs.declared.fate.Fate.TheVariants as fate
-use Rattle.velo_fate.specs.Delivery.{CommandAnswer, IsDelivered, IsPrinted, LacksMemory, Saves, printing, silent}
+use Rattle.velo_fate.specs.Delivery.{CommandAnswer, IsDelivered, LacksMemory, silent}
 use Rattle.velo_fate.specs.Failures.{failures_told}
-use Rattle.velo_fate.proofs.OnDelivery.{delivered_reads, printed_put, same_fate}
+use Rattle.velo_fate.proofs.OnDelivery.{delivered_reads, same_fate}
 use Rattle.velo_delivery.specs.Disk.{Store}
 use Rattle.velo_delivery.specs.Writing.{Writing, WritesNothing}
 use Rattle.velo_request.specs.declared.request.PredictOptions.{PredictOptions}
