@@ -124,8 +124,13 @@ def main():
         summary = summary_of(logs)
     except (OSError, ValueError, KeyError, TypeError) as error:
         sys.exit(f"many.py: {error}")
-    for line in [json.dumps(summary)] if given.json else text_of(summary):
-        print(line)
+    try:
+        for line in [json.dumps(summary)] if given.json else text_of(summary):
+            print(line)
+        sys.stdout.flush()
+    except BrokenPipeError:
+        # whoever reads has read enough
+        os.dup2(os.open(os.devnull, os.O_WRONLY), sys.stdout.fileno())
     sys.exit(status_of(summary))
 
 
