@@ -374,7 +374,7 @@ fn words_that_do_not_go_together(rt: HostRuntime) {
 }
 
 /// Words that ask for help, and its end.
-static HELP: [(&[&str], &str); 16] = [
+const HELP: [(&[&str], &str); 16] = [
     (&["velodrome", "replay", "--help"], help::OF_REPLAY),
     (&["velodrome", "run", "--help"], help::OF_RUN),
     (&["velodrome", "explain", "--help"], help::OF_EXPLAIN),
@@ -404,9 +404,9 @@ fn compare_help(rt: &impl Abort, shown: &Shown, end: &str) {
 #[test]
 fn help_goes_to_standard_output(rt: HostRuntime) {
     let mut folder = Folder::new(rt.alloc(), &FILES, usize::MAX);
-    for (words, end) in &HELP {
-        let shown = show(&rt, *words, &mut folder);
-        compare_help(&rt, &shown, *end);
+    for (words, end) in HELP {
+        let shown = show(&rt, words, &mut folder);
+        compare_help(&rt, &shown, end);
         drop(shown);
     }
     drop(folder);
@@ -456,8 +456,8 @@ fn help_has_the_limits(rt: HostRuntime) {
 #[test]
 fn help_without_standard_output(rt: HostRuntime) {
     let mut folder = Folder::new(rt.alloc(), &FILES, usize::MAX);
-    for (words, end) in &HELP {
-        let shown = show_short(&rt, rt.alloc(), *words, &mut folder, 9);
+    for (words, end) in HELP {
+        let shown = show_short(&rt, rt.alloc(), words, &mut folder, 9);
         holds_for(&rt, shown.status == 5, &end);
         assert!(rt; shown.err.as_slice() == b"write failed\n".as_slice());
         drop(shown);
