@@ -210,6 +210,10 @@ pub struct EndlessOptions<'a> {
 pub struct ThinOptions<'a> {
     /// The path of the log, or `-`.
     pub input: &'a str,
+    /// The path of the names that words of what is left out are looked up in, or `-`.
+    pub names: Option<&'a str>,
+    /// What is left out, before the rest is thinned.
+    pub ignored: Ignored<'a>,
     /// The path where what is left of it is saved.
     pub target: &'a str,
     /// The path where the position in the log of each event that is left is saved.
