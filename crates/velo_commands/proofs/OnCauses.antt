@@ -29,6 +29,7 @@ use Rattle.velo_delivery.specs.declared.failure.Operand.{Operand}
 use Rattle.velo_delivery.specs.declared.failure.Operand.TheVariants.{File, Log}
 use Rattle.velo_request.specs.declared.request.PredictOptions.{PredictOptions}
 use Rattle.velo_request.specs.declared.request.RunOptions.{RunOptions}
+use Rattle.velo_request.specs.declared.request.ThinOptions.{ThinOptions}
 use Rattle.velo_request.specs.declared.request.Request.{Request}
 use Rattle.velo_request.specs.declared.request.Limits.{Limits}
 use Rattle.velo_worker.specs.Causes.{RefusedByGrowth}
@@ -70,7 +71,7 @@ use Rattle.velo_schedule_text.specs.Schedule.{IsFaultOfSchedule, IsFaultOfTurns}
 use Rattle.velo_workload_commands.specs.Scheduling.{HaveFaultOfSchedule, LacksSchedule, turns_file}
 use Rattle.velo_log_commands.specs.Watching.{EndsAfter, IsFaultOfHeader, IsFaultWithin, IsWatchAnswer, Terms, Watches, terms_of_watch}
 use Rattle.velo_log_commands.specs.Endless.{IsFaultOfWhole, terms_of_endless}
-use Rattle.velo_log_commands.specs.Commands.{DoesWatchBy, ExplainsLog, context_of_explain, drawing_of}
+use Rattle.velo_log_commands.specs.Commands.{DoesWatchBy, ExplainsLog, ThinsAsked, context_of_explain, context_of_thin, drawing_of}
 use Rattle.velo_world.specs.declared.log_replay.LogReplayFault.TheVariants as replay
 use Rattle.velo_delivery.specs.Writing.{Writing}
 use Rattle.velo_log_commands.specs.Thinning.{map_of}
@@ -308,6 +309,11 @@ of_explained names asked options store stdout f sites (inl h) = unread_apart Gro
 of_explained names asked options store stdout f sites (inr h) =
     of_in_turn Growths store options.target options.drawing h.2 stdout h.1 f (of_explanation Growths names sites asked options h.0.bytes h.1 h.2 tt h.5) h.6
 
+of_thinned : (asked : Asked) (options : ThinOptions) (store : Store) (stdout : Writing) (f : Fate) → ThinsAsked asked options store stdout f → ComesByRefusal Growths f
+of_thinned asked options store stdout f (inl (inl h)) = unread_apart Growths store.disk Log options.input.now (Some options.target) (map_of options) f h.0
+of_thinned asked options store stdout f (inl (inr h)) = of_thin Growths options asked h.0.bytes store stdout f tt h.3
+of_thinned asked options store stdout f (inr lacks) = subst (ComesByRefusal Growths) (sym lacks.1) lacks.0
+
 of_predicted : (names : NameLists) (asked : Asked) (options : PredictOptions) (store : Store) (stdout : Writing) (f : Fate) (sites : Option Table) → PredictsLog names sites asked options store stdout f → ComesByRefusal Growths f
 of_predicted names asked options store stdout f sites (inl h) = unread Growths store.disk Log options.input.now options.target f h.0
 of_predicted names asked options store stdout f sites (inr h) = of_delivered Growths store options.target stdout h.1 f (of_prediction Growths names sites asked options h.0.bytes h.1 tt h.4) h.5
@@ -383,8 +389,8 @@ of_done store (request.Explain options) stdout f (inr (names, asked, sites, are,
 of_done store (request.Carry options) stdout f (inl h) = unread Growths store.disk Log options.input.now (Some options.target) f h.0
 of_done store (request.Carry options) stdout f (inr (inl h)) = subst (ComesByRefusal Growths) (sym h.0) tt
 of_done store (request.Carry options) stdout f (inr (inr h)) = of_put Growths h.2 h.1 f (of_carry Growths h.0.bytes h.1 tt h.5) h.7
-of_done store (request.Thin options) stdout f (inl h) = unread_apart Growths store.disk Log options.input.now (Some options.target) (map_of options) f h.0
-of_done store (request.Thin options) stdout f (inr h) = of_thin Growths options h.0.bytes store stdout f tt h.3
+of_done store (request.Thin options) stdout f (inl h) = of_no_context Growths store.disk (context_of_thin options) f h.0
+of_done store (request.Thin options) stdout f (inr (names, asked, sites, are, h)) = of_thinned asked options store stdout f h
 of_done store (request.Verify options) stdout f (inl h) = unclaimed Growths store.disk options.report.now f h.0
 of_done store (request.Verify options) stdout f (inr (claim, read, inl h)) = unread Growths store.disk Log options.input.now None f h.0
 of_done store (request.Verify options) stdout f (inr (claim, read, inr (log, given, verifies, kept))) =

@@ -2,6 +2,8 @@
 use Rattle.std.proofs.Common.{Ok, Err, inl, inr, subst, sym, take}
 use Rattle.std.specs.Prelude.{⊤, ℕ, List, Option, Result}
 use Rattle.std.specs.Borrow.{Bor}
+use Rattle.velo_audit_text.specs.declared.words.Asked.{Asked}
+use Rattle.velo_inputs.specs.Leaving.{left_out_at_first}
 use Rattle.velo_delivery.specs.declared.failure.Failure.{Failure}
 use Rattle.velo_delivery.specs.declared.failure.Failure.TheVariants as failure_of
 use Rattle.velo_delivery.specs.Disk.{Store}
@@ -36,8 +38,8 @@ module _ (needs : Needs) (options : ThinOptions) where
   of_delivery thinned store stdout (Err (failure_of.Memory memory)) done out = out_by options thinned store stdout (failure_of.Memory memory) out
 
   -- a log that was thinned
-  pub of_thin : (read : Option (List ℕ)) (store : Store) (stdout : Writing) (f : Fate) → EndsByRefusal needs Done → ThinsInput options read store stdout f → ComesByRefusal needs f
-  of_thin read store stdout f done (inl thins) =
+  pub of_thin : (asked : Asked) (read : Option (List ℕ)) (store : Store) (stdout : Writing) (f : Fate) → EndsByRefusal needs Done → ThinsInput options (left_out_at_first asked) read store stdout f → ComesByRefusal needs f
+  of_thin asked read store stdout f done (inl thins) =
       let out = thins.goes_out in
       subst (ComesByRefusal needs) (sym out.4) (of_delivery out.0 store stdout out.2 done out.3)
-  of_thin read store stdout f done (inr (fault, is, told, nothing)) = subst (ComesByRefusal needs) (sym told) (of_fault read fault is)
+  of_thin asked read store stdout f done (inr (fault, is, told, nothing)) = subst (ComesByRefusal needs) (sym told) (of_fault read fault is)

@@ -11,6 +11,7 @@ use Rattle.velo_delivery.specs.Disk.{Store, behind}
 use Rattle.velo_delivery.specs.Writing.{Writing}
 use Rattle.velo_logtext.specs.declared.fault.LogFault.{LogFault}
 use Rattle.velo_logtext.specs.declared.fault.LogFault.TheVariants.{Read}
+use Rattle.velo_filter.specs.Left.{Omitted}
 use Rattle.velo_thinning.specs.declared.delivering.Outgoing.{Outgoing}
 use Rattle.velo_thinning.specs.declared.outcome.ThinnedLog.{ThinnedLog}
 use Rattle.velo_thinning.specs.declared.reading.ThinFault.{ThinFault}
@@ -73,7 +74,7 @@ module _ (options : ThinOptions) (thinned : Bor ThinnedLog) (store : Store) (std
   sent_reads (Err (failure_of.Memory memory)) count out = refl
 
 -- a log that was thinned is not told as one that was not read
-pub thins_reads : (options : ThinOptions) (read : Option (List ℕ)) (store : Store) (stdout : Writing) (f : Fate) (count : ℕ) → ThinsLog options read store stdout f → failures_told f count ≡ count
-thins_reads options read store stdout f count thins =
+pub thins_reads : (options : ThinOptions) (omitted : Omitted) (read : Option (List ℕ)) (store : Store) (stdout : Writing) (f : Fate) (count : ℕ) → ThinsLog options omitted read store stdout f → failures_told f count ≡ count
+thins_reads options omitted read store stdout f count thins =
     let out = thins.goes_out in
     subst (λ f. failures_told f count ≡ count) (sym out.4) (sent_reads options out.0 store stdout out.2 count out.3)

@@ -10,7 +10,10 @@ use Rattle.velo_sites.specs.Sites.{Table}
 use Rattle.velo_report.specs.declared.names.Names.{Names}
 use Rattle.velo_audit_text.specs.declared.words.Asked.{Asked}
 use Rattle.velo_fate.specs.declared.fate.Fate.{Fate}
-use Rattle.velo_fate.specs.declared.fate.Fate.TheVariants.{CannotOpen}
+use Rattle.velo_fate.specs.declared.fate.Fate.TheVariants.{CannotOpen, Memory}
+use Rattle.velo_events.specs.Refusals.{GrowthRefused}
+use Rattle.velo_filter.specs.Left.{Omitted}
+use Rattle.velo_inputs.specs.Leaving.{left_out_at_first}
 use Rattle.velo_request.specs.declared.request.CarryOptions.{CarryOptions}
 use Rattle.velo_request.specs.declared.request.CheckOptions.{CheckOptions}
 use Rattle.velo_request.specs.declared.request.EndlessOptions.{EndlessOptions}
@@ -107,17 +110,36 @@ DoesCarry options store stdout f =
     × IsCarryAnswer read.bytes answer
     × IsWritten store options.target.now file × IsPut file answer f × WritesNothing stdout)
 
--- ---- velodrome thin LOG --log OUT [--map MAP]
+-- ---- velodrome thin LOG --log OUT [--map MAP] [--names FILE] [--not-atomic FILE]
+-- ---- [--ignore-label WORD].. [--ignore-lock WORD].. [--ignore-locks] [--ignore-variable WORD]..
 
--- LOG is read whole, and then without what adds nothing to its verdict. What is left is saved at
--- OUT, then the map at MAP, if that is given, and then the counts go to standard output; or nothing
--- is written, for a reason, and then OUT and MAP are not opened (`Thinning`).
-abbrev pub DoesThin : ThinOptions → Store → Writing → Fate → Type 0
-DoesThin options store stdout f =
+-- LOG is read whole, without what is left out of it, and then without what adds nothing to the verdict
+-- of the rest. What is left is saved at OUT, then the map at MAP, if that is given, and then the counts
+-- go to standard output; or nothing is written, for a reason, and then OUT and MAP are not opened
+-- (`Thinning`).
+abbrev pub ThinsFile : ThinOptions → Omitted → Store → Writing → Fate → Type 0
+ThinsFile options omitted store stdout f =
     DoesNotReadApart store Log options.input.now (Some options.target) (map_of options) stdout f
     ⊎ ((read : Reading)
     × store.disk.gives options.input.now read × FailuresAsTold read f
-    × ThinsInput options read.bytes store stdout f)
+    × ThinsInput options omitted read.bytes store stdout f)
+
+-- left out is what was asked for; or a growth was refused, and nothing was done
+abbrev pub ThinsAsked : Asked → ThinOptions → Store → Writing → Fate → Type 0
+ThinsAsked asked options store stdout f =
+    ThinsFile options (left_out_at_first asked) store stdout f
+    ⊎ (GrowthRefused × (f ≡ Memory) × WritesNowhere store stdout)
+
+-- what it knows before is in `Context` of `velo_inputs`
+abbrev pub context_of_thin : ThinOptions → ContextOptions
+context_of_thin options = record { names = options.names; ignored = options.ignored; sites = None }
+
+abbrev pub DoesThin : ThinOptions → Store → Writing → Fate → Type 0
+DoesThin options store stdout f =
+    KnowsNoContext store (context_of_thin options) stdout f
+    ⊎ ((names : NameLists) × (asked : Asked) × (sites : Option Table)
+    × IsContext store.disk (context_of_thin options) names asked sites
+    × ThinsAsked asked options store stdout f)
 
 -- ---- velodrome watch LOG [--names FILE] [--stop] [--events N] [--nodes N] [--certificate]
 -- ---- velodrome watch --endless LOG [--names FILE] [--stop] [--events N] [--nodes N]

@@ -5,6 +5,7 @@ use Rattle.velo_delivery.specs.declared.failure.Failure.{Failure}
 use Rattle.velo_delivery.specs.declared.failure.Operand.TheVariants.{Map}
 use Rattle.velo_delivery.specs.Disk.{Store}
 use Rattle.velo_delivery.specs.Writing.{Writing}
+use Rattle.velo_filter.specs.Left.{Omitted}
 use Rattle.velo_thinning.specs.declared.delivering.Targets.{Targets}
 use Rattle.velo_thinning.specs.declared.outcome.ThinnedLog.{ThinnedLog}
 use Rattle.velo_thinning.specs.declared.reading.ThinFault.{ThinFault}
@@ -53,13 +54,14 @@ GoesOutTo options thinned store stdout f =
     (held : Bor ThinnedLog) × (held.now ≡ thinned) × (result : Result ⊤ Failure)
     × GoesOut held (targets_of options) store stdout result × (f ≡ fate_of_delivery result)
 
--- The log of the input can come about, and what is left of it went out. Whether all blocks are kept
--- or those of some labels are left out, both logs have the same verdict, the same event closes the
--- first cycle, and the same blocks are to blame (`IsThinnedLog` of `velo_thinning`).
-pub record ThinsLog (options : ThinOptions) (read : Option (List ℕ)) (store : Store) (stdout : Writing)
-    (f : Fate) : Type 0 where
+-- The log of the input can come about; what was asked for was left out of it, the rest was thinned, and
+-- what is left of it went out. Whether all blocks of the rest are kept or those of some labels are left
+-- out, it is judged as the rest is: the same verdict, the same event closes the first cycle, and the
+-- same blocks are to blame (`IsThinnedRest` of `velo_thinning`).
+pub record ThinsLog (options : ThinOptions) (omitted : Omitted) (read : Option (List ℕ)) (store : Store)
+    (stdout : Writing) (f : Fate) : Type 0 where
   pub thinned : ThinnedLog
-  pub thins : IsThinningOf read thinned
+  pub thins : IsThinningOf omitted read thinned
   pub goes_out : GoesOutTo options thinned store stdout f
 
 -- nothing is written where the input has this fault
@@ -68,6 +70,6 @@ IsUnthinned read store stdout f =
     (fault : ThinFault) × IsFaultOf read fault × (f ≡ Check (check_fault_of_thinning fault))
     × WritesNowhere store stdout
 
-abbrev pub ThinsInput : ThinOptions → Option (List ℕ) → Store → Writing → Fate → Type 0
-ThinsInput options read store stdout f =
-    ThinsLog options read store stdout f ⊎ IsUnthinned read store stdout f
+abbrev pub ThinsInput : ThinOptions → Omitted → Option (List ℕ) → Store → Writing → Fate → Type 0
+ThinsInput options omitted read store stdout f =
+    ThinsLog options omitted read store stdout f ⊎ IsUnthinned read store stdout f

@@ -1,16 +1,24 @@
-//! `velodrome thin`.
+//! `velodrome thin`: what is left out of the log goes first, and the rest is thinned.
 ghost use Rattle.std.specs.Prelude.{◌≡◌};
 ghost use Rattle.velo_delivery.specs.Disk.{store};
 ghost use Rattle.velo_delivery.specs.Writing.{writing};
 ghost use Rattle.velo_fate.specs.Failures.{failures_told};
-ghost use Rattle.velo_log_commands.specs.Commands.{DoesThin};
+ghost use Rattle.velo_filter.specs.Tables.{left_of};
+ghost use Rattle.velo_log_commands.specs.Commands.{DoesThin, ThinsAsked, ThinsFile};
 ghost use Rattle.velo_log_commands.specs.Thinning.{GoesOutTo, ThinsInput, check_fault_of_thinning};
 
+use crate::command::Command;
 use std::alloc::Global;
+use velo_audit_text::Asked;
 use velo_bytes::{Sink, Source};
 use velo_delivery::{Files, Operand};
+use velo_events::Memory;
 use velo_fate::{Beside, CheckFault, Fate, fate_of_failure, open_apart};
+use velo_filter::LeftOut;
+use velo_inputs::{ContextOptions, InContext, do_in_context, left_out};
+use velo_names::Names;
 use velo_request::ThinOptions;
+use velo_sites::Sites;
 use velo_thinning::{Targets, ThinFault, ThinnedLog, deliver_thinned, read_thinned};
 use velo_worker::Ending;
 
@@ -50,21 +58,22 @@ fn send_thinned<F: Files, O: Sink>(
     }
 }
 
-/// Reads a whole log, thins it, and writes what is left of it. Nothing is written where its events
-/// can't come about.
+/// Reads a whole log, thins it without what is left out of it, and writes what is left. Nothing is
+/// written where its events can't come about.
 fn thin_input<I: Source, F: Files, O: Sink>(
     alloc: Global,
     options: &ThinOptions,
+    omitted: &LeftOut,
     source: &mut I,
     files: &mut F,
     out: &mut O,
 ) -> Fate
-    ensures done { ThinsInput options.now (I.remaining source.old)
+    ensures done { ThinsInput options.now (left_of omitted.now) (I.remaining source.old)
         (store F.disk files.old files.new)
         (writing O.contents O.failures out.old out.new) result }
     ensures read { I.failures source.new ≡ failures_told result (I.failures source.old) }
 {
-    match read_thinned(alloc, source) {
+    match read_thinned(alloc, source, omitted) {
         Ok(thinned) => {
             let fate = send_thinned(alloc, options, &thinned, files, out);
             drop(thinned);
@@ -74,14 +83,15 @@ fn thin_input<I: Source, F: Files, O: Sink>(
     }
 }
 
-/// Thins the log that was asked for.
-pub fn thin_file<F: Files, O: Sink>(
+/// Opens the log that was asked for, and thins it without what is left out of it.
+fn thin_without<F: Files, O: Sink>(
     alloc: Global,
     options: &ThinOptions,
+    omitted: &LeftOut,
     files: &mut F,
     out: &mut O,
 ) -> Fate
-    ensures { DoesThin options.now (store F.disk files.old files.new)
+    ensures { ThinsFile options.now (left_of omitted.now) (store F.disk files.old files.new)
         (writing O.contents O.failures out.old out.new) result }
 {
     let map = Beside {
@@ -95,7 +105,48 @@ pub fn thin_file<F: Files, O: Sink>(
         Some(options.target),
         map,
     ) {
-        Ok(mut log) => thin_input(alloc, options, &mut log, files, out),
+        Ok(mut log) => thin_input(alloc, options, omitted, &mut log, files, out),
         Err(fate) => fate,
     }
+}
+
+impl InContext for Command<'_, ThinOptions<'_>> {
+    ghost does = { λ command names asked sites. ThinsAsked asked command.options.now };
+
+    fn do_in<F: Files, O: Sink>(
+        &self,
+        alloc: Global,
+        _names: &Names,
+        asked: &Asked,
+        _sites: &Option<Sites>,
+        files: &mut F,
+        out: &mut O,
+    ) -> Fate {
+        match left_out(alloc, asked) {
+            Ok(omitted) => {
+                let fate = thin_without(alloc, self.options, &omitted, files, out);
+                drop(omitted);
+                fate
+            }
+            Err(Memory) => Fate::Memory,
+        }
+    }
+}
+
+/// Thins the log that was asked for. The names are read first, and then the list of known labels.
+pub fn thin_file<F: Files, O: Sink>(
+    alloc: Global,
+    options: &ThinOptions,
+    files: &mut F,
+    out: &mut O,
+) -> Fate
+    ensures { DoesThin options.now (store F.disk files.old files.new)
+        (writing O.contents O.failures out.old out.new) result }
+{
+    let context = ContextOptions {
+        names: options.names,
+        ignored: options.ignored,
+        sites: None,
+    };
+    do_in_context(alloc, &Command { options }, &context, files, out)
 }

@@ -1,5 +1,5 @@
 -- A log without what is in order, and then without repeats.
-use Rattle.std.proofs.Common.{◌≡◌, ℕ, zero, suc, ◌<◌, ◌≤◌, Bool, false, not, Some, List, length, map, get_or, sym, ap, ◌∙◌, subst, arith, ⊎_elim}
+use Rattle.std.proofs.Common.{◌≡◌, ℕ, zero, suc, ◌<◌, ◌≤◌, Bool, false, not, Some, List, length, map, get_or, refl, sym, ap, ◌∙◌, subst, arith, ⊎_elim}
 use Rattle.std.specs.Prelude.{All, slice_get, slice_index}
 use Rattle.std.proofs.lemmas.Bool.{cases_Bool}
 use Rattle.std.proofs.lemmas.Option.{get_or_from_slice_get}
@@ -7,7 +7,7 @@ use Rattle.std.proofs.lemmas.List.{get_or-map, length-map}
 use Rattle.velo_events.specs.declared.config.Bounds.{Bounds}
 use Rattle.velo_events.specs.declared.event.Event.{Event}
 use Rattle.velo_events.specs.WellFormed.{IsWellFormed}
-use Rattle.velo_filter.specs.Left.{places_of, place_of}
+use Rattle.velo_filter.specs.Left.{Omitted, places_of, place_of, rest_of}
 use Rattle.velo_filter.specs.declared.thinned.Thinned.{Thinned}
 use Rattle.velo_filter.proofs.OnRanks.{rank, rank-zero, rank-stays, rank-goes, rank-from, staying, staying-at, length-staying, length-events_staying}
 use Rattle.velo_filter.proofs.OnLeft.{stays, rest_of-is, length-sub}
@@ -32,12 +32,20 @@ count-le test (suc n) =
     ⊎_elim (λ h. let e = rank-stays test n h in omega (arith, e, before)) (λ h. let e = rank-goes test n h in omega (arith, e, before)) (cases_Bool (test n))
 
 -- what is left is no longer
-pub rest-le : (variables : ℕ → Bool) (log : List Event) → length (without_variables variables log) ≤ length log
-rest-le variables log =
-    let e = ap length (rest_of-is (only no_lock variables) log) in
-    let f = length-sub (only no_lock variables) log in
-    let m = count-le (stays (only no_lock variables) log) (length log) in
+pub rest-fewer : (omitted : Omitted) (log : List Event) → length (rest_of omitted log) ≤ length log
+rest-fewer omitted log =
+    let e = ap length (rest_of-is omitted log) in
+    let f = length-sub omitted log in
+    let m = count-le (stays omitted log) (length log) in
     omega (arith, e, f, m)
+
+pub rest-le : (variables : ℕ → Bool) (log : List Event) → length (without_variables variables log) ≤ length log
+rest-le variables log = rest-fewer (only no_lock variables) log
+
+-- places among the places are positions of the log
+pub map-place_of : (omitted : Omitted) (log : List Event) (inner : List ℕ) → map (λ place. slice_index (places_of omitted log) place) inner ≡ map (place_of omitted log) inner
+unfolding place_of
+map-place_of omitted log inner = refl
 
 -- each place of those that stay is one of all
 staying-within : (test : ℕ → Bool) (n : ℕ) → All (λ place. place < n) (staying test n)
@@ -46,10 +54,10 @@ staying-within test n i d l =
     let here : slice_get (staying test n) i ≡ Some w.0 = ap (slice_get (staying test n)) (sym w.3) ∙ staying-at test n w.0 w.1 w.2 in
     subst (λ place. place < n) (sym (get_or_from_slice_get (staying test n) i w.0 d here)) w.1
 
-length-places : (variables : ℕ → Bool) (log : List Event) → length (places_of (only no_lock variables) log) ≡ length (without_variables variables log)
+pub length-places : (omitted : Omitted) (log : List Event) → length (places_of omitted log) ≡ length (rest_of omitted log)
 unfolding places_of
-length-places variables log =
-    length-staying (stays (only no_lock variables) log) (length log) ∙ sym (ap length (rest_of-is (only no_lock variables) log) ∙ length-sub (only no_lock variables) log)
+length-places omitted log =
+    length-staying (stays omitted log) (length log) ∙ sym (ap length (rest_of-is omitted log) ∙ length-sub omitted log)
 
 module _ (bounds : Bounds) (log : List Event) (first second : Thinned) (well : IsWellFormed bounds log) (w : IsThinned bounds log first) (v : IsWithoutRepeats first.trace.events second) where
   abbrev R : List Event
@@ -62,7 +70,7 @@ module _ (bounds : Bounds) (log : List Event) (first second : Thinned) (well : I
   pub second-within : All (λ place. place < length first.places.items) second.places.items
   second-within =
       subst (λ places. All (λ place. place < length first.places.items) places) (sym u.places)
-      (subst (λ n. All (λ place. place < n) (staying (λ i. not (u.goes i)) (length R))) (sym (ap length w.places ∙ length-places w.variables log))
+      (subst (λ n. All (λ place. place < n) (staying (λ i. not (u.goes i)) (length R))) (sym (ap length w.places ∙ length-places (only no_lock w.variables) log))
       (staying-within (λ i. not (u.goes i)) (length R)))
 
   module _ (result : Thinned) (same-events : result.trace.events ≡ second.trace.events)
@@ -86,6 +94,19 @@ module _ (bounds : Bounds) (log : List Event) (first second : Thinned) (well : I
         ∙ (ap (λ places. get_or places (get_or second.places.items k 0) 0) w.places
         ∙ ap (λ places. get_or (places_of (only no_lock w.variables) log) (get_or places k 0) 0) u.places))
 
+    within-is : All (λ place. place < length log) result.places.items
+    unfolding places_of
+    within-is i d l =
+        let count = ap length same-places ∙ length-map second.places.items (λ place. slice_index first.places.items place) in
+        let l' : i < length second.places.items = omega (arith, l, count) in
+        let below = subst (λ places. get_or second.places.items i 0 < length places) w.places (second-within i 0 l') in
+        let there = staying-within (stays (only no_lock w.variables) log) (length log) (get_or second.places.items i 0) 0 below in
+        subst (λ place. place < length log)
+        (sym (ap (λ places. get_or places i d) same-places
+        ∙ (get_or-map (λ place. slice_index first.places.items place) second.places.items i 0 d l'
+        ∙ ap (λ places. get_or places (get_or second.places.items i 0) 0) w.places)))
+        there
+
     judged-is : (labels : ℕ → Bool) → IsJudgedBy labels log result.trace.events (place_in w.variables u.goes log)
     judged-is labels = subst (λ es. IsJudgedBy labels log es (place_in w.variables u.goes log)) (sym events-are)
         (judged_through_law labels log R (without u.goes R) (place_of (only no_lock w.variables) log) (place_with u.goes R)
@@ -106,6 +127,7 @@ module _ (bounds : Bounds) (log : List Event) (first second : Thinned) (well : I
           omega (arith, a, b, d, e);
       count = count-is;
       places = place-is;
+      within = within-is;
       well_formed = subst (IsWellFormed bounds) (sym events-are) (repeat_run_law u.goes bounds R u.repeats u.equal (IsWellFormed-rest (only no_lock w.variables) bounds log well));
       judged_at_once = at_once log result.trace.events (place_in w.variables u.goes log) (judged-is (λ l. false));
       judged = judged-is;

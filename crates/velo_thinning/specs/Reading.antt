@@ -15,12 +15,13 @@ use Rattle.velo_thinning.specs.declared.reading.ThinFault.{ThinFault}
 use Rattle.velo_thinning.specs.declared.reading.ThinFault.TheVariants.{Log, Refused, WrongValue, Memory}
 use Rattle.velo_thinning.specs.declared.outcome.ThinnedLog.{ThinnedLog}
 use Rattle.velo_thinning.specs.Counting.{variables_in}
-use Rattle.velo_thinning.specs.Thinning.{IsThinnedLog}
+use Rattle.velo_filter.specs.Left.{Omitted}
+use Rattle.velo_thinning.specs.Thinning.{IsThinnedRest}
 
--- the log can come about, and was thinned and counted
-pub record IsThinning (bounds : Bounds) (log : List Event) (thinned : ThinnedLog) : Type 0 where
+-- the log can come about, and was thinned without what is left out of it, and counted
+pub record IsThinning (bounds : Bounds) (omitted : Omitted) (log : List Event) (thinned : ThinnedLog) : Type 0 where
   pub can_come_about : IsWellFormed bounds log
-  pub left : IsThinnedLog bounds log thinned.left
+  pub left : IsThinnedRest bounds omitted log thinned.left
   pub bounds_stay : thinned.config.bounds ≡ bounds
   pub events : thinned.events ≡ length log
   pub variables : thinned.variables ≡ variables_in log
@@ -39,11 +40,11 @@ IsFaultOfEvents bounds log (Log fault) = ⊥
 abbrev pub IsThinInput : Option (List ℕ) → Bounds → List Event → Type 0
 IsThinInput read bounds log = IfSome read (λ bytes. IsLogText bytes bounds log)
 
--- the log of the input, thinned
-pub record IsThinningOf (read : Option (List ℕ)) (thinned : ThinnedLog) : Type 0 where
+-- the log of the input, thinned without what is left out of it
+pub record IsThinningOf (omitted : Omitted) (read : Option (List ℕ)) (thinned : ThinnedLog) : Type 0 where
   pub log : List Event
   pub text : IsThinInput read thinned.config.bounds log
-  pub thins : IsThinning thinned.config.bounds log thinned
+  pub thins : IsThinning thinned.config.bounds omitted log thinned
 
 -- the events of the input can not come about
 pub record IsFaultOfThinInput (read : Option (List ℕ)) (fault : ThinFault) : Type 0 where

@@ -1,5 +1,5 @@
 -- A log without what adds nothing.
-use Rattle.std.specs.Prelude.{◌≡◌, ℕ, ◌+◌, ◌<◌, ◌≤◌, Bool, List, length, map, take, slice_index, IsTrue, ◌↔◌}
+use Rattle.std.specs.Prelude.{◌≡◌, ℕ, ◌+◌, ◌<◌, ◌≤◌, All, Bool, List, length, map, take, slice_index, IsTrue, ◌↔◌}
 use Rattle.velo_events.specs.declared.config.Bounds.{Bounds}
 use Rattle.velo_events.specs.declared.event.Event.{Event}
 use Rattle.velo_events.specs.Event.{is_by}
@@ -7,7 +7,7 @@ use Rattle.velo_events.specs.Block.{passes_at}
 use Rattle.velo_events.specs.Graph.{HasCycle, IsClosing}
 use Rattle.velo_events.specs.Reordering.{AreBlamed}
 use Rattle.velo_events.specs.WellFormed.{IsWellFormed}
-use Rattle.velo_filter.specs.Left.{rest_of, place_of}
+use Rattle.velo_filter.specs.Left.{Omitted, rest_of, place_of}
 use Rattle.velo_filter.specs.declared.thinned.Thinned.{Thinned}
 use Rattle.velo_laws.specs.Ordered.{only}
 use Rattle.velo_laws.specs.Repeats.{without, place_with}
@@ -45,6 +45,15 @@ pub record IsThinnedLog (bounds : Bounds) (log : List Event) (thinned : Thinned)
   pub count : length thinned.places.items ≡ length thinned.trace.events
   pub places : (k : ℕ) → k < length thinned.trace.events
       → slice_index thinned.places.items k ≡ place_in variables goes log k
+  pub within : All (λ place. place < length log) thinned.places.items
   pub well_formed : IsWellFormed bounds thinned.trace.events
   pub judged_at_once : IsJudgedAtOnce log thinned.trace.events (place_in variables goes log)
   pub judged : (labels : ℕ → Bool) → IsJudgedBy labels log thinned.trace.events (place_in variables goes log)
+
+-- First went what was asked to be left out, and the rest was thinned. Each position is that of its event in the whole log
+pub record IsThinnedRest (bounds : Bounds) (omitted : Omitted) (log : List Event) (thinned : Thinned) : Type 0 where
+  pub rest : Thinned
+  pub is_thinned : IsThinnedLog bounds (rest_of omitted log) rest
+  pub events : thinned.trace.events ≡ rest.trace.events
+  pub places : thinned.places.items ≡ map (place_of omitted log) rest.places.items
+  pub fewer : length thinned.trace.events ≤ length log

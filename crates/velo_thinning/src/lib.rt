@@ -13,5 +13,5 @@ mod thinning;
 pub use delivering::{CountsText, Outgoing, Targets, deliver_thinned};
 pub use judging::first_flaw;
 pub use outcome::ThinnedLog;
-pub use reading::{ThinFault, read_thinned, thinned_log};
-pub use thinning::thin_log;
+pub use reading::{ThinFault, read_thinned};
+pub use thinning::{thin_log, thin_rest};

@@ -4,6 +4,7 @@ use std::alloc::Global;
 use std::process::Abort;
 use velo_bytes::Bytes;
 use velo_events::Refusal;
+use velo_filter::LeftOut;
 use velo_logtext::LogFault;
 
 /// A variable behind a lock, one that is read again and again, and one that races.
@@ -22,7 +23,7 @@ struct Figures {
 
 /// Thins a log.
 fn figures_of(alloc: Global, text: &[u8]) -> Result<Figures, ThinFault> {
-    match read_thinned(alloc, &mut Bytes::new(text)) {
+    match read_thinned(alloc, &mut Bytes::new(text), &LeftOut::new(alloc)) {
         Ok(thinned) => Ok(Figures {
             events: thinned.events,
             left: thinned.left.trace.len(),

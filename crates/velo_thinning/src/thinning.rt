@@ -2,12 +2,13 @@
 ghost use Rattle.std.specs.Prelude.{◌≡◌, ◌≤◌, ◌<◌, All, length, map, slice_index, IfOk};
 ghost use Rattle.velo_events.specs.declared.limits.TheConstants.{MAX_EVENTS};
 ghost use Rattle.velo_events.specs.WellFormed.{IsWellFormed};
-ghost use Rattle.velo_thinning.specs.Thinning.{IsThinnedLog};
+ghost use Rattle.velo_filter.specs.Tables.{left_of};
+ghost use Rattle.velo_thinning.specs.Thinning.{IsThinnedLog, IsThinnedRest};
 
 use std::alloc::Global;
 use velo_events::growth::with_capacity;
 use velo_events::{Config, Memory};
-use velo_filter::Thinned;
+use velo_filter::{LeftOut, Thinned, thin};
 use velo_races::thin_ordered;
 use velo_repeats::without_repeats;
 use velo_traces::Trace;
@@ -45,5 +46,28 @@ pub fn thin_log(alloc: Global, config: &Config, log: &Trace) -> Result<Thinned, 
     Ok(Thinned {
         trace: left.trace,
         places,
+    })
+}
+
+/// What is left of a log that can come about where something is left out of it, and the rest is thinned.
+///
+/// # Errors
+/// `Memory` where a growth was refused.
+pub fn thin_rest(
+    alloc: Global,
+    config: &Config,
+    log: &Trace,
+    omitted: &LeftOut,
+) -> Result<Thinned, Memory>
+    requires few { length log.now.events ≤ MAX_EVENTS }
+    requires well_formed { IsWellFormed config.now.bounds log.now.events }
+    ensures { IfOk result (IsThinnedRest config.now.bounds (left_of omitted.now) log.now.events) }
+{
+    let rest = thin(alloc, log, omitted)?;
+    let left = thin_log(alloc, config, &rest.trace)?;
+    let in_log = places_through(alloc, &rest.places, &left.places)?;
+    Ok(Thinned {
+        trace: left.trace,
+        places: in_log,
     })
 }

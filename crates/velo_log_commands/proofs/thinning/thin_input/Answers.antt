@@ -2,6 +2,7 @@ use Rattle.std.proofs.Common.{◌∙◌, ap, inl, inr, refl, sym}
 use Rattle.velo_delivery.specs.Disk.{store}
 use Rattle.velo_delivery.specs.Writing.{writing}
 use Rattle.velo_fate.specs.declared.fate.Fate.TheVariants.{Check}
+use Rattle.velo_filter.specs.Tables.{left_of}
 use Rattle.velo_log_commands.proofs.OnThinning.{thins_reads, told_by_fault}
 use Rattle.velo_log_commands.proofs.thinning.thin_input.Goals as goal
 
@@ -14,7 +15,7 @@ returns-in-Ok-clause-read g c =
     let stdout = writing g.O.Sink.contents g.O.Sink.failures c.args.out.now c.send_thinned-fate.new.out in
     let read = g.I.Source.remaining c.args.source.now in
     c.in-Ok.ensures.failures
-    ∙ sym (thins_reads c.args.options.now read left stdout c.send_thinned-fate.result _ (record { thinned = c.in-Ok.thinned; thins = c.in-Ok.ensures.ok; goes_out = c.send_thinned-fate.ensures }))
+    ∙ sym (thins_reads c.args.options.now (left_of c.args.omitted.now) read left stdout c.send_thinned-fate.result _ (record { thinned = c.in-Ok.thinned; thins = c.in-Ok.ensures.ok; goes_out = c.send_thinned-fate.ensures }))
 
 pub returns-in-Err-clause-done : goal.returns-in-Err-clause-done
 returns-in-Err-clause-done g c = inr (c.in-Err.fault, c.in-Err.ensures.fault, ap Check c.fault_of.ensures, (refl, (refl, refl)))

@@ -1,5 +1,6 @@
 use Rattle.std.proofs.Common.{Err, ap, sym, subst}
 use Rattle.velo_logtext.specs.declared.fault.LogFault.{LogFault}
+use Rattle.velo_filter.specs.Tables.{left_of}
 use Rattle.velo_thinning.specs.Reading.{IsThinInput, IsThinning}
 use Rattle.velo_thinning.proofs.OnReading.{text_found, failed_by, fault_found}
 use Rattle.velo_thinning.proofs.reading.read_thinned.Goals as goal
@@ -18,7 +19,7 @@ returns-in-Ok-thinned_log-clause-ok g c =
     record {
       log = log;
       text = subst (λ b. IsThinInput known b log) (sym w.bounds_stay) (text_found known _ _ _ c.in-Ok.ensures.found);
-      thins = subst (λ b. IsThinning b log c.in-Ok-thinned_log.thinned) (sym w.bounds_stay) w;
+      thins = subst (λ b. IsThinning b (left_of c.args.omitted.now) log c.in-Ok-thinned_log.thinned) (sym w.bounds_stay) w;
     }
 
 pub returns-clause-fault : goal.returns-clause-fault

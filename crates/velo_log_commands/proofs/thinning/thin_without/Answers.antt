@@ -1,5 +1,5 @@
 use Rattle.std.proofs.Common.{inl, inr, refl}
-use Rattle.velo_log_commands.proofs.thinning.thin_file.Goals as goal
+use Rattle.velo_log_commands.proofs.thinning.thin_without.Goals as goal
 
 pub returns-in-Ok : goal.returns-in-Ok
 returns-in-Ok g c = inr (_, c.in-Ok.ensures.given c.thin_input.new.source, c.thin_input.ensures.read, c.thin_input.ensures.done)
