@@ -3,7 +3,7 @@ use crate::{ThinFault, read_thinned};
 use std::alloc::Global;
 use std::process::Abort;
 use velo_bytes::Bytes;
-use velo_events::Refusal;
+use velo_events::{LockId, Refusal};
 use velo_filter::LeftOut;
 use velo_logtext::LogFault;
 
@@ -21,9 +21,9 @@ struct Figures {
     places: Vec<u32>,
 }
 
-/// Thins a log.
-fn figures_of(alloc: Global, text: &[u8]) -> Result<Figures, ThinFault> {
-    match read_thinned(alloc, &mut Bytes::new(text), &LeftOut::new(alloc)) {
+/// Thins a log without what is left out.
+fn figures_of(alloc: Global, text: &[u8], omitted: &LeftOut) -> Result<Figures, ThinFault> {
+    match read_thinned(alloc, &mut Bytes::new(text), omitted) {
         Ok(thinned) => Ok(Figures {
             events: thinned.events,
             left: thinned.left.trace.len(),
@@ -37,7 +37,7 @@ fn figures_of(alloc: Global, text: &[u8]) -> Result<Figures, ThinFault> {
 
 /// Compares why a log is refused.
 fn refused(rt: &impl Abort, alloc: Global, text: &[u8], why: ThinFault) {
-    match figures_of(alloc, text) {
+    match figures_of(alloc, text, &LeftOut::new(alloc)) {
         Ok(_) => panic!(rt; "{why} was expected"),
         Err(fault) => assert!(rt; fault == why),
     }
@@ -45,13 +45,32 @@ fn refused(rt: &impl Abort, alloc: Global, text: &[u8], why: ThinFault) {
 
 #[test]
 fn what_is_in_order_and_what_repeats_go(rt: HostRuntime) {
-    match figures_of(rt.alloc(), LOG) {
+    let alloc = rt.alloc();
+    match figures_of(alloc, LOG, &LeftOut::new(alloc)) {
         Ok(figures) => {
             assert!(&rt; figures.events == 11);
             assert!(&rt; figures.left == 7);
             assert!(&rt; figures.variables == 3);
             assert!(&rt; figures.variables_left == 1);
             let places = [0, 1, 3, 4, 6, 7, 9];
+            assert!(&rt; figures.places.as_slice() == places.as_slice());
+        }
+        Err(fault) => panic!(&rt; "{fault}"),
+    }
+}
+
+#[test]
+fn what_is_left_out_goes_first(rt: HostRuntime) {
+    let alloc = rt.alloc();
+    let mut omitted = LeftOut::new(alloc);
+    assert!(&rt; omitted.leave_out_lock(LockId(0)).is_ok());
+    match figures_of(alloc, LOG, &omitted) {
+        Ok(figures) => {
+            assert!(&rt; figures.events == 11);
+            assert!(&rt; figures.left == 5);
+            assert!(&rt; figures.variables == 3);
+            assert!(&rt; figures.variables_left == 2);
+            let places = [0, 2, 5, 7, 9];
             assert!(&rt; figures.places.as_slice() == places.as_slice());
         }
         Err(fault) => panic!(&rt; "{fault}"),
