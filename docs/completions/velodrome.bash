@@ -15,7 +15,7 @@ _velodrome() {
         explore) words="--states --seconds --first --progress --random --seed --format --log --names-out --events --nodes --certificate --help" ;;
         watch) words="--names --stop --endless --events --nodes --certificate --help" ;;
         audit) words="--no-witness --counts --by-count --innermost --format --names --sites --not-atomic --ignore-label --ignore-lock --ignore-locks --ignore-variable --events --nodes --help" ;;
-        thin) words="--log --map --help" ;;
+        thin) words="--log --map --names --not-atomic --ignore-label --ignore-lock --ignore-locks --ignore-variable --help" ;;
         predict) words="--log --values --tries --seed --format --names --sites --not-atomic --ignore-label --ignore-lock --ignore-locks --ignore-variable --events --nodes --help" ;;
         verify) words="--help" ;;
     esac

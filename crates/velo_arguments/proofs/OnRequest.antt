@@ -316,7 +316,22 @@ an_audit rows word has =
 a_thinning : (rows : List Row) → HasWord (codes "LOG") rows → HasWord (codes "log") rows → (options : ThinOptions) × AsksThin rows options
 unfolding a_path
 a_thinning rows word out =
-    (record { input = a_path word.0; target = a_path out.0; map = a_path_if (first_of (codes "map") rows) }, (word.1, out.1, path_of (first_of (codes "map") rows)))
+    let left = left_out rows in (
+      record {
+        input = a_path word.0;
+        names = a_path_if (first_of (codes "names") rows);
+        ignored = left.0;
+        target = a_path out.0;
+        map = a_path_if (first_of (codes "map") rows);
+      },
+      (
+        word.1,
+        path_of (first_of (codes "names") rows),
+        left.1,
+        out.1,
+        path_of (first_of (codes "map") rows),
+      ),
+    )
 
 a_predicting : (rows : List Row) → HasWord (codes "LOG") rows → HasDelays rows → (options : PredictOptions) × AsksPredict rows options
 unfolding a_path

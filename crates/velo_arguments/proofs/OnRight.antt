@@ -14,7 +14,7 @@ use Rattle.clap.specs.Faults.{built_fault, defaults_fault, entered_fault, level_
 use Rattle.clap.specs.declared.parser.matches.ValueSource.{ValueSource}
 use Rattle.velo_events.specs.declared.limits.TheConstants.{MAX_EVENTS, MAX_NODES}
 use Rattle.velo_request.specs.declared.request.TheConstants.{MAX_RUNS, MAX_SECONDS, MAX_STATES, MAX_TRIES}
-use Rattle.velo_arguments.specs.CommandLine.{audit, carry, check, command_line, events, explain, explore, flag, graph_options, label_options, needed, nodes, predict, random, repeated, replay, run, run_options, saved_options, seconds, seed, states, thin, tries, valued, verify, watch, word}
+use Rattle.velo_arguments.specs.CommandLine.{audit, carry, check, command_line, events, explain, explore, flag, graph_options, label_options, left_out_options, needed, nodes, predict, random, repeated, replay, run, run_options, saved_options, seconds, seed, states, thin, tries, valued, verify, watch, word}
 use Rattle.velo_arguments.proofs.OnWalk.{Each, level_keeps, neither}
 use Rattle.velo_arguments.proofs.OnStop.{StopsNotAtHelp, walk_stops}
 use Rattle.velo_arguments.proofs.OnRows.{IsFilled, MakesRows, default_keeps, defaults_have, is_plain, more_row, new_row, required_given, row_given, row_there, subcommand_there, used_keeps}
@@ -210,6 +210,9 @@ saved_made = (makes_valued (codes "log") refl, (makes_valued (codes "names-out")
 run_made : Each (MakesRows (Passes limits)) (map filled run_options ++ filled help_rule ∷ [])
 run_made = (makes_flag (codes "stop") refl, (makes_flag (codes "why") refl, saved_made))
 
+left_out_made : Each (MakesRows (Passes limits)) (map filled left_out_options ++ filled help_rule ∷ [])
+left_out_made = (makes_valued (codes "not-atomic") refl, (makes_repeated (codes "ignore-label") refl, (makes_repeated (codes "ignore-lock") refl, (makes_flag (codes "ignore-locks") refl, (makes_repeated (codes "ignore-variable") refl, (makes_help, tt))))))
+
 labels_made : Each (MakesRows (Passes limits)) (map filled label_options ++ filled help_rule ∷ [])
 labels_made = (makes_valued (codes "names") refl, (makes_valued (codes "sites") refl, (makes_valued (codes "not-atomic") refl, (makes_repeated (codes "ignore-label") refl, (makes_repeated (codes "ignore-lock") refl, (makes_flag (codes "ignore-locks") refl, (makes_repeated (codes "ignore-variable") refl, (makes_events (codes "16777216"), (makes_nodes (codes "4096"), (makes_help, tt))))))))))
 
@@ -244,7 +247,7 @@ replay_right words e =
 
 pub explain_right : (words : List Text) → AreFaultless explain words → HasWord (codes "LOG") (rows_of_leaf explain words)
 explain_right words e =
-    let level = level_has limits (leaf explain) words refl (makes_word (codes "LOG") refl, (makes_valued (codes "dot") refl, (makes_valued (codes "svg") refl, (makes_valued (codes "format") refl, (makes_valued (codes "names") refl, (makes_valued (codes "sites") refl, (makes_valued (codes "not-atomic") refl, (makes_repeated (codes "ignore-label") refl, (makes_repeated (codes "ignore-lock") refl, (makes_flag (codes "ignore-locks") refl, (makes_repeated (codes "ignore-variable") refl, (makes_help, tt)))))))))))) e in
+    let level = level_has limits (leaf explain) words refl (makes_word (codes "LOG") refl, (makes_valued (codes "dot") refl, (makes_valued (codes "svg") refl, (makes_valued (codes "format") refl, (makes_valued (codes "names") refl, (makes_valued (codes "sites") refl, left_out_made)))))) e in
     word_there (codes "LOG") (rows_of_leaf explain words) level.passes (level.given.0 refl)
 
 pub carry_right : (words : List Text) → AreFaultless carry words
@@ -287,7 +290,7 @@ audit_right words e =
 pub thin_right : (words : List Text) → AreFaultless thin words
     → HasWord (codes "LOG") (rows_of_leaf thin words) × HasWord (codes "log") (rows_of_leaf thin words)
 thin_right words e =
-    let level = level_has limits (leaf thin) words refl (makes_word (codes "LOG") refl, (makes_needed (codes "log") refl, (makes_valued (codes "map") refl, (makes_help, tt)))) e in
+    let level = level_has limits (leaf thin) words refl (makes_word (codes "LOG") refl, (makes_needed (codes "log") refl, (makes_valued (codes "map") refl, (makes_valued (codes "names") refl, left_out_made)))) e in
     (word_there (codes "LOG") (rows_of_leaf thin words) level.passes (level.given.0 refl), word_there (codes "log") (rows_of_leaf thin words) level.passes (level.given.1.0 refl))
 
 -- what a search for predictions has besides its word

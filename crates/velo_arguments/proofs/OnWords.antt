@@ -262,18 +262,20 @@ endless_gives : given_by (asked_by endless_words) ≡ record { states = false; s
 unfolding asked_by walked
 endless_gives = refl
 
--- a log that is thinned
+-- a log that is thinned, without its locks, a variable and the labels of a list
 abbrev thin_words : List Text
-thin_words = codes "velodrome" ∷ codes "thin" ∷ codes "a" ∷ codes "--log=b" ∷ codes "--map" ∷ codes "p" ∷ []
+thin_words = codes "velodrome" ∷ codes "thin" ∷ codes "a" ∷ codes "--log=b" ∷ codes "--map" ∷ codes "p" ∷ codes "--names=n" ∷ codes "--ignore-locks" ∷ codes "--not-atomic" ∷ codes "l" ∷ codes "--ignore-variable=x" ∷ []
 
 thin_is_right : faults_of thin_words ≡ []
 unfolding faults_of walk_fault walked defaults_fault
 thin_is_right = refl
 
-thin_asks : (options : ThinOptions) → options.input.now ≡ codes "a" → options.target.now ≡ codes "b" → option_map (λ path. path.now) options.map ≡ Some (codes "p")
-    → AsksFor (asked_by thin_words) (Thin options)
+thin_asks : (options : ThinOptions) → options.input.now ≡ codes "a" → option_map (λ path. path.now) options.names ≡ Some (codes "n") → option_map (λ path. path.now) options.ignored.known ≡ Some (codes "l")
+    → map (λ w. w.now) options.ignored.labels.now ≡ [] → map (λ w. w.now) options.ignored.locks.now ≡ [] → map (λ w. w.now) options.ignored.variables.now ≡ codes "x" ∷ [] → options.ignored.all_locks ≡ true
+    → options.target.now ≡ codes "b" → option_map (λ path. path.now) options.map ≡ Some (codes "p") → AsksFor (asked_by thin_words) (Thin options)
 unfolding asked_by walked
-thin_asks options log out map = (refl, (ap Some (sym log), ap Some (sym out), sym map))
+thin_asks options log names known labels locks variables all out positions =
+    (refl, (ap Some (sym log), sym names, (sym known, sym labels, sym locks, sym variables, search rules), ap Some (sym out), sym positions))
 
 -- a report beside its log
 abbrev verify_words : List Text

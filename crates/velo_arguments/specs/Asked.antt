@@ -209,6 +209,8 @@ AsksAudit rows options =
 abbrev pub AsksThin : List Row → ThinOptions → Type 0
 AsksThin rows options =
     (first_of (codes "LOG") rows ≡ Some options.input.now)
+    × IsPath (codes "names") rows options.names
+    × AreLeftOut rows options.ignored
     × (first_of (codes "log") rows ≡ Some options.target.now)
     × IsPath (codes "map") rows options.map
 

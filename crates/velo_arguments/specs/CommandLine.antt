@@ -145,7 +145,8 @@ audit =
 
 abbrev pub thin : Shape
 thin = subcommand (codes "thin")
-    (word (codes "LOG") ∷ needed (codes "log") ∷ valued (codes "map") ∷ [])
+    (word (codes "LOG") ∷ needed (codes "log") ∷ valued (codes "map") ∷ valued (codes "names")
+    ∷ left_out_options)
 
 abbrev pub predict : Shape
 predict = subcommand (codes "predict")

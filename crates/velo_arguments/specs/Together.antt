@@ -18,6 +18,7 @@ use Rattle.velo_request.specs.declared.request.ScheduleSource.{ScheduleSource}
 use Rattle.velo_request.specs.declared.request.ScheduleSource.TheVariants as schedule
 use Rattle.velo_request.specs.declared.request.TextOrJson.{TextOrJson}
 use Rattle.velo_request.specs.declared.request.TextOrJson.TheVariants.{Json, Text}
+use Rattle.velo_request.specs.declared.request.ThinOptions.{ThinOptions}
 use Rattle.velo_arguments.specs.Asked.{Matches, AsksFor, form_named, text_or_json_named}
 use Rattle.velo_arguments.specs.declared.together.Clash.{Clash}
 use Rattle.velo_arguments.specs.declared.together.Clash.TheVariants.{DrawingIsPicture, EndlessCertificate, InputTwice, JsonCertificate, MapIsLog, NamesWithoutLog, NeitherTextNorJson, NoSuchForm, OnePath, SearchByChance, SeedAlone, TwoSchedules}
@@ -173,6 +174,15 @@ clash_of_predict options neither =
     (options.input.now ∷ path_if options.names ++ path_if options.sites
     ++ path_if options.ignored.known)
 
+-- ---- a thinning
+
+-- standard input is read twice, or one path is written twice
+abbrev pub clash_of_thin : ThinOptions → Option Clash
+clash_of_thin options =
+    option_or
+    (clash_of_inputs (options.input.now ∷ path_if options.names ++ path_if options.ignored.known))
+    (clash_of_map options.target.now options.map)
+
 -- ---- an endless watch
 
 -- it has a certificate, for which the whole log is needed; or standard input is read twice
@@ -195,7 +205,7 @@ clash_of (Explore options) given = clash_of_explore options given
 clash_of (Watch options) given = clash_of_inputs (options.input.now ∷ path_if options.names)
 clash_of (WatchEndless options) given = clash_of_endless options given.certificate
 clash_of (Audit options) given = clash_of_audit options given.other_form
-clash_of (Thin options) given = clash_of_map options.target.now options.map
+clash_of (Thin options) given = clash_of_thin options
 clash_of (Predict options) given = clash_of_predict options given.neither_text_nor_json
 clash_of (Verify options) given = clash_of_inputs (options.input.now ∷ options.report.now ∷ [])
 

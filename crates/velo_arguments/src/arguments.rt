@@ -187,7 +187,17 @@ fn thin<'a>(alloc: Global) -> Result<Command<'a>, Memory>
     ensures { IfOk result (IsSubcommand thin) }
 {
     let about = "Leaves out of a recorded log what adds nothing to its verdict";
-    let arguments = [LOG, CARRIED_LOG, MAP];
+    let arguments = [
+        LOG,
+        CARRIED_LOG,
+        MAP,
+        NAMES,
+        NOT_ATOMIC,
+        IGNORE_LABEL,
+        IGNORE_LOCK,
+        IGNORE_LOCKS,
+        IGNORE_VARIABLE,
+    ];
     subcommand(alloc, "thin", about, help::OF_THIN, &arguments)
 }
 

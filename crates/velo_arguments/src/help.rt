@@ -337,29 +337,39 @@ Example, a variable that one thread uses:
 It prints 'events 4 to 2' and 'variables 1 to 0', and writes what is left to small.log: the begin and
 the end.
 
-First go all accesses to a variable where the rest of the log keeps the conflicting ones in order, by
+--not-atomic, --ignore-label, --ignore-lock, --ignore-locks and --ignore-variable are those of
+'velodrome audit', with the names of --names. What they name goes first, so that other commands, too, can
+judge a log without it:
+  velodrome thin --ignore-locks --log left.log app.log
+  velodrome check left.log
+
+Of the rest all accesses to a variable go where what stays keeps the conflicting ones in order, by
 locks, forks, joins and each thread's own order: such a variable has no race. Then an access goes that
 repeats the one just before it of its thread, if no begin, no end and no conflicting access is between
 them. All other events stay, in their order.
 
-What is left is judged as LOG is: the verdict is the same, the same event closes the first cycle, the
-same blocks are to blame, and 'velodrome audit' finds the same labels. Threads, variables, locks and
-labels keep their numbers, so a file of names still fits. Positions and lines are those of OUT. MAP gets
-a line for each event of OUT: its position in LOG, from 0. Do not give OUT to 'velodrome predict', which
-needs all reads.
+OUT is judged as LOG is without what the options name: the verdict is the same, the same event closes
+the first cycle, the same blocks are to blame, and 'velodrome audit' finds the same labels. Threads,
+variables, locks and labels keep their numbers, so a file of names still fits. Positions and lines are
+those of OUT, of what is left. MAP tells them in LOG: it gets a line for each event of OUT, its position
+in LOG, from 0. Do not give OUT to 'velodrome predict', which needs all reads.
 
 LOG, OUT and MAP must be different files; otherwise the command stops before it writes. Standard input
 is not compared with OUT and MAP. If LOG has a fault, or an event that cannot happen, OUT and MAP are
-not opened. LOG may have up to 16777216 events.
+not opened. LOG may have up to 16777216 events. Only one of LOG and the files of --names and
+--not-atomic can be -.
 
 Statuses, each with the lines on standard error:
   0  done, whatever the verdict, or help
-  2  usage; 'error: LOG and OUT are one file', the same of LOG and MAP, and of OUT and MAP; the text
-     is no log: 'log fault K', 'log fault K line N'; an event cannot happen: 'refused K at P',
-     'wrong value at P'
+  2  usage; 'error: standard input can be read once'; 'error: LOG and OUT are one file', the same of
+     LOG and MAP, and of OUT and MAP; the text is no log: 'log fault K', 'log fault K line N'; an event
+     cannot happen: 'refused K at P', 'wrong value at P'; the text of --names is no file of names:
+     'names fault K line N'; the text of --not-atomic is no list: 'list fault K line N'; a word of
+     --ignore-label, --ignore-lock or --ignore-variable means nothing: 'ignored fault K'
   5  memory or a device failed: 'out of memory', 'read failed', 'write failed', 'cannot open'
 
-Log, faults and refusals: see 'velodrome check --help'.";
+Lists, ignored words: see 'velodrome audit --help'. Log, names, faults and refusals: see
+'velodrome check --help'.";
 
 /// After the help of `verify`.
 pub const OF_VERIFY: &str = "\

@@ -314,7 +314,7 @@ fn audit_options<'a>(found: &'a ArgMatches) -> Option<AuditOptions<'a>>
     })
 }
 
-fn thin_options<'a>(found: &ArgMatches<'a>) -> Option<ThinOptions<'a>>
+fn thin_options<'a>(found: &'a ArgMatches) -> Option<ThinOptions<'a>>
     ensures some { IfSome result (AsksThin (rows_of (found_of found.now))) }
     ensures none { IfNone result ((options : ThinOptions)
         → ¬ AsksThin (rows_of (found_of found.now)) options) }
@@ -322,6 +322,8 @@ fn thin_options<'a>(found: &ArgMatches<'a>) -> Option<ThinOptions<'a>>
     let target = found.get_str("log")?;
     Some(ThinOptions {
         input: found.get_str("LOG")?,
+        names: found.get_str("names"),
+        ignored: left_out(found),
         target,
         map: found.get_str("map"),
     })

@@ -5,14 +5,14 @@ ghost use Rattle.std.specs.Str.{bytes_eq};
 ghost use Rattle.clap.specs.Takes.{is_given};
 ghost use Rattle.clap.specs.Words.{found_of, rows_of, subcommand_rows_of};
 ghost use Rattle.velo_arguments.specs.Asked.{AsksForNothing};
-ghost use Rattle.velo_arguments.specs.Together.{IsApart, IsTogether, clash_of, clash_of_audit, clash_of_certificate, clash_of_chance, clash_of_drawing, clash_of_endless, clash_of_explain, clash_of_explore, clash_of_inputs, clash_of_map, clash_of_predict, clash_of_replay, clash_of_schedule, clash_of_search, clash_of_targets, given_by, given_in, is_other_form, is_neither_text_nor_json, line_of_clash, path_if, schedule_path_if};
+ghost use Rattle.velo_arguments.specs.Together.{IsApart, IsTogether, clash_of, clash_of_audit, clash_of_certificate, clash_of_chance, clash_of_drawing, clash_of_endless, clash_of_explain, clash_of_explore, clash_of_inputs, clash_of_map, clash_of_predict, clash_of_replay, clash_of_schedule, clash_of_search, clash_of_targets, clash_of_thin, given_by, given_in, is_other_form, is_neither_text_nor_json, line_of_clash, path_if, schedule_path_if};
 
 use crate::requests::{form_named, request_of, text_or_json_named};
 use clap::ArgMatches;
 use clap::parser::ValueSource;
 use velo_request::{
     AuditOptions, EndlessOptions, ExplainOptions, ExploreOptions, PredictOptions, RandomRuns,
-    ReplayOptions, Request, ScheduleSource, TextOrJson,
+    ReplayOptions, Request, ScheduleSource, TextOrJson, ThinOptions,
 };
 
 /// Why the options of a request do not go together.
@@ -137,7 +137,7 @@ fn clash_of(request: &Request, given: Given) -> Option<Clash>
         Request::Watch(options) => clash_of_inputs(options.input, options.names),
         Request::WatchEndless(options) => clash_of_endless(options, given.certificate),
         Request::Audit(options) => clash_of_audit(options, given.other_form),
-        Request::Thin(options) => clash_of_map(options.target, options.map),
+        Request::Thin(options) => clash_of_thin(options),
         Request::Predict(options) => clash_of_predict(options, given.neither_text_nor_json),
         Request::Verify(options) => clash_of_inputs(options.input, Some(options.report)),
     }
@@ -246,6 +246,14 @@ fn clash_of_predict(options: &PredictOptions, other_form: bool) -> Option<Clash>
         options.sites,
         options.ignored.known,
     )
+}
+
+/// A log is thinned without a clash of its paths.
+fn clash_of_thin(options: &ThinOptions) -> Option<Clash>
+    ensures { result ≡ clash_of_thin options.now }
+{
+    let inputs = clash_of_files(options.input, options.names, None, options.ignored.known);
+    inputs.or(clash_of_map(options.target, options.map))
 }
 
 /// Whether this is the path of standard input.

@@ -51,12 +51,14 @@ names_of (Explain options) = given options.names
 names_of (Watch options) = given options.names
 names_of (WatchEndless options) = given options.names
 names_of (Audit options) = given options.names
+names_of (Thin options) = given options.names
 names_of (Predict options) = given options.names
 names_of _ = None
 
 abbrev pub known_of : Request → Option (List ℕ)
 known_of (Explain options) = given options.ignored.known
 known_of (Audit options) = given options.ignored.known
+known_of (Thin options) = given options.ignored.known
 known_of (Predict options) = given options.ignored.known
 known_of _ = None
 

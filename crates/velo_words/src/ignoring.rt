@@ -21,6 +21,7 @@ fn ignored_of<'a>(request: &Request<'a>) -> Option<Ignored<'a>>
         Request::Audit(options) => Some(options.ignored),
         Request::Predict(options) => Some(options.ignored),
         Request::Explain(options) => Some(options.ignored),
+        Request::Thin(options) => Some(options.ignored),
         _ => None,
     }
 }

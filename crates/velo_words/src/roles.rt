@@ -104,6 +104,7 @@ pub fn names_of<'a>(request: &Request<'a>) -> Option<&'a str>
         Request::Watch(options) => options.names,
         Request::WatchEndless(options) => options.names,
         Request::Audit(options) => options.names,
+        Request::Thin(options) => options.names,
         Request::Predict(options) => options.names,
         _ => None,
     }
@@ -116,6 +117,7 @@ pub fn known_of<'a>(request: &Request<'a>) -> Option<&'a str>
     match request {
         Request::Explain(options) => options.ignored.known,
         Request::Audit(options) => options.ignored.known,
+        Request::Thin(options) => options.ignored.known,
         Request::Predict(options) => options.ignored.known,
         _ => None,
     }

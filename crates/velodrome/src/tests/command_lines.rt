@@ -49,7 +49,7 @@ static RIGHT_WORDS: [(&[&str], u8, &str); 9] = [
     (&["velodrome", "--help"], 0, ""),
 ];
 
-static WRONG_WORDS: [&[&str]; 49] = [
+static WRONG_WORDS: [&[&str]; 50] = [
     &["velodrome"],
     &["velodrome", "check"],
     &["velodrome", "race", "a.log"],
@@ -136,13 +136,14 @@ static WRONG_WORDS: [&[&str]; 49] = [
     &["velodrome", "thin", "a.log"],
     &["velodrome", "verify", "a.log"],
     &["velodrome", "thin", "a.log", "--log", "o", "--events", "4"],
+    &["velodrome", "thin", "a.log", "--log", "o", "--sites", "s"],
     &["velodrome", "predict", "a.log", "--tries", "0"],
     &["velodrome", "predict", "a.log", "--tries", "1000001"],
     &["velodrome", "predict", "a.log", "--no-witness"],
 ];
 
 /// Right words that do not go together, with the line that says so.
-static WORDS_APART: [(&[&str], &str); 32] = [
+static WORDS_APART: [(&[&str], &str); 34] = [
     (
         &["velodrome", "check", "-", "--names", "-"],
         "error: standard input can be read once\n",
@@ -266,6 +267,14 @@ static WORDS_APART: [(&[&str], &str); 32] = [
     (
         &["velodrome", "thin", "a.log", "--log", "o", "--map", "o"],
         "error: OUT and MAP are one file\n",
+    ),
+    (
+        &["velodrome", "thin", "-", "--log", "o", "--not-atomic=-"],
+        "error: standard input can be read once\n",
+    ),
+    (
+        &["velodrome", "thin", "-", "--log=o", "--map=o", "--names=-"],
+        "error: standard input can be read once\n",
     ),
     (
         &[

@@ -8,13 +8,15 @@ pub returns-clause-some : goal.returns-clause-some
 returns-clause-some c =
     let f = found_of c.args.found.now in (
       word_read f (codes "LOG") c.get_str-2.result c.in_ok-get_str.field-0 c.get_str-2.ensures c.in_ok-get_str.was,
+      option_read f (codes "names") c.get_str-3.result c.get_str-3.ensures,
+      c.left_out.ensures,
       word_read f (codes "log") c.get_str.result c.in_ok-target.target c.get_str.ensures c.in_ok-target.was,
-      option_read f (codes "map") c.get_str-3.result c.get_str-3.ensures,
+      option_read f (codes "map") c.get_str-4.result c.get_str-4.ensures,
     )
 
 pub returns-in_err-target-clause-none : goal.returns-in_err-target-clause-none
 returns-in_err-target-clause-none c = on_none _ (AsksThin (rows_of (found_of c.args.found.now))) (λ options asks.
-    no_word (found_of c.args.found.now) (codes "log") c.get_str.result options.target.now c.get_str.ensures c.in_err-target.was asks.1)
+    no_word (found_of c.args.found.now) (codes "log") c.get_str.result options.target.now c.get_str.ensures c.in_err-target.was asks.3)
 
 pub returns-in_err-get_str-clause-none : goal.returns-in_err-get_str-clause-none
 returns-in_err-get_str-clause-none c = on_none _ (AsksThin (rows_of (found_of c.args.found.now))) (λ options asks.
