@@ -251,7 +251,6 @@ fn next_level<P: Progress>(
     terms: &Terms,
     level: &mut Level,
     before: Found,
-    next: &mut Level,
     trail: &mut Trail,
     progress: &mut P,
 ) -> Result<Looked, Memory>
@@ -264,31 +263,31 @@ fn next_level<P: Progress>(
     requires found { IsTrueOf terms.now.bounds terms.now.scripts.now.kinds before }
     requires shown { AreShown terms.now.bounds terms.now.scripts.now.kinds terms.now.first before
         trail.old }
-    requires empty { next.old.states.items ≡ [] }
     ensures found { IfOk result
         (λ x. IsTrueOf terms.now.bounds terms.now.scripts.now.kinds x.found) }
     ensures more { IfOk result (λ x. (fault : Fault) → has_fault x.found fault ≡ false → has_fault before fault ≡ false) }
-    ensures others { OnOk result (All
+    ensures others { IfOk result (λ x. All
         (IsReachedBy terms.now.bounds terms.now.scripts.now.kinds trail.new.steps.items)
-        next.new.states.items) }
-    ensures noted { OnOk result (All (IsNoted trail.new) next.new.states.items) }
+        x.next.states.items) }
+    ensures noted { IfOk result (λ x. All (IsNoted trail.new) x.next.states.items) }
     ensures shown { IfOk result (λ x. AreShown terms.now.bounds terms.now.scripts.now.kinds
         terms.now.first x.found trail.new) }
     ensures leads { IfOk result (λ x. (x.over || has_ended terms.now.first x.found) ≡ false →
         (n : ℕ) (fault : Fault) → has_fault x.found fault ≡ false →
-        All (IsClean terms.now.bounds terms.now.scripts.now.kinds n fault) next.new.states.items →
+        All (IsClean terms.now.bounds terms.now.scripts.now.kinds n fault) x.next.states.items →
         All (IsClean terms.now.bounds terms.now.scripts.now.kinds (n + 1) fault)
         level.old.states.items) }
     ensures most { IfOk result (λ x. x.states ≤ length level.old.states.items) }
     ensures all { IfOk result (λ x. (x.over || has_ended terms.now.first x.found) ≡ false →
         x.states ≡ length level.old.states.items) }
     ensures count { IfOk result
-        (λ x. length next.new.states.items ≤ x.states * terms.now.bounds.threads) }
+        (λ x. length x.next.states.items ≤ x.states * terms.now.bounds.threads) }
     ensures may { OnOk result (P.may_end progress.new ≡ P.may_end progress.old) }
     ensures over { IfOk result (λ x. x.over ≡ true →
         (P.may_end progress.old && P.says_over progress.new) ≡ true) }
 {
     level.turn_round(alloc);
+    let mut next = Level::new(alloc);
     let mut found = before;
     let mut states = 0;
     while let Some(state) = level.states.pop() {
@@ -296,10 +295,11 @@ fn next_level<P: Progress>(
             return Ok(Looked {
                 found,
                 states,
+                next,
                 over: true,
             });
         }
-        let after = put_next(alloc, terms, &state, found, next, trail)?;
+        let after = put_next(alloc, terms, &state, found, &mut next, trail)?;
         trail.note(alloc, state.place(), found, after)?;
         found = after;
         states += 1;
@@ -307,6 +307,7 @@ fn next_level<P: Progress>(
             return Ok(Looked {
                 found,
                 states,
+                next,
                 over: false,
             });
         }
@@ -314,6 +315,7 @@ fn next_level<P: Progress>(
     Ok(Looked {
         found,
         states,
+        next,
         over: false,
     })
 }
@@ -387,18 +389,15 @@ pub(crate) fn search_states<P: Progress>(
     let mut trail = Trail::new(alloc, first);
     let mut level = first_level(alloc, config, scripts, &mut trail)?;
     while level.states.len() as u64 <= most_states - states {
-        let mut next = Level::new(alloc);
-        let looked = next_level(
-            alloc, &terms, &mut level, found, &mut next, &mut trail, progress,
-        )?;
+        let looked = next_level(alloc, &terms, &mut level, found, &mut trail, progress)?;
         found = looked.found;
         states += looked.states as u64;
         levels += 1;
         progress.level_done(levels, states);
-        level = next;
         if looked.has_ended(first) {
             return Ok(trail.into_searched(found, states, false));
         }
+        level = looked.next;
         if level.states.is_empty() {
             return Ok(trail.into_searched(found, states, true));
         }

@@ -19,13 +19,13 @@ loop-state-init g c =
     record {
       true_of = c.requires.found;
       more = λ fault h. h;
-      others = subst (All (IsReachedBy bounds scripts c.args.trail.now.steps.items)) (sym c.requires.empty) (All-nil (IsReachedBy bounds scripts c.args.trail.now.steps.items));
+      others = subst (All (IsReachedBy bounds scripts c.args.trail.now.steps.items)) (sym c.new-next.ensures) (All-nil (IsReachedBy bounds scripts c.args.trail.now.steps.items));
       left = All-turned (IsReachedBy bounds scripts c.args.trail.now.steps.items) old new turned.states turned.count c.requires.level;
       shown = c.requires.shown;
       leads = λ n fault h all left. All-turned_back (IsClean bounds scripts (n + 1) fault) old new turned.states turned.count left;
       count = omega (arith, turned.count);
-      few = omega (arith, ap length c.requires.empty, zero-mul c.args.terms.now.bounds.threads);
-      noted = subst (All (IsNoted c.args.trail.now)) (sym c.requires.empty) (All-nil (IsNoted c.args.trail.now));
+      few = omega (arith, ap length c.new-next.ensures, zero-mul c.args.terms.now.bounds.threads);
+      noted = subst (All (IsNoted c.args.trail.now)) (sym c.new-next.ensures) (All-nil (IsNoted c.args.trail.now));
       noted_left = All-turned (IsNoted c.args.trail.now) old new turned.states turned.count c.requires.noted;
       may = refl;
     }
