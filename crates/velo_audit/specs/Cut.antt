@@ -45,4 +45,4 @@ pub record EndsAt (omitted : Omitted) (log : List Event) (cut : Cut) (end : ℕ)
   pub within : end ≤ length log
 
 abbrev pub IsPiece : Omitted → List Event → Cut → Piece → Type 0
-IsPiece omitted log cut piece = EndsAt omitted log cut piece.end piece.marks.items piece.thinned.trace.events piece.thinned.places.items
+IsPiece omitted log cut piece = EndsAt omitted log cut piece.end.place piece.end.marks.items piece.thinned.trace.events piece.thinned.places.items

@@ -19,12 +19,19 @@ use velo_traces::Trace;
 pub struct Piece {
     /// The events. The place of each event of the prologue is 0.
     pub thinned: Thinned,
-    /// The marks at the later place.
-    pub marks: Vec<u64>,
-    /// How many blocks of the rest are open there.
+    /// How many blocks of the rest are open at its end.
     pub open: usize,
-    /// The later place.
-    pub end: usize,
+    /// Its end.
+    pub end: PieceEnd,
+}
+
+/// The end of a piece.
+#[derive(Drop)]
+pub struct PieceEnd {
+    /// How many events of the log come before it.
+    pub place: usize,
+    /// The marks there.
+    pub marks: Vec<u64>,
 }
 
 /// The next piece, of so many events. It goes on until no block of the rest is open, or to the end
@@ -56,8 +63,8 @@ pub fn next_piece(
 
 /// The piece that ends at the cut.
 fn no_piece(alloc: Global, cut: &Cut) -> Result<Piece, Memory>
-    ensures end { IfOk result (λ piece. piece.end ≡ cut.now.place) }
-    ensures marks { IfOk result (λ piece. piece.marks.items ≡ cut.now.marks.items) }
+    ensures end { IfOk result (λ piece. piece.end.place ≡ cut.now.place) }
+    ensures marks { IfOk result (λ piece. piece.end.marks.items ≡ cut.now.marks.items) }
     ensures events { IfOk result (λ piece. piece.thinned.trace.events ≡ cut.now.prologue.events) }
     ensures places { IfOk result (λ piece.
         length piece.thinned.places.items ≡ length cut.now.prologue.events) }
@@ -66,9 +73,11 @@ fn no_piece(alloc: Global, cut: &Cut) -> Result<Piece, Memory>
     let thinned = as_thinned(alloc, &cut.prologue)?;
     Ok(Piece {
         thinned,
-        marks,
         open: 0,
-        end: cut.place,
+        end: PieceEnd {
+            place: cut.place,
+            marks,
+        },
     })
 }
 
@@ -109,24 +118,24 @@ fn take_in(
     requires within { position < length events.now }
     requires few { length events.now ≤ MAX_EVENTS }
     requires shallow { IsShallow events.now }
-    requires many { length piece.old.marks.items ≡ 256 }
-    requires marks { AreMarks (left_of left.now) events.now position piece.old.marks.items }
-    ensures end { OnOk result (piece.new.end ≡ position + 1) }
+    requires many { length piece.old.end.marks.items ≡ 256 }
+    requires marks { AreMarks (left_of left.now) events.now position piece.old.end.marks.items }
+    ensures end { OnOk result (piece.new.end.place ≡ position + 1) }
     ensures goes { OnOk result ((place : ℕ) (prologue : List EventOf)
         → GoesTo (left_of left.now) events.now place position prologue
         piece.old.thinned.trace.events piece.old.thinned.places.items
         → GoesTo (left_of left.now) events.now place (position + 1) prologue
         piece.new.thinned.trace.events piece.new.thinned.places.items) }
-    ensures many { OnOk result (length piece.new.marks.items ≡ 256) }
+    ensures many { OnOk result (length piece.new.end.marks.items ≡ 256) }
     ensures marks { OnOk result (
-        AreMarks (left_of left.now) events.now (position + 1) piece.new.marks.items) }
+        AreMarks (left_of left.now) events.now (position + 1) piece.new.end.marks.items) }
 {
-    if stays_at(&mut piece.marks, left, events, position) {
+    if stays_at(&mut piece.end.marks, left, events, position) {
         let event = events[position];
         piece.thinned.push(position, event)?;
         piece.open = open_after(piece.open, event.kind);
     }
-    piece.end = position + 1;
+    piece.end.place = position + 1;
     Ok(())
 }
 

@@ -11,7 +11,7 @@ ghost use Rattle.velo_audit.specs.Cut.{AreBegun, EndsAt, IsCut, IsPiece};
 ghost use Rattle.velo_audit.specs.Verdict.{IsRoundVerdict, Judges};
 
 use crate::cut::{Cut, add_begun};
-use crate::piece::{Piece, next_piece};
+use crate::piece::{Piece, PieceEnd, next_piece};
 use crate::round::{AuditFault, replayed, told_in};
 use crate::told::Told as RoundTold;
 use std::alloc::Global;
@@ -95,13 +95,12 @@ fn judged(
 {
     let Piece {
         thinned: Thinned { trace, places },
-        marks,
         end,
         ..
     } = piece;
     match replayed(alloc, config, trace) {
         Ok(closed) => {
-            let judged = judged_by(alloc, log, cut, with_witness, &closed, &places, marks, end);
+            let judged = judged_by(alloc, log, cut, with_witness, &closed, &places, end);
             drop(closed);
             judged
         }
@@ -118,13 +117,12 @@ fn judged_by(
     with_witness: bool,
     closed: &Closed,
     places: &[u32],
-    marks: Vec<u64>,
-    end: usize,
+    end: PieceEnd,
 ) -> Result<Option<PiecesVerdict>, AuditFault>
     requires { (left : Omitted) × IsCut left log.now.events cut.old
-        × EndsAt left log.now.events cut.old end marks.items closed.now.log places.now }
+        × EndsAt left log.now.events cut.old end.place end.marks.items closed.now.log places.now }
     ensures judges { IfOk result (λ judged. (left : Omitted) → IsCut left log.now.events cut.old
-        → EndsAt left log.now.events cut.old end marks.items closed.now.log places.now
+        → EndsAt left log.now.events cut.old end.place end.marks.items closed.now.log places.now
         → Judges with_witness log.now.events left cut.old.place cut.new judged) }
     ensures fault { IfErr result (λ fault. fault ≡ out_of_memory) }
     ensures memory { OnErr result GrowthRefused }
@@ -132,13 +130,13 @@ fn judged_by(
     if let Some(told) = told_in(alloc, with_witness, closed, places)? {
         return Ok(Some(PiecesVerdict::Told(told)));
     }
-    if end == log.len() {
+    if end.place == log.len() {
         return Ok(Some(PiecesVerdict::NoCycle));
     }
     if !is_quiet(closed) {
         return Ok(Some(PiecesVerdict::Unknown));
     }
-    move_to(alloc, log, cut, closed, marks, end)?;
+    move_to(alloc, log, cut, closed, end)?;
     Ok(None)
 }
 
@@ -148,21 +146,20 @@ fn move_to(
     log: &Trace,
     cut: &mut Cut,
     closed: &Closed,
-    marks: Vec<u64>,
-    end: usize,
+    end: PieceEnd,
 ) -> Result<(), Memory>
-    requires later { cut.old.place ≤ end }
-    requires within { end ≤ length log.now.events }
+    requires later { cut.old.place ≤ end.place }
+    requires within { end.place ≤ length log.now.events }
     requires begun { AreBegun (members cut.old.begun) log.now.events cut.old.place }
-    ensures place { OnOk result (cut.new.place ≡ end) }
-    ensures marks { OnOk result (cut.new.marks.items ≡ marks.items) }
+    ensures place { OnOk result (cut.new.place ≡ end.place) }
+    ensures marks { OnOk result (cut.new.marks.items ≡ end.marks.items) }
     ensures no_begin { OnOk result (HasNoBegin cut.new.prologue.events) }
-    ensures begun { OnOk result (AreBegun (members cut.new.begun) log.now.events end) }
+    ensures begun { OnOk result (AreBegun (members cut.new.begun) log.now.events end.place) }
 {
     let made = prologue(alloc, closed.bounds(), closed.heap())?;
-    add_begun(&mut cut.begun, log.as_slice(), cut.place, end)?;
-    cut.place = end;
-    cut.marks = marks;
+    add_begun(&mut cut.begun, log.as_slice(), cut.place, end.place)?;
+    cut.place = end.place;
+    cut.marks = end.marks;
     cut.prologue = made;
     Ok(())
 }

@@ -32,6 +32,7 @@ mod seen;
 mod settling;
 mod state;
 mod step;
+mod terms;
 mod trail;
 
 pub use bounding::search;

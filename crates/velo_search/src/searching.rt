@@ -25,9 +25,10 @@ use crate::searched::Searched;
 use crate::seen::ThreadsSeen;
 use crate::settling::{advance, settle};
 use crate::state::State;
+use crate::terms::Terms;
 use crate::trail::{Trail, is_new};
 use std::alloc::Global;
-use velo_events::{Bounds, Config, Event, Memory, Refusal, ThreadId};
+use velo_events::{Config, Event, Memory, Refusal, ThreadId};
 
 /// Whether a thread waits at the refusal.
 fn is_wait(refusal: Refusal) -> bool
@@ -184,50 +185,54 @@ fn look(
 /// Looks at a state: what it shows, and the states after its next events.
 fn put_next(
     alloc: Global,
-    bounds: Bounds,
-    scripts: &Scripts,
+    terms: &Terms,
     state: &State,
     found: Found,
     next: &mut Level,
     trail: &mut Trail,
 ) -> Result<Found, Memory>
-    requires plain { ArePlain scripts.now.kinds }
-    requires short { AreShort scripts.now.kinds }
-    requires state { IsReachedBy bounds scripts.now.kinds trail.old.steps.items state.now }
+    requires plain { ArePlain terms.now.scripts.now.kinds }
+    requires short { AreShort terms.now.scripts.now.kinds }
+    requires state { IsReachedBy terms.now.bounds terms.now.scripts.now.kinds
+        trail.old.steps.items state.now }
     requires others { All
-        (IsReachedBy bounds scripts.now.kinds trail.old.steps.items) next.old.states.items }
+        (IsReachedBy terms.now.bounds terms.now.scripts.now.kinds trail.old.steps.items)
+        next.old.states.items }
     requires noted { IsNoted trail.old state.now }
     requires noted_others { All (IsNoted trail.old) next.old.states.items }
-    requires found { IsTrueOf bounds scripts.now.kinds found }
-    ensures found { IfOk result (IsTrueOf bounds scripts.now.kinds) }
+    requires found { IsTrueOf terms.now.bounds terms.now.scripts.now.kinds found }
+    ensures found { IfOk result (IsTrueOf terms.now.bounds terms.now.scripts.now.kinds) }
     ensures more { IfOk result (λ after. (fault : Fault) → has_fault after fault ≡ false → has_fault found fault ≡ false) }
     ensures others { OnOk result (All
-        (IsReachedBy bounds scripts.now.kinds trail.new.steps.items) next.new.states.items) }
+        (IsReachedBy terms.now.bounds terms.now.scripts.now.kinds trail.new.steps.items)
+        next.new.states.items) }
     ensures goes_on { OnOk result (GoesOn trail.old trail.new) }
-    ensures alarms { OnOk result (AlarmsGoOn bounds scripts.now.kinds trail.old trail.new) }
+    ensures alarms { OnOk result
+        (AlarmsGoOn terms.now.bounds terms.now.scripts.now.kinds trail.old trail.new) }
     ensures noted { OnOk result (All (IsNoted trail.new) next.new.states.items) }
     ensures alarm { IfOk result (λ after. trail.old.first ≡ false → found.alarm ≡ false →
         after.alarm ≡ true → 0 < length (alarms_of trail.new.shown)) }
     ensures shows { IfOk result (λ after. (fault : Fault) → has_fault found fault ≡ false →
         has_fault after fault ≡ true →
-        (log : List Event) → IsRunOf bounds scripts.now.kinds log → IsStateOf log state.now →
-        IsFault bounds scripts.now.kinds fault log) }
+        (log : List Event) → IsRunOf terms.now.bounds terms.now.scripts.now.kinds log →
+        IsStateOf log state.now →
+        IsFault terms.now.bounds terms.now.scripts.now.kinds fault log) }
     ensures leads { IfOk result (λ after. (n : ℕ) (fault : Fault) → has_fault after fault ≡ false →
-        All (IsClean bounds scripts.now.kinds n fault) next.new.states.items →
-        (All (IsClean bounds scripts.now.kinds n fault) next.old.states.items
-        × IsClean bounds scripts.now.kinds (n + 1) fault state.now)) }
+        All (IsClean terms.now.bounds terms.now.scripts.now.kinds n fault) next.new.states.items →
+        (All (IsClean terms.now.bounds terms.now.scripts.now.kinds n fault) next.old.states.items
+        × IsClean terms.now.bounds terms.now.scripts.now.kinds (n + 1) fault state.now)) }
     ensures count { OnOk result (length next.new.states.items ≤ length next.old.states.items +
-        bounds.threads) }
+        terms.now.bounds.threads) }
 {
     let mut seen = ThreadsSeen {
         acts: false,
         waits: false,
         refused: false,
     };
-    for thread in 0..bounds.threads {
+    for thread in 0..terms.bounds.threads {
         look(
             alloc,
-            scripts,
+            terms.scripts,
             state,
             ThreadId(thread),
             &mut seen,
@@ -239,46 +244,50 @@ fn put_next(
 }
 
 /// Looks at the states of a level: what they show, and the states after their next events. Each is
-/// dropped then. With `first` it ends at a state that shows something. Before each state `progress` is
-/// asked whether the search is over.
+/// dropped then. A search that ends at the first finding ends at a state that shows something.
+/// Before each state `progress` is asked whether the search is over.
 fn next_level<P: Progress>(
     alloc: Global,
-    bounds: Bounds,
-    scripts: &Scripts,
+    terms: &Terms,
     level: &mut Level,
     before: Found,
-    first: bool,
-    next: &mut Level,
     trail: &mut Trail,
     progress: &mut P,
 ) -> Result<Looked, Memory>
-    requires plain { ArePlain scripts.now.kinds }
-    requires short { AreShort scripts.now.kinds }
+    requires plain { ArePlain terms.now.scripts.now.kinds }
+    requires short { AreShort terms.now.scripts.now.kinds }
     requires level { All
-        (IsReachedBy bounds scripts.now.kinds trail.old.steps.items) level.old.states.items }
+        (IsReachedBy terms.now.bounds terms.now.scripts.now.kinds trail.old.steps.items)
+        level.old.states.items }
     requires noted { All (IsNoted trail.old) level.old.states.items }
-    requires found { IsTrueOf bounds scripts.now.kinds before }
-    requires shown { AreShown bounds scripts.now.kinds first before trail.old }
-    requires empty { next.old.states.items ≡ [] }
-    ensures found { IfOk result (λ x. IsTrueOf bounds scripts.now.kinds x.found) }
+    requires found { IsTrueOf terms.now.bounds terms.now.scripts.now.kinds before }
+    requires shown { AreShown terms.now.bounds terms.now.scripts.now.kinds terms.now.first before
+        trail.old }
+    ensures found { IfOk result
+        (λ x. IsTrueOf terms.now.bounds terms.now.scripts.now.kinds x.found) }
     ensures more { IfOk result (λ x. (fault : Fault) → has_fault x.found fault ≡ false → has_fault before fault ≡ false) }
-    ensures others { OnOk result (All
-        (IsReachedBy bounds scripts.now.kinds trail.new.steps.items) next.new.states.items) }
-    ensures noted { OnOk result (All (IsNoted trail.new) next.new.states.items) }
-    ensures shown { IfOk result (λ x. AreShown bounds scripts.now.kinds first x.found trail.new) }
-    ensures leads { IfOk result (λ x. (x.over || has_ended first x.found) ≡ false → (n : ℕ) (fault : Fault) →
-        has_fault x.found fault ≡ false →
-        All (IsClean bounds scripts.now.kinds n fault) next.new.states.items →
-        All (IsClean bounds scripts.now.kinds (n + 1) fault) level.old.states.items) }
+    ensures others { IfOk result (λ x. All
+        (IsReachedBy terms.now.bounds terms.now.scripts.now.kinds trail.new.steps.items)
+        x.next.states.items) }
+    ensures noted { IfOk result (λ x. All (IsNoted trail.new) x.next.states.items) }
+    ensures shown { IfOk result (λ x. AreShown terms.now.bounds terms.now.scripts.now.kinds
+        terms.now.first x.found trail.new) }
+    ensures leads { IfOk result (λ x. (x.over || has_ended terms.now.first x.found) ≡ false →
+        (n : ℕ) (fault : Fault) → has_fault x.found fault ≡ false →
+        All (IsClean terms.now.bounds terms.now.scripts.now.kinds n fault) x.next.states.items →
+        All (IsClean terms.now.bounds terms.now.scripts.now.kinds (n + 1) fault)
+        level.old.states.items) }
     ensures most { IfOk result (λ x. x.states ≤ length level.old.states.items) }
-    ensures all { IfOk result (λ x. (x.over || has_ended first x.found) ≡ false →
+    ensures all { IfOk result (λ x. (x.over || has_ended terms.now.first x.found) ≡ false →
         x.states ≡ length level.old.states.items) }
-    ensures count { IfOk result (λ x. length next.new.states.items ≤ x.states * bounds.threads) }
+    ensures count { IfOk result
+        (λ x. length x.next.states.items ≤ x.states * terms.now.bounds.threads) }
     ensures may { OnOk result (P.may_end progress.new ≡ P.may_end progress.old) }
     ensures over { IfOk result (λ x. x.over ≡ true →
         (P.may_end progress.old && P.says_over progress.new) ≡ true) }
 {
     level.turn_round(alloc);
+    let mut next = Level::new(alloc);
     let mut found = before;
     let mut states = 0;
     while let Some(state) = level.states.pop() {
@@ -286,17 +295,19 @@ fn next_level<P: Progress>(
             return Ok(Looked {
                 found,
                 states,
+                next,
                 over: true,
             });
         }
-        let after = put_next(alloc, bounds, scripts, &state, found, next, trail)?;
+        let after = put_next(alloc, terms, &state, found, &mut next, trail)?;
         trail.note(alloc, state.place(), found, after)?;
         found = after;
         states += 1;
-        if found.has_ended(first) {
+        if found.has_ended(terms.first) {
             return Ok(Looked {
                 found,
                 states,
+                next,
                 over: false,
             });
         }
@@ -304,6 +315,7 @@ fn next_level<P: Progress>(
     Ok(Looked {
         found,
         states,
+        next,
         over: false,
     })
 }
@@ -366,25 +378,26 @@ pub(crate) fn search_states<P: Progress>(
     ensures alarms { IfOk result
         (λ x. LeadToCycles config.now.bounds scripts.now.kinds first x.schedules) }
 {
-    let bounds = config.bounds;
+    let terms = Terms {
+        bounds: config.bounds,
+        scripts,
+        first,
+    };
     let mut found = Found::none();
     let mut states = 0;
     let mut levels = 0u64;
     let mut trail = Trail::new(alloc, first);
     let mut level = first_level(alloc, config, scripts, &mut trail)?;
     while level.states.len() as u64 <= most_states - states {
-        let mut next = Level::new(alloc);
-        let looked = next_level(
-            alloc, bounds, scripts, &mut level, found, first, &mut next, &mut trail, progress,
-        )?;
+        let looked = next_level(alloc, &terms, &mut level, found, &mut trail, progress)?;
         found = looked.found;
         states += looked.states as u64;
         levels += 1;
         progress.level_done(levels, states);
-        level = next;
         if looked.has_ended(first) {
             return Ok(trail.into_searched(found, states, false));
         }
+        level = looked.next;
         if level.states.is_empty() {
             return Ok(trail.into_searched(found, states, true));
         }

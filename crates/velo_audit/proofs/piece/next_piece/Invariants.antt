@@ -6,8 +6,8 @@ use Rattle.velo_audit.proofs.piece.next_piece.Given as goal
 
 abbrev pub invariant-loop-position : goal.invariant-loop-position
 invariant-loop-position l = record {
-  end : l.piece.end ≡ l.position;
+  end : l.piece.end.place ≡ l.position;
   goes : GoesTo (left_of l.left) l.events l.cut.place l.position l.cut.prologue.events l.piece.thinned.trace.events l.piece.thinned.places.items;
-  many : length l.piece.marks.items ≡ 256;
-  marks : AreMarks (left_of l.left) l.events l.position l.piece.marks.items;
+  many : length l.piece.end.marks.items ≡ 256;
+  marks : AreMarks (left_of l.left) l.events l.position l.piece.end.marks.items;
 }

@@ -11,28 +11,28 @@ use Rattle.velo_search.proofs.searching.next_level.Goals as goal
 
 pub loop-state-init : goal.loop-state-init
 loop-state-init g c =
-    let bounds = c.args.bounds in
-    let scripts = c.args.scripts.now.kinds in
+    let bounds = c.args.terms.now.bounds in
+    let scripts = c.args.terms.now.scripts.now.kinds in
     let old = c.args.level.now.states.items in
     let new = c.turn_round.new.self.states.items in
     let turned = c.turn_round.ensures in
     record {
       true_of = c.requires.found;
       more = λ fault h. h;
-      others = subst (All (IsReachedBy bounds scripts c.args.trail.now.steps.items)) (sym c.requires.empty) (All-nil (IsReachedBy bounds scripts c.args.trail.now.steps.items));
+      others = subst (All (IsReachedBy bounds scripts c.args.trail.now.steps.items)) (sym c.new-next.ensures) (All-nil (IsReachedBy bounds scripts c.args.trail.now.steps.items));
       left = All-turned (IsReachedBy bounds scripts c.args.trail.now.steps.items) old new turned.states turned.count c.requires.level;
       shown = c.requires.shown;
       leads = λ n fault h all left. All-turned_back (IsClean bounds scripts (n + 1) fault) old new turned.states turned.count left;
       count = omega (arith, turned.count);
-      few = omega (arith, ap length c.requires.empty, zero-mul c.args.bounds.threads);
-      noted = subst (All (IsNoted c.args.trail.now)) (sym c.requires.empty) (All-nil (IsNoted c.args.trail.now));
+      few = omega (arith, ap length c.new-next.ensures, zero-mul c.args.terms.now.bounds.threads);
+      noted = subst (All (IsNoted c.args.trail.now)) (sym c.new-next.ensures) (All-nil (IsNoted c.args.trail.now));
       noted_left = All-turned (IsNoted c.args.trail.now) old new turned.states turned.count c.requires.noted;
       may = refl;
     }
 
 pub put_next-requires-clause-state : goal.put_next-requires-clause-state
 put_next-requires-clause-state g c =
-    let P = IsReachedBy c.args.bounds c.args.scripts.now.kinds c.loop-state.trail.steps.items in
+    let P = IsReachedBy c.args.terms.now.bounds c.args.terms.now.scripts.now.kinds c.loop-state.trail.steps.items in
     let rest = c.pop.new.self.items in
     let state = c.in-Some.state in
     All-contains P c.loop-state.level.states.items state c.loop-state.invariant.left (subst (λ xs. Contains xs state) (sym c.in-Some.ensures.items) (Contains-push rest state))
@@ -45,8 +45,8 @@ put_next-requires-clause-noted g c =
 
 pub loop-state-preserved : goal.loop-state-preserved
 loop-state-preserved g c =
-    let bounds = c.args.bounds in
-    let scripts = c.args.scripts.now.kinds in
+    let bounds = c.args.terms.now.bounds in
+    let scripts = c.args.terms.now.scripts.now.kinds in
     let now = c.loop-state.level.states.items in
     let rest = c.pop.new.self.items in
     let state = c.in-Some.state in
@@ -64,14 +64,14 @@ loop-state-preserved g c =
       left = subst (λ xs. All (IsReachedBy bounds scripts xs) rest) (sym notes.steps)
           (all-longer bounds scripts c.loop-state.trail.steps.items c.put_next.new.trail.steps.items rest c.in_ok-after.ensures.goes_on.longer
           (All-before (IsReachedBy bounds scripts c.loop-state.trail.steps.items) rest now (λ s there. subst (λ xs. Contains xs s) (sym popped) (Contains-append_left rest (state ∷ []) s there)) inv.left));
-      shown = shown-note bounds scripts c.args.first c.loop-state.found c.in_ok-after.after c.put_next.new.trail c.note.new.self state
+      shown = shown-note bounds scripts c.args.terms.now.first c.loop-state.found c.in_ok-after.after c.put_next.new.trail c.note.new.self state
           (reached-longer bounds scripts c.loop-state.trail.steps.items c.put_next.new.trail.steps.items state c.in_ok-after.ensures.goes_on.longer here)
-          (shown-goes_on bounds scripts c.args.first c.loop-state.found c.loop-state.trail c.put_next.new.trail c.in_ok-after.ensures.goes_on c.in_ok-after.ensures.alarms inv.shown)
+          (shown-goes_on bounds scripts c.args.terms.now.first c.loop-state.found c.loop-state.trail c.put_next.new.trail c.in_ok-after.ensures.goes_on c.in_ok-after.ensures.alarms inv.shown)
           c.in_ok-after.ensures.more c.in_ok-after.ensures.shows alarm placed;
       leads = λ n fault h all left.
           let w = c.in_ok-after.ensures.leads n fault h all in
           inv.leads n fault (c.in_ok-after.ensures.more fault h) w.0 (subst (All (IsClean bounds scripts (n + 1) fault)) (sym popped) (All-push (IsClean bounds scripts (n + 1) fault) rest state left w.1));
-      few = few-next c.loop-state.states c.args.bounds.threads (length c.loop-state.next.states.items) (length c.put_next.new.next.states.items) inv.few c.in_ok-after.ensures.count;
+      few = few-next c.loop-state.states c.args.terms.now.bounds.threads (length c.loop-state.next.states.items) (length c.put_next.new.next.states.items) inv.few c.in_ok-after.ensures.count;
       noted = all-noted_on c.put_next.new.trail c.note.new.self c.put_next.new.next.states.items notes.first (omega (arith, same)) c.in_ok-after.ensures.noted;
       noted_left = all-noted_on c.loop-state.trail c.note.new.self rest (notes.first ∙ c.in_ok-after.ensures.goes_on.first) (omega (arith, same, c.in_ok-after.ensures.alarms.more))
           (All-before (IsNoted c.loop-state.trail) rest now (λ s there. subst (λ xs. Contains xs s) (sym popped) (Contains-append_left rest (state ∷ []) s there)) inv.noted_left);
@@ -81,8 +81,8 @@ loop-state-preserved g c =
 
 pub note-requires : goal.note-requires
 note-requires g c =
-    let bounds = c.args.bounds in
-    let scripts = c.args.scripts.now.kinds in
+    let bounds = c.args.terms.now.bounds in
+    let scripts = c.args.terms.now.scripts.now.kinds in
     let now = c.loop-state.level.states.items in
     let rest = c.pop.new.self.items in
     let state = c.in-Some.state in
@@ -93,16 +93,16 @@ note-requires g c =
 
 pub returns-then-has_ended-clause-shown : goal.returns-then-has_ended-clause-shown
 returns-then-has_ended-clause-shown g c =
-    let bounds = c.args.bounds in
-    let scripts = c.args.scripts.now.kinds in
+    let bounds = c.args.terms.now.bounds in
+    let scripts = c.args.terms.now.scripts.now.kinds in
     let now = c.loop-state.level.states.items in
     let rest = c.pop.new.self.items in
     let state = c.in-Some.state in
     let inv = c.loop-state.invariant in
     let here = All-contains (IsReachedBy bounds scripts c.loop-state.trail.steps.items) now state inv.left (subst (λ xs. Contains xs state) (sym c.in-Some.ensures.items) (Contains-push rest state)) in
-    shown-note bounds scripts c.args.first c.loop-state.found c.in_ok-after.after c.put_next.new.trail c.note.new.self state
+    shown-note bounds scripts c.args.terms.now.first c.loop-state.found c.in_ok-after.after c.put_next.new.trail c.note.new.self state
     (reached-longer bounds scripts c.loop-state.trail.steps.items c.put_next.new.trail.steps.items state c.in_ok-after.ensures.goes_on.longer here)
-    (shown-goes_on bounds scripts c.args.first c.loop-state.found c.loop-state.trail c.put_next.new.trail c.in_ok-after.ensures.goes_on c.in_ok-after.ensures.alarms inv.shown)
+    (shown-goes_on bounds scripts c.args.terms.now.first c.loop-state.found c.loop-state.trail c.put_next.new.trail c.in_ok-after.ensures.goes_on c.in_ok-after.ensures.alarms inv.shown)
     c.in_ok-after.ensures.more c.in_ok-after.ensures.shows
     (λ first. c.in_ok-after.ensures.alarm (sym c.in_ok-after.ensures.goes_on.first ∙ first))
     (subst (λ n. NotesTurns c.put_next.new.trail n c.loop-state.found c.in_ok-after.after c.note.new.self) c.place.ensures c.in_ok-note.ensures)

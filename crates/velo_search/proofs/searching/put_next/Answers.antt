@@ -11,8 +11,8 @@ use Rattle.velo_search.proofs.searching.put_next.Goals as goal
 
 pub loop-thread-init : goal.loop-thread-init
 loop-thread-init c =
-    let bounds = c.args.bounds in
-    let scripts = c.args.scripts.now.kinds in
+    let bounds = c.args.terms.now.bounds in
+    let scripts = c.args.terms.now.scripts.now.kinds in
     let start = c.args.next.now.states.items in
     record {
       tried = tried-start bounds scripts c.args.state.now start (λ k d l. reached-plain bounds scripts c.args.trail.now.steps.items _ (c.requires.others k d l));
@@ -25,14 +25,14 @@ loop-thread-init c =
 
 pub look-requires-clause-reached : goal.look-requires-clause-reached
 look-requires-clause-reached c =
-    let scripts = c.args.scripts.now.kinds in
+    let scripts = c.args.terms.now.scripts.now.kinds in
     let state = c.args.state.now in
     subst (λ b. IsReachedBy b scripts c.loop-thread.trail.steps.items state) (sym c.requires.state.same)
-    (reached-longer c.args.bounds scripts c.args.trail.now.steps.items c.loop-thread.trail.steps.items state c.loop-thread.invariant.goes_on.longer c.requires.state)
+    (reached-longer c.args.terms.now.bounds scripts c.args.trail.now.steps.items c.loop-thread.trail.steps.items state c.loop-thread.invariant.goes_on.longer c.requires.state)
 
 pub loop-thread-preserved : goal.loop-thread-preserved
 loop-thread-preserved c =
-    let scripts = c.args.scripts.now.kinds in
+    let scripts = c.args.terms.now.scripts.now.kinds in
     let state = c.args.state.now in
     let start = c.args.next.now.states.items in
     let same = c.requires.state.same in
@@ -43,7 +43,7 @@ loop-thread-preserved c =
       others = subst (λ b. All (IsReachedBy b scripts c.look.new.trail.steps.items) c.look.new.next.states.items) same
           (c.in_ok-look.ensures.reached (subst (λ b. All (IsReachedBy b scripts c.loop-thread.trail.steps.items) c.loop-thread.next.states.items) (sym same) c.loop-thread.invariant.others));
       goes_on = goes-next c.args.trail.now c.loop-thread.trail c.look.new.trail c.loop-thread.invariant.goes_on c.in_ok-look.ensures.goes_on;
-      alarms = alarms-next c.args.bounds scripts c.args.trail.now c.loop-thread.trail c.look.new.trail c.loop-thread.invariant.goes_on.first c.loop-thread.invariant.alarms
+      alarms = alarms-next c.args.terms.now.bounds scripts c.args.trail.now c.loop-thread.trail c.look.new.trail c.loop-thread.invariant.goes_on.first c.loop-thread.invariant.alarms
           (subst (λ b. AlarmsGoOn b scripts c.loop-thread.trail c.look.new.trail) same c.in_ok-look.ensures.alarms);
       noted = c.in_ok-look.ensures.noted
           (noted-on c.args.trail.now c.loop-thread.trail state c.loop-thread.invariant.goes_on.first c.loop-thread.invariant.alarms.more c.requires.noted)
@@ -52,8 +52,8 @@ loop-thread-preserved c =
 
 pub returns-clause-found : goal.returns-clause-found
 returns-clause-found c =
-    let bounds = c.args.bounds in
-    let scripts = c.args.scripts.now.kinds in
+    let bounds = c.args.terms.now.bounds in
+    let scripts = c.args.terms.now.scripts.now.kinds in
     let state = c.args.state.now in
     let start = c.args.next.now.states.items in
     let now = c.loop-thread.next.states.items in
@@ -65,8 +65,8 @@ returns-clause-found c =
 
 pub returns-clause-leads : goal.returns-clause-leads
 returns-clause-leads c =
-    let bounds = c.args.bounds in
-    let scripts = c.args.scripts.now.kinds in
+    let bounds = c.args.terms.now.bounds in
+    let scripts = c.args.terms.now.scripts.now.kinds in
     let state = c.args.state.now in
     let start = c.args.next.now.states.items in
     let now = c.loop-thread.next.states.items in
@@ -79,8 +79,8 @@ returns-clause-leads c =
 
 pub returns-clause-shows : goal.returns-clause-shows
 returns-clause-shows c =
-    let bounds = c.args.bounds in
-    let scripts = c.args.scripts.now.kinds in
+    let bounds = c.args.terms.now.bounds in
+    let scripts = c.args.terms.now.scripts.now.kinds in
     let state = c.args.state.now in
     let start = c.args.next.now.states.items in
     let now = c.loop-thread.next.states.items in

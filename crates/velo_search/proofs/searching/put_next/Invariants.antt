@@ -6,10 +6,10 @@ use Rattle.velo_search.proofs.searching.put_next.Given as goal
 
 abbrev pub invariant-loop-thread : goal.invariant-loop-thread
 invariant-loop-thread l = record {
-  tried : IsTried l.fn.bounds l.fn.scripts.kinds l.fn.state l.fn.next.states.items l.next.states.items l.seen l.thread;
+  tried : IsTried l.fn.terms.bounds l.fn.terms.scripts.now.kinds l.fn.state l.fn.next.states.items l.next.states.items l.seen l.thread;
   count : length l.next.states.items ≤ length l.fn.next.states.items + l.thread;
-  others : All (IsReachedBy l.fn.bounds l.fn.scripts.kinds l.trail.steps.items) l.next.states.items;
+  others : All (IsReachedBy l.fn.terms.bounds l.fn.terms.scripts.now.kinds l.trail.steps.items) l.next.states.items;
   goes_on : GoesOn l.fn.trail l.trail;
-  alarms : AlarmsGoOn l.fn.bounds l.fn.scripts.kinds l.fn.trail l.trail;
+  alarms : AlarmsGoOn l.fn.terms.bounds l.fn.terms.scripts.now.kinds l.fn.trail l.trail;
   noted : All (IsNoted l.trail) l.next.states.items;
 }

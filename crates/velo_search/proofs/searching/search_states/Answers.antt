@@ -45,9 +45,9 @@ returns-then-is_empty-clause-whole g c = λ _ fault h.
     let scripts = c.args.scripts.now.kinds in
     let goes_on = sym c.has_ended.ensures ∙ c.if-has_ended.false in
     let none = subst (λ (f : Found). has_fault f fault ≡ false) c.into_searched-then-is_empty.ensures.found h in
-    let empty : length c.next_level.new.next.states.items ≡ 0 = search rules in
+    let empty : length c.in_ok-looked.looked.next.states.items ≡ 0 = search rules in
     never-any bounds scripts (IsFault bounds scripts fault) [] (λ n.
-    let all : All (IsClean bounds scripts n fault) c.next_level.new.next.states.items = λ k d l. absurd (omega (arith, l, empty)) in
+    let all : All (IsClean bounds scripts n fault) c.in_ok-looked.looked.next.states.items = λ k d l. absurd (omega (arith, l, empty)) in
     let never = c.loop-states.invariant.leads (n + 1) fault (c.in_ok-looked.ensures.more fault none) (c.in_ok-looked.ensures.leads goes_on n fault none all) in
     λ more few. never more (omega (arith, few)))
 
@@ -60,7 +60,7 @@ pub loop-states-preserved : goal.loop-states-preserved
 loop-states-preserved g c =
     let goes_on = sym c.has_ended.ensures ∙ c.if-has_ended.false in
     record {
-      some = (let differ = eqb-false _ _ (sym c.is_empty.ensures ∙ c.if-is_empty.false) in omega (arith, differ, c.next_level.new.next.states.ok.0));
+      some = (let differ = eqb-false _ _ (sym c.is_empty.ensures ∙ c.if-is_empty.false) in omega (arith, differ, c.in_ok-looked.looked.next.states.ok.0));
       most = omega (arith, c.loop-states-test.true, c.loop-states.invariant.most, c.len.ensures, c.in_ok-looked.ensures.most);
       true_of = c.in_ok-looked.ensures.found;
       others = c.in_ok-looked.ensures.others;
@@ -75,7 +75,7 @@ loop-states-preserved g c =
           ways-level c.loop-states.states c.in_ok-looked.looked.states c.args.config.now.bounds.threads c.loop-states.levels (omega (arith, all, c.loop-states.invariant.kept)) c.loop-states.invariant.depth;
       kept =
           let all = c.in_ok-looked.ensures.all goes_on in
-          few-level c.loop-states.states c.in_ok-looked.looked.states c.args.config.now.bounds.threads (length c.next_level.new.next.states.items) (omega (arith, all, c.loop-states.invariant.kept)) c.in_ok-looked.ensures.count;
+          few-level c.loop-states.states c.in_ok-looked.looked.states c.args.config.now.bounds.threads (length c.in_ok-looked.looked.next.states.items) (omega (arith, all, c.loop-states.invariant.kept)) c.in_ok-looked.ensures.count;
       may = c.level_done.ensures.may ∙ c.in_ok-looked.ensures.may ∙ c.loop-states.invariant.may;
     }
 
