@@ -1,5 +1,5 @@
-use Rattle.std.proofs.Common.{◌≡◌, ◌≤◌, length, sym, subst}
-use Rattle.std.specs.Prelude.{All, IfOk}
+use Rattle.std.proofs.Common.{◌≤◌, length, sym, subst}
+use Rattle.std.specs.Prelude.{All}
 use Rattle.velo_events.specs.declared.limits.TheConstants.{MAX_EVENTS}
 use Rattle.velo_filter.specs.Thinned.{CanComeAbout}
 use Rattle.velo_audit.specs.Audit.{TellsTruly}
