@@ -4,7 +4,6 @@ use Rattle.velo_events.specs.declared.config.Bounds.{Bounds}
 use Rattle.velo_events.specs.declared.config.Config.{Config}
 use Rattle.velo_events.specs.declared.event.Event.{Event}
 use Rattle.velo_events.specs.declared.refusal.Refusal.TheVariants.{GraphFull}
-use Rattle.velo_events.specs.Refusals.{GrowthRefused}
 use Rattle.velo_events.specs.Reordering.{IsSerializable}
 use Rattle.velo_names.specs.Names.{NameLists}
 use Rattle.velo_sites.specs.Sites.{Table}
@@ -20,7 +19,7 @@ use Rattle.velo_audit_text.specs.Text.{audit_text}
 use Rattle.velo_worker.specs.declared.ending.Ending.TheVariants.{Done}
 use Rattle.velo_fate.specs.declared.fault.CheckFault.TheVariants.{Refused}
 use Rattle.velo_fate.specs.declared.fate.Fate.{Fate}
-use Rattle.velo_fate.specs.declared.fate.Fate.TheVariants.{Check, Finished, Memory, OtherSites}
+use Rattle.velo_fate.specs.declared.fate.Fate.TheVariants.{Check, Finished, OtherSites}
 use Rattle.velo_request.specs.declared.request.AuditOptions.{AuditOptions}
 use Rattle.velo_request.specs.declared.request.OutputFormat.{OutputFormat}
 use Rattle.velo_request.specs.declared.request.OutputFormat.TheVariants.{Json, Junit, Sarif, Text}
@@ -29,11 +28,12 @@ use Rattle.velo_audit_findings.specs.Junit.{junit_text}
 use Rattle.velo_audit_findings.specs.Sarif.{sarif_text}
 use Rattle.velo_inputs.specs.Input.{ComesAbout, IsUnchecked}
 use Rattle.velo_inputs.specs.Leaving.{left_out_at_first}
+use Rattle.velo_inputs.specs.Sending.{LacksMemoryToPrint}
 use Rattle.velo_inputs.specs.Siting.{HaveLengthOf}
 use Rattle.velo_fate.specs.Delivery.{CommandAnswer, IsPrinted, LacksMemory, printing, silent}
 use Rattle.velo_fate.specs.Failures.{FailuresAsTold}
 use Rattle.velo_delivery.specs.Reading.{Reading}
-use Rattle.velo_delivery.specs.Writing.{Writing, WritesNothing}
+use Rattle.velo_delivery.specs.Writing.{Writing}
 
 -- ---- what is left out. `asked` is what the words and the list ask to be left out (`Asked` of `velo_audit_text`)
 
@@ -185,7 +185,7 @@ PrintsRounds names sites log asked options rounds stdout f =
     ((page : List ℕ)
     × IsAuditPage names sites log asked options rounds (atomic_of log asked rounds) page
     × IsPrinted stdout (printing page (Finished Done (is_found rounds))) f)
-    ⊎ (GrowthRefused × (f ≡ Memory) × WritesNothing stdout)
+    ⊎ LacksMemoryToPrint stdout f
 
 -- what was made of a log was printed: its audit, or that memory was wanting
 abbrev pub Audits : NameLists → Option Table → Asked → AuditOptions → Bounds → List Event → Writing → Fate

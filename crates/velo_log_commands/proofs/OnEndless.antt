@@ -1,8 +1,8 @@
 -- What a watch of a log without end came to.
-use Rattle.std.proofs.Common.{◌≡◌, ℕ, ◌∷◌, ◌++◌, [], ◌∙◌, ◌≤◌, Bool, true, false, List, length, Option, Some, None, Result, Ok, Err, refl, sym, ap, subst}
+use Rattle.std.proofs.Common.{◌≡◌, ℕ, ◌∷◌, ◌++◌, [], ◌≤◌, Bool, true, false, List, length, Option, Some, None, Result, Ok, Err, refl, sym, subst}
 use Rattle.std.proofs.lemmas.Bool.{false≢true}
 use Rattle.std.proofs.lemmas.List.{append-nil}
-use Rattle.std.specs.Prelude.{◌↔◌, IfOk, IsTrue, OnOk, OnErr, is_some}
+use Rattle.std.specs.Prelude.{◌↔◌, IfOk, IsTrue, OnOk, is_some}
 use Rattle.velo_events.specs.declared.config.Bounds.{Bounds}
 use Rattle.velo_events.specs.declared.config.Config.{Config}
 use Rattle.velo_events.specs.declared.event.Event.{Event}
@@ -80,36 +80,46 @@ module _ (options : EndlessOptions) (read old : Option (List ℕ)) where
 
   pub steps_on_whole : (before between remaining new : Option (List ℕ)) (log : List Event) (watch watch' : EndlessWatch) (r : Result Bool WatchFault) → HasLimits options.limits watch.piece.world.config → watch'.piece.world.config ≡ watch.piece.world.config
       → IsUnderWay read before old between log watch → Steps read old log watch r watch' remaining new
-      → StepsOn own read old new watch.piece.world.config.bounds log r watch'.piece.world.config.bounds (λ log. HasSeen log watch') (λ log. IsUnderWay read remaining old new log watch')
+      → (after : List Event) × StepsOn own read old new watch.piece.world.config.bounds log r watch'.piece.world.config.bounds after × OnOk r (HasSeen after watch')
+      × IfOk r (λ more. more ≡ true → IsUnderWay read remaining old new after watch')
   steps_on_whole before between remaining new log watch watch' (Ok true) within same h (e, under_way) =
       let all = log ++ e ∷ [] in
       let judged = under_way.seen.judged in (
-        e,
-        come new watch'.piece.world.config.bounds all (front_of remaining new all watch' under_way) (well_judged all watch' judged) under_way.given.few
-            (tells old new all watch'.piece watch'.alarm judged.judged under_way.told),
+        all,
+        (
+          e,
+          refl,
+          come new watch'.piece.world.config.bounds all (front_of remaining new all watch' under_way) (well_judged all watch' judged) under_way.given.few
+              (tells old new all watch'.piece watch'.alarm judged.judged under_way.told),
+        ),
         under_way.seen,
-        under_way,
+        λ on. under_way,
       )
   steps_on_whole before between remaining new log watch watch' (Ok false) within same h (seen, told, well, input) =
       let front = subst (λ (c : Config). IsFront read c.bounds log) (sym same) (front_of before between log watch h) in
-      (come new watch'.piece.world.config.bounds log front well h.given.few told, seen, input)
+      (log, (refl, come new watch'.piece.world.config.bounds log front well h.given.few told, input), seen, λ on. absurd (false≢true on))
   steps_on_whole before between remaining new log watch watch' (Err (watch_fault.Log fault)) within same h (well, told, met, reads) =
-      (come new watch.piece.world.config.bounds log (front_of before between log watch h) well h.given.few told, ((reads, no_memory (length log) fault met), met))
+      (log, (come new watch.piece.world.config.bounds log (front_of before between log watch h) well h.given.few told, ((reads, no_memory (length log) fault met), met)), tt, tt)
   steps_on_whole before between remaining new log watch watch' (Err (watch_fault.Replay (replay.Refused p r))) within same h (well, told, (e, next, is)) =
-      (come new watch.piece.world.config.bounds log (front_of before between log watch h) well h.given.few told, (e, next, (watch.piece.world.config, refl, within, is)))
+      (log, (come new watch.piece.world.config.bounds log (front_of before between log watch h) well h.given.few told, (e, next, (watch.piece.world.config, refl, within, is))), tt, tt)
   steps_on_whole before between remaining new log watch watch' (Err (watch_fault.Replay (replay.WrongValue p))) within same h (well, told, (e, next, is)) =
-      (come new watch.piece.world.config.bounds log (front_of before between log watch h) well h.given.few told, (e, next, (watch.piece.world.config, refl, within, is)))
+      (log, (come new watch.piece.world.config.bounds log (front_of before between log watch h) well h.given.few told, (e, next, (watch.piece.world.config, refl, within, is))), tt, tt)
   steps_on_whole before between remaining new log watch watch' (Err (watch_fault.Replay replay.Memory)) within same h (well, told, (e, next, is)) =
-      (come new watch.piece.world.config.bounds log (front_of before between log watch h) well h.given.few told, is)
+      (log, (come new watch.piece.world.config.bounds log (front_of before between log watch h) well h.given.few told, is), tt, tt)
   steps_on_whole before between remaining new log watch watch' (Err watch_fault.Write) within same h (e, fails) =
       let all = log ++ e ∷ [] in
       let alarm = fails.part in (
-        e,
-        record {
-          so_far = record { front = fails.front; well_formed = fails.came; room = fails.room };
-          ends = record { before = log; last = e; whole = refl; no_cycle = fails.no_cycle; cycle = HasCycle-from_closing all alarm.0.position alarm.1.closing };
-          part = alarm;
-        },
+        log,
+        (
+          e,
+          record {
+            so_far = record { front = fails.front; well_formed = fails.came; room = fails.room };
+            ends = record { before = log; last = e; whole = refl; no_cycle = fails.no_cycle; cycle = HasCycle-from_closing all alarm.0.position alarm.1.closing };
+            part = alarm;
+          },
+        ),
+        tt,
+        tt,
       )
 
 -- ---- the report

@@ -35,7 +35,7 @@ use Rattle.velo_fate.specs.Verdict.{is_alarm}
 use Rattle.velo_fate.specs.Failures.{failures_told}
 use Rattle.velo_report.specs.declared.names.Names.{Names}
 use Rattle.velo_log_commands.specs.Steps.{ShowsLog}
-use Rattle.velo_log_commands.specs.Watching.{check_fault_of_watching, EndsAfter, FailsAfter, Follows, GoesOn, HasCome, HasWatched, IsSoFar, HasLimits, StepsOn, Terms, Watches, terms_of_watch}
+use Rattle.velo_log_commands.specs.Watching.{check_fault_of_watching, EndsAfter, Follows, GoesOn, HasCome, HasWatched, HasLimits, StepsOn, Terms, Watches, terms_of_watch}
 use Rattle.velo_delivery.specs.Writing.{Writing, WritesNothing}
 
 -- ---- a log that is kept whole
@@ -62,42 +62,56 @@ module _ (options : WatchOptions) (read old : Option (List ℕ)) where
 
   pub steps_on : (before between remaining new : Option (List ℕ)) (watch watch' : Watch) (r : Result Bool WatchFault) → HasLimits options.limits watch.world.config → IsUnderWay read before old between watch → Steps read old watch r watch' remaining new
       → IfOk r (λ more. Advances watch.world more watch'.world) → OnOk r (watch'.world.config ≡ watch.world.config)
-      → StepsOn own read old new watch.world.config.bounds watch.world.log r watch'.world.config.bounds (λ log. (watch'.world.log ≡ log) × (IsTrue watch'.told ↔ HasCycle watch'.world.log))
-      (λ log. (watch'.world.log ≡ log) × IsUnderWay read remaining old new watch')
+      → (after : List Event) × StepsOn own read old new watch.world.config.bounds watch.world.log r watch'.world.config.bounds after
+      × OnOk r ((watch'.world.log ≡ after) × (IsTrue watch'.told ↔ HasCycle watch'.world.log))
+      × IfOk r (λ more. more ≡ true → (watch'.world.log ≡ after) × IsUnderWay read remaining old new watch')
   steps_on before between remaining new watch watch' (Ok true) within h (under_way, (e, is)) (came, next) same = (
-    e,
-    subst (λ (log : List Event). HasCome own read old new watch'.world.config.bounds log) is
-        (come new watch'.world (subst (λ (c : Config). HasLimits options.limits c) (sym same) within) came (front_of remaining new watch' under_way) (tells watch'.told old new watch'.world.log under_way.told)),
-    (is, cycle_told old new watch'.told watch'.world.log under_way.told),
-    (is, under_way),
+    watch'.world.log,
+    (
+      e,
+      is,
+      come new watch'.world (subst (λ (c : Config). HasLimits options.limits c) (sym same) within) came (front_of remaining new watch' under_way) (tells watch'.told old new watch'.world.log under_way.told),
+    ),
+    (refl, cycle_told old new watch'.told watch'.world.log under_way.told),
+    λ on. (refl, under_way),
   )
   steps_on before between remaining new watch watch' (Ok false) within h (is, told, input) (came, stays) same =
-      let log : watch'.world.log ≡ watch.world.log = ap (λ (w : WorldState). w.log) is in
       let front = subst (λ (w : WorldState). IsFront read w.config.bounds w.log) (sym is) (front_of before between watch h) in (
-        subst (λ (l : List Event). HasCome own read old new watch'.world.config.bounds l) log
-            (come new watch'.world (subst (λ (c : Config). HasLimits options.limits c) (sym same) within) came front (tells watch'.told old new watch'.world.log told)),
-        (log, cycle_told old new watch'.told watch'.world.log told),
-        subst (λ (l : List Event). IsInput read watch'.world.config.bounds l) log input,
+        watch'.world.log,
+        (
+          ap (λ (w : WorldState). w.log) is,
+          come new watch'.world (subst (λ (c : Config). HasLimits options.limits c) (sym same) within) came front (tells watch'.told old new watch'.world.log told),
+          input,
+        ),
+        (refl, cycle_told old new watch'.told watch'.world.log told),
+        λ on. absurd (false≢true on),
       )
   steps_on before between remaining new watch watch' (Err (watch_fault.Log fault)) within h (came, told, met, reads) advances same = (
-    come new watch.world within came (front_of before between watch h) told,
-    ((reads, no_memory (length watch.world.log) fault met), met),
+    watch.world.log,
+    (come new watch.world within came (front_of before between watch h) told, ((reads, no_memory (length watch.world.log) fault met), met)),
+    tt,
+    tt,
   )
   steps_on before between remaining new watch watch' (Err (watch_fault.Replay (replay.Refused p r))) within h (came, told, (e, next, is)) advances same =
-      (come new watch.world within came (front_of before between watch h) told, (e, next, (watch.world.config, refl, within, is)))
+      (watch.world.log, (come new watch.world within came (front_of before between watch h) told, (e, next, (watch.world.config, refl, within, is))), tt, tt)
   steps_on before between remaining new watch watch' (Err (watch_fault.Replay (replay.WrongValue p))) within h (came, told, (e, next, is)) advances same =
-      (come new watch.world within came (front_of before between watch h) told, (e, next, (watch.world.config, refl, within, is)))
+      (watch.world.log, (come new watch.world within came (front_of before between watch h) told, (e, next, (watch.world.config, refl, within, is))), tt, tt)
   steps_on before between remaining new watch watch' (Err (watch_fault.Replay replay.Memory)) within h (came, told, (e, next, is)) advances same =
-      (come new watch.world within came (front_of before between watch h) told, is)
+      (watch.world.log, (come new watch.world within came (front_of before between watch h) told, is), tt, tt)
   steps_on before between remaining new watch watch' (Err watch_fault.Write) within h (e, fails) advances same =
       let log = watch.world.log ++ e ∷ [] in
       let alarm = fails.part in (
-        e,
-        record {
-          so_far = record { front = fails.front; well_formed = fails.came.well_formed; room = subst (λ (n : ℕ). length log ≤ n) within.events fails.came.room };
-          ends = record { before = watch.world.log; last = e; whole = refl; no_cycle = fails.no_cycle; cycle = HasCycle-from_closing log alarm.0.position alarm.1.closing };
-          part = alarm;
-        },
+        watch.world.log,
+        (
+          e,
+          record {
+            so_far = record { front = fails.front; well_formed = fails.came.well_formed; room = subst (λ (n : ℕ). length log ≤ n) within.events fails.came.room };
+            ends = record { before = watch.world.log; last = e; whole = refl; no_cycle = fails.no_cycle; cycle = HasCycle-from_closing log alarm.0.position alarm.1.closing };
+            part = alarm;
+          },
+        ),
+        tt,
+        tt,
       )
 
 pub at_start : (read remaining : Option (List ℕ)) (r : Result Watch WatchFault) → IfOk r (λ watch. (contents : Option (List ℕ)) → IsUnderWay read remaining contents contents watch) → IfOk r (λ watch. watch.world.log ≡ [])
@@ -111,6 +125,18 @@ pub not_both : (b : Bool) → b ≡ true → b ≡ false → ⊥
 not_both true on off = cc
 not_both false on off = cc
 
+-- one more event happened
+pub one_more : (terms : Terms) (read old new : Option (List ℕ)) (bounds bounds' : Bounds) (log after : List Event) (more : Bool) → more ≡ true → StepsOn terms read old new bounds log (Ok more) bounds' after
+    → (e : Event) × (after ≡ log ++ e ∷ []) × HasCome terms read old new bounds' after
+one_more terms read old new bounds bounds' log after true on steps = steps
+one_more terms read old new bounds bounds' log after false on steps = absurd (false≢true on)
+
+-- the input is at its end
+pub no_other : (terms : Terms) (read old new : Option (List ℕ)) (bounds bounds' : Bounds) (log after : List Event) (more : Bool) → more ≡ false → StepsOn terms read old new bounds log (Ok more) bounds' after
+    → (after ≡ log) × HasCome terms read old new bounds' after × IsInput read bounds' after
+no_other terms read old new bounds bounds' log after false off steps = steps
+no_other terms read old new bounds bounds' log after true off steps = absurd (false≢true (sym off))
+
 -- what is not told is not there
 pub no_more : (told : Bool) (log : List Event) → told ≡ false → IsTrue told ↔ HasCycle log → ¬ HasCycle log
 no_more told log off h cycle = not_both told (h.1 cycle) off
@@ -118,9 +144,9 @@ no_more told log off h cycle = not_both told (h.1 cycle) off
 -- ---- what was read
 
 module _ (terms : Terms) (read : Option (List ℕ)) (stdout : Writing) where
-  pub watched : {X : Type 0} (x : X) (bounds : Bounds) (HasSeen : List Event → Type 0) → Follows terms read stdout.old stdout.new (Ok x) bounds HasSeen → stdout.failures_after ≡ stdout.failures_before → HasWatched terms read stdout bounds HasSeen
-  watched x bounds HasSeen (log, come, to, seen) kept =
-      record { log = log; so_far = come.so_far; read_to = to; alarm = come.told.alarm; exact = come.told.exact; told = (come.told.appends, kept); seen = seen }
+  pub watched : {X : Type 0} (x : X) (bounds : Bounds) (log : List Event) → Follows terms read stdout.old stdout.new (Ok x) bounds log → stdout.failures_after ≡ stdout.failures_before → HasWatched terms read stdout bounds log
+  watched x bounds log (come, to) kept =
+      record { so_far = come.so_far; read_to = to; alarm = come.told.alarm; exact = come.told.exact; told = (come.told.appends, kept) }
 
   cut_short : (bounds : Bounds) (log : List Event) → HasCome terms read stdout.old stdout.new bounds log → stdout.failures_after ≡ stdout.failures_before → (fault : CheckFault)
       → ((GoesOn terms.stop log × EndsAfter terms read bounds log fault) ⊎ ((fault ≡ Memory) × GrowthRefused)) → (names : Names) → Watches names terms read stdout (Check fault)
@@ -131,13 +157,13 @@ module _ (terms : Terms) (read : Option (List ℕ)) (stdout : Writing) where
   )
 
   -- why it went no further
-  pub ended_early : (X : Type 0) (fault : WatchFault) (bounds : Bounds) (HasSeen : List Event → Type 0) → Follows terms read stdout.old stdout.new {X = X} (Err fault) bounds HasSeen
+  pub ended_early : (X : Type 0) (fault : WatchFault) (bounds : Bounds) (log : List Event) → Follows terms read stdout.old stdout.new {X = X} (Err fault) bounds log
       → stdout.failures_after ≡ write_failures {X = X} (Err fault) stdout.failures_before → (names : Names) → Watches names terms read stdout (fate_of (Err (check_fault_of_watching fault)))
-  ended_early X (watch_fault.Log fault) bounds HasSeen (before, log, on, (come, ends)) kept names = cut_short before log come kept (Log fault) (inl (on, ends)) names
-  ended_early X (watch_fault.Replay (replay.Refused p r)) bounds HasSeen (before, log, on, (come, ends)) kept names = cut_short before log come kept (Refused p r) (inl (on, ends)) names
-  ended_early X (watch_fault.Replay (replay.WrongValue p)) bounds HasSeen (before, log, on, (come, ends)) kept names = cut_short before log come kept (WrongValue p) (inl (on, ends)) names
-  ended_early X (watch_fault.Replay replay.Memory) bounds HasSeen (before, log, on, (come, refused)) kept names = cut_short before log come kept Memory (inr (refl, refused)) names
-  ended_early X watch_fault.Write bounds HasSeen (before, log, on, (e, breaks)) kept names = inr (
+  ended_early X (watch_fault.Log fault) bounds log (before, on, (come, ends)) kept names = cut_short before log come kept (Log fault) (inl (on, ends)) names
+  ended_early X (watch_fault.Replay (replay.Refused p r)) bounds log (before, on, (come, ends)) kept names = cut_short before log come kept (Refused p r) (inl (on, ends)) names
+  ended_early X (watch_fault.Replay (replay.WrongValue p)) bounds log (before, on, (come, ends)) kept names = cut_short before log come kept (WrongValue p) (inl (on, ends)) names
+  ended_early X (watch_fault.Replay replay.Memory) bounds log (before, on, (come, refused)) kept names = cut_short before log come kept Memory (inr (refl, refused)) names
+  ended_early X watch_fault.Write bounds log (before, on, (e, breaks)) kept names = inr (
     refl,
     record {
       bounds = before;
@@ -176,8 +202,8 @@ reads_told X watch_fault.Write n = refl
 -- ---- the report after it
 
 -- what is shown after the line of the alarm is the answer
-module _ (names : Names) (terms : Terms) (read : Option (List ℕ)) (bounds : Bounds) (HasSeen : List Event → Type 0) (before after all : Writing) where
-  pub shown : (result : Result Verdict CheckFault) (has : HasWatched terms read before bounds HasSeen) → ShowsLog names terms.certificate bounds.threads has.log after result
+module _ (names : Names) (terms : Terms) (read : Option (List ℕ)) (bounds : Bounds) (log : List Event) (before after all : Writing) where
+  pub shown : (result : Result Verdict CheckFault) (has : HasWatched terms read before bounds log) → ShowsLog names terms.certificate bounds.threads log after result
       → all.old ≡ before.old → before.new ≡ after.old → all.new ≡ after.new → all.failures_before ≡ before.failures_before → before.failures_after ≡ after.failures_before → all.failures_after ≡ after.failures_after
       → Watches names terms read all (fate_of result)
   shown (Ok verdict) has shows o m n fb fm fa =
@@ -187,7 +213,7 @@ module _ (names : Names) (terms : Terms) (read : Option (List ℕ)) (bounds : Bo
         printing (told ++ text) (Finished Done (is_alarm verdict)),
         inl (record {
           bounds = bounds;
-          log = has.log;
+          log = log;
           so_far = has.so_far;
           read_to = has.read_to;
           alarm = has.alarm;
@@ -213,7 +239,7 @@ module _ (names : Names) (terms : Terms) (read : Option (List ℕ)) (bounds : Bo
         printing (told ++ text) (Finished Done (is_alarm shows.0.0)),
         inl (record {
           bounds = bounds;
-          log = has.log;
+          log = log;
           so_far = has.so_far;
           read_to = has.read_to;
           alarm = has.alarm;
@@ -231,7 +257,7 @@ module _ (names : Names) (terms : Terms) (read : Option (List ℕ)) (bounds : Bo
       )
   shown (Err Memory) has shows o m n fb fm fa = inl (
     printing (told_text has.alarm) (Check Memory),
-    inr (inl (record { bounds = bounds; log = has.log; so_far = has.so_far; alarm = has.alarm; exact = has.exact; fault = Memory; reason = inr (refl, shows.0); said = refl })),
+    inr (inl (record { bounds = bounds; log = log; so_far = has.so_far; alarm = has.alarm; exact = has.exact; fault = Memory; reason = inr (refl, shows.0); said = refl })),
     (
       refl,
       (

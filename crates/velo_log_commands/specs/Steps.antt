@@ -12,7 +12,7 @@ use Rattle.velo_fate.specs.declared.fault.CheckFault.{CheckFault}
 use Rattle.velo_fate.specs.declared.fault.CheckFault.TheVariants as check_fault
 use Rattle.velo_fate.specs.declared.verdict.Verdict.{Verdict}
 use Rattle.velo_fate.specs.declared.fate.Fate.{Fate}
-use Rattle.velo_fate.specs.declared.fate.Fate.TheVariants.{CannotOpen, Memory, OtherSites}
+use Rattle.velo_fate.specs.declared.fate.Fate.TheVariants.{CannotOpen, OtherSites}
 use Rattle.velo_log_commands.specs.Carrying.{Carries}
 use Rattle.velo_fate.specs.Verdict.{IsOutput, IsVerdict}
 use Rattle.velo_fate.specs.Delivery.{CommandAnswer, IsDeliveredInTurn, LacksMemory}
@@ -20,6 +20,7 @@ use Rattle.velo_request.specs.declared.request.ExplainOptions.{ExplainOptions}
 use Rattle.velo_delivery.specs.Disk.{IsWritten, Store}
 use Rattle.velo_log_commands.specs.Explaining.{ExplainsVerdict, IsExplainAnswer, Manner, manner_after}
 use Rattle.velo_log_commands.specs.declared.explaining_words.Legend.{Legend}
+use Rattle.velo_inputs.specs.Sending.{LacksMemoryToDeliver}
 use Rattle.velo_inputs.specs.Siting.{HaveLengthOf}
 use Rattle.velo_fate.specs.Failures.{FailuresAsTold}
 use Rattle.velo_delivery.specs.Reading.{Reading}
@@ -52,12 +53,12 @@ manner_of legend =
     manner_after legend.before.now legend.inquiry.now.names.now legend.sites.now
     legend.inquiry.now.asked.now legend.inquiry.now.options.now
 
--- this answer was delivered, and this drawing after what it saves and before what it prints; or an
--- allocation failed, and nothing was written
+-- this answer was delivered, and this drawing after what it saves and before what it prints; or
+-- memory was wanting
 abbrev pub DrawsOrLacks : CommandAnswer → List ℕ → Store → ExplainOptions → Writing → Fate → Type 0
 DrawsOrLacks answer drawing store options stdout f =
     IsDeliveredInTurn store options.target options.drawing drawing stdout answer f
-    ⊎ (GrowthRefused × (f ≡ Memory) × store.is_kept × WritesNothing stdout)
+    ⊎ LacksMemoryToDeliver store stdout f
 
 -- an answer that explains so was delivered, or that memory was wanting
 abbrev pub Explains : (CommandAnswer → List ℕ → Type 0) → Store → ExplainOptions → Writing

@@ -218,28 +218,24 @@ FailsAfter terms read old new bounds log (watch_fault.Replay fault) =
 FailsAfter terms read old new bounds log watch_fault.Write =
     (e : Event) × BreaksAtAlarm terms read old new bounds (log ++ e ∷ [])
 
--- one event more happened; or the input is at its end, and is these events; or why neither (`FailsAfter`). `HasSeen` and
--- `IsAt` are what the watch at hand says of the events so far.
+-- from these events to those after a step: one more happened; or the input is at its end, and is these
+-- events; or why neither (`FailsAfter`)
 abbrev pub StepsOn : Terms → Option (List ℕ) → Option (List ℕ) → Option (List ℕ) → Bounds
-    → List Event → Result Bool WatchFault → Bounds → (List Event → Type 0) → (List Event → Type 0)
-    → Type 0
-StepsOn terms read old new bounds log (Ok true) bounds' HasSeen IsAt =
-    (e : Event) × HasCome terms read old new bounds' (log ++ e ∷ []) × HasSeen (log ++ e ∷ [])
-    × IsAt (log ++ e ∷ [])
-StepsOn terms read old new bounds log (Ok false) bounds' HasSeen IsAt =
-    HasCome terms read old new bounds' log × HasSeen log × IsInput read bounds' log
-StepsOn terms read old new bounds log (Err fault) bounds' HasSeen IsAt =
+    → List Event → Result Bool WatchFault → Bounds → List Event → Type 0
+StepsOn terms read old new bounds log (Ok true) bounds' log' =
+    (e : Event) × (log' ≡ log ++ e ∷ []) × HasCome terms read old new bounds' log'
+StepsOn terms read old new bounds log (Ok false) bounds' log' =
+    (log' ≡ log) × HasCome terms read old new bounds' log' × IsInput read bounds' log'
+StepsOn terms read old new bounds log (Err fault) bounds' log' =
     FailsAfter terms read old new bounds log fault
 
--- the events that were read; or those after which the watch failed
+-- these events were read; or they are those after which the watch failed
 abbrev pub Follows : Terms → Option (List ℕ) → Option (List ℕ) → Option (List ℕ) → {X : Type 0}
-    → Result X WatchFault → Bounds → (List Event → Type 0) → Type 0
-Follows terms read old new (Ok x) bounds HasSeen =
-    (log : List Event) × HasCome terms read old new bounds log
-    × IsReadTo terms.stop read bounds log × HasSeen log
-Follows terms read old new (Err fault) bounds HasSeen =
-    (before : Bounds) × (log : List Event) × GoesOn terms.stop log
-    × FailsAfter terms read old new before log fault
+    → Result X WatchFault → Bounds → List Event → Type 0
+Follows terms read old new (Ok x) bounds log =
+    HasCome terms read old new bounds log × IsReadTo terms.stop read bounds log
+Follows terms read old new (Err fault) bounds log =
+    (before : Bounds) × GoesOn terms.stop log × FailsAfter terms read old new before log fault
 
 -- a watch within the limits can go on
 pub record CanWatch (options : WatchOptions) (watch : Watch) : Type 0 where
@@ -248,14 +244,12 @@ pub record CanWatch (options : WatchOptions) (watch : Watch) : Type 0 where
 
 -- these events were read, and the line of their alarm went out
 pub record HasWatched (terms : Terms) (read : Option (List ℕ)) (stdout : Writing)
-    (bounds : Bounds) (HasSeen : List Event → Type 0) : Type 0 where
-  pub log : List Event
+    (bounds : Bounds) (log : List Event) : Type 0 where
   pub so_far : IsSoFar terms.event_limit read bounds log
   pub read_to : IsReadTo terms.stop read bounds log
   pub alarm : Option Alarm
   pub exact : AlarmOf log alarm
   pub told : Writes stdout (told_text alarm)
-  pub seen : HasSeen log
 
 -- the fault of a check where a watch ends early
 abbrev pub check_fault_of_watching : WatchFault → CheckFault

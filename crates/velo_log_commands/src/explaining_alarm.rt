@@ -12,17 +12,16 @@ ghost use Rattle.velo_delivery.specs.Writing.{writing};
 ghost use Rattle.velo_inputs.specs.Sending.{DeliversOrLacks};
 ghost use Rattle.velo_log_commands.specs.Steps.{DrawsOrLacks, manner_of};
 
-use crate::explaining_words::{Legend, page_of_alarm};
+use crate::explaining_words::{ExplainedAlarm, Legend, page_of_alarm};
 use std::alloc::Global;
 use velo_bytes::Sink;
 use velo_delivery::Files;
 use velo_events::Memory;
-use velo_explain::{Evidence, picture_named};
+use velo_explain::picture_named;
 use velo_fate::Fate;
 use velo_inputs::{print, save_text};
 use velo_names::Names;
 use velo_picture::drawing;
-use velo_traces::Trace;
 
 /// Saves a text at a path, and then prints words.
 fn put<F: Files, O: Sink>(words: &[u8], text: &[u8], path: &str, files: &mut F, out: &mut O) -> Fate
@@ -39,26 +38,26 @@ fn put<F: Files, O: Sink>(words: &[u8], text: &[u8], path: &str, files: &mut F, 
 /// before.
 fn put_picture<F: Files, O: Sink>(
     alloc: Global,
-    log: &Trace,
-    position: usize,
-    evidence: &Evidence,
+    alarm: &ExplainedAlarm,
     names: &Names,
     words: &[u8],
     target: Option<&str>,
     files: &mut F,
     out: &mut O,
 ) -> Fate
-    requires few { length log.now.events ≤ MAX_EVENTS }
-    requires within { IsWithin (length log.now.events) position evidence.now }
+    requires few { length alarm.now.log.now.events ≤ MAX_EVENTS }
+    requires within { IsWithin (length alarm.now.log.now.events) alarm.now.position
+        alarm.now.evidence.now }
     ensures { DeliversOrLacks
-        (saying (named_picture_text names.now log.now.events evidence.now) words.now)
+        (saying (named_picture_text names.now alarm.now.log.now.events alarm.now.evidence.now)
+        words.now)
         (store F.disk files.old files.new) target.entry
         (writing O.contents O.failures out.old out.new) result }
 {
     let Some(path) = target else {
         return print(words, true, out);
     };
-    match picture_named(alloc, log, position, evidence, names) {
+    match picture_named(alloc, alarm.log, alarm.position, alarm.evidence, names) {
         Ok(picture) => put(words, picture.as_slice(), path, files, out),
         Err(Memory) => Fate::Memory,
     }
@@ -88,24 +87,24 @@ fn put_both<F: Files, O: Sink>(
 /// they are asked for, and then the page is printed. All are made before.
 pub fn explain_by<F: Files, O: Sink>(
     alloc: Global,
-    log: &Trace,
-    position: usize,
-    evidence: &Evidence,
+    alarm: &ExplainedAlarm,
     legend: &Legend,
     files: &mut F,
     out: &mut O,
 ) -> Fate
-    requires few { length log.now.events ≤ MAX_EVENTS }
-    requires can_come_about { CanComeAbout log.now.events }
-    requires within { IsWithin (length log.now.events) position evidence.now }
+    requires few { length alarm.now.log.now.events ≤ MAX_EVENTS }
+    requires can_come_about { CanComeAbout alarm.now.log.now.events }
+    requires within { IsWithin (length alarm.now.log.now.events) alarm.now.position
+        alarm.now.evidence.now }
     ensures { DrawsOrLacks
-        (explained (manner_of legend.now) log.now.events position evidence.now)
-        (drawing_text legend.now.inquiry.now.names.now legend.now.sites.now log.now.events position
-        evidence.now)
+        (explained (manner_of legend.now) alarm.now.log.now.events alarm.now.position
+        alarm.now.evidence.now)
+        (drawing_text legend.now.inquiry.now.names.now legend.now.sites.now
+        alarm.now.log.now.events alarm.now.position alarm.now.evidence.now)
         (store F.disk files.old files.new) legend.now.inquiry.now.options.now
         (writing O.contents O.failures out.old out.new) result }
 {
-    let words = match page_of_alarm(alloc, log, position, evidence, legend) {
+    let words = match page_of_alarm(alloc, alarm, legend) {
         Ok(words) => words,
         Err(Memory) => return Fate::Memory,
     };
@@ -114,12 +113,11 @@ pub fn explain_by<F: Files, O: Sink>(
     let words = words.as_slice();
     let Some(path) = options.drawing else {
         let target = options.target;
-        return put_picture(
-            alloc, log, position, evidence, names, words, target, files, out,
-        );
+        return put_picture(alloc, alarm, names, words, target, files, out);
     };
-    let events = log.as_slice();
-    let drawn = match drawing(alloc, names, legend.sites, events, position, evidence) {
+    let events = alarm.log.as_slice();
+    let sites = legend.sites;
+    let drawn = match drawing(alloc, names, sites, events, alarm.position, alarm.evidence) {
         Ok(drawn) => drawn,
         Err(Memory) => return Fate::Memory,
     };
@@ -127,7 +125,7 @@ pub fn explain_by<F: Files, O: Sink>(
     let Some(target) = options.target else {
         return put(words, drawn, path, files, out);
     };
-    match picture_named(alloc, log, position, evidence, names) {
+    match picture_named(alloc, alarm.log, alarm.position, alarm.evidence, names) {
         Ok(picture) => put_both(words, picture.as_slice(), drawn, target, path, files, out),
         Err(Memory) => Fate::Memory,
     }

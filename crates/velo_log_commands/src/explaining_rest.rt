@@ -14,7 +14,7 @@ ghost use Rattle.velo_log_commands.specs.Steps.{Explains, manner_of};
 
 use crate::explaining_alarm::explain_by;
 use crate::explaining_whole::explain_without;
-use crate::explaining_words::{Inquiry, Legend};
+use crate::explaining_words::{ExplainedAlarm, Inquiry, Legend};
 use std::alloc::Global;
 use velo_audit::{AuditFault, first_alarm};
 use velo_audit_text::{Asked, add_asked};
@@ -100,9 +100,12 @@ fn explain_left<F: Files, O: Sink>(
     match first_alarm(alloc, &config, log, left) {
         Ok(None) => explain_clean_rest(alloc, config.bounds, log, left, legend, out),
         Ok(Some(first)) => {
-            let position = first.position;
-            let evidence = &first.evidence;
-            let fate = explain_by(alloc, log, position, evidence, legend, files, out);
+            let explained = ExplainedAlarm {
+                log,
+                position: first.position,
+                evidence: &first.evidence,
+            };
+            let fate = explain_by(alloc, &explained, legend, files, out);
             drop(first);
             fate
         }

@@ -10,7 +10,7 @@ ghost use Rattle.velo_inputs.specs.Sending.{PrintsOrLacks};
 ghost use Rattle.velo_log_commands.specs.Steps.{Explains, manner_of};
 
 use crate::explaining_alarm::explain_by;
-use crate::explaining_words::{Inquiry, Legend, page_without};
+use crate::explaining_words::{ExplainedAlarm, Inquiry, Legend, page_without};
 use std::alloc::Global;
 use velo_bytes::Sink;
 use velo_certify::CertFault;
@@ -70,7 +70,12 @@ pub fn explain_whole<F: Files, O: Sink>(
     let position = alarm.position;
     match evidence_of(alloc, log, position, alarm.blamed.as_slice()) {
         Ok(evidence) => {
-            let fate = explain_by(alloc, log, position, &evidence, &legend, files, out);
+            let explained = ExplainedAlarm {
+                log,
+                position,
+                evidence: &evidence,
+            };
+            let fate = explain_by(alloc, &explained, &legend, files, out);
             drop(evidence);
             fate
         }

@@ -42,6 +42,17 @@ pub struct Legend<'l> {
     pub before: &'l [u8],
 }
 
+/// An alarm that is explained: of which log, at which position, and by which evidence.
+#[derive(Clone, Copy)]
+pub struct ExplainedAlarm<'a> {
+    /// The log.
+    pub log: &'a Trace,
+    /// The position of the event that closes the cycle.
+    pub position: usize,
+    /// The cycle, and why its blocks are to blame.
+    pub evidence: &'a Evidence,
+}
+
 /// The words behind some text.
 fn words_behind(alloc: Global, before: &[u8], words: &[u8]) -> Result<Page, Memory>
     ensures { IfOk result (λ page. page ≡ before.now ++ words.now) }
@@ -53,22 +64,27 @@ fn words_behind(alloc: Global, before: &[u8], words: &[u8]) -> Result<Page, Memo
 }
 
 /// The words of an alarm by its evidence.
-fn words_of(
-    alloc: Global,
-    log: &Trace,
-    position: usize,
-    evidence: &Evidence,
-    legend: &Legend,
-) -> Result<Page, Memory>
-    requires few { length log.now.events ≤ MAX_EVENTS }
-    requires within { IsWithin (length log.now.events) position evidence.now }
+fn words_of(alloc: Global, alarm: &ExplainedAlarm, legend: &Legend) -> Result<Page, Memory>
+    requires few { length alarm.now.log.now.events ≤ MAX_EVENTS }
+    requires within { IsWithin (length alarm.now.log.now.events) alarm.now.position
+        alarm.now.evidence.now }
     ensures { IfOk result (λ words. words ≡ words_of legend.now.inquiry.now.names.now
-        legend.now.sites.now log.now.events position evidence.now) }
+        legend.now.sites.now alarm.now.log.now.events alarm.now.position
+        alarm.now.evidence.now) }
 {
     let names = legend.inquiry.names;
     match legend.sites {
-        Some(sites) => explain_sited(alloc, log, position, evidence, names, sites),
-        None => explain_named(alloc, log, position, evidence, names),
+        Some(sites) => {
+            explain_sited(
+                alloc,
+                alarm.log,
+                alarm.position,
+                alarm.evidence,
+                names,
+                sites,
+            )
+        }
+        None => explain_named(alloc, alarm.log, alarm.position, alarm.evidence, names),
     }
 }
 
@@ -92,42 +108,36 @@ fn json_of(alloc: Global, log: &Trace, shown: &Shown, legend: &Legend) -> Result
 }
 
 /// The words of an alarm behind what comes before them.
-fn all_words(
-    alloc: Global,
-    log: &Trace,
-    position: usize,
-    evidence: &Evidence,
-    legend: &Legend,
-) -> Result<Page, Memory>
-    requires few { length log.now.events ≤ MAX_EVENTS }
-    requires within { IsWithin (length log.now.events) position evidence.now }
+fn all_words(alloc: Global, alarm: &ExplainedAlarm, legend: &Legend) -> Result<Page, Memory>
+    requires few { length alarm.now.log.now.events ≤ MAX_EVENTS }
+    requires within { IsWithin (length alarm.now.log.now.events) alarm.now.position
+        alarm.now.evidence.now }
     ensures { IfOk result (λ words. words ≡ legend.now.before.now
-        ++ words_of legend.now.inquiry.now.names.now legend.now.sites.now log.now.events
-        position evidence.now) }
+        ++ words_of legend.now.inquiry.now.names.now legend.now.sites.now
+        alarm.now.log.now.events alarm.now.position alarm.now.evidence.now) }
 {
-    let words = words_of(alloc, log, position, evidence, legend)?;
+    let words = words_of(alloc, alarm, legend)?;
     words_behind(alloc, legend.before, words.as_slice())
 }
 
 /// The page of an alarm by its evidence.
-pub fn page_of_alarm(
-    alloc: Global,
-    log: &Trace,
-    position: usize,
-    evidence: &Evidence,
-    legend: &Legend,
-) -> Result<Page, Memory>
-    requires few { length log.now.events ≤ MAX_EVENTS }
-    requires can_come_about { CanComeAbout log.now.events }
-    requires within { IsWithin (length log.now.events) position evidence.now }
+pub fn page_of_alarm(alloc: Global, alarm: &ExplainedAlarm, legend: &Legend) -> Result<Page, Memory>
+    requires few { length alarm.now.log.now.events ≤ MAX_EVENTS }
+    requires can_come_about { CanComeAbout alarm.now.log.now.events }
+    requires within { IsWithin (length alarm.now.log.now.events) alarm.now.position
+        alarm.now.evidence.now }
     ensures { IfOk result (λ page. page
-        ≡ alarm_page (manner_of legend.now) log.now.events position evidence.now) }
+        ≡ alarm_page (manner_of legend.now) alarm.now.log.now.events alarm.now.position
+        alarm.now.evidence.now) }
 {
     match legend.inquiry.options.format {
-        TextOrJson::Text => all_words(alloc, log, position, evidence, legend),
+        TextOrJson::Text => all_words(alloc, alarm, legend),
         TextOrJson::Json => {
-            let shown = Shown::Cyclic { position, evidence };
-            json_of(alloc, log, &shown, legend)
+            let shown = Shown::Cyclic {
+                position: alarm.position,
+                evidence: alarm.evidence,
+            };
+            json_of(alloc, alarm.log, &shown, legend)
         }
     }
 }

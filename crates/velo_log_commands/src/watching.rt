@@ -84,9 +84,12 @@ pub trait AskedWatch {
         ensures goes_on { OnOk result (can_go_on self.now watch.new) }
         ensures steps { (read old : Option (List ℕ)) (events : List EventOf)
             → is_at watch.old read (I.remaining log.old) old (O.contents out.old) events
-            → StepsOn (terms self.now) read old (O.contents out.new) (bounds watch.old) events result
-            (bounds watch.new) (has_seen watch.new)
-            (is_at watch.new read (I.remaining log.new) old (O.contents out.new)) }
+            → (after : List EventOf)
+            × StepsOn (terms self.now) read old (O.contents out.new) (bounds watch.old) events result
+            (bounds watch.new) after
+            × OnOk result (has_seen watch.new after)
+            × IfOk result (λ more. more ≡ true
+            → is_at watch.new read (I.remaining log.new) old (O.contents out.new) after) }
         ensures ends { IfOk result (λ more. more ≡ true → left watch.new < left watch.old) }
         ensures reads { I.failures log.new ≡ read_failures result (I.failures log.old) }
         ensures writes { O.failures out.new ≡ write_failures result (O.failures out.old) };
@@ -134,8 +137,9 @@ fn follow<A: AskedWatch, I: Source, O: Sink>(
     ensures goes_on { OnOk result (A.can_go_on asked.now watch.new) }
     ensures follows { (read old : Option (List ℕ))
         → A.is_at watch.old read (I.remaining log.old) old (O.contents out.old) []
-        → Follows (A.terms asked.now) read old (O.contents out.new) result (A.bounds watch.new)
-        (A.has_seen watch.new) }
+        → (events : List EventOf)
+        × Follows (A.terms asked.now) read old (O.contents out.new) result (A.bounds watch.new)
+        events × OnOk result (A.has_seen watch.new events) }
     ensures reads { I.failures log.new ≡ read_failures result (I.failures log.old) }
     ensures writes { O.failures out.new ≡ write_failures result (O.failures out.old) }
 {
@@ -156,8 +160,10 @@ fn watch_input<A: AskedWatch, I: Source, O: Sink>(
     out: &mut O,
 ) -> Result<A::State, CheckFault>
     ensures goes_on { IfOk result (A.can_go_on asked.now) }
-    ensures ok { IfOk result (λ watch. HasWatched (A.terms asked.now) (I.remaining log.old)
-        (writing O.contents O.failures out.old out.new) (A.bounds watch) (A.has_seen watch)) }
+    ensures ok { IfOk result (λ watch. (events : List EventOf)
+        × HasWatched (A.terms asked.now) (I.remaining log.old)
+        (writing O.contents O.failures out.old out.new) (A.bounds watch) events
+        × A.has_seen watch events) }
     ensures err { (shown : Shown) → IfErr result (λ fault. Watches shown (A.terms asked.now)
         (I.remaining log.old) (writing O.contents O.failures out.old out.new)
         (fate_of (Err fault))) }

@@ -14,6 +14,7 @@ use Rattle.velo_fate.specs.Verdict.{IsOrderOrCycle, IsOutputOf}
 use Rattle.velo_request.specs.declared.request.RunOptions.{RunOptions}
 use Rattle.velo_workload_commands.specs.Playing.{IsReported, text_of_names, with_log}
 use Rattle.velo_workload_commands.specs.declared.page.Page.{Page}
+use Rattle.velo_workload_commands.specs.declared.page.Said.{Said}
 use Rattle.velo_workload_commands.specs.declared.reporting.RunReport.{RunReport}
 
 -- the text of a page: the output of its world between the two texts
@@ -48,14 +49,13 @@ IsSavedInTurn store target (Some path) names log result =
     × IsSavedAt (behind store between) (Some path) names result)
 
 -- what printing a text alone came to
-abbrev pub PrintsAlone : List ℕ → Fate → Writing → Fate → Type 0
-PrintsAlone text end stdout f = IsPrinted stdout (printing text end) f
+abbrev pub PrintsAlone : Said → Writing → Fate → Type 0
+PrintsAlone said stdout f = IsPrinted stdout (printing said.text.now said.end) f
 
 -- what saving a log came to, and printing a text alone
-abbrev pub SavesAndPrints : Program → RunOptions → WorldState → List ℕ → Fate → Store → Writing → Fate
-    → Type 0
-SavesAndPrints program options w text end store stdout f =
-    (answer : CommandAnswer) × ((answer ≡ with_log w text end) ⊎ LacksMemory answer)
+abbrev pub SavesAndPrints : Program → RunOptions → WorldState → Said → Store → Writing → Fate → Type 0
+SavesAndPrints program options w said store stdout f =
+    (answer : CommandAnswer) × ((answer ≡ with_log w said.text.now said.end) ⊎ LacksMemory answer)
     × IsDeliveredInTurn store options.target options.names_target (text_of_names program) stdout answer f
 
 -- what reporting a run came to

@@ -1,6 +1,6 @@
 -- Words of the contracts within the crate: how far each step has come. What the commands do is
 -- said without them.
-use Rattle.std.specs.Prelude.{◌≡◌, ◌⊎◌, ℕ, List}
+use Rattle.std.specs.Prelude.{◌≡◌, ◌⊎◌}
 use Rattle.velo_worker.specs.declared.ending.Ending.{Ending}
 use Rattle.velo_workload.specs.Program.{Program}
 use Rattle.velo_world.specs.World.{WorldState}
@@ -11,6 +11,7 @@ use Rattle.velo_request.specs.declared.request.TextOrJson.{TextOrJson}
 use Rattle.velo_shrink.specs.declared.findings.Replay.{Replay}
 use Rattle.velo_explore_forms.specs.declared.survey.Survey.{Survey}
 use Rattle.velo_workload_commands.specs.Exploring.{IsExplored, IsSaidOf, waits_after}
+use Rattle.velo_workload_commands.specs.declared.page.Said.{Said}
 use Rattle.velo_fate.specs.Verdict.{KnowsAlarm}
 use Rattle.velo_fate.specs.Delivery.{CommandAnswer, IsDeliveredInTurn, LacksMemory}
 use Rattle.velo_delivery.specs.Disk.{Disk, Store}
@@ -52,10 +53,11 @@ pub record IsReportable (program : Program) (replay : Replay) : Type 0 where
   pub alarm : KnowsAlarm replay.closed.log
 
 -- what reporting a replay behind a text came to
-abbrev pub ReportsReplay : Program → RunOptions → Replay → List ℕ → Fate → Store → Writing → Fate → Type 0
-ReportsReplay program options replay text end store stdout f =
+abbrev pub ReportsReplay : Program → RunOptions → Replay → Said → Store → Writing → Fate → Type 0
+ReportsReplay program options replay said store stdout f =
     (answer : CommandAnswer)
-    × (IsReported program options.certificate text replay.closed (waits_after program replay) end answer
+    × (IsReported program options.certificate said.text.now replay.closed
+    (waits_after program replay) said.end answer
     ⊎ LacksMemory answer)
     × IsDeliveredInTurn store options.target options.names_target (text_of_names program) stdout answer f
 

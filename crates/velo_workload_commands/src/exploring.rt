@@ -9,7 +9,7 @@ ghost use Rattle.velo_workload_commands.specs.Steps.{Explores, IsReportable, Rep
 
 use crate::exploration_text::page_of_survey;
 use crate::findings::survey_of;
-use crate::page::print_alone;
+use crate::page::{Said, print_alone};
 use crate::progress::ExploreProgress;
 use crate::reporting::{RunReport, report_run, save_and_print};
 use crate::work::{config_of_run, open_workload};
@@ -106,30 +106,40 @@ fn waits_after(alloc: Global, workload: &Workload, replay: &Replay) -> Result<Ve
     }
 }
 
+/// The page of a survey in the form that was asked for.
+#[derive(Clone, Copy)]
+struct SurveyPage<'s> {
+    /// The survey.
+    survey: &'s Survey,
+    /// The form.
+    form: TextOrJson,
+    /// The page.
+    text: &'s [u8],
+}
+
 /// Reports a replay behind a text, and for a deadlock who waits for what.
 fn report_replay<F: Files, O: Sink>(
     alloc: Global,
     workload: &Workload,
     replay: &Replay,
-    text: &[u8],
-    end: Fate,
+    said: &Said,
     options: &RunOptions,
     files: &mut F,
     out: &mut O,
 ) -> Fate
     requires reportable { IsReportable workload.now replay.now }
-    requires plain { IsNoFileFailure end }
-    ensures { ReportsReplay workload.now options.now replay.now text.now end
+    requires plain { IsNoFileFailure said.now.end }
+    ensures { ReportsReplay workload.now options.now replay.now said.now
         (store F.disk files.old files.new)
         (writing O.contents O.failures out.old out.new) result }
 {
     match waits_after(alloc, workload, replay) {
         Ok(waits) => {
             let report = RunReport {
-                before: text,
+                before: said.text,
                 closed: &replay.closed,
                 after: &waits,
-                end,
+                end: said.end,
             };
             report_run(alloc, workload, &report, options, files, out)
         }
@@ -137,35 +147,34 @@ fn report_replay<F: Files, O: Sink>(
     }
 }
 
-/// Prints what is reported of the schedules of a workload, which is this page, and saves the log of the
-/// replay, if there is one. Behind a text the replay is reported.
+/// Prints the page of a survey of the schedules of a workload, and saves the log of the replay, if there
+/// is one. Behind a text the replay is reported.
 fn report_first<F: Files, O: Sink>(
     alloc: Global,
     workload: &Workload,
-    survey: &Survey,
-    form: TextOrJson,
-    page: &[u8],
+    page: &SurveyPage,
     options: &RunOptions,
     files: &mut F,
     out: &mut O,
 ) -> Fate
-    requires first { IfSome survey.now.shrunk.first (IsReportable workload.now) }
-    requires page { page.now ≡ survey_page form workload.now options.now.input.now survey.now }
-    ensures { SaysSurvey form workload.now survey.now options.now
+    requires first { IfSome page.now.survey.now.shrunk.first (IsReportable workload.now) }
+    requires page { page.now.text.now ≡ survey_page page.now.form workload.now
+        options.now.input.now page.now.survey.now }
+    ensures { SaysSurvey page.now.form workload.now page.now.survey.now options.now
         (store F.disk files.old files.new)
         (writing O.contents O.failures out.old out.new) result }
 {
-    let end = fate_of(&survey.shrunk.findings);
-    let Some(replay) = &survey.shrunk.first else {
-        return print_alone(page, end, out);
+    let said = Said {
+        text: page.text,
+        end: fate_of(&page.survey.shrunk.findings),
     };
-    match form {
-        TextOrJson::Text => {
-            report_replay(alloc, workload, replay, page, end, options, files, out)
-        }
+    let Some(replay) = &page.survey.shrunk.first else {
+        return print_alone(&said, out);
+    };
+    match page.form {
+        TextOrJson::Text => report_replay(alloc, workload, replay, &said, options, files, out),
         TextOrJson::Json => {
-            let closed = &replay.closed;
-            save_and_print(alloc, workload, closed, page, end, options, files, out)
+            save_and_print(alloc, workload, &replay.closed, &said, options, files, out)
         }
     }
 }
@@ -187,9 +196,14 @@ fn report_survey<F: Files, O: Sink>(
         (writing O.contents O.failures out.old out.new) result }
 {
     match page_of_survey(alloc, workload, form, options.input, survey) {
-        Ok(page) => {
-            let fate = report_first(alloc, workload, survey, form, &page, options, files, out);
-            drop(page);
+        Ok(text) => {
+            let page = SurveyPage {
+                survey,
+                form,
+                text: &text,
+            };
+            let fate = report_first(alloc, workload, &page, options, files, out);
+            drop(text);
             fate
         }
         Err(Memory) => Fate::Memory,

@@ -25,6 +25,15 @@ pub struct Page<'a> {
     pub after: &'a [u8],
 }
 
+/// What a command says in a text, and what it comes to.
+#[derive(Clone, Copy)]
+pub struct Said<'s> {
+    /// The text.
+    pub text: &'s [u8],
+    /// What the command comes to.
+    pub end: Fate,
+}
+
 /// Prints a page.
 pub fn print_page<O: Sink>(page: &Page, out: &mut O) -> Result<(), WriteFault>
     requires list { IfSome page.now.list
@@ -39,12 +48,12 @@ pub fn print_page<O: Sink>(page: &Page, out: &mut O) -> Result<(), WriteFault>
 }
 
 /// Prints a text alone.
-pub fn print_alone<O: Sink>(text: &[u8], end: Fate, out: &mut O) -> Fate
-    requires { IsNoFileFailure end }
-    ensures { PrintsAlone text.now end (writing O.contents O.failures out.old out.new) result }
+pub fn print_alone<O: Sink>(said: &Said, out: &mut O) -> Fate
+    requires { IsNoFileFailure said.now.end }
+    ensures { PrintsAlone said.now (writing O.contents O.failures out.old out.new) result }
 {
-    match write_all(out, text) {
-        Ok(()) => end,
+    match write_all(out, said.text) {
+        Ok(()) => said.end,
         Err(WriteFault) => Fate::WriteFailed,
     }
 }

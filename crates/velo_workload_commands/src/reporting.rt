@@ -9,7 +9,7 @@ ghost use Rattle.velo_fate.specs.Verdict.{KnowsAlarm};
 ghost use Rattle.velo_workload_commands.specs.Playing.{text_of_names, with_log};
 ghost use Rattle.velo_workload_commands.specs.Reporting.{AreNamesFor, IsListFor, IsNoFileFailure, IsSavedInTurn, Reports, SavesAndPrints};
 
-use crate::page::{Page, print_alone, print_page};
+use crate::page::{Page, Said, print_alone, print_page};
 use std::alloc::Global;
 use velo_bytes::{Sink, WriteFault};
 use velo_delivery::{Files, Operand, Save, save_all};
@@ -201,19 +201,18 @@ pub fn report_run<F: Files, O: Sink>(
 fn put_alone<F: Files, O: Sink>(
     closed: &Closed,
     names: &[u8],
-    text: &[u8],
-    end: Fate,
+    said: &Said,
     options: &RunOptions,
     files: &mut F,
     out: &mut O,
 ) -> Fate
-    requires { IsNoFileFailure end }
+    requires { IsNoFileFailure said.now.end }
     ensures { IsDeliveredInTurn (store F.disk files.old files.new) options.now.target
         options.now.names_target names.now (writing O.contents O.failures out.old out.new)
-        (with_log closed.now text.now end) result }
+        (with_log closed.now said.now.text.now said.now.end) result }
 {
     match save_run(closed, names, options, files) {
-        Ok(()) => print_alone(text, end, out),
+        Ok(()) => print_alone(said, out),
         Err(fate) => fate,
     }
 }
@@ -224,20 +223,19 @@ pub fn save_and_print<F: Files, O: Sink>(
     alloc: Global,
     workload: &Workload,
     closed: &Closed,
-    text: &[u8],
-    end: Fate,
+    said: &Said,
     options: &RunOptions,
     files: &mut F,
     out: &mut O,
 ) -> Fate
-    requires { IsNoFileFailure end }
-    ensures { SavesAndPrints workload.now options.now closed.now text.now end
+    requires { IsNoFileFailure said.now.end }
+    ensures { SavesAndPrints workload.now options.now closed.now said.now
         (store F.disk files.old files.new)
         (writing O.contents O.failures out.old out.new) result }
 {
     match names_for(alloc, workload, options.names_target) {
         Ok(names) => {
-            let fate = put_alone(closed, &names, text, end, options, files, out);
+            let fate = put_alone(closed, &names, said, options, files, out);
             drop(names);
             fate
         }

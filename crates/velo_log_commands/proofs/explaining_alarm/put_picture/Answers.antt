@@ -12,7 +12,7 @@ pub returns-in_default : goal.returns-in_default
 returns-in_default g c =
     rw c.in_default.is
     (inl (words_put (store g.F.Files.disk c.args.files.now c.args.files.now) None (writing g.O.Sink.contents g.O.Sink.failures c.args.out.now c.print.new.out)
-    (Some (named_picture_text c.args.names.now c.args.log.now.events c.args.evidence.now)) c.args.words.now c.args.words.now true refl refl c.print.result c.print.ensures))
+    (Some (named_picture_text c.args.names.now c.args.alarm.now.log.now.events c.args.alarm.now.evidence.now)) c.args.words.now c.args.words.now true refl refl c.print.result c.print.ensures))
 
 pub returns-in-Ok : goal.returns-in-Ok
 returns-in-Ok g c =

@@ -25,8 +25,8 @@ returns-in-Ok-follow-clause-ok g c =
     let read = g.I.Source.remaining c.args.log.now in
     let old = g.O.Sink.contents c.args.out.now in
     let stdout = writing g.O.Sink.contents g.O.Sink.failures c.args.out.now c.follow.new.out in
-    watched (A.terms c.args.asked.now) read stdout {X = ℕ} 0 (A.bounds c.follow.new.watch) (A.has_seen c.follow.new.watch)
-    (c.in-Ok-follow.ensures.follows read old (c.in-Ok.ensures.at_start old)) c.in-Ok-follow.ensures.writes
+    let follows = c.in-Ok-follow.ensures.follows read old (c.in-Ok.ensures.at_start old) in
+    (follows.0, watched (A.terms c.args.asked.now) read stdout {X = ℕ} 0 (A.bounds c.follow.new.watch) follows.0 follows.1 c.in-Ok-follow.ensures.writes, follows.2)
 
 pub returns-in-Err-follow-clause-err : goal.returns-in-Err-follow-clause-err
 returns-in-Err-follow-clause-err g c names =
@@ -36,7 +36,7 @@ returns-in-Err-follow-clause-err g c names =
     let stdout = writing g.O.Sink.contents g.O.Sink.failures c.args.out.now c.follow.new.out in
     let follows = c.in-Err-follow.ensures.follows read old (c.in-Ok.ensures.at_start old) in
     subst (λ (f : CheckFault). Watches names (A.terms c.args.asked.now) read stdout (fate_of (Err f))) (sym c.fault_of_watch-in-Err-follow.ensures)
-    (ended_early (A.terms c.args.asked.now) read stdout ℕ c.in-Err-follow.fault (A.bounds c.follow.new.watch) (A.has_seen c.follow.new.watch) follows c.in-Err-follow.ensures.writes names)
+    (ended_early (A.terms c.args.asked.now) read stdout ℕ c.in-Err-follow.fault (A.bounds c.follow.new.watch) follows.0 follows.1 c.in-Err-follow.ensures.writes names)
 
 pub returns-in-Err-follow-clause-failure : goal.returns-in-Err-follow-clause-failure
 returns-in-Err-follow-clause-failure g c =

@@ -10,20 +10,20 @@ use Rattle.velo_workload_commands.proofs.OnFindings.{plain_survey, printed_alone
 use Rattle.velo_workload_commands.proofs.exploring.report_first.Goals as goal
 
 pub print_alone-requires : goal.print_alone-requires
-print_alone-requires g c = subst IsNoFileFailure (sym c.fate_of-end.ensures) (plain_survey c.args.survey.now)
+print_alone-requires g c = subst IsNoFileFailure (sym c.fate_of.ensures) (plain_survey c.args.page.now.survey.now)
 
 pub returns-in_default : goal.returns-in_default
 returns-in_default g c =
     let program = c.args.workload.now in
-    let survey = c.args.survey.now in
+    let survey = c.args.page.now.survey.now in
     let options = c.args.options.now in
-    let page = survey_page c.args.form program options.input.now survey in
+    let page = survey_page c.args.page.now.form program options.input.now survey in
     let stdout = writing g.O.Sink.contents g.O.Sink.failures c.args.out.now c.print_alone.new.out in
     let printed =
-    subst (λ (e : Fate). IsPrinted stdout (printing page e) c.print_alone.result) c.fate_of-end.ensures
-    (subst (λ (t : List ℕ). IsPrinted stdout (printing t c.fate_of-end.result) c.print_alone.result) c.requires.page c.print_alone.ensures) in (
+    subst (λ (e : Fate). IsPrinted stdout (printing page e) c.print_alone.result) c.fate_of.ensures
+    (subst (λ (t : List ℕ). IsPrinted stdout (printing t c.fate_of.result) c.print_alone.result) c.requires.page c.print_alone.ensures) in (
       printing page (fate_of_survey survey),
-      inl (said_without c.args.form program options survey c.in_default.is),
+      inl (said_without c.args.page.now.form program options survey c.in_default.is),
       printed_alone (store g.F.Files.disk c.args.files.now c.args.files.now) options.target options.names_target (text_of_names program) stdout page
           (fate_of_survey survey) c.print_alone.result (plain_survey survey) refl printed,
     )
@@ -32,17 +32,17 @@ pub report_replay-requires-clause-reportable : goal.report_replay-requires-claus
 report_replay-requires-clause-reportable g c = rw c.in-Some.is at c.requires.first
 
 pub report_replay-requires-clause-plain : goal.report_replay-requires-clause-plain
-report_replay-requires-clause-plain g c = subst IsNoFileFailure (sym c.fate_of-end.ensures) (plain_survey c.args.survey.now)
+report_replay-requires-clause-plain g c = subst IsNoFileFailure (sym c.fate_of.ensures) (plain_survey c.args.page.now.survey.now)
 
 pub save_and_print-requires : goal.save_and_print-requires
-save_and_print-requires g c = subst IsNoFileFailure (sym c.fate_of-end.ensures) (plain_survey c.args.survey.now)
+save_and_print-requires g c = subst IsNoFileFailure (sym c.fate_of.ensures) (plain_survey c.args.page.now.survey.now)
 
 pub returns-in-Text : goal.returns-in-Text
 returns-in-Text g c =
     let said = c.report_replay.ensures in (
       said.0,
-      said_reported c.args.form c.args.workload.now c.args.options.now c.args.survey.now c.in-Some.replay said.0 c.args.page.now c.fate_of-end.result c.in-Text.is c.in-Some.is c.requires.page
-          c.fate_of-end.ensures said.1,
+      said_reported c.args.page.now.form c.args.workload.now c.args.options.now c.args.page.now.survey.now c.in-Some.replay said.0 c.args.page.now.text.now c.fate_of.result c.in-Text.is c.in-Some.is c.requires.page
+          c.fate_of.ensures said.1,
       said.2,
     )
 
@@ -50,7 +50,7 @@ pub returns-in-Json : goal.returns-in-Json
 returns-in-Json g c =
     let said = c.save_and_print.ensures in (
       said.0,
-      said_alone c.args.form c.args.workload.now c.args.options.now c.args.survey.now c.in-Some.replay said.0 c.args.page.now c.fate_of-end.result c.in-Json.is c.in-Some.is c.requires.page
-          c.fate_of-end.ensures said.1,
+      said_alone c.args.page.now.form c.args.workload.now c.args.options.now c.args.page.now.survey.now c.in-Some.replay said.0 c.args.page.now.text.now c.fate_of.result c.in-Json.is c.in-Some.is c.requires.page
+          c.fate_of.ensures said.1,
       said.2,
     )

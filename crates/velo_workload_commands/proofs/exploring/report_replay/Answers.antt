@@ -15,7 +15,7 @@ returns-in-Ok g c =
     let said = c.report_run.ensures in (
       said.0,
       ⊎_elim
-          (λ reported. inl (subst (λ (waits : List ℕ). IsReported c.args.workload.now c.args.options.now.certificate c.args.text.now c.args.replay.now.closed waits c.args.end said.0)
+          (λ reported. inl (subst (λ (waits : List ℕ). IsReported c.args.workload.now c.args.options.now.certificate c.args.said.now.text.now c.args.replay.now.closed waits c.args.said.now.end said.0)
           (c.deref.ensures.value ∙ c.in-Ok.ensures) reported))
           (λ lacks. inr lacks)
           said.1,

@@ -9,11 +9,11 @@ pub returns-in-Ok : goal.returns-in-Ok
 returns-in-Ok g c =
     let options = c.args.options.now in
     saved_in_turn (store g.F.Files.disk c.args.files.now c.save_run.new.files) options.target c.args.names.now (text_of_log c.args.closed.now)
-    (writing g.O.Sink.contents g.O.Sink.failures c.args.out.now c.print_alone.new.out) (Some c.args.text.now) c.args.end c.print_alone.result _ options.names_target c.in-Ok.ensures
+    (writing g.O.Sink.contents g.O.Sink.failures c.args.out.now c.print_alone.new.out) (Some c.args.said.now.text.now) c.args.said.now.end c.print_alone.result _ options.names_target c.in-Ok.ensures
     c.requires.opened c.print_alone.ensures
 
 pub returns-in-Err : goal.returns-in-Err
 returns-in-Err g c =
     let options = c.args.options.now in
     unsaved_in_turn (store g.F.Files.disk c.args.files.now c.save_run.new.files) options.target c.args.names.now (text_of_log c.args.closed.now)
-    (writing g.O.Sink.contents g.O.Sink.failures c.args.out.now c.args.out.now) (Some c.args.text.now) c.args.end c.in-Err.fate _ options.names_target c.in-Err.ensures (refl, refl)
+    (writing g.O.Sink.contents g.O.Sink.failures c.args.out.now c.args.out.now) (Some c.args.said.now.text.now) c.args.said.now.end c.in-Err.fate _ options.names_target c.in-Err.ensures (refl, refl)

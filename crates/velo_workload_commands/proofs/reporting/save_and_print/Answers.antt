@@ -11,7 +11,7 @@ use Rattle.velo_workload_commands.proofs.reporting.save_and_print.Goals as goal
 pub returns-in-Ok : goal.returns-in-Ok
 returns-in-Ok g c =
     let options = c.args.options.now in
-    let said = with_log c.args.closed.now c.args.text.now c.args.end in (
+    let said = with_log c.args.closed.now c.args.said.now.text.now c.args.said.now.end in (
       said,
       inl refl,
       in_turn_named (store g.F.Files.disk c.args.files.now c.put_alone-fate.new.files) options.target _ (writing g.O.Sink.contents g.O.Sink.failures c.args.out.now c.put_alone-fate.new.out) said
