@@ -8,6 +8,7 @@ ghost use Rattle.velo_audit.specs.Audit.{TellsTruly};
 ghost use Rattle.velo_audit_text.specs.Entries.{IsListed};
 ghost use Rattle.velo_audit_text.specs.Listing.{IsListingText};
 ghost use Rattle.velo_audit_forms.specs.Answer.{IsJsonText};
+ghost use Rattle.velo_audit_forms.specs.Events.{known_of};
 ghost use Rattle.velo_predict_text.specs.Text.{CanBeTold, CanTellDeadlock};
 ghost use Rattle.velo_audit_commands.specs.Auditing.{IsAuditPage, IsAuditText, listing_of};
 ghost use Rattle.velo_audit_commands.specs.Predicting.{predictions_page};
@@ -17,7 +18,7 @@ use crate::command::Inquiry;
 use velo_audit::Told;
 use velo_audit_findings::{audit_junit, audit_sarif};
 use velo_audit_forms::audit_json;
-use velo_audit_text::{Listed, Listing, audit_text, listed_of, listing_text};
+use velo_audit_text::{Background, Listed, Listing, audit_text, listed_of, listing_text};
 use velo_events::{Bounds, Memory};
 use velo_explain::Page;
 use velo_filter::thin;
@@ -42,6 +43,22 @@ fn listing_of(options: &AuditOptions) -> Option<Listing>
     })
 }
 
+/// What the events of a log are described by.
+fn background_of<'b>(inquiry: &Inquiry<'b, AuditOptions>, log: &'b Trace) -> Background<'b>
+    ensures { known_of result ≡ record {
+      log = log.now.events;
+      names = inquiry.now.names.now;
+      sites = inquiry.now.sites.now;
+    } }
+{
+    Background {
+        alloc: inquiry.alloc,
+        names: inquiry.names,
+        sites: inquiry.sites,
+        events: log.as_slice(),
+    }
+}
+
 /// The text of the rounds where their labels are listed as was asked for.
 fn listed(
     inquiry: &Inquiry<AuditOptions>,
@@ -61,11 +78,9 @@ fn listed(
     let left = left_out(inquiry.alloc, inquiry.asked)?;
     let first = thin(inquiry.alloc, log, &left)?;
     let marks = marks_of(inquiry.alloc, bounds, &first.trace)?;
+    let background = background_of(inquiry, log);
     listing_text(
-        inquiry.alloc,
-        inquiry.names,
-        inquiry.sites,
-        log,
+        &background,
         inquiry.asked,
         listing,
         &first.trace,
@@ -91,15 +106,10 @@ fn text_of(
         log.now.events inquiry.now.asked.now listing rounds.now atomic page) }
 {
     match listing {
-        None => audit_text(
-            inquiry.alloc,
-            inquiry.names,
-            inquiry.sites,
-            log,
-            inquiry.asked,
-            rounds,
-            atomic,
-        ),
+        None => {
+            let background = background_of(inquiry, log);
+            audit_text(&background, inquiry.asked, rounds, atomic)
+        }
         Some(listing) => listed(inquiry, bounds, log, listing, rounds, atomic),
     }
 }
@@ -140,17 +150,15 @@ fn json_of(
         inquiry.now.options.now.input.now inquiry.now.asked.now listing
         (rest_of (left_out_at_first inquiry.now.asked.now) log.now.events) rounds.now atomic page) }
 {
-    let alloc = inquiry.alloc;
-    let names = inquiry.names;
-    let sites = inquiry.sites;
+    let background = background_of(inquiry, log);
     let asked = inquiry.asked;
     let path = inquiry.options.input;
     let Some(listing) = listing else {
-        return audit_json(alloc, names, sites, log, path, asked, None, rounds, atomic);
+        return audit_json(&background, path, asked, None, rounds, atomic);
     };
     let listed = listed_labels(inquiry, bounds, log, listing, rounds)?;
     let some = Some(&listed);
-    let page = audit_json(alloc, names, sites, log, path, asked, some, rounds, atomic)?;
+    let page = audit_json(&background, path, asked, some, rounds, atomic)?;
     Ok(page)
 }
 

@@ -10,7 +10,7 @@ use Rattle.velo_names.specs.declared.kind.NameKind.TheVariants as kind
 use Rattle.velo_names.specs.Names.{NameLists, name_of}
 use Rattle.velo_sites.specs.Sites.{Table, place_of}
 use Rattle.velo_explain.specs.Pieces.{event_text, line_of, name_about}
-use Rattle.velo_audit_forms.specs.declared.background.Background.{Background}
+use Rattle.velo_audit_text.specs.declared.background.Background.{Background}
 use Rattle.velo_json.specs.Tree.{count, object_of, string_or_null}
 
 -- a number, and its name or null

@@ -8,12 +8,11 @@ ghost use Rattle.velo_audit_text.specs.Witness.{FewAreOpen};
 ghost use Rattle.velo_audit_forms.specs.Events.{block_json, known_of};
 ghost use Rattle.velo_audit_forms.specs.Alarms.{alarm_json, counts_json, entry_json, witness_or_null};
 
-use crate::background::Background;
 use crate::elements::{Element, add_array};
 use crate::events::{add_event_at, add_named};
 use crate::witness::add_witness;
 use velo_audit::Told;
-use velo_audit_text::{Entry, Listed};
+use velo_audit_text::{Background, Entry, Listed};
 use velo_events::Memory;
 use velo_explain::Evidence;
 use velo_json::JsonWriter;

@@ -12,18 +12,15 @@ ghost use Rattle.velo_audit_forms.specs.Events.{known_of};
 ghost use Rattle.velo_audit_forms.specs.Answer.{asked_json, audit_json, counts_or_null, label_json, line_text, lock_json, variable_json, verdict};
 
 use crate::alarms::{add_alarms, add_counts};
-use crate::background::Background;
 use crate::elements::{Element, add_array};
 use crate::events::add_named;
 use std::alloc::Global;
 use velo_audit::Told;
-use velo_audit_text::{Asked, Listed};
+use velo_audit_text::{Asked, Background, Listed};
 use velo_events::{Label, LockId, Memory, VarId};
 use velo_explain::Page;
 use velo_json::JsonWriter;
-use velo_names::{NameKind, Names};
-use velo_sites::Sites;
-use velo_traces::Trace;
+use velo_names::NameKind;
 
 impl Element for Label {
     ghost value = { λ known. label_json known.names };
@@ -174,29 +171,19 @@ pub fn line_of(alloc: Global, json: JsonWriter) -> Result<Page, Memory>
 /// # Errors
 /// `Memory` if an allocation failed.
 pub fn audit_json(
-    alloc: Global,
-    names: &Names,
-    sites: &Option<Sites>,
-    log: &Trace,
+    background: &Background,
     path: &str,
     asked: &Asked,
     listed: Option<&Listed>,
     rounds: &[Told],
     atomic: usize,
 ) -> Result<Page, Memory>
-    requires few { length log.now.events ≤ MAX_EVENTS }
-    requires can_come_about { CanComeAbout log.now.events }
+    requires few { length background.now.events.now ≤ MAX_EVENTS }
+    requires can_come_about { CanComeAbout background.now.events.now }
     ensures { IfOk result (λ page. page ≡ line_text (audit_json
-        (record { log = log.now.events; names = names.now; sites = sites.now })
-        path.now asked.now rounds.now (option_copied listed.entry) atomic)) }
+        (known_of background.now) path.now asked.now rounds.now (option_copied listed.entry) atomic)) }
 {
-    let background = Background {
-        alloc,
-        names,
-        sites,
-        events: log.as_slice(),
-    };
-    let json = JsonWriter::new(alloc);
-    let json = add_audit(json, &background, path, asked, listed, rounds, atomic)?;
-    line_of(alloc, json)
+    let json = JsonWriter::new(background.alloc);
+    let json = add_audit(json, background, path, asked, listed, rounds, atomic)?;
+    line_of(background.alloc, json)
 }

@@ -8,7 +8,7 @@ ghost use Rattle.velo_audit_text.specs.Witness.{FewAreOpen};
 ghost use Rattle.velo_audit_forms.specs.Events.{Known, known_of};
 ghost use Rattle.velo_json.specs.Tree.{array_of};
 
-use crate::background::Background;
+use velo_audit_text::Background;
 use velo_events::Memory;
 use velo_json::JsonWriter;
 

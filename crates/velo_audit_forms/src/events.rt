@@ -9,8 +9,8 @@ ghost use Rattle.velo_events.specs.declared.limits.TheConstants.{MAX_EVENTS};
 ghost use Rattle.velo_explain.specs.Pieces.{event_text, name_about};
 ghost use Rattle.velo_audit_forms.specs.Events.{known_of, block_json, event_at_json, event_json, named_json, place_in, place_tokens};
 
-use crate::background::Background;
 use std::alloc::Global;
+use velo_audit_text::Background;
 use velo_events::{Event, Kind, Memory, ThreadId};
 use velo_explain::{Page, Piece, line_of};
 use velo_json::JsonWriter;

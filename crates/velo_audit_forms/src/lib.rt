@@ -4,13 +4,11 @@
 
 mod alarms;
 mod answer;
-mod background;
 mod elements;
 mod events;
 mod witness;
 
 pub use alarms::{add_alarm, add_alarms};
 pub use answer::{add_asked, add_log, audit_json, line_of};
-pub use background::Background;
 pub use events::{add_about, add_event_at, add_thread, add_words};
 pub use witness::add_witness;

@@ -8,9 +8,9 @@ ghost use Rattle.velo_audit_text.specs.Witness.{FewAreOpen};
 ghost use Rattle.velo_audit_forms.specs.Events.{known_of, block_json};
 ghost use Rattle.velo_audit_forms.specs.Witness.{edge_json, placed_at_json, placed_json, reason_json, span_json, stack_before, witness_json};
 
-use crate::background::Background;
 use crate::elements::{Element, add_array};
 use crate::events::{add_block, add_event, add_event_at};
+use velo_audit_text::Background;
 use velo_certify::EdgeEvents;
 use velo_events::{Event, Memory};
 use velo_explain::{Blame, Evidence, Span};

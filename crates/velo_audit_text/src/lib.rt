@@ -2,6 +2,7 @@
 //! round, and the counts.
 #![tactic(auto)]
 
+mod background;
 mod entries;
 mod listing;
 mod places;
@@ -9,6 +10,7 @@ mod whole;
 mod witness;
 mod words;
 
+pub use background::Background;
 pub use entries::{Entry, Listed, Listing, listed_of};
 pub use listing::listing_text;
 pub use whole::{add_rounds, add_witness_if_any, audit_text};

@@ -8,15 +8,13 @@ ghost use Rattle.velo_tally.specs.Marks.{AreMarks};
 ghost use Rattle.velo_audit_text.specs.Listing.{IsListingText, end_text, entry_text, entry_text_by, is_followed, outer_text, outer_text_if, round_text, tally_text, tally_text_if};
 ghost use Rattle.velo_audit_text.specs.Witness.{FewAreOpen};
 
+use crate::background::Background;
 use crate::entries::{Entry, Listing, listed_of};
 use crate::whole::add_behind_labels;
 use crate::words::{Asked, add_asked, add_counts, add_not_atomic};
-use std::alloc::Global;
 use velo_audit::Told;
-use velo_events::{Event, Memory};
+use velo_events::Memory;
 use velo_explain::{Page, Piece};
-use velo_names::Names;
-use velo_sites::Sites;
 use velo_tally::{BlameMarks, LabelTally};
 use velo_traces::Trace;
 
@@ -47,22 +45,21 @@ fn add_tally_if(page: &mut Page, counts: bool, tally: LabelTally) -> Result<(), 
 /// Adds what a round says after its labels.
 fn add_round(
     page: &mut Page,
-    names: &Names,
-    sites: &Option<Sites>,
-    alloc: Global,
-    events: &[Event],
+    background: &Background,
     rounds: &[Told],
     round: usize,
 ) -> Result<(), Memory>
-    requires truly { All (TellsTruly events.now) rounds.now }
-    requires few { length events.now ≤ MAX_EVENTS }
-    requires open { FewAreOpen events.now }
-    ensures { OnOk result (page.new ≡ page.old ++ round_text names.now sites.now events.now (slice_get rounds.now round)) }
+    requires truly { All (TellsTruly background.now.events.now) rounds.now }
+    requires few { length background.now.events.now ≤ MAX_EVENTS }
+    requires open { FewAreOpen background.now.events.now }
+    ensures { OnOk result (page.new ≡ page.old
+        ++ round_text background.now.names.now background.now.sites.now
+        background.now.events.now (slice_get rounds.now round)) }
 {
     let Some(told) = rounds.get(round) else {
         return Ok(());
     };
-    add_behind_labels(page, names, sites, alloc, events, told)
+    add_behind_labels(page, background, told)
 }
 
 /// Whether the next entry is of its round too.
@@ -78,46 +75,43 @@ fn is_followed(entry: Entry, next: Option<Entry>) -> bool
 /// Adds it, unless the next entry is of this round too.
 fn add_end(
     page: &mut Page,
-    names: &Names,
-    sites: &Option<Sites>,
-    alloc: Global,
-    events: &[Event],
+    background: &Background,
     rounds: &[Told],
     entry: Entry,
     next: Option<Entry>,
 ) -> Result<(), Memory>
-    requires truly { All (TellsTruly events.now) rounds.now }
-    requires few { length events.now ≤ MAX_EVENTS }
-    requires open { FewAreOpen events.now }
-    ensures { OnOk result (page.new ≡ page.old ++ end_text names.now sites.now events.now rounds.now entry next) }
+    requires truly { All (TellsTruly background.now.events.now) rounds.now }
+    requires few { length background.now.events.now ≤ MAX_EVENTS }
+    requires open { FewAreOpen background.now.events.now }
+    ensures { OnOk result (page.new ≡ page.old
+        ++ end_text background.now.names.now background.now.sites.now
+        background.now.events.now rounds.now entry next) }
 {
     if is_followed(entry, next) {
         return Ok(());
     }
-    add_round(page, names, sites, alloc, events, rounds, entry.round)
+    add_round(page, background, rounds, entry.round)
 }
 
 /// Adds an entry.
 fn add_entry(
     page: &mut Page,
-    names: &Names,
-    sites: &Option<Sites>,
-    alloc: Global,
-    events: &[Event],
+    background: &Background,
     rounds: &[Told],
     counts: bool,
     entry: Entry,
     next: Option<Entry>,
 ) -> Result<(), Memory>
-    requires truly { All (TellsTruly events.now) rounds.now }
-    requires few { length events.now ≤ MAX_EVENTS }
-    requires open { FewAreOpen events.now }
+    requires truly { All (TellsTruly background.now.events.now) rounds.now }
+    requires few { length background.now.events.now ≤ MAX_EVENTS }
+    requires open { FewAreOpen background.now.events.now }
     ensures { OnOk result (page.new ≡ page.old
-        ++ entry_text_by names.now sites.now events.now rounds.now counts entry next) }
+        ++ entry_text_by background.now.names.now background.now.sites.now
+        background.now.events.now rounds.now counts entry next) }
 {
-    add_not_atomic(page, names, entry.label.0)?;
+    add_not_atomic(page, background.names, entry.label.0)?;
     add_tally_if(page, counts, entry.tally)?;
-    add_end(page, names, sites, alloc, events, rounds, entry, next)
+    add_end(page, background, rounds, entry, next)
 }
 
 /// The entry after one.
@@ -135,25 +129,21 @@ fn next_of(entries: &[Entry], k: usize) -> Option<Entry>
 /// Adds the entries.
 fn add_entries(
     page: &mut Page,
-    names: &Names,
-    sites: &Option<Sites>,
-    alloc: Global,
-    events: &[Event],
+    background: &Background,
     rounds: &[Told],
     counts: bool,
     entries: &[Entry],
 ) -> Result<(), Memory>
-    requires truly { All (TellsTruly events.now) rounds.now }
-    requires few { length events.now ≤ MAX_EVENTS }
-    requires open { FewAreOpen events.now }
+    requires truly { All (TellsTruly background.now.events.now) rounds.now }
+    requires few { length background.now.events.now ≤ MAX_EVENTS }
+    requires open { FewAreOpen background.now.events.now }
     ensures { OnOk result (page.new ≡ page.old
-        ++ numbered (entry_text names.now sites.now events.now rounds.now counts entries.now) 0 entries.now) }
+        ++ numbered (entry_text background.now.names.now background.now.sites.now
+        background.now.events.now rounds.now counts entries.now) 0 entries.now) }
 {
     for k in 0..entries.len() {
         let next = next_of(entries, k);
-        add_entry(
-            page, names, sites, alloc, events, rounds, counts, entries[k], next,
-        )?;
+        add_entry(page, background, rounds, counts, entries[k], next)?;
     }
     Ok(())
 }
@@ -180,16 +170,13 @@ fn add_outer_if(page: &mut Page, innermost: bool, others: usize) -> Result<(), M
     add_outer(page, others)
 }
 
-/// What an audit prints where its labels are listed as was asked for. The marks are those of
-/// `first`, in which the blocks are counted: what is left at first of the log.
+/// What an audit of the events prints where its labels are listed as was asked for. The marks are
+/// those of `first`, in which the blocks are counted: what is left at first of the log.
 ///
 /// # Errors
 /// `Memory` if an allocation failed.
 pub fn listing_text(
-    alloc: Global,
-    names: &Names,
-    sites: &Option<Sites>,
-    log: &Trace,
+    background: &Background,
     asked: &Asked,
     listing: Listing,
     first: &Trace,
@@ -197,21 +184,20 @@ pub fn listing_text(
     rounds: &[Told],
     atomic: usize,
 ) -> Result<Page, Memory>
-    requires few { length log.now.events ≤ MAX_EVENTS }
-    requires can_come_about { CanComeAbout log.now.events }
-    requires truly { All (TellsTruly log.now.events) rounds.now }
+    requires few { length background.now.events.now ≤ MAX_EVENTS }
+    requires can_come_about { CanComeAbout background.now.events.now }
+    requires truly { All (TellsTruly background.now.events.now) rounds.now }
     requires marks { AreMarks first.now.events marks.now }
-    ensures { IfOk result (λ page. IsListingText names.now sites.now log.now.events asked.now listing first.now.events rounds.now atomic page) }
+    ensures { IfOk result (λ page. IsListingText background.now.names.now
+        background.now.sites.now background.now.events.now asked.now listing first.now.events
+        rounds.now atomic page) }
 {
-    let listed = listed_of(alloc, listing, rounds, first, marks)?;
-    let mut page = Page::new(alloc);
-    add_asked(&mut page, names, asked)?;
+    let listed = listed_of(background.alloc, listing, rounds, first, marks)?;
+    let mut page = Page::new(background.alloc);
+    add_asked(&mut page, background.names, asked)?;
     add_entries(
         &mut page,
-        names,
-        sites,
-        alloc,
-        log.as_slice(),
+        background,
         rounds,
         listing.counts,
         &listed.entries,

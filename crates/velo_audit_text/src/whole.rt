@@ -11,16 +11,15 @@ ghost use Rattle.velo_audit_text.specs.Text.{audit_text, behind_labels_text, opt
 ghost use Rattle.velo_audit_text.specs.Witness.{FewAreOpen};
 ghost use Rattle.velo_audit_text.specs.Words.{not_atomic_text};
 
+use crate::background::Background;
 use crate::places::add_begins;
 use crate::witness::add_witness;
 use crate::words::{Asked, add_asked, add_counts, add_mark, add_not_atomic};
-use std::alloc::Global;
 use velo_audit::Told;
-use velo_events::{Event, Label, Memory};
+use velo_events::{Label, Memory};
 use velo_explain::{Evidence, Page};
 use velo_names::Names;
-use velo_sites::Sites;
-use velo_traces::{Block, Trace};
+use velo_traces::Block;
 
 /// Whether one of the blocks has the label.
 pub(crate) fn is_label_of(blocks: &[Block], label: Label) -> bool
@@ -49,117 +48,96 @@ fn add_labels(page: &mut Page, names: &Names, blocks: &[Block]) -> Result<(), Me
 /// Adds the witness of a round, if it has one.
 pub fn add_witness_if_any(
     page: &mut Page,
-    names: &Names,
-    sites: &Option<Sites>,
-    alloc: Global,
-    events: &[Event],
+    background: &Background,
     closing: usize,
     witness: &Option<Evidence>,
 ) -> Result<(), Memory>
-    requires within { IsWitnessWithin (length events.now) closing witness.now }
-    requires few { length events.now ≤ MAX_EVENTS }
-    requires open { FewAreOpen events.now }
-    ensures { OnOk result (page.new ≡ page.old ++ optional_witness_text names.now sites.now events.now closing witness.now) }
+    requires within { IsWitnessWithin (length background.now.events.now) closing witness.now }
+    requires few { length background.now.events.now ≤ MAX_EVENTS }
+    requires open { FewAreOpen background.now.events.now }
+    ensures { OnOk result (page.new ≡ page.old
+        ++ optional_witness_text background.now.names.now background.now.sites.now
+        background.now.events.now closing witness.now) }
 {
     match witness {
         None => Ok(()),
-        Some(evidence) => add_witness(page, names, sites, alloc, events, closing, evidence),
+        Some(evidence) => add_witness(page, background, closing, evidence),
     }
 }
 
 /// Adds what a round tells behind its labels.
 pub(crate) fn add_behind_labels(
     page: &mut Page,
-    names: &Names,
-    sites: &Option<Sites>,
-    alloc: Global,
-    events: &[Event],
+    background: &Background,
     told: &Told,
 ) -> Result<(), Memory>
-    requires within { IsWitnessWithin (length events.now) told.now.closing told.now.witness }
-    requires few { length events.now ≤ MAX_EVENTS }
-    requires open { FewAreOpen events.now }
+    requires within { IsWitnessWithin (length background.now.events.now)
+        told.now.closing told.now.witness }
+    requires few { length background.now.events.now ≤ MAX_EVENTS }
+    requires open { FewAreOpen background.now.events.now }
     ensures { OnOk result (page.new
-        ≡ page.old ++ behind_labels_text names.now sites.now events.now told.now) }
+        ≡ page.old ++ behind_labels_text background.now.names.now background.now.sites.now
+        background.now.events.now told.now) }
 {
     add_mark(page, told.to_blame)?;
-    add_begins(page, names, sites, &told.blocks)?;
-    add_witness_if_any(
-        page,
-        names,
-        sites,
-        alloc,
-        events,
-        told.closing,
-        &told.witness,
-    )
+    add_begins(page, background.names, background.sites, &told.blocks)?;
+    add_witness_if_any(page, background, told.closing, &told.witness)
 }
 
 /// Adds the text of a round.
-fn add_told(
-    page: &mut Page,
-    names: &Names,
-    sites: &Option<Sites>,
-    alloc: Global,
-    events: &[Event],
-    told: &Told,
-) -> Result<(), Memory>
-    requires within { IsWitnessWithin (length events.now) told.now.closing told.now.witness }
-    requires few { length events.now ≤ MAX_EVENTS }
-    requires open { FewAreOpen events.now }
-    ensures { OnOk result (page.new ≡ page.old ++ told_text names.now sites.now events.now told.now) }
+fn add_told(page: &mut Page, background: &Background, told: &Told) -> Result<(), Memory>
+    requires within { IsWitnessWithin (length background.now.events.now)
+        told.now.closing told.now.witness }
+    requires few { length background.now.events.now ≤ MAX_EVENTS }
+    requires open { FewAreOpen background.now.events.now }
+    ensures { OnOk result (page.new ≡ page.old
+        ++ told_text background.now.names.now background.now.sites.now
+        background.now.events.now told.now) }
 {
-    add_labels(page, names, &told.blocks)?;
-    add_behind_labels(page, names, sites, alloc, events, told)
+    add_labels(page, background.names, &told.blocks)?;
+    add_behind_labels(page, background, told)
 }
 
 /// Adds the text of all rounds: the labels and the witness of each.
 ///
 /// # Errors
 /// `Memory` if an allocation failed.
-pub fn add_rounds(
-    page: &mut Page,
-    names: &Names,
-    sites: &Option<Sites>,
-    alloc: Global,
-    events: &[Event],
-    rounds: &[Told],
-) -> Result<(), Memory>
-    requires truly { All (TellsTruly events.now) rounds.now }
-    requires few { length events.now ≤ MAX_EVENTS }
-    requires open { FewAreOpen events.now }
-    ensures { OnOk result (page.new ≡ page.old ++ flat_map (told_text names.now sites.now events.now) rounds.now) }
+pub fn add_rounds(page: &mut Page, background: &Background, rounds: &[Told]) -> Result<(), Memory>
+    requires truly { All (TellsTruly background.now.events.now) rounds.now }
+    requires few { length background.now.events.now ≤ MAX_EVENTS }
+    requires open { FewAreOpen background.now.events.now }
+    ensures { OnOk result (page.new ≡ page.old
+        ++ flat_map (told_text background.now.names.now background.now.sites.now
+        background.now.events.now) rounds.now) }
 {
     for told in rounds {
-        add_told(page, names, sites, alloc, events, told)?;
+        add_told(page, background, told)?;
     }
     Ok(())
 }
 
 /// What an audit prints: what was to be left out, the labels and the witness of each round, how
 /// many labels are atomic, and how many rounds there were, the last one without an alarm. The
-/// rounds are as `audit` gives them for the log. A number that has a name comes before it. Behind an
-/// event whose place in the source the sites give comes this place.
+/// rounds are as `audit` gives them for the events. A number that has a name comes before it. Behind
+/// an event whose place in the source the sites give comes this place.
 ///
 /// # Errors
 /// `Memory` if an allocation failed.
 pub fn audit_text(
-    alloc: Global,
-    names: &Names,
-    sites: &Option<Sites>,
-    log: &Trace,
+    background: &Background,
     asked: &Asked,
     rounds: &[Told],
     atomic: usize,
 ) -> Result<Page, Memory>
-    requires few { length log.now.events ≤ MAX_EVENTS }
-    requires can_come_about { CanComeAbout log.now.events }
-    requires truly { All (TellsTruly log.now.events) rounds.now }
-    ensures { IfOk result (λ page. page ≡ audit_text names.now sites.now log.now.events asked.now rounds.now atomic) }
+    requires few { length background.now.events.now ≤ MAX_EVENTS }
+    requires can_come_about { CanComeAbout background.now.events.now }
+    requires truly { All (TellsTruly background.now.events.now) rounds.now }
+    ensures { IfOk result (λ page. page ≡ audit_text background.now.names.now
+        background.now.sites.now background.now.events.now asked.now rounds.now atomic) }
 {
-    let mut page = Page::new(alloc);
-    add_asked(&mut page, names, asked)?;
-    add_rounds(&mut page, names, sites, alloc, log.as_slice(), rounds)?;
+    let mut page = Page::new(background.alloc);
+    add_asked(&mut page, background.names, asked)?;
+    add_rounds(&mut page, background, rounds)?;
     add_counts(&mut page, atomic, rounds.len() + 1)?;
     Ok(page)
 }

@@ -6,8 +6,8 @@ ghost use Rattle.velo_explain.specs.Evidence.{AreEdgesWithin, IsWithin};
 ghost use Rattle.velo_explain.specs.Text.{line_of, numbered, next_number};
 ghost use Rattle.velo_audit_text.specs.Witness.{closing_text, stack_at, in_block_text, event_line_text, event_in_blocks_text, order_text, edge_text, witness_text, FewAreOpen};
 
+use crate::background::Background;
 use crate::places::{add_reason_places, end_line};
-use std::alloc::Global;
 use velo_certify::EdgeEvents;
 use velo_events::{Event, MAX_EVENTS, Memory};
 use velo_explain::{
@@ -68,62 +68,51 @@ fn add_in_blocks(
 }
 
 /// Adds the blocks that the event's thread has open before it.
-fn add_stack(
-    page: &mut Page,
-    names: &Names,
-    sites: &Option<Sites>,
-    alloc: Global,
-    events: &[Event],
-    position: usize,
-) -> Result<(), Memory>
-    requires within { position < length events.now }
-    requires open { FewAreOpen events.now }
-    ensures { OnOk result (page.new ≡ page.old ++ flat_map (in_block_text names.now sites.now) (stack_at events.now position)) }
+fn add_stack(page: &mut Page, background: &Background, position: usize) -> Result<(), Memory>
+    requires within { position < length background.now.events.now }
+    requires open { FewAreOpen background.now.events.now }
+    ensures { OnOk result (page.new ≡ page.old
+        ++ flat_map (in_block_text background.now.names.now background.now.sites.now)
+        (stack_at background.now.events.now position)) }
 {
-    let blocks = open_blocks_in(&events[..position], events[position].thread, alloc);
-    add_in_blocks(page, names, sites, blocks.as_slice())
+    let events = background.events;
+    let thread = events[position].thread;
+    let blocks = open_blocks_in(&events[..position], thread, background.alloc);
+    add_in_blocks(page, background.names, background.sites, blocks.as_slice())
 }
 
 /// Adds the line of an event.
 #[tactic(auto, unfolding(crate::specs::Witness::event_line_text))]
-fn add_event_line(
-    page: &mut Page,
-    names: &Names,
-    sites: &Option<Sites>,
-    events: &[Event],
-    position: usize,
-) -> Result<(), Memory>
-    requires within { position < length events.now }
-    requires few { length events.now ≤ MAX_EVENTS }
-    ensures { OnOk result (page.new ≡ page.old ++ event_line_text names.now sites.now events.now position) }
+fn add_event_line(page: &mut Page, background: &Background, position: usize) -> Result<(), Memory>
+    requires within { position < length background.now.events.now }
+    requires few { length background.now.events.now ≤ MAX_EVENTS }
+    ensures { OnOk result (page.new ≡ page.old
+        ++ event_line_text background.now.names.now background.now.sites.now
+        background.now.events.now position) }
 {
+    let event = background.events[position];
     page.add(&[
         Piece::Text("    line "),
         Piece::Number(line_of(position)),
         Piece::Text(" `"),
-        Piece::Words(events[position]),
+        Piece::Words(event),
         Piece::Text("`"),
-        Piece::KindName(names, events[position].kind),
+        Piece::KindName(background.names, event.kind),
     ])?;
-    end_line(page, sites, position)
+    end_line(page, background.sites, position)
 }
 
 /// Adds an event with the blocks around it.
-fn add_event(
-    page: &mut Page,
-    names: &Names,
-    sites: &Option<Sites>,
-    alloc: Global,
-    events: &[Event],
-    position: usize,
-) -> Result<(), Memory>
-    requires within { position < length events.now }
-    requires few { length events.now ≤ MAX_EVENTS }
-    requires open { FewAreOpen events.now }
-    ensures { OnOk result (page.new ≡ page.old ++ event_in_blocks_text names.now sites.now events.now position) }
+fn add_event(page: &mut Page, background: &Background, position: usize) -> Result<(), Memory>
+    requires within { position < length background.now.events.now }
+    requires few { length background.now.events.now ≤ MAX_EVENTS }
+    requires open { FewAreOpen background.now.events.now }
+    ensures { OnOk result (page.new ≡ page.old
+        ++ event_in_blocks_text background.now.names.now background.now.sites.now
+        background.now.events.now position) }
 {
-    add_event_line(page, names, sites, events, position)?;
-    add_stack(page, names, sites, alloc, events, position)
+    add_event_line(page, background, position)?;
+    add_stack(page, background, position)
 }
 
 /// Adds which transaction comes before which.
@@ -144,42 +133,36 @@ fn add_order(page: &mut Page, count: usize, k: usize) -> Result<(), Memory>
 /// Adds the events of an edge of the cycle.
 fn add_edge(
     page: &mut Page,
-    names: &Names,
-    sites: &Option<Sites>,
-    alloc: Global,
-    events: &[Event],
+    background: &Background,
     count: usize,
     k: usize,
     edge: EdgeEvents,
 ) -> Result<(), Memory>
-    requires from { edge.from < length events.now }
-    requires to { edge.to < length events.now }
-    requires few { length events.now ≤ MAX_EVENTS }
-    requires open { FewAreOpen events.now }
+    requires from { edge.from < length background.now.events.now }
+    requires to { edge.to < length background.now.events.now }
+    requires few { length background.now.events.now ≤ MAX_EVENTS }
+    requires open { FewAreOpen background.now.events.now }
     requires place { k < count }
-    ensures { OnOk result (page.new ≡ page.old ++ edge_text names.now sites.now events.now count k edge) }
+    ensures { OnOk result (page.new ≡ page.old
+        ++ edge_text background.now.names.now background.now.sites.now
+        background.now.events.now count k edge) }
 {
     add_order(page, count, k)?;
-    add_event(page, names, sites, alloc, events, edge.from)?;
-    add_event(page, names, sites, alloc, events, edge.to)
+    add_event(page, background, edge.from)?;
+    add_event(page, background, edge.to)
 }
 
 /// Adds the events of the edges of the cycle.
-fn add_edges(
-    page: &mut Page,
-    names: &Names,
-    sites: &Option<Sites>,
-    alloc: Global,
-    events: &[Event],
-    edges: &[EdgeEvents],
-) -> Result<(), Memory>
-    requires within { AreEdgesWithin (length events.now) edges.now }
-    requires few { length events.now ≤ MAX_EVENTS }
-    requires open { FewAreOpen events.now }
-    ensures { OnOk result (page.new ≡ page.old ++ numbered (edge_text names.now sites.now events.now (length edges.now)) 0 edges.now) }
+fn add_edges(page: &mut Page, background: &Background, edges: &[EdgeEvents]) -> Result<(), Memory>
+    requires within { AreEdgesWithin (length background.now.events.now) edges.now }
+    requires few { length background.now.events.now ≤ MAX_EVENTS }
+    requires open { FewAreOpen background.now.events.now }
+    ensures { OnOk result (page.new ≡ page.old
+        ++ numbered (edge_text background.now.names.now background.now.sites.now
+        background.now.events.now (length edges.now)) 0 edges.now) }
 {
     for k in 0..edges.len() {
-        add_edge(page, names, sites, alloc, events, edges.len(), k, edges[k])?;
+        add_edge(page, background, edges.len(), k, edges[k])?;
     }
     Ok(())
 }
@@ -187,21 +170,22 @@ fn add_edges(
 /// Adds the witness of a round whose closing event is at the position.
 pub(crate) fn add_witness(
     page: &mut Page,
-    names: &Names,
-    sites: &Option<Sites>,
-    alloc: Global,
-    events: &[Event],
+    background: &Background,
     position: usize,
     evidence: &Evidence,
 ) -> Result<(), Memory>
-    requires within { IsWithin (length events.now) position evidence.now }
-    requires few { length events.now ≤ MAX_EVENTS }
-    requires open { FewAreOpen events.now }
-    ensures { OnOk result (page.new ≡ page.old ++ witness_text names.now sites.now events.now position evidence.now) }
+    requires within { IsWithin (length background.now.events.now) position evidence.now }
+    requires few { length background.now.events.now ≤ MAX_EVENTS }
+    requires open { FewAreOpen background.now.events.now }
+    ensures { OnOk result (page.new ≡ page.old
+        ++ witness_text background.now.names.now background.now.sites.now
+        background.now.events.now position evidence.now) }
 {
+    let names = background.names;
+    let events = background.events;
     add_closing(page, names, events, position, evidence.spans.len())?;
     add_members(page, names, events, &evidence.spans)?;
-    add_edges(page, names, sites, alloc, events, &evidence.edges)?;
+    add_edges(page, background, &evidence.edges)?;
     add_reasons(page, names, events, position, &evidence.blames)?;
-    add_reason_places(page, sites, events, &evidence.blames)
+    add_reason_places(page, background.sites, events, &evidence.blames)
 }

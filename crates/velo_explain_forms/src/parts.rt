@@ -11,7 +11,8 @@ ghost use Rattle.velo_explain_forms.specs.Answer.{alarm_json, alarm_or_null, ser
 
 use crate::shown::Shown;
 use std::alloc::Global;
-use velo_audit_forms::{Background, add_event_at, add_witness};
+use velo_audit_forms::{add_event_at, add_witness};
+use velo_audit_text::Background;
 use velo_events::{Event, Memory};
 use velo_explain::{Evidence, transactions_of};
 use velo_json::JsonWriter;

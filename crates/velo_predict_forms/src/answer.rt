@@ -12,8 +12,8 @@ ghost use Rattle.velo_predict_forms.specs.Answer.{predictions_json};
 
 use crate::found::add_predictions;
 use std::alloc::Global;
-use velo_audit_forms::{Background, add_alarms, add_asked, add_log, line_of};
-use velo_audit_text::Asked;
+use velo_audit_forms::{add_alarms, add_asked, add_log, line_of};
+use velo_audit_text::{Asked, Background};
 use velo_events::Memory;
 use velo_explain::Page;
 use velo_json::JsonWriter;

@@ -12,7 +12,8 @@ ghost use Rattle.velo_predict_forms.specs.Answer.{cycle_json, deadlock_json, fou
 
 use crate::parts::{add_circle, add_differences, add_kind, add_size};
 use std::alloc::Global;
-use velo_audit_forms::{Background, add_alarm};
+use velo_audit_forms::add_alarm;
+use velo_audit_text::Background;
 use velo_delays::{Deadlock, PredictedCycle};
 use velo_events::Memory;
 use velo_json::JsonWriter;

@@ -8,7 +8,8 @@ ghost use Rattle.velo_events.specs.declared.limits.TheConstants.{MAX_EVENTS};
 ghost use Rattle.velo_audit_forms.specs.Events.{known_of};
 ghost use Rattle.velo_predict_forms.specs.Answer.{differing_json, waiting_json};
 
-use velo_audit_forms::{Background, add_about, add_event_at, add_thread, add_words};
+use velo_audit_forms::{add_about, add_event_at, add_thread, add_words};
+use velo_audit_text::Background;
 use velo_delays::Differing;
 use velo_events::{Event, Memory};
 use velo_json::JsonWriter;

@@ -8,7 +8,7 @@ ghost use Rattle.velo_predict_text.specs.Text.{CanBeTold, CanTellDeadlock, maybe
 
 use crate::findings::PredictedFindings;
 use std::alloc::Global;
-use velo_audit_text::{Asked, add_asked, add_rounds, add_witness_if_any};
+use velo_audit_text::{Asked, Background, add_asked, add_rounds, add_witness_if_any};
 use velo_delays::{Deadlock, Differing, PredictedCycle};
 use velo_events::{Event, Memory};
 use velo_explain::{Page, Piece, line_of};
@@ -108,15 +108,13 @@ fn add_found(
     add_labels(page, names, &found.told.blocks)?;
     add_size(page, events.len())?;
     add_differences(page, names, events, &found.differing)?;
-    add_witness_if_any(
-        page,
-        names,
-        &None,
+    let trace = Background {
         alloc,
+        names,
+        sites: &None,
         events,
-        found.told.closing,
-        &found.told.witness,
-    )
+    };
+    add_witness_if_any(page, &trace, found.told.closing, &found.told.witness)
 }
 
 /// Adds what a thread waits to do.
@@ -250,14 +248,13 @@ pub fn predictions_text(
 {
     let mut page = Page::new(alloc);
     add_asked(&mut page, names, asked)?;
-    add_rounds(
-        &mut page,
+    let background = Background {
+        alloc,
         names,
         sites,
-        alloc,
-        log.as_slice(),
-        &findings.rounds,
-    )?;
+        events: log.as_slice(),
+    };
+    add_rounds(&mut page, &background, &findings.rounds)?;
     add_cycles(&mut page, names, alloc, &findings.cycles)?;
     add_deadlocks(&mut page, names, &findings.deadlocks)?;
     add_end(&mut page, is_something_told(findings), findings.tries)?;

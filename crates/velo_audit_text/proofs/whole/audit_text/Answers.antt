@@ -1,12 +1,5 @@
-use Rattle.std.proofs.Common.{sym, subst}
-use Rattle.std.specs.Prelude.{All}
-use Rattle.velo_audit.specs.Audit.{TellsTruly}
-use Rattle.velo_audit_text.specs.Witness.{FewAreOpen}
 use Rattle.velo_audit_text.proofs.OnOpen.{FewAreOpen-from}
 use Rattle.velo_audit_text.proofs.whole.audit_text.Goals as goal
 
-pub add_rounds-requires-clause-truly : goal.add_rounds-requires-clause-truly
-add_rounds-requires-clause-truly c = subst (λ es. All (TellsTruly es) c.args.rounds.now) (sym c.as_slice.ensures) c.requires.truly
-
 pub add_rounds-requires-clause-open : goal.add_rounds-requires-clause-open
-add_rounds-requires-clause-open c = subst FewAreOpen (sym c.as_slice.ensures) (FewAreOpen-from c.args.log.now.events c.requires.can_come_about)
+add_rounds-requires-clause-open c = FewAreOpen-from c.args.background.now.events.now c.requires.can_come_about

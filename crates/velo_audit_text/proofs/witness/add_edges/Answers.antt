@@ -12,7 +12,7 @@ none = record { from = 0; to = 0 }
 pub loop-k-preserved : goal.loop-k-preserved
 loop-k-preserved c =
     let xs = c.args.edges.now in let k = c.loop-k.k in let item = get_or xs k none in
-    let text = edge_text c.args.names.now c.args.sites.now c.args.events.now (length c.args.edges.now) in
+    let text = edge_text c.args.background.now.names.now c.args.background.now.sites.now c.args.background.now.events.now (length c.args.edges.now) in
     let more : take (k + 1) xs ≡ take k xs ++ item ∷ [] = take_more xs k none c.loop-k-test.true in
     c.in_ok-add_edge.ensures
     ∙ ap (λ (t : List ℕ). t ++ text k item) c.loop-k.invariant

@@ -4,4 +4,4 @@ use Rattle.velo_audit_text.specs.Witness.{edge_text}
 use Rattle.velo_audit_text.proofs.witness.add_edges.Given as goal
 
 abbrev pub invariant-loop-k : goal.invariant-loop-k
-invariant-loop-k l = l.page ≡ l.fn.page ++ numbered (edge_text l.names l.sites l.events (length l.edges)) 0 (take l.k l.edges)
+invariant-loop-k l = l.page ≡ l.fn.page ++ numbered (edge_text l.background.names.now l.background.sites.now l.background.events.now (length l.edges)) 0 (take l.k l.edges)
