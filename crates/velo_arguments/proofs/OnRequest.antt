@@ -183,6 +183,7 @@ an_explanation rows word =
         input = a_path word.0;
         target = a_path_if (first_of (codes "dot") rows);
         drawing = a_path_if (first_of (codes "svg") rows);
+        stacks = is_true (one_of (codes "stacks") rows);
         format = text_or_json_of (first_of (codes "format") rows);
         names = a_path_if (first_of (codes "names") rows);
         sites = a_path_if (first_of (codes "sites") rows);
@@ -192,6 +193,7 @@ an_explanation rows word =
         word.1,
         path_of (first_of (codes "dot") rows),
         path_of (first_of (codes "svg") rows),
+        is_flag (one_of (codes "stacks") rows),
         refl,
         path_of (first_of (codes "names") rows),
         path_of (first_of (codes "sites") rows),

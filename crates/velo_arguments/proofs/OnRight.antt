@@ -247,7 +247,7 @@ replay_right words e =
 
 pub explain_right : (words : List Text) → AreFaultless explain words → HasWord (codes "LOG") (rows_of_leaf explain words)
 explain_right words e =
-    let level = level_has limits (leaf explain) words refl (makes_word (codes "LOG") refl, (makes_valued (codes "dot") refl, (makes_valued (codes "svg") refl, (makes_valued (codes "format") refl, (makes_valued (codes "names") refl, (makes_valued (codes "sites") refl, left_out_made)))))) e in
+    let level = level_has limits (leaf explain) words refl (makes_word (codes "LOG") refl, (makes_valued (codes "dot") refl, (makes_valued (codes "svg") refl, (makes_flag (codes "stacks") refl, (makes_valued (codes "format") refl, (makes_valued (codes "names") refl, (makes_valued (codes "sites") refl, left_out_made))))))) e in
     word_there (codes "LOG") (rows_of_leaf explain words) level.passes (level.given.0 refl)
 
 pub carry_right : (words : List Text) → AreFaultless carry words

@@ -153,21 +153,21 @@ replay_file_asks options path schedule says file stop log names events nodes cer
   ),
 )
 
--- a log without a label and a lock, a picture and a drawing
+-- a log without a label and a lock, a picture, a drawing and open blocks
 abbrev explain_words : List Text
-explain_words = codes "velodrome" ∷ codes "explain" ∷ codes "a" ∷ codes "--dot" ∷ codes "p" ∷ codes "--svg=d" ∷ codes "--format=json" ∷ codes "--names=n" ∷ codes "--sites" ∷ codes "s" ∷ codes "--ignore-lock=m" ∷ codes "--ignore-label" ∷ codes "7" ∷ []
+explain_words = codes "velodrome" ∷ codes "explain" ∷ codes "a" ∷ codes "--dot" ∷ codes "p" ∷ codes "--svg=d" ∷ codes "--stacks" ∷ codes "--format=json" ∷ codes "--names=n" ∷ codes "--sites" ∷ codes "s" ∷ codes "--ignore-lock=m" ∷ codes "--ignore-label" ∷ codes "7" ∷ []
 
 explain_is_right : faults_of explain_words ≡ []
 unfolding faults_of walk_fault walked defaults_fault
 explain_is_right = refl
 
 explain_asks : (options : ExplainOptions) → options.input.now ≡ codes "a" → option_map (λ path. path.now) options.target ≡ Some (codes "p")
-    → option_map (λ path. path.now) options.drawing ≡ Some (codes "d") → options.format ≡ text_or_json.Json → option_map (λ path. path.now) options.names ≡ Some (codes "n") → option_map (λ path. path.now) options.sites ≡ Some (codes "s")
+    → option_map (λ path. path.now) options.drawing ≡ Some (codes "d") → options.stacks ≡ true → options.format ≡ text_or_json.Json → option_map (λ path. path.now) options.names ≡ Some (codes "n") → option_map (λ path. path.now) options.sites ≡ Some (codes "s")
     → options.ignored.known ≡ None → map (λ w. w.now) options.ignored.labels.now ≡ codes "7" ∷ [] → map (λ w. w.now) options.ignored.locks.now ≡ codes "m" ∷ [] → map (λ w. w.now) options.ignored.variables.now ≡ []
     → options.ignored.all_locks ≡ false → AsksFor (asked_by explain_words) (Explain options)
 unfolding asked_by walked
-explain_asks options log dot svg format names sites known labels locks variables all =
-    (refl, (ap Some (sym log), sym dot, sym svg, format, sym names, sym sites, (ap (option_map (λ path. path.now)) (sym known), sym labels, sym locks, sym variables, search rules)))
+explain_asks options log dot svg stacks format names sites known labels locks variables all =
+    (refl, (ap Some (sym log), sym dot, sym svg, search rules, format, sym names, sym sites, (ap (option_map (λ path. path.now)) (sym known), sym labels, sym locks, sym variables, search rules)))
 
 -- a log, and the file for it
 abbrev carry_words : List Text

@@ -116,6 +116,7 @@ AsksExplain rows options =
     (first_of (codes "LOG") rows ≡ Some options.input.now)
     × IsPath (codes "dot") rows options.target
     × IsPath (codes "svg") rows options.drawing
+    × IsFlag (one_of (codes "stacks") rows) options.stacks
     × (options.format ≡ text_or_json_of (first_of (codes "format") rows))
     × IsPath (codes "names") rows options.names
     × IsPath (codes "sites") rows options.sites

@@ -121,8 +121,8 @@ run = subcommand (codes "run") (word (codes "FILE") ∷ run_options)
 
 abbrev pub explain : Shape
 explain = subcommand (codes "explain")
-    (word (codes "LOG") ∷ valued (codes "dot") ∷ valued (codes "svg") ∷ valued (codes "format")
-    ∷ valued (codes "names") ∷ valued (codes "sites") ∷ left_out_options)
+    (word (codes "LOG") ∷ valued (codes "dot") ∷ valued (codes "svg") ∷ flag (codes "stacks")
+    ∷ valued (codes "format") ∷ valued (codes "names") ∷ valued (codes "sites") ∷ left_out_options)
 
 abbrev pub carry : Shape
 carry = subcommand (codes "carry")

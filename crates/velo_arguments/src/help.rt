@@ -175,6 +175,10 @@ transactions are on it, which two events make each edge, and which blocks are to
 as bars, and an arrow for each edge. --dot writes the cycle alone, for Graphviz. --format json prints the
 same for other programs, as one JSON object. docs/FORMATS.md describes it.
 
+--stacks adds the blocks that were open around each event of the cycle, outermost first, as in the
+witness of 'velodrome audit'; with --sites each has the place of its begin, as a call stack. The JSON
+object has them always.
+
 For a log without an alarm it prints how many transactions a serial order has. It then prints no
 lanes, draws nothing, and opens neither OUT nor SVG. With --names the lanes, the words, the picture and
 the drawing have names after the numbers. A text that is too long for its lane ends in '..'.

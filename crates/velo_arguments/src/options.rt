@@ -105,6 +105,12 @@ pub const SITES: Argument<'static> = Argument {
     help: "Read where in the source each event happened; - is standard input",
 };
 
+pub const STACKS: Argument<'static> = Argument {
+    name: "stacks",
+    takes: Takes::Nothing,
+    help: "Print the blocks that were open around each event of the cycle",
+};
+
 pub const DOT: Argument<'static> = Argument {
     name: "dot",
     takes: Takes::Value("OUT"),

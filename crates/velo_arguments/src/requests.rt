@@ -144,6 +144,7 @@ fn explain_options<'a>(found: &'a ArgMatches) -> Option<ExplainOptions<'a>>
         input: found.get_str("LOG")?,
         target: found.get_str("dot"),
         drawing: found.get_str("svg"),
+        stacks: found.get_flag("stacks"),
         format: text_or_json_of(found.get_str("format")),
         names: found.get_str("names"),
         sites: found.get_str("sites"),

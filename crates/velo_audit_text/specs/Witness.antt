@@ -50,13 +50,17 @@ edge_text names sites log count k edge =
     order_text count k
     ++ (event_in_blocks_text names sites log edge.from ++ event_in_blocks_text names sites log edge.to)
 
+-- the events of each edge of the cycle
+abbrev pub edges_text : NameLists → Option Table → List Event → List EdgeEvents → List ℕ
+edges_text names sites log edges = numbered (edge_text names sites log (length edges)) 0 edges
+
 -- the closing event, the transactions of the cycle, the events of its edges, why the blocks are to
 -- blame, and the places of the events that say so
 abbrev pub witness_text : NameLists → Option Table → List Event → ℕ → Evidence → List ℕ
 witness_text names sites log p evidence =
     closing_text names log p (length evidence.spans.items)
     ++ (numbered (member_text names log) 0 evidence.spans.items
-    ++ (numbered (edge_text names sites log (length evidence.edges.items)) 0 evidence.edges.items
+    ++ (edges_text names sites log evidence.edges.items
     ++ (flat_map (blame_text names log p) evidence.blames.items
     ++ flat_map (reason_place_text sites) evidence.blames.items)))
 

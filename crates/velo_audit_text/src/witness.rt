@@ -4,7 +4,8 @@ ghost use Rattle.std.specs.List.{flat_map};
 ghost use Rattle.velo_events.specs.declared.limits.TheConstants.{MAX_EVENTS};
 ghost use Rattle.velo_explain.specs.Evidence.{AreEdgesWithin, IsWithin};
 ghost use Rattle.velo_explain.specs.Text.{line_of, numbered, next_number};
-ghost use Rattle.velo_audit_text.specs.Witness.{closing_text, stack_at, in_block_text, event_line_text, event_in_blocks_text, order_text, edge_text, witness_text, FewAreOpen};
+ghost use Rattle.velo_filter.specs.Thinned.{CanComeAbout};
+ghost use Rattle.velo_audit_text.specs.Witness.{closing_text, stack_at, in_block_text, event_line_text, event_in_blocks_text, order_text, edge_text, edges_text, witness_text, FewAreOpen};
 
 use crate::background::Background;
 use crate::places::{add_reason_places, end_line};
@@ -158,13 +159,32 @@ fn add_edges(page: &mut Page, background: &Background, edges: &[EdgeEvents]) -> 
     requires few { length background.now.events.now ≤ MAX_EVENTS }
     requires open { FewAreOpen background.now.events.now }
     ensures { OnOk result (page.new ≡ page.old
-        ++ numbered (edge_text background.now.names.now background.now.sites.now
-        background.now.events.now (length edges.now)) 0 edges.now) }
+        ++ edges_text background.now.names.now background.now.sites.now
+        background.now.events.now edges.now) }
 {
     for k in 0..edges.len() {
         add_edge(page, background, edges.len(), k, edges[k])?;
     }
     Ok(())
+}
+
+/// Adds the events of the edges of a cycle, each with the blocks around it.
+///
+/// # Errors
+/// `Memory` if an allocation failed.
+pub fn add_stacks(
+    page: &mut Page,
+    background: &Background,
+    edges: &[EdgeEvents],
+) -> Result<(), Memory>
+    requires within { AreEdgesWithin (length background.now.events.now) edges.now }
+    requires few { length background.now.events.now ≤ MAX_EVENTS }
+    requires can_come_about { CanComeAbout background.now.events.now }
+    ensures { OnOk result (page.new ≡ page.old
+        ++ edges_text background.now.names.now background.now.sites.now
+        background.now.events.now edges.now) }
+{
+    add_edges(page, background, edges)
 }
 
 /// Adds the witness of a round whose closing event is at the position.

@@ -11,6 +11,7 @@ use Rattle.velo_sites.specs.Sites.{Table}
 use Rattle.velo_filter.specs.Left.{Omitted, rest_of}
 use Rattle.velo_audit.specs.Witness.{IsWitness}
 use Rattle.velo_audit_text.specs.declared.words.Asked.{Asked}
+use Rattle.velo_audit_text.specs.Witness.{edges_text}
 use Rattle.velo_audit_text.specs.Words.{asked_text}
 use Rattle.velo_explain.specs.declared.evidence.Evidence.{Evidence}
 use Rattle.velo_explain.specs.Count.{transactions_of}
@@ -46,10 +47,11 @@ opening names asked = asked_text names asked ++ codes "What is left of the log:\
 
 -- ---- the page of a verdict
 
--- How the log at a path is explained: in which form, without what was asked to be left out, after
--- which text, by which names, with which sites
+-- How the log at a path is explained: in which form, with the open blocks or not, without what was asked
+-- to be left out, after which text, by which names, with which sites
 pub record Manner : Type 0 where
   pub format : TextOrJson
+  pub stacks : Bool
   pub path : List ℕ
   pub asked : Asked
   pub before : List ℕ
@@ -60,6 +62,7 @@ pub record Manner : Type 0 where
 abbrev pub manner_after : List ℕ → NameLists → Option Table → Asked → ExplainOptions → Manner
 manner_after before names sites asked options = record {
   format = options.format;
+  stacks = options.stacks;
   path = options.input.now;
   asked = asked;
   before = before;
@@ -72,6 +75,14 @@ abbrev pub words_of : NameLists → Option Table → List Event → ℕ → Evid
 words_of names None log p evidence = named_explanation_text names log p evidence
 words_of names (Some sites) log p evidence = sited_explanation_text names sites log p evidence
 
+-- behind them, if this is asked for, the events of the cycle's edges, each in its open blocks, as in the
+-- witness of an audit
+abbrev pub stacks_if : Bool → NameLists → Option Table → List Event → Evidence → List ℕ
+stacks_if true names sites log evidence =
+    codes "Each of these events, in the blocks that were open:\n"
+    ++ edges_text names sites log evidence.edges.items
+stacks_if false names sites log evidence = []
+
 -- a verdict as one JSON object on a line
 abbrev pub json_page : Manner → List Event → ShownVerdict → List ℕ
 json_page manner log verdict =
@@ -81,7 +92,8 @@ json_page manner log verdict =
 -- an alarm at position p, by its evidence
 abbrev pub alarm_page_in : TextOrJson → Manner → List Event → ℕ → Evidence → List ℕ
 alarm_page_in Text manner log p evidence =
-    manner.before ++ words_of manner.names manner.sites log p evidence
+    (manner.before ++ words_of manner.names manner.sites log p evidence)
+    ++ stacks_if manner.stacks manner.names manner.sites log evidence
 alarm_page_in Json manner log p evidence = json_page manner log (Cyclic p evidence)
 
 abbrev pub alarm_page : Manner → List Event → ℕ → Evidence → List ℕ

@@ -1,17 +1,17 @@
 //! The page of an explanation, and the legend that it is made by.
-ghost use Rattle.std.specs.Prelude.{◌≡◌, ◌≤◌, ◌++◌, IfOk, length};
+ghost use Rattle.std.specs.Prelude.{◌≡◌, ◌≤◌, ◌++◌, IfOk, OnOk, length};
 ghost use Rattle.velo_events.specs.Graph.{HasCycle};
 ghost use Rattle.velo_events.specs.declared.limits.TheConstants.{MAX_EVENTS};
 ghost use Rattle.velo_explain.specs.Count.{transactions_of};
-ghost use Rattle.velo_explain.specs.Evidence.{IsWithin};
+ghost use Rattle.velo_explain.specs.Evidence.{AreEdgesWithin, IsWithin};
 ghost use Rattle.velo_explain.specs.Text.{clean_text};
 ghost use Rattle.velo_explain_forms.specs.Answer.{verdict_of};
 ghost use Rattle.velo_filter.specs.Thinned.{CanComeAbout};
-ghost use Rattle.velo_log_commands.specs.Explaining.{alarm_page, json_page, serial_page, words_of};
+ghost use Rattle.velo_log_commands.specs.Explaining.{alarm_page, json_page, serial_page, stacks_if, words_of};
 ghost use Rattle.velo_log_commands.specs.Steps.{manner_of};
 
 use std::alloc::Global;
-use velo_audit_text::Asked;
+use velo_audit_text::{Asked, Background, add_stacks};
 use velo_events::Memory;
 use velo_explain::{Evidence, Page, explain_clean, explain_named, explain_sited};
 use velo_explain_forms::{Shown, explanation_json};
@@ -107,17 +107,51 @@ fn json_of(alloc: Global, log: &Trace, shown: &Shown, legend: &Legend) -> Result
     )
 }
 
-/// The words of an alarm behind what comes before them.
+/// Adds the events of the cycle's edges, each in its open blocks, if this is asked for.
+fn add_stacks_if(
+    page: &mut Page,
+    alloc: Global,
+    alarm: &ExplainedAlarm,
+    legend: &Legend,
+) -> Result<(), Memory>
+    requires few { length alarm.now.log.now.events ≤ MAX_EVENTS }
+    requires can_come_about { CanComeAbout alarm.now.log.now.events }
+    requires within { AreEdgesWithin (length alarm.now.log.now.events)
+        alarm.now.evidence.now.edges.items }
+    ensures { OnOk result (page.new ≡ page.old
+        ++ stacks_if legend.now.inquiry.now.options.now.stacks legend.now.inquiry.now.names.now
+        legend.now.sites.now alarm.now.log.now.events alarm.now.evidence.now) }
+{
+    if !legend.inquiry.options.stacks {
+        return Ok(());
+    }
+    let background = Background {
+        alloc,
+        names: legend.inquiry.names,
+        sites: legend.sites,
+        events: alarm.log.as_slice(),
+    };
+    page.add_bytes(b"Each of these events, in the blocks that were open:\n")?;
+    add_stacks(page, &background, &alarm.evidence.edges)
+}
+
+/// The words of an alarm behind what comes before them, and the open blocks behind these, if they are
+/// asked for.
 fn all_words(alloc: Global, alarm: &ExplainedAlarm, legend: &Legend) -> Result<Page, Memory>
     requires few { length alarm.now.log.now.events ≤ MAX_EVENTS }
+    requires can_come_about { CanComeAbout alarm.now.log.now.events }
     requires within { IsWithin (length alarm.now.log.now.events) alarm.now.position
         alarm.now.evidence.now }
-    ensures { IfOk result (λ words. words ≡ legend.now.before.now
+    ensures { IfOk result (λ words. words ≡ (legend.now.before.now
         ++ words_of legend.now.inquiry.now.names.now legend.now.sites.now
-        alarm.now.log.now.events alarm.now.position alarm.now.evidence.now) }
+        alarm.now.log.now.events alarm.now.position alarm.now.evidence.now)
+        ++ stacks_if legend.now.inquiry.now.options.now.stacks legend.now.inquiry.now.names.now
+        legend.now.sites.now alarm.now.log.now.events alarm.now.evidence.now) }
 {
     let words = words_of(alloc, alarm, legend)?;
-    words_behind(alloc, legend.before, words.as_slice())
+    let mut page = words_behind(alloc, legend.before, words.as_slice())?;
+    add_stacks_if(&mut page, alloc, alarm, legend)?;
+    Ok(page)
 }
 
 /// The page of an alarm by its evidence.

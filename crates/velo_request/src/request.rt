@@ -104,6 +104,8 @@ pub struct ExplainOptions<'a> {
     pub target: Option<&'a str>,
     /// The path where the drawing is saved.
     pub drawing: Option<&'a str>,
+    /// Whether the words end with the events of the cycle's edges, each in its open blocks.
+    pub stacks: bool,
     /// The form in which the explanation is printed.
     pub format: TextOrJson,
     /// The path of the names that are printed, or `-`.
