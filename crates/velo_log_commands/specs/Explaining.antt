@@ -75,12 +75,17 @@ abbrev pub words_of : NameLists → Option Table → List Event → ℕ → Evid
 words_of names None log p evidence = named_explanation_text names log p evidence
 words_of names (Some sites) log p evidence = sited_explanation_text names sites log p evidence
 
--- behind them, if this is asked for, the events of the cycle's edges, each in its open blocks, as in the
--- witness of an audit
+-- the events of the cycle's edges, each in its open blocks, as in the witness of an audit
+unfoldable pub stacks_heading : List ℕ
+stacks_heading = codes "Each of these events, in the blocks that were open:\n"
+
+abbrev pub stacks_text : NameLists → Option Table → List Event → Evidence → List ℕ
+stacks_text names sites log evidence =
+    stacks_heading ++ edges_text names sites log evidence.edges.items
+
+-- they stand behind the words, if they are asked for
 abbrev pub stacks_if : Bool → NameLists → Option Table → List Event → Evidence → List ℕ
-stacks_if true names sites log evidence =
-    codes "Each of these events, in the blocks that were open:\n"
-    ++ edges_text names sites log evidence.edges.items
+stacks_if true names sites log evidence = stacks_text names sites log evidence
 stacks_if false names sites log evidence = []
 
 -- a verdict as one JSON object on a line

@@ -7,7 +7,7 @@ ghost use Rattle.velo_explain.specs.Evidence.{AreEdgesWithin, IsWithin};
 ghost use Rattle.velo_explain.specs.Text.{clean_text};
 ghost use Rattle.velo_explain_forms.specs.Answer.{verdict_of};
 ghost use Rattle.velo_filter.specs.Thinned.{CanComeAbout};
-ghost use Rattle.velo_log_commands.specs.Explaining.{alarm_page, json_page, serial_page, stacks_if, words_of};
+ghost use Rattle.velo_log_commands.specs.Explaining.{alarm_page, json_page, serial_page, stacks_heading, stacks_if, stacks_text, words_of};
 ghost use Rattle.velo_log_commands.specs.Steps.{manner_of};
 
 use std::alloc::Global;
@@ -107,8 +107,16 @@ fn json_of(alloc: Global, log: &Trace, shown: &Shown, legend: &Legend) -> Result
     )
 }
 
-/// Adds the events of the cycle's edges, each in its open blocks, if this is asked for.
-fn add_stacks_if(
+/// Adds the heading of the open blocks.
+#[tactic(auto, unfolding(crate::specs::Explaining::stacks_heading))]
+fn add_stacks_heading(page: &mut Page) -> Result<(), Memory>
+    ensures { OnOk result (page.new ≡ page.old ++ stacks_heading) }
+{
+    page.add_bytes(b"Each of these events, in the blocks that were open:\n")
+}
+
+/// Adds the events of the cycle's edges, each in its open blocks.
+fn add_edges_in_blocks(
     page: &mut Page,
     alloc: Global,
     alarm: &ExplainedAlarm,
@@ -119,20 +127,39 @@ fn add_stacks_if(
     requires within { AreEdgesWithin (length alarm.now.log.now.events)
         alarm.now.evidence.now.edges.items }
     ensures { OnOk result (page.new ≡ page.old
-        ++ stacks_if legend.now.inquiry.now.options.now.stacks legend.now.inquiry.now.names.now
-        legend.now.sites.now alarm.now.log.now.events alarm.now.evidence.now) }
+        ++ stacks_text legend.now.inquiry.now.names.now legend.now.sites.now
+        alarm.now.log.now.events alarm.now.evidence.now) }
 {
-    if !legend.inquiry.options.stacks {
-        return Ok(());
-    }
     let background = Background {
         alloc,
         names: legend.inquiry.names,
         sites: legend.sites,
         events: alarm.log.as_slice(),
     };
-    page.add_bytes(b"Each of these events, in the blocks that were open:\n")?;
+    add_stacks_heading(page)?;
     add_stacks(page, &background, &alarm.evidence.edges)
+}
+
+/// Adds them, if this is asked for.
+fn add_stacks_if(
+    page: &mut Page,
+    stacks: bool,
+    alloc: Global,
+    alarm: &ExplainedAlarm,
+    legend: &Legend,
+) -> Result<(), Memory>
+    requires few { length alarm.now.log.now.events ≤ MAX_EVENTS }
+    requires can_come_about { CanComeAbout alarm.now.log.now.events }
+    requires within { AreEdgesWithin (length alarm.now.log.now.events)
+        alarm.now.evidence.now.edges.items }
+    ensures { OnOk result (page.new ≡ page.old
+        ++ stacks_if stacks legend.now.inquiry.now.names.now legend.now.sites.now
+        alarm.now.log.now.events alarm.now.evidence.now) }
+{
+    if !stacks {
+        return Ok(());
+    }
+    add_edges_in_blocks(page, alloc, alarm, legend)
 }
 
 /// The words of an alarm behind what comes before them, and the open blocks behind these, if they are
@@ -150,7 +177,8 @@ fn all_words(alloc: Global, alarm: &ExplainedAlarm, legend: &Legend) -> Result<P
 {
     let words = words_of(alloc, alarm, legend)?;
     let mut page = words_behind(alloc, legend.before, words.as_slice())?;
-    add_stacks_if(&mut page, alloc, alarm, legend)?;
+    let stacks = legend.inquiry.options.stacks;
+    add_stacks_if(&mut page, stacks, alloc, alarm, legend)?;
     Ok(page)
 }
 
