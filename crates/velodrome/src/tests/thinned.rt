@@ -15,6 +15,27 @@ const TO_A_FILE: &[&str] = &["velodrome", "thin", "a.log", "--log", "o.log"];
 
 const WITH_A_MAP: &[&str] = &["velodrome", "thin", "a.log", "--log", "o.log", "--map", "m"];
 
+const WITHOUT_LOCKS: &[&str] = &[
+    "velodrome",
+    "thin",
+    "a.log",
+    "--log",
+    "o.log",
+    "--map",
+    "m",
+    "--ignore-locks",
+];
+
+const WITHOUT_A_NAME: &[&str] = &[
+    "velodrome",
+    "thin",
+    "a.log",
+    "--log",
+    "o.log",
+    "--ignore-variable",
+    "x",
+];
+
 /// What the program does with a log: what the last file takes, and what it prints.
 struct Run {
     words: &'static [&'static str],
@@ -25,7 +46,7 @@ struct Run {
     status: u8,
 }
 
-static RUNS: [Run; 5] = [
+static RUNS: [Run; 7] = [
     Run {
         words: TO_A_FILE,
         log: ORDERED,
@@ -41,6 +62,24 @@ static RUNS: [Run; 5] = [
         out: "events 7 to 5\nvariables 1 to 0\n",
         err: "",
         status: 0,
+    },
+    // without the lock the variable has a race, and positions are those of the whole log
+    Run {
+        words: WITHOUT_LOCKS,
+        log: ORDERED,
+        file: Some("0\n2\n5\n"),
+        out: "events 7 to 3\nvariables 1 to 1\n",
+        err: "",
+        status: 0,
+    },
+    // what means none, before the log is read
+    Run {
+        words: WITHOUT_A_NAME,
+        log: "end\n",
+        file: None,
+        out: "",
+        err: "velodrome: --ignore-variable: no variable has this name, and numbers go from 0 to 65535\n    x\nhelp: for names, give their file: see --names\nignored fault 2\n",
+        status: 2,
     },
     // a variable with a race stays, and an alarm is no status
     Run {
