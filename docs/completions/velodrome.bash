@@ -10,7 +10,7 @@ _velodrome() {
         check) words="--names --why --events --nodes --certificate --help" ;;
         replay) words="--schedule --turns --stop --why --log --names-out --events --nodes --certificate --help" ;;
         run) words="--stop --why --log --names-out --events --nodes --certificate --help" ;;
-        explain) words="--dot --svg --format --names --sites --not-atomic --ignore-label --ignore-lock --ignore-locks --ignore-variable --help" ;;
+        explain) words="--dot --svg --stacks --format --names --sites --not-atomic --ignore-label --ignore-lock --ignore-locks --ignore-variable --help" ;;
         carry) words="--log --why --help" ;;
         explore) words="--states --seconds --first --progress --random --seed --format --log --names-out --events --nodes --certificate --help" ;;
         watch) words="--names --stop --endless --events --nodes --certificate --help" ;;

@@ -36,6 +36,7 @@ complete -c velodrome -n '__fish_seen_subcommand_from run' -l certificate -d 'Pr
 complete -c velodrome -n '__fish_seen_subcommand_from run' -l help -d 'Print help'
 complete -c velodrome -n '__fish_seen_subcommand_from explain' -l dot -r -d 'Write the cycle of an alarm to OUT, as a Graphviz picture'
 complete -c velodrome -n '__fish_seen_subcommand_from explain' -l svg -r -d 'Write the explanation of an alarm to SVG, as a drawing'
+complete -c velodrome -n '__fish_seen_subcommand_from explain' -l stacks -d 'Print the blocks that were open around each event of the cycle'
 complete -c velodrome -n '__fish_seen_subcommand_from explain' -l format -x -d 'Print the answer as text or json [default: text]'
 complete -c velodrome -n '__fish_seen_subcommand_from explain' -l names -r -d 'Read the names of threads, variables, locks and labels; - is standard input'
 complete -c velodrome -n '__fish_seen_subcommand_from explain' -l sites -r -d 'Read where in the source each event happened; - is standard input'
