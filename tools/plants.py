@@ -2,8 +2,9 @@
 
     python3 tools/plants.py [NAME..]
 
-Edits of different functions are tried in one check of a copy of the crate, so nothing here changes; an edit that no goal
-refuses there is tried again alone. The copy has the libraries that `rt check` built here. Each edit gets a line: `refused` with
+Edits of different functions are tried in one check of a copy of the crate, so nothing here changes, and of the edited
+functions alone; an edit that no goal refuses there is tried again by itself, and then with the whole crate. The copy has the
+libraries that `rt check` built here. Each edit gets a line: `refused` with
 what is not proved, `only a name` where a proof file names what the edit took away, so that it says little, `BAD` where it cannot
 be applied or compiled, `NOT REFUSED` where the crate is still proved. The status is 1 where one of the last two was printed.
 """
@@ -43,6 +44,23 @@ def functions_of(file, text):
         found.append(Function(file, head[2], number + 1, end + 1))
         after = end + 1
     return found
+
+
+def owner_of(lines, first):
+    """What the prover calls the type of the method on this line, with the trait, or "" where it is no method."""
+    if not lines[first - 1].startswith(" "):
+        return ""
+    head = next((it for it in reversed(lines[: first - 1]) if re.match(r"(unsafe )?(impl|(pub )?trait)\b", it)), "")
+    parts = re.match(r"(?:unsafe |pub )*(?:impl|trait)(<.*?>)? ?(.*)", head)
+    parameters = re.findall(r"\w+", parts[1] or "") if parts else []
+    types = reversed(parts[2].split(" for ")) if parts else []
+    return "".join(word for it in types for word in re.findall(r"\b[A-Z]\w*", it) if word not in parameters)
+
+
+def path_of(file, name, first, lines):
+    """The path of a function, as `rt check --only` takes it."""
+    modules = [it for it in re.sub(r"^src/|\.rt$", "", file).split("/") if it not in ("lib", "main", "mod")]
+    return "::".join([*modules, *filter(None, [owner_of(lines, first)]), name])
 
 
 class Edit:
@@ -131,21 +149,32 @@ class Copy:
         """What a check with these edits says: its status, its places, and where the edited functions stand."""
         folder = self.restored(crate)
         applied = [it for it in batch if it.apply(folder)]
-        ran = subprocess.run(["rt", "check", "--jobs", "1"], cwd=folder, stdin=subprocess.DEVNULL, stdout=subprocess.PIPE, stderr=subprocess.STDOUT, errors="replace")
-        said = [SAID.match(line).groups() for line in ran.stdout.splitlines() if SAID.match(line)]
-        places = {}
+        places, paths = {}, set()
         for edit in applied:
             with open(f"{folder}/{edit.file}", encoding="utf-8") as source:
-                now = functions_of(edit.file, source.read())
+                text = source.read()
             names = {name for _, name, _ in edit.functions or ()}
-            places[edit] = [(it.file, it.name, it.first, it.last) for it in now if it.name in names]
+            places[edit] = [(it.file, it.name, it.first, it.last) for it in functions_of(edit.file, text) if it.name in names]
+            paths |= {path_of(file, name, first, text.splitlines()) for file, name, first, _ in places[edit]}
+        is_known = all(places[it] for it in applied)
+        ran = checked(folder, sorted(paths) if is_known else [])
+        # a path that the prover does not know, or an edit that these functions alone do not refuse
+        if paths and is_known and (ran.returncode == 2 or ran.returncode == 0 and len(batch) == 1):
+            ran = checked(folder, [])
+        said = [SAID.match(line).groups() for line in ran.stdout.splitlines() if SAID.match(line)]
         return ran, said, places
+
+
+def checked(folder, paths):
+    """What a check of the crate says, of these functions or, where none is given, of all."""
+    only = [word for path in paths for word in ("--only", path)]
+    return subprocess.run(["rt", "check", "--jobs", "1", *only], cwd=folder, stdin=subprocess.DEVNULL, stdout=subprocess.PIPE, stderr=subprocess.STDOUT, errors="replace")
 
 
 def judged(copy, crate, batch):
     """What became of each edit of a batch."""
     ran, said, places = copy.try_edits(crate, batch)
-    has_judged = "logic=not-proved" in ran.stdout or ran.returncode == 0
+    has_judged = re.search(r"^(logic=not-proved|only=\d+ proved=)", ran.stdout, re.MULTILINE) or ran.returncode == 0
     if len(batch) == 1:
         edit = batch[0]
         if edit not in places:

@@ -10,10 +10,10 @@ use Rattle.velo_sites.specs.Sites.{Table}
 use Rattle.velo_report.specs.declared.names.Names.{Names}
 use Rattle.velo_audit_text.specs.declared.words.Asked.{Asked}
 use Rattle.velo_fate.specs.declared.fate.Fate.{Fate}
-use Rattle.velo_fate.specs.declared.fate.Fate.TheVariants.{CannotOpen, Memory}
-use Rattle.velo_events.specs.Refusals.{GrowthRefused}
+use Rattle.velo_fate.specs.declared.fate.Fate.TheVariants.{CannotOpen}
 use Rattle.velo_filter.specs.Left.{Omitted}
 use Rattle.velo_inputs.specs.Leaving.{left_out_at_first}
+use Rattle.velo_inputs.specs.Sending.{LacksMemoryToDeliver}
 use Rattle.velo_request.specs.declared.request.CarryOptions.{CarryOptions}
 use Rattle.velo_request.specs.declared.request.CheckOptions.{CheckOptions}
 use Rattle.velo_request.specs.declared.request.EndlessOptions.{EndlessOptions}
@@ -124,11 +124,11 @@ ThinsFile options omitted store stdout f =
     × store.disk.gives options.input.now read × FailuresAsTold read f
     × ThinsInput options omitted read.bytes store stdout f)
 
--- left out is what was asked for; or a growth was refused, and nothing was done
+-- left out is what was asked for; or memory was wanting
 abbrev pub ThinsAsked : Asked → ThinOptions → Store → Writing → Fate → Type 0
 ThinsAsked asked options store stdout f =
     ThinsFile options (left_out_at_first asked) store stdout f
-    ⊎ (GrowthRefused × (f ≡ Memory) × WritesNowhere store stdout)
+    ⊎ LacksMemoryToDeliver store stdout f
 
 -- what it knows before is in `Context` of `velo_inputs`
 abbrev pub context_of_thin : ThinOptions → ContextOptions
