@@ -203,6 +203,9 @@ static LATER_LINES: [Case; 40] = [
     ),
 ];
 
+/// The step in which a long text is read: it is prime, so it ends at each place of a line.
+const LONG_STEP: usize = 4_093;
+
 /// How many events come after the header, what comes after them, and the fault.
 static AT_THE_LIMIT: [(usize, &str, Option<LogFault>); 4] = [
     (16_777_216, "", None),
@@ -250,7 +253,7 @@ fn faults(rt: HostRuntime) -> Result<(), Fail> {
     assert!(rt; first_other(rt.alloc(), &LATER_LINES).is_none());
     for (count, rest, fault) in &AT_THE_LIMIT {
         let text = text_of_ends(rt.alloc(), *count, *rest)?;
-        for step in [1, usize::MAX] {
+        for step in [LONG_STEP, usize::MAX] {
             let found = fault_in_steps(rt.alloc(), text.as_slice(), step);
             assert!(rt; found == *fault, "{count} events in steps of {step}");
         }
