@@ -183,7 +183,9 @@ def judged(copy, crate, batch):
             return {edit: ("NOT REFUSED", "the crate is still proved")}
         if not has_judged:
             return {edit: ("BAD", next((line for line in ran.stdout.splitlines() if "error" in line), ran.stdout[-200:])[:160])}
-        return {edit: verdict_on([text for _, _, _, text in said])}
+        verdict = verdict_on([text for _, _, _, text in said])
+        unproved = next((line for line in ran.stdout.splitlines() if ": no proof" in line), "it says nothing of a goal")
+        return {edit: verdict if verdict[0] else ("BAD", unproved[:160])}
     if not has_judged:
         # one of them does not compile
         return {it: found for edit in batch for it, found in judged(copy, crate, [edit]).items()}
