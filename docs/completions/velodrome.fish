@@ -84,7 +84,7 @@ complete -c velodrome -n '__fish_seen_subcommand_from audit' -l ignore-variable 
 complete -c velodrome -n '__fish_seen_subcommand_from audit' -l events -x -d 'The most events that the log may have, 1 to 16777216 [default: 16777216]'
 complete -c velodrome -n '__fish_seen_subcommand_from audit' -l nodes -x -d 'The most transactions that the graph may hold at once, 1 to 4096 [default: 4096]'
 complete -c velodrome -n '__fish_seen_subcommand_from audit' -l help -d 'Print help'
-complete -c velodrome -n '__fish_seen_subcommand_from thin' -l log -r -d 'Write the log to OUT, which is emptied first'
+complete -c velodrome -n '__fish_seen_subcommand_from thin' -l log -r -d 'Write what is left of the log to OUT'
 complete -c velodrome -n '__fish_seen_subcommand_from thin' -l map -r -d 'Write to MAP which position each event had in LOG, one a line'
 complete -c velodrome -n '__fish_seen_subcommand_from thin' -l names -r -d 'Read the names of threads, variables, locks and labels; - is standard input'
 complete -c velodrome -n '__fish_seen_subcommand_from thin' -l not-atomic -r -d 'Read known labels, and leave out their begins and ends; - is standard input'

@@ -11,7 +11,8 @@ use crate::options::{
     ENDLESS, EVENTS, FILE, FIRST, FORMAT, FOUND_LOG, IGNORE_LABEL, IGNORE_LOCK, IGNORE_LOCKS,
     IGNORE_VARIABLE, INNERMOST, LOG, MAP, NAMES, NAMES_OUT, NO_WITNESS, NODES, NOT_ATOMIC,
     PREDICTED_LOG, PROGRESS, RANDOM, REPORT, RUN_LOG, RUN_SEED, SCHEDULE, SECONDS, SITES, STACKS,
-    STATES, STOP, STOP_WATCH, SVG, TEXT_OR_JSON, TRIES, TURNS, VALUES, WHY, argument_of,
+    STATES, STOP, STOP_WATCH, SVG, TEXT_OR_JSON, THINNED_LOG, TRIES, TURNS, VALUES, WHY,
+    argument_of,
 };
 use clap::Command;
 use std::alloc::Global;
@@ -190,7 +191,7 @@ fn thin<'a>(alloc: Global) -> Result<Command<'a>, Memory>
     let about = "Leaves out of a recorded log what adds nothing to its verdict";
     let arguments = [
         LOG,
-        CARRIED_LOG,
+        THINNED_LOG,
         MAP,
         NAMES,
         NOT_ATOMIC,

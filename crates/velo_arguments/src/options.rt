@@ -153,6 +153,12 @@ pub const CARRIED_LOG: Argument<'static> = Argument {
     help: "Write the log to OUT, which is emptied first",
 };
 
+pub const THINNED_LOG: Argument<'static> = Argument {
+    name: "log",
+    takes: Takes::Needed("OUT"),
+    help: "Write what is left of the log to OUT",
+};
+
 pub const MAP: Argument<'static> = Argument {
     name: "map",
     takes: Takes::Value("MAP"),

@@ -3,7 +3,7 @@ use Rattle.std.proofs.Common.{◌≡◌, ◌↔◌, Bool, true, false, ℕ, ◌<
 use Rattle.std.specs.Borrow.{Bor}
 use Rattle.std.specs.Global.{Vec}
 use Rattle.std.specs.Option.{option_map}
-use Rattle.std.specs.Prelude.{IfNone, IfOk, IfSome, IsTrue, IsFalse, is_some, not, if◌then◌else◌}
+use Rattle.std.specs.Prelude.{◌≤◌, IfNone, IfOk, IfSome, IsTrue, IsFalse, is_some, not, if◌then◌else◌}
 use Rattle.std.proofs.lemmas.Bool.{false≢true}
 use Rattle.std.proofs.lemmas.Option.{none-some, same_Some}
 use Rattle.velo_events.specs.declared.config.Config.{Config}
@@ -26,7 +26,7 @@ use Rattle.velo_explore.specs.declared.goal.Goal.TheVariants.{Alarm, Stuck, Refu
 use Rattle.velo_explore.specs.declared.outcome.RunOutcome.{RunOutcome}
 use Rattle.velo_explore.specs.Goals.{KnowsAlarm, Reached, Reaches, fault_of, finding_of, goal_in}
 use Rattle.velo_explore.specs.Logs.{ends_refused, is_for_room}
-use Rattle.velo_explore.specs.Told.{AreAlarms, FollowsRun, IsMissed, HasOutcome, LacksFault, IfShown}
+use Rattle.velo_explore.specs.Told.{AreAlarms, FollowsRun, IsMissed, HasOutcome, LacksFault, IfShown, turns_after}
 use Rattle.velo_explore.specs.Bodies.{all_scripts}
 use Rattle.velo_search.specs.declared.fault.Fault.TheVariants as faults
 use Rattle.velo_search.specs.declared.fault.Fault.{Fault}
@@ -111,10 +111,18 @@ module _ (program : Program) (config : Config) (same : config.bounds ≡ program
         schedule = schedule;
         leads = leads;
         more = [];
-        ending = w.outcome.ending;
-        closed = h.closed;
-        replays = subst (λ ts. Replays program ts config w.outcome.ending h.closed) (sym (append-nil schedule)) h.replays;
-        memory = h.memory;
+        few = omega arith;
+        lacks = record {
+          outcome = w.outcome;
+          is_outcome = record {
+            closed = h.closed;
+            replays = subst (λ ts. Replays program ts config w.outcome.ending h.closed) (sym (append-nil schedule)) h.replays;
+            memory = h.memory;
+            known = h.known;
+            cycle = h.cycle;
+          };
+          none = w.none;
+        };
         cut = ⊎_elim
             (λ cycle. absurd (false≢true (sym (no_alarm w.outcome.alarm w.outcome.ending w.none) ∙ h.cycle.1 cycle)))
             (λ cut. cut)
@@ -128,10 +136,18 @@ module _ (program : Program) (config : Config) (same : config.bounds ≡ program
         schedule = schedule;
         leads = leads;
         more = [];
-        ending = w.outcome.ending;
-        closed = h.closed;
-        replays = subst (λ ts. Replays program ts config w.outcome.ending h.closed) (sym (append-nil schedule)) h.replays;
-        memory = h.memory;
+        few = omega arith;
+        lacks = record {
+          outcome = w.outcome;
+          is_outcome = record {
+            closed = h.closed;
+            replays = subst (λ ts. Replays program ts config w.outcome.ending h.closed) (sym (append-nil schedule)) h.replays;
+            memory = h.memory;
+            known = h.known;
+            cycle = h.cycle;
+          };
+          none = w.none;
+        };
         cut = ⊎_elim
             (λ stuck. absurd (none-some Stuck (sym w.none ∙ ap (goal_in faults.Stuck w.outcome.alarm) stuck)))
             (λ cut. cut)
@@ -146,10 +162,8 @@ module _ (program : Program) (config : Config) (same : config.bounds ≡ program
         schedule = schedule;
         leads = leads;
         more = record { 0 = t } ∷ [];
-        ending = w.outcome.ending;
-        closed = w.is_outcome.closed;
-        replays = w.is_outcome.replays;
-        memory = w.is_outcome.memory;
+        few = omega arith;
+        lacks = w;
         cut = ⊎_elim
             (λ refused. absurd (false≢true (sym (not_refused w.outcome.alarm w.outcome.ending w.none) ∙ refused)))
             (λ cut. cut)
@@ -185,12 +199,12 @@ follows-it program fault run turns leads same (Ok (Some w)) is = record { run = 
 follows-it program fault run turns leads same (Ok None) is = tt
 follows-it program fault run turns leads same (Err e) is = tt
 
-pub follows-one_more : {E : Type 0} (program : Program) (fault : Fault) (run turns : List ThreadId) → LeadsTo program.bounds (all_scripts program) fault run → turns ≡ run → (result : Result (Option Witness) E)
+pub follows-one_more : {E : Type 0} (program : Program) (fault : Fault) → fault ≡ Refusing → (run turns : List ThreadId) → LeadsTo program.bounds (all_scripts program) fault run → turns ≡ run → (result : Result (Option Witness) E)
     → IfOk result (λ found. IfSome found (λ w. (t : ThreadId) × (w.schedule.items ≡ turns ++ t ∷ []))) → IfOk result (λ found. IfSome found (FollowsRun program fault))
-follows-one_more program fault run turns leads same (Ok (Some w)) (t, is) =
-    record { run = run; leads = leads; more = t ∷ []; turns = is ∙ ap (λ (l : List ThreadId). l ++ t ∷ []) same; few = omega arith }
-follows-one_more program fault run turns leads same (Ok None) is = tt
-follows-one_more program fault run turns leads same (Err e) is = tt
+follows-one_more program fault refusing run turns leads same (Ok (Some w)) (t, is) =
+    record { run = run; leads = leads; more = t ∷ []; turns = is ∙ ap (λ (l : List ThreadId). l ++ t ∷ []) same; few = subst (λ (f : Fault). 1 ≤ turns_after f) (sym refusing) (omega arith) }
+follows-one_more program fault refusing run turns leads same (Ok None) is = tt
+follows-one_more program fault refusing run turns leads same (Err e) is = tt
 
 pub found-one_more : (found : Option Witness) (schedule longer : List ThreadId) (t : ThreadId) → longer ≡ schedule ++ t ∷ [] → IfSome found (λ w. w.schedule.items ≡ longer)
     → IfSome found (λ w. (u : ThreadId) × (w.schedule.items ≡ schedule ++ u ∷ []))

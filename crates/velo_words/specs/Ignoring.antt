@@ -1,5 +1,5 @@
 -- What is said of a word that was to be ignored and means nothing.
-use Rattle.std.specs.Prelude.{◌≡◌, ◌==◌, ◌++◌, ℕ, Bool, true, false, find, length, List, [], codes, Option, Some, None, IfSome, Ok}
+use Rattle.std.specs.Prelude.{◌≡◌, ◌==◌, ◌++◌, ℕ, Bool, true, false, find, length, List, [], codes, Option, Some, None, IsSomeAnd, Ok}
 use Rattle.std.specs.Borrow.{Bor}
 use Rattle.velo_delivery.specs.Disk.{Disk}
 use Rattle.velo_fate.specs.Format.{Reads, bytes_up_to}
@@ -96,5 +96,5 @@ SaysVainIn disk (Some path) what ignored words = SaysVainAt disk path what ignor
 -- what is said where something that was to be ignored means nothing
 abbrev pub SaysVain : Disk → Request → Ignorable → List ℕ → Type 0
 SaysVain disk request what words =
-    IfSome (ignored_of request)
+    IsSomeAnd (ignored_of request)
     (λ ignored. SaysVainIn disk (names_explained_of request) what ignored words)

@@ -1,5 +1,5 @@
 -- What a command says of its end, before its last line.
-use Rattle.std.specs.Prelude.{◌≡◌, ◌⊎◌, ℕ, List, ◌++◌, codes, Option, Some, None, IfSome, if◌then◌else◌}
+use Rattle.std.specs.Prelude.{◌≡◌, ◌⊎◌, ℕ, List, ◌++◌, codes, Option, Some, None, IsSomeAnd, if◌then◌else◌}
 use Rattle.velo_claims.specs.declared.fault.ReportFault.TheVariants as report_fault
 use Rattle.velo_delivery.specs.Disk.{Disk}
 use Rattle.velo_delivery.specs.Writing.{Writing}
@@ -98,32 +98,32 @@ pub record SaysEvent (disk : Disk) (path : List ℕ) (refusal : Option Refusal) 
 abbrev pub IsSaid : Disk → Request → Fate → List ℕ → Type 0
 IsSaid disk request (fate.Finished ended alarm) words = SaysEnd disk request ended words
 IsSaid disk request (fate.Check (check_fault.Log fault)) words =
-    IfSome (log_of request) (λ path. SaysFault disk path (file.Log fault) words)
+    IsSomeAnd (log_of request) (λ path. SaysFault disk path (file.Log fault) words)
 IsSaid disk request (fate.Check (check_fault.Refused p refusal)) words =
-    IfSome (log_of request) (λ path. SaysEvent disk path (Some refusal) p words)
+    IsSomeAnd (log_of request) (λ path. SaysEvent disk path (Some refusal) p words)
 IsSaid disk request (fate.Check (check_fault.WrongValue p)) words =
-    IfSome (log_of request) (λ path. SaysEvent disk path None p words)
+    IsSomeAnd (log_of request) (λ path. SaysEvent disk path None p words)
 IsSaid disk request (fate.Work work_fault.Memory) words = ⊥
 IsSaid disk request (fate.Work fault) words =
-    IfSome (work_of request) (λ path. SaysFault disk path (file.Work fault) words)
+    IsSomeAnd (work_of request) (λ path. SaysFault disk path (file.Work fault) words)
 IsSaid disk request (fate.Schedule schedule_fault.Bad) words =
-    IfSome (schedule_of request) (λ source. SaysSchedule disk source words)
+    IsSomeAnd (schedule_of request) (λ source. SaysSchedule disk source words)
 IsSaid disk request (fate.Names names_fault.Memory) words = ⊥
 IsSaid disk request (fate.Names fault) words =
-    IfSome (names_explained_of request) (λ path. SaysFault disk path (file.Names fault) words)
+    IsSomeAnd (names_explained_of request) (λ path. SaysFault disk path (file.Names fault) words)
 IsSaid disk request (fate.Sites sites_fault.Memory) words = ⊥
 IsSaid disk request (fate.Sites fault) words =
-    IfSome (sites_of request) (λ path. SaysFault disk path (file.Sites fault) words)
+    IsSomeAnd (sites_of request) (λ path. SaysFault disk path (file.Sites fault) words)
 IsSaid disk request fate.OtherSites words =
-    IfSome (sites_of request) (λ path. words ≡ other_sites_words path)
+    IsSomeAnd (sites_of request) (λ path. words ≡ other_sites_words path)
 IsSaid disk request (fate.Report report_fault.Memory) words = ⊥
 IsSaid disk request (fate.Report fault) words =
-    IfSome (report_of request) (λ path. SaysFault disk path (file.Report fault) words)
+    IsSomeAnd (report_of request) (λ path. SaysFault disk path (file.Report fault) words)
 IsSaid disk request (fate.Ignored what) words = SaysVain disk request what words
 IsSaid disk request fate.Open words = SaysOpen request words
 IsSaid disk request (fate.List list_fault.Memory) words = ⊥
 IsSaid disk request (fate.List fault) words =
-    IfSome (known_of request) (λ path. SaysFault disk path (file.List fault) words)
+    IsSomeAnd (known_of request) (λ path. SaysFault disk path (file.List fault) words)
 IsSaid disk request f words = ⊥
 
 -- The program ends by its fate: with its line and its status; or what is said of the fate, or of the

@@ -20,7 +20,7 @@ returns-in-Refusing-clause-none c =
 
 pub returns-in-Refusing-clause-follows : goal.returns-in-Refusing-clause-follows
 returns-in-Refusing-clause-follows c =
-    follows-one_more c.args.workload.now c.args.fault c.args.turns.items c.deref.result.now c.requires.leads c.deref.ensures.value c.refused_after.result c.refused_after.ensures.one_more
+    follows-one_more c.args.workload.now c.args.fault c.in-Refusing.is c.args.turns.items c.deref.result.now c.requires.leads c.deref.ensures.value c.refused_after.result c.refused_after.ensures.one_more
 
 pub returns-in-Cycle-clause-follows : goal.returns-in-Cycle-clause-follows
 returns-in-Cycle-clause-follows c = follows-it c.args.workload.now c.args.fault c.args.turns.items c.args.turns.items c.requires.leads refl c.witness_by.result c.witness_by.ensures.by
