@@ -262,12 +262,7 @@ impl LogReplay {
 
     /// Takes in the event after these, for which there is room. The event itself, if it closes the first cycle.
     #[inline(always)]
-    fn take_in(
-        &mut self,
-        config: &Config,
-        past: &[Event],
-        event: &Resolved<'_>,
-    ) -> Option<Closing>
+    fn take_in(&mut self, config: &Config, past: &[Event], event: &Resolved<'_>) -> Option<Closing>
         requires stands { IsQuiet config.now self.old past.now }
         requires flawless { flaw_of config.now.bounds past.now event.now ≡ None }
         requires short { length past.now < config.now.events }

@@ -199,7 +199,8 @@ impl RecordedRun {
         ensures room { OnOk result (HasRoomFor self.new.parts.monitor.kept event.now) }
         ensures fault { IfErr result (λ fault. IsFaultAtEvent self.old.config self.old.log.events event.now fault) }
     {
-        self.parts.make_room(&self.config, self.log.as_slice(), event)?;
+        self.parts
+            .make_room(&self.config, self.log.as_slice(), event)?;
         match self.log.reserve_one() {
             Ok(()) => Ok(()),
             Err(Memory) => Err(LogReplayFault::Memory),

@@ -1,4 +1,4 @@
-use Rattle.std.proofs.Common.{◌+◌, take, sym, subst, arith}
+use Rattle.std.proofs.Common.{◌+◌, take, length-take, sym, subst, arith}
 use Rattle.std.proofs.lemmas.Option.{slice_get-get_or}
 use Rattle.std.proofs.lemmas.Result.{err_from_is_err_and}
 use Rattle.velo_events.proofs.OnScans.{take-next}
@@ -20,8 +20,8 @@ enter-requires-clause-flawless c = flaw-by _ _ _ _ c.requires.stands.bounds (c.i
 
 pub enter-requires-clause-short : goal.enter-requires-clause-short
 enter-requires-clause-short c =
-    let before = length-before c.args.events.now c.args.position _ (slice_get-get_or c.args.events.now c.args.position _ c.requires.within) in
-    let short = c.in_ok-judge.ensures.short in omega (arith, before, short)
+    let within = c.requires.within in
+    let short = c.in_ok-judge.ensures.short in omega (arith, length-take c.args.position c.args.events.now, within, short)
 
 pub returns-clause-stands : goal.returns-clause-stands
 returns-clause-stands c =

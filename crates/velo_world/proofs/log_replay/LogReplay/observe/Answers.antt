@@ -29,8 +29,7 @@ returns-in-Closes-clause-seen c =
     let watched = c.requires.stands.watched in
     let past = c.args.past.now in
     let follows = MayFollow-from_no_flaw _ _ c.args.event.now watched.stands.well_formed c.requires.flawless in
-    let seen = c.in-Closes.ensures.seen _ _ watched.stands refl follows in
-    (
+    let seen = c.in-Closes.ensures.seen _ _ watched.stands refl follows in (
       ClosesFirst-push past c.args.event.now (record { position = length past; transaction = c.in-Closes.transaction }) watched.stands.acyclic seen.0 refl seen.1,
       refl,
       record { stands = seen.2; nodes = c.observe_resolved.ensures.limit ∙ watched.nodes },

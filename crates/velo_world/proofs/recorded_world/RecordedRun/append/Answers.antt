@@ -1,6 +1,3 @@
-use Rattle.std.proofs.Common.{[], ◌∷◌, ◌++◌, ap, ◌∙◌, sym, subst}
-use Rattle.velo_events.specs.declared.event.Event.{Event}
-use Rattle.velo_world.specs.LogReplay.{IsLogReplayOf}
 use Rattle.velo_world.proofs.recorded_world.RecordedRun.append.Goals as goal
 
 pub enter-requires-clause-stands : goal.enter-requires-clause-stands

@@ -1,11 +1,10 @@
-use Rattle.std.proofs.Common.{refl, subst}
+use Rattle.std.proofs.Common.{refl}
 use Rattle.std.proofs.lemmas.Result.{err_from_is_err_and}
-use Rattle.velo_world.specs.Faults.{IsFaultAtEvent}
 use Rattle.velo_world.proofs.OnComing.{is_quiet, stays_quiet}
 use Rattle.velo_world.proofs.recorded_world.RecordedRun.make_room.Goals as goal
 
-pub make_room-requires-clause-stands : goal.make_room-requires-clause-stands
-make_room-requires-clause-stands c = rw c.as_slice.ensures (is_quiet c.args.self.now c.requires.stands c.requires.quiet)
+pub make_room-requires : goal.make_room-requires
+make_room-requires c = record { stands = rw c.as_slice.ensures (is_quiet c.args.self.now c.requires.stands c.requires.quiet) }
 
 pub returns-in-Ok-clause-stands : goal.returns-in-Ok-clause-stands
 returns-in-Ok-clause-stands c =
@@ -22,7 +21,7 @@ returns-in_err-make_room-clause-stands c =
 pub returns-in_err-make_room-clause-fault : goal.returns-in_err-make_room-clause-fault
 returns-in_err-make_room-clause-fault c =
     let failed = err_from_is_err_and c.from_residual.result c.from_residual.ensures.1 in
-    rw (failed.1, failed.2) (subst (λ past. IsFaultAtEvent c.args.self.now.config past c.args.event.now _) c.as_slice.ensures c.in_err-make_room.ensures.fault)
+    rw (failed.1, failed.2, ← c.as_slice.ensures) c.in_err-make_room.ensures.fault
 
 pub returns-in-Ok-clause-flawless : goal.returns-in-Ok-clause-flawless
 returns-in-Ok-clause-flawless c = rw (c.reserve_one.ensures.events, ← c.as_slice.ensures) c.in_ok-make_room.ensures.flawless

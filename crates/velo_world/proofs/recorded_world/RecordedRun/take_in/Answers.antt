@@ -1,6 +1,4 @@
-use Rattle.std.proofs.Common.{[], ◌∷◌, ◌++◌, refl, sym, ap, ◌∙◌, subst}
-use Rattle.velo_events.specs.declared.event.Event.{Event}
-use Rattle.velo_world.specs.FirstCycle.{ClosesFirst}
+use Rattle.std.proofs.Common.{[], ◌∷◌, ◌++◌, refl, ◌∙◌, subst}
 use Rattle.velo_world.specs.LogReplay.{HasSeen}
 use Rattle.velo_world.proofs.OnComing.{is_quiet, quiet_next, stays_quiet}
 use Rattle.velo_world.proofs.recorded_world.RecordedRun.take_in.Goals as goal
@@ -17,8 +15,8 @@ observe-closing-requires-clause-short c = rw c.as_slice.ensures c.requires.short
 pub observe-closing-requires-clause-slot : goal.observe-closing-requires-clause-slot
 observe-closing-requires-clause-slot c = rw c.as_slice.ensures c.requires.slot
 
-pub append-requires-in-None-clause-stands : goal.append-requires-in-None-clause-stands
-append-requires-in-None-clause-stands c = rw (← c.as_slice.ensures) c.observe-closing.ensures.entered
+pub append-requires-clause-stands : goal.append-requires-clause-stands
+append-requires-clause-stands c = rw (← c.as_slice.ensures) c.observe-closing.ensures.entered
 
 pub returns-in-None-clause-stands : goal.returns-in-None-clause-stands
 returns-in-None-clause-stands c =
@@ -27,20 +25,20 @@ returns-in-None-clause-stands c =
     quiet_next c.append.new.self c.observe-closing.new.self.monitor (past ++ c.args.event.now ∷ []) (c.append.ensures.alarm ∙ c.requires.quiet) c.append.ensures.stands (rw c.append.ensures.config watched)
     (rw (c.append.ensures.log, c.as_slice.ensures, c.event.ensures) refl) c.append.ensures.monitor
 
-pub raise_alarm-requires-in-Some-clause-stands : goal.raise_alarm-requires-in-Some-clause-stands
-raise_alarm-requires-in-Some-clause-stands c =
+pub raise_alarm-requires-clause-stands : goal.raise_alarm-requires-clause-stands
+raise_alarm-requires-clause-stands c =
     let past = c.as_slice.result.now in
     let seen = subst (HasSeen c.args.self.now.config c.observe-closing.new.self.monitor past c.args.event.now) c.in-Some.is c.observe-closing.ensures.seen in
     stays_quiet c.args.self.now _ past c.requires.stands refl refl refl c.as_slice.ensures c.observe-closing.ensures.entered seen.2
 
-pub raise_alarm-requires-in-Some-clause-closes : goal.raise_alarm-requires-in-Some-clause-closes
-raise_alarm-requires-in-Some-clause-closes c =
+pub raise_alarm-requires-clause-closes : goal.raise_alarm-requires-clause-closes
+raise_alarm-requires-clause-closes c =
     let past = c.as_slice.result.now in
     let seen = subst (HasSeen c.args.self.now.config c.observe-closing.new.self.monitor past c.args.event.now) c.in-Some.is c.observe-closing.ensures.seen in
-    rw (c.event.ensures, ← c.as_slice.ensures) seen.0
+    rw (c.event-in-Some.ensures, ← c.as_slice.ensures) seen.0
 
-pub raise_alarm-requires-in-Some-clause-last : goal.raise_alarm-requires-in-Some-clause-last
-raise_alarm-requires-in-Some-clause-last c =
+pub raise_alarm-requires-clause-last : goal.raise_alarm-requires-clause-last
+raise_alarm-requires-clause-last c =
     let past = c.as_slice.result.now in
     let seen = subst (HasSeen c.args.self.now.config c.observe-closing.new.self.monitor past c.args.event.now) c.in-Some.is c.observe-closing.ensures.seen in
     rw (← c.as_slice.ensures) seen.1
