@@ -12,7 +12,7 @@ use Rattle.velo_logtext.specs.Reader.{IsMetBehind, IsMetInHeader}
 use Rattle.velo_logtext.specs.declared.fault.LogFault.{LogFault}
 use Rattle.velo_report.specs.Alarm.{alarm_line}
 use Rattle.velo_report.specs.declared.names.Names.{Names}
-use Rattle.velo_watch.specs.UnderWay.{CanGoOn, TellsPart}
+use Rattle.velo_watch.specs.UnderWay.{TellsPart}
 use Rattle.velo_watch.specs.Watch.{IsFront, Tells, told_text}
 use Rattle.velo_watch.specs.declared.fault.WatchFault.{WatchFault}
 use Rattle.velo_watch.specs.declared.fault.WatchFault.TheVariants as watch_fault
@@ -237,9 +237,8 @@ Follows terms read old new (Ok x) bounds log =
 Follows terms read old new (Err fault) bounds log =
     (before : Bounds) × GoesOn terms.stop log × FailsAfter terms read old new before log fault
 
--- a watch within the limits can go on
+-- a watch within the limits
 pub record CanWatch (options : WatchOptions) (watch : Watch) : Type 0 where
-  pub goes_on : CanGoOn watch
   pub limits : HasLimits options.limits watch.world.config
 
 -- these events were read, and the line of their alarm went out

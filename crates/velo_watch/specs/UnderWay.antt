@@ -14,7 +14,7 @@ use Rattle.velo_logtext.specs.Text.{IsLogText}
 use Rattle.velo_world.specs.declared.analysis.Alarm.{Alarm}
 use Rattle.velo_world.specs.declared.log_replay.LogReplayFault.TheVariants.{Memory}
 use Rattle.velo_world.specs.Faults.{IsFaultAtEvent}
-use Rattle.velo_world.specs.World.{WorldState, IsAlarm, CompletesShares, HoldsLiveShares}
+use Rattle.velo_world.specs.World.{WorldState, IsAlarm}
 use Rattle.velo_report.specs.Alarm.{alarm_line}
 use Rattle.velo_watch.specs.declared.state.Watch.{Watch}
 use Rattle.velo_watch.specs.declared.fault.WatchFault.{WatchFault}
@@ -29,13 +29,6 @@ HasTold true old new log = (alarm : Alarm) × IsAlarm log alarm × Appends old n
 -- a beginning of the alarm's line went out
 abbrev pub TellsPart : Option (List ℕ) → Option (List ℕ) → List Event → Type 0
 TellsPart old new log = (alarm : Alarm) × IsAlarm log alarm × AppendsBeginning old new (alarm_line alarm)
-
--- nobody has halted the world, and it goes on after an alarm; the shares of the threads that were born stand at their places
-pub record CanGoOn (watch : Watch) : Type 0 where
-  pub live : watch.world.halted ≡ false
-  pub goes_on : watch.world.config.stop ≡ false
-  pub ready : HoldsLiveShares watch.world watch.shares
-  pub complete : CompletesShares watch.world watch.shares
 
 -- of the input, the events of the world were given; and the output grew by what is told of them
 pub record IsUnderWay (read remaining old new : Option (List ℕ)) (watch : Watch) : Type 0 where

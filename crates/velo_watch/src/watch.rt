@@ -5,7 +5,7 @@ ghost use Rattle.velo_bytes.specs.Device.{with_failure};
 ghost use Rattle.velo_logtext.specs.Reader.{HasWholeLine};
 ghost use Rattle.velo_logtext.specs.Text.{AreBounds};
 ghost use Rattle.velo_watch.specs.declared.fault.WatchFault.TheVariants as watch_fault;
-ghost use Rattle.velo_watch.specs.UnderWay.{Advances, HasTold, TellsPart, CanGoOn, IsUnderWay, IsFaultOfOpening, Steps, read_failures, write_failures};
+ghost use Rattle.velo_watch.specs.UnderWay.{Advances, HasTold, TellsPart, IsUnderWay, IsFaultOfOpening, Steps, read_failures, write_failures};
 
 use crate::fault::WatchFault;
 use crate::state::Watch;
@@ -14,8 +14,7 @@ use velo_bytes::{Sink, Source, WriteFault};
 use velo_events::{Bounds, Config};
 use velo_logtext::LogReader;
 use velo_report::alarm_line;
-use velo_traces::Trace;
-use velo_world::{Closed, LogReplayFault, World};
+use velo_world::{Closed, LogReplayFault, RecordedWorld};
 
 impl Watch {
     /// Reads the header of a log, and opens its world, without events. The limits are the most events that the log may have
@@ -33,7 +32,6 @@ impl Watch {
         requires events { (1 ≤ events) × (events ≤ MAX_EVENTS) }
         requires nodes { (1 ≤ nodes) × (nodes ≤ MAX_NODES) }
         ensures ok { IfOk result (λ watch. (contents : Option (List ℕ)) → IsUnderWay (I.remaining source.old) (I.remaining source.new) contents contents watch) }
-        ensures goes_on { IfOk result CanGoOn }
         ensures no_events { IfOk result (λ watch. watch.world.log ≡ []) }
         ensures untold { IfOk result (λ watch. watch.told ≡ false) }
         ensures events { IfOk result (λ watch. watch.world.config.events ≡ events) }
@@ -46,15 +44,12 @@ impl Watch {
             Err(fault) => return Err(WatchFault::Log(fault)),
         };
         let config = config_of(reader.bounds(), events, nodes);
-        let (world, shares) = match World::from_log(alloc, config, Trace::new(alloc)) {
-            Ok(opened) => opened,
-            Err(LogReplayFault::Memory) => return Err(WatchFault::Replay(LogReplayFault::Memory)),
-            Err(_) => unreachable!(),
+        let Ok(world) = RecordedWorld::new(alloc, config) else {
+            return Err(WatchFault::Replay(LogReplayFault::Memory));
         };
         Ok(Watch {
             reader,
             world,
-            shares,
             told: false,
         })
     }
@@ -70,8 +65,6 @@ impl Watch {
         source: &mut I,
         sink: &mut O,
     ) -> Result<bool, WatchFault>
-        requires { CanGoOn self.old }
-        ensures goes_on { CanGoOn self.new }
         ensures steps { (read old : Option (List ℕ)) → IsUnderWay read (I.remaining source.old) old (O.contents sink.old) self.old → Steps read old self.old result self.new (I.remaining source.new) (O.contents sink.new) }
         ensures advances { IfOk result (λ more. Advances self.old.world more self.new.world) }
         ensures config { OnOk result (self.new.world.config ≡ self.old.world.config) }
@@ -85,8 +78,8 @@ impl Watch {
             Ok(None) => return Ok(false),
             Err(fault) => return Err(WatchFault::Log(fault)),
         };
-        match self.world.replay(&mut self.shares, &event) {
-            Ok(_) => {}
+        match self.world.replay(&event) {
+            Ok(()) => {}
             Err(fault) => return Err(WatchFault::Replay(fault)),
         }
         prove!(self.world.log().len() <= self.world.config().events as usize);
@@ -105,13 +98,9 @@ impl Watch {
 
     /// The world of the events so far, after its end.
     pub fn close(self) -> Closed
-        requires { CanGoOn self }
         ensures { result ≡ self.world }
     {
-        match self.world.close(self.shares) {
-            Ok(closed) => closed,
-            Err(_) => unreachable!(),
-        }
+        self.world.close()
     }
 }
 
@@ -132,7 +121,7 @@ fn config_of(bounds: Bounds, events: u32, nodes: u16) -> Config
 }
 
 /// Tells the alarm of a world, if there is one, and answers whether there is.
-fn tell<O: Sink>(world: &World, sink: &mut O) -> Result<bool, WatchFault>
+fn tell<O: Sink>(world: &RecordedWorld, sink: &mut O) -> Result<bool, WatchFault>
     ensures ok { IfOk result (λ told. HasTold told (O.contents sink.old) (O.contents sink.new) world.now.log) }
     ensures err { IfErr result (λ fault. fault ≡ watch_fault.Write) }
     ensures part { OnErr result (TellsPart (O.contents sink.old) (O.contents sink.new) world.now.log) }

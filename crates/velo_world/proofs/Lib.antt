@@ -11,4 +11,5 @@ pub mod OnClosing
 pub mod OnReadiness
 pub mod OnFirstCycle
 pub mod OnLogReplays
+pub mod OnComing
 pub mod OnHandingOut

@@ -7,5 +7,7 @@ pub mod Analysis
 pub mod LoggedRun
 pub mod Kept
 pub mod LogReplay
+pub mod RecordedRun
 pub mod Inside
 pub mod InsideClosed
+pub mod InsideRecorded

@@ -1,5 +1,5 @@
 -- A log on its way to come about again. Private contracts cite these words.
-use Rattle.std.specs.Prelude.{◌≡◌, ◌≤◌, ◌<◌, ◌+◌, ◌||◌, ℕ, Bool, nat_le, if◌then◌else◌, IsTrue, List, length, take, Option, Some, None, slice_get}
+use Rattle.std.specs.Prelude.{◌≡◌, ◌≤◌, ◌<◌, ◌+◌, ◌||◌, ℕ, Bool, nat_le, if◌then◌else◌, IsTrue, List, [], ◌∷◌, ◌++◌, length, take, Option, Some, None, slice_get}
 use Rattle.velo_events.specs.declared.config.Config.{Config}
 use Rattle.velo_events.specs.declared.event.Event.{Event}
 use Rattle.velo_events.specs.Heap.{status_in}
@@ -8,6 +8,7 @@ use Rattle.velo_heap.specs.Contents.{bounds_of, IsHeapOf}
 use Rattle.velo_ledger.specs.Logs.{tally_of}
 use Rattle.velo_ledger.specs.Shares.{opening_share}
 use Rattle.velo_ledger.specs.Views.{Holding}
+use Rattle.velo_monitor.specs.Watched.{Watched}
 use Rattle.velo_world.specs.World.{WorldState, IsBookOf, FitsLog}
 use Rattle.velo_world.specs.Faults.{world_of}
 use Rattle.velo_world.specs.FirstCycle.{ClosesFirst, IsFirstClosing, events_before}
@@ -49,6 +50,13 @@ pub record IsLogReplayOf (config : Config) (replay : LogReplay) (trace : List Ev
 pub record IsQuiet (config : Config) (replay : LogReplay) (trace : List Event) : Type 0 where
   pub entered : IsLogReplayOf config replay trace 0
   pub watched : IsLimitedMonitorOf config replay.monitor trace
+
+-- what the monitor has seen of the event after these: it is that of them all, or the event closes the first cycle and it is that of
+-- those before it
+abbrev pub HasSeen : Config → Watched → List Event → Event → Option Closing → Type 0
+HasSeen config monitor past e None = IsLimitedMonitorOf config monitor (past ++ e ∷ [])
+HasSeen config monitor past e (Some closing) =
+    ClosesFirst (past ++ e ∷ []) closing × (closing.position ≡ length past) × IsLimitedMonitorOf config monitor past
 
 -- the events up to this one came about, which closes the first cycle, and the monitor is that of those before it
 pub record ComesToCycle (config : Config) (events : List Event) (replay : LogReplay) (closing : Closing) : Type 0 where

@@ -46,7 +46,7 @@ pub fn alarm_at(alloc: Global, clocks: &Clocks, events: &[Event], closing: Closi
 ///
 /// # Errors
 /// `Memory` where a growth was refused.
-fn clocks_of(alloc: Global, config: &Config, events: &[Event]) -> Result<Clocks, Memory>
+pub fn clocks_of(alloc: Global, config: &Config, events: &[Event]) -> Result<Clocks, Memory>
     requires well_formed { IsWellFormed config.now.bounds events.now }
     requires few { length events.now ≤ MAX_EVENTS }
     ensures bounds { IfOk result (λ clocks. clocks.bounds ≡ config.now.bounds) }

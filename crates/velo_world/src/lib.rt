@@ -8,9 +8,11 @@ mod log_replay;
 mod logged_run;
 mod node_room;
 mod recorded;
+mod recorded_world;
 mod world;
 
 pub use analysis::{Alarm, Reply};
 pub use closed::Closed;
 pub use log_replay::LogReplayFault;
+pub use recorded_world::RecordedWorld;
 pub use world::World;

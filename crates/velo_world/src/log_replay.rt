@@ -1,5 +1,5 @@
 //! A recorded log, whose events come about again one after another.
-ghost use Rattle.std.specs.Prelude.{◌≡◌, ◌<◌, ◌+◌, [], List, None, Some, false, length, take, slice_get, IfOk, OnOk, IfErr};
+ghost use Rattle.std.specs.Prelude.{◌≡◌, ◌<◌, ◌+◌, [], ◌∷◌, ◌++◌, List, None, Some, false, length, take, slice_get, IfOk, OnOk, IfErr};
 ghost use Rattle.velo_events.specs.declared.event.Event.{Event as EventOf};
 ghost use Rattle.velo_heap.specs.Contents.{bounds_of, ForItsTraces, IsHeapOf};
 ghost use Rattle.velo_tables.specs.LastAccesses.{HasRoomFor};
@@ -8,7 +8,7 @@ ghost use Rattle.velo_world.specs.World.{AlarmOf, CompletesShares, HoldsLiveShar
 ghost use Rattle.velo_world.specs.Faults.{world_of, IsFaultAtEvent, IsFaultOfLog};
 ghost use Rattle.velo_world.specs.FirstCycle.{AreNoted, ClosesFirst, events_watched};
 ghost use Rattle.velo_world.specs.NodeRoom.{HasSlot, IsLimitedMonitorOf};
-ghost use Rattle.velo_world.specs.LogReplay.{ComesTo, ComesToCycle, IsLogReplayOf, IsQuiet, IsReplayed};
+ghost use Rattle.velo_world.specs.LogReplay.{ComesTo, ComesToCycle, HasSeen, IsLogReplayOf, IsQuiet, IsReplayed};
 
 use crate::analysis::{Alarm, Analysis};
 use crate::closed::Closed;
@@ -42,7 +42,7 @@ pub enum LogReplayFault {
 /// The parts of a world, but for its log, its alarm and the clocks, which an alarm alone asks for.
 #[derive(Drop)]
 pub struct LogReplay {
-    heap: Heap,
+    pub heap: Heap,
     /// The monitor of the events before the one that closes the first cycle.
     monitor: Monitor,
     book: Book,
@@ -128,7 +128,7 @@ fn replayed(
 
 impl LogReplay {
     /// No event has come about yet.
-    fn new(alloc: Global, config: &Config) -> Result<LogReplay, Memory>
+    pub fn new(alloc: Global, config: &Config) -> Result<LogReplay, Memory>
         ensures { IfOk result (λ replay. IsQuiet config.now replay []) }
     {
         let (book, kept) = Book::open(alloc, config.run, config.bounds.threads)?;
@@ -217,35 +217,37 @@ impl LogReplay {
         ensures ok { IfOk result (ComesTo config.now events.now (position + 1) self.new) }
         ensures fault { IfErr result (λ fault. IsFaultOfLog config.now events.now fault) }
     {
-        match self.make_room(config, events, position, event) {
-            Ok(()) => Ok(self.take_in(config, events, position, event)),
+        let past = &events[..position];
+        match self.make_room(config, past, event) {
+            Ok(()) => Ok(self.take_in(config, past, event)),
             Err(fault) => Err(fault),
         }
     }
 
-    /// Makes room for the event at the position, if it may come next.
+    /// Makes room for the event after these, which have no cycle, if it may come next.
+    ///
+    /// # Errors
+    /// Why it can't. What follows from these events is as before then.
     #[inline(always)]
-    fn make_room(
+    pub fn make_room(
         &mut self,
         config: &Config,
-        events: &[Event],
-        position: usize,
+        past: &[Event],
         event: &Resolved<'_>,
     ) -> Result<(), LogReplayFault>
-        requires here { slice_get events.now position ≡ Some event.now }
-        requires stands { IsQuiet config.now self.old (take position events.now) }
-        ensures stands { OnOk result (IsQuiet config.now self.new (take position events.now)) }
-        ensures flawless { OnOk result (flaw_of config.now.bounds (take position events.now) event.now ≡ None) }
-        ensures short { OnOk result (position < config.now.events) }
-        ensures slot { OnOk result (HasSlot self.new.monitor (take position events.now) event.now) }
+        requires stands { IsQuiet config.now self.old past.now }
+        ensures stands { IsQuiet config.now self.new past.now }
+        ensures flawless { OnOk result (flaw_of config.now.bounds past.now event.now ≡ None) }
+        ensures short { OnOk result (length past.now < config.now.events) }
+        ensures slot { OnOk result (HasSlot self.new.monitor past.now event.now) }
         ensures room { OnOk result (HasRoomFor self.new.monitor.kept event.now) }
-        ensures fault { IfErr result (λ fault. IsFaultAtEvent config.now (take position events.now) event.now fault) }
+        ensures fault { IfErr result (λ fault. IsFaultAtEvent config.now past.now event.now fault) }
     {
         let recorded = event.event();
-        judge(&self.heap, config, position, recorded)?;
-        if make_node_room(&mut self.monitor, &events[..position], recorded, config).is_err() {
+        judge(&self.heap, config, past.len(), recorded)?;
+        if make_node_room(&mut self.monitor, past, recorded, config).is_err() {
             return Err(LogReplayFault::Refused {
-                position,
+                position: past.len(),
                 refusal: Refusal::GraphFull,
             });
         }
@@ -258,26 +260,41 @@ impl LogReplay {
         }
     }
 
-    /// Takes in the event at the position, for which there is room. The event itself, if it closes the first cycle.
+    /// Takes in the event after these, for which there is room. The event itself, if it closes the first cycle.
     #[inline(always)]
-    fn take_in(
+    fn take_in(&mut self, config: &Config, past: &[Event], event: &Resolved<'_>) -> Option<Closing>
+        requires stands { IsQuiet config.now self.old past.now }
+        requires flawless { flaw_of config.now.bounds past.now event.now ≡ None }
+        requires short { length past.now < config.now.events }
+        requires slot { HasSlot self.old.monitor past.now event.now }
+        requires room { HasRoomFor self.old.monitor.kept event.now }
+        ensures entered { IsLogReplayOf config.now self.new (past.now ++ event.now ∷ []) 0 }
+        ensures seen { HasSeen config.now self.new.monitor past.now event.now result }
+    {
+        let closing = self.observe(config, past, event);
+        self.enter(config, past, event.event());
+        closing
+    }
+
+    /// Lets the monitor see the event after these, for which there is room. The event itself, if it closes the first cycle:
+    /// the monitor is still that of the events before it then.
+    #[inline(always)]
+    pub fn observe(
         &mut self,
         config: &Config,
-        events: &[Event],
-        position: usize,
+        past: &[Event],
         event: &Resolved<'_>,
     ) -> Option<Closing>
-        requires here { slice_get events.now position ≡ Some event.now }
-        requires stands { IsQuiet config.now self.old (take position events.now) }
-        requires flawless { flaw_of config.now.bounds (take position events.now) event.now ≡ None }
-        requires short { position < config.now.events }
-        requires slot { HasSlot self.old.monitor (take position events.now) event.now }
+        requires stands { IsQuiet config.now self.old past.now }
+        requires flawless { flaw_of config.now.bounds past.now event.now ≡ None }
+        requires short { length past.now < config.now.events }
+        requires slot { HasSlot self.old.monitor past.now event.now }
         requires room { HasRoomFor self.old.monitor.kept event.now }
-        ensures { ComesTo config.now events.now (position + 1) self.new result }
+        ensures seen { HasSeen config.now self.new.monitor past.now event.now result }
+        ensures entered { IsLogReplayOf config.now self.new past.now 0 }
     {
-        let seen = self.monitor.observe_resolved(position, event);
-        self.enter(config, events, position, event.event());
-        match seen {
+        let position = past.len();
+        match self.monitor.observe_resolved(position, event) {
             Seen::Quiet => None,
             Seen::Closes { transaction } => Some(Closing {
                 position,
@@ -286,18 +303,17 @@ impl LogReplay {
         }
     }
 
-    /// Lets heap and book follow the event at the position, which may come next.
+    /// Lets heap and book follow the event after these, which may come next.
     #[inline(always)]
-    fn enter(&mut self, config: &Config, events: &[Event], position: usize, event: &Event)
-        requires here { slice_get events.now position ≡ Some event.now }
-        requires stands { IsLogReplayOf config.now self.old (take position events.now) 0 }
-        requires flawless { flaw_of config.now.bounds (take position events.now) event.now ≡ None }
-        requires short { position < config.now.events }
-        ensures stands { IsLogReplayOf config.now self.new (take (position + 1) events.now) 0 }
+    pub fn enter(&mut self, config: &Config, past: &[Event], event: &Event)
+        requires stands { IsLogReplayOf config.now self.old past.now 0 }
+        requires flawless { flaw_of config.now.bounds past.now event.now ≡ None }
+        requires short { length past.now < config.now.events }
+        ensures stands { IsLogReplayOf config.now self.new (past.now ++ event.now ∷ []) 0 }
         ensures monitor { self.new.monitor ≡ self.old.monitor }
     {
         self.heap.apply(event);
-        self.book.count(position, event);
+        self.book.count(past.len(), event);
     }
 
     /// Lets the events behind the one that closes the first cycle come about. No monitor sees them.
@@ -334,7 +350,7 @@ impl LogReplay {
     {
         let event = &events[position];
         judge(&self.heap, config, position, event)?;
-        self.enter(config, events, position, event);
+        self.enter(config, &events[..position], event);
         Ok(())
     }
 
@@ -418,7 +434,7 @@ impl LogReplay {
     }
 
     /// The closed world of the log that came about, with its alarm.
-    fn into_closed(self, config: Config, log: Trace, alarm: Option<Alarm>) -> Closed
+    pub fn into_closed(self, config: Config, log: Trace, alarm: Option<Alarm>) -> Closed
         requires stands { IsLogReplayOf config self log.events 0 }
         requires alarm { AlarmOf log.events alarm }
         ensures { result ≡ world_of config log.events }

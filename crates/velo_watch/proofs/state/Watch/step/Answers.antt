@@ -2,6 +2,7 @@ use Rattle.std.proofs.Common.{◌≡◌, ◌∷◌, ◌++◌, [], ◌∙◌, Boo
 use Rattle.std.proofs.lemmas.Result.{err_from_is_err_and}
 use Rattle.velo_events.specs.declared.event.Event.{Event}
 use Rattle.velo_logtext.specs.Reader.{HasGiven, Gives, IsMetBehind}
+use Rattle.velo_world.specs.World.{WorldState}
 use Rattle.velo_watch.specs.declared.fault.WatchFault.{WatchFault}
 use Rattle.velo_watch.specs.declared.fault.WatchFault.TheVariants as watch_fault
 use Rattle.velo_watch.specs.UnderWay.{CameAbout, read_failures, write_failures}
@@ -21,7 +22,7 @@ returns-in-Err-replay-clause-steps g c read old h =
     let given : HasGiven read (w.world.log ++ e ∷ []) c.next.new.self (g.I.Source.remaining c.next.new.source) =
     subst (λ (x : Option Event). Gives read w.world.log (Ok x) c.next.new.self (g.I.Source.remaining c.next.new.source)) c.in-Ok-Some.field-0-is (c.in-Ok-Some.ensures.gives read w.world.log h.given) in
     let came : CameAbout w.world = record { well_formed = c.log.ensures.well_formed; room = c.log.ensures.limit } in
-    (came, tells w.told old _ w.world.log h.told, (e, front_next read _ _ old _ w c.next.new.self e h given c.next.ensures.bounds, c.in-Err-replay.ensures.outcome.0))
+    (came, tells w.told old _ w.world.log h.told, (e, front_next read _ _ old _ w c.next.new.self e h given c.next.ensures.bounds, c.in-Err-replay.ensures.fault))
 
 pub returns-in_err-self-clause-steps : goal.returns-in_err-self-clause-steps
 returns-in_err-self-clause-steps g c read old h =
@@ -33,8 +34,8 @@ returns-in_err-self-clause-steps g c read old h =
     let front = front_next read _ _ old _ w c.next.new.self e h given c.next.ensures.bounds in
     let untold : w.told ≡ false = search rules in
     let came : CameAbout c.replay.new.self = record { well_formed = c.log-2.ensures.well_formed; room = c.log-2.ensures.limit } in
-    fails_writing read _ _ old _ _ w (record { reader = c.next.new.self; world = c.replay.new.self; shares = c.replay.new.shares; told = w.told }) c.from_residual.result c.replay.new.self e
-    (failed.1 ∙ ap (λ (f : WatchFault). Err f) (failed.2 ∙ c.in_err-self.ensures.err)) h front untold c.in-Ok.ensures.outcome.0.acts.1.config c.in-Ok.ensures.outcome.1 came c.in_err-self.ensures.part
+    fails_writing read _ _ old _ _ w (record { reader = c.next.new.self; world = c.replay.new.self; told = w.told }) c.from_residual.result c.replay.new.self e
+    (failed.1 ∙ ap (λ (f : WatchFault). Err f) (failed.2 ∙ c.in_err-self.ensures.err)) h front untold (ap (λ (s : WorldState). s.config) c.in-Ok.ensures.ok) (ap (λ (s : WorldState). s.log) c.in-Ok.ensures.ok) came c.in_err-self.ensures.part
 
 pub returns-in_ok-self-clause-steps : goal.returns-in_ok-self-clause-steps
 returns-in_ok-self-clause-steps g c read old h =
@@ -43,8 +44,8 @@ returns-in_ok-self-clause-steps g c read old h =
     let given : HasGiven read (w.world.log ++ e ∷ []) c.next.new.self (g.I.Source.remaining c.next.new.source) =
     subst (λ (x : Option Event). Gives read w.world.log (Ok x) c.next.new.self (g.I.Source.remaining c.next.new.source)) c.in-Ok-Some.field-0-is (c.in-Ok-Some.ensures.gives read w.world.log h.given) in
     let untold : w.told ≡ false = search rules in
-    steps_on read _ _ old _ _ w (record { reader = c.next.new.self; world = c.replay.new.self; shares = c.replay.new.shares; told = c.in_ok-self.field-0 }) e h given
-    c.next.ensures.bounds c.in-Ok.ensures.outcome.0.acts.1.config c.in-Ok.ensures.outcome.1
+    steps_on read _ _ old _ _ w (record { reader = c.next.new.self; world = c.replay.new.self; told = c.in_ok-self.field-0 }) e h given
+    c.next.ensures.bounds (ap (λ (s : WorldState). s.config) c.in-Ok.ensures.ok) (ap (λ (s : WorldState). s.log) c.in-Ok.ensures.ok)
     (told_with c.in_ok-self.field-0 old _ _ w c.replay.new.self.log untold h.told c.in_ok-self.ensures.ok)
 
 pub returns-else-not-self-clause-steps : goal.returns-else-not-self-clause-steps
@@ -54,9 +55,9 @@ returns-else-not-self-clause-steps g c read old h =
     let given : HasGiven read (w.world.log ++ e ∷ []) c.next.new.self (g.I.Source.remaining c.next.new.source) =
     subst (λ (x : Option Event). Gives read w.world.log (Ok x) c.next.new.self (g.I.Source.remaining c.next.new.source)) c.in-Ok-Some.field-0-is (c.in-Ok-Some.ensures.gives read w.world.log h.given) in
     let was_told : w.told ≡ true = search rules in
-    steps_on read _ _ old _ _ w (record { reader = c.next.new.self; world = c.replay.new.self; shares = c.replay.new.shares; told = w.told }) e h given
-    c.next.ensures.bounds c.in-Ok.ensures.outcome.0.acts.1.config c.in-Ok.ensures.outcome.1
-    (told_still old _ w c.replay.new.self.log e was_told c.in-Ok.ensures.outcome.1 h.told)
+    steps_on read _ _ old _ _ w (record { reader = c.next.new.self; world = c.replay.new.self; told = w.told }) e h given
+    c.next.ensures.bounds (ap (λ (s : WorldState). s.config) c.in-Ok.ensures.ok) (ap (λ (s : WorldState). s.log) c.in-Ok.ensures.ok)
+    (told_still old _ w c.replay.new.self.log e was_told (ap (λ (s : WorldState). s.log) c.in-Ok.ensures.ok) h.told)
 
 pub returns-in-Err-clause-reads : goal.returns-in-Err-clause-reads
 returns-in-Err-clause-reads g c = c.in-Err.ensures.failures ∙ failed_reads c.in-Err.fault _

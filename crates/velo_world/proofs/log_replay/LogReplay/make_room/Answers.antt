@@ -1,4 +1,4 @@
-use Rattle.std.proofs.Common.{refl, sym, ap, ◌∙◌, subst, arith, inr}
+use Rattle.std.proofs.Common.{refl, sym, ap, ◌∙◌, subst, inr}
 use Rattle.velo_events.specs.WellFormed.{MayFollow}
 use Rattle.std.proofs.lemmas.Result.{err_from_is_err_and}
 use Rattle.velo_arena.specs.Slots.{limit_of}
@@ -6,7 +6,6 @@ use Rattle.velo_graph.specs.Nodes.{Nodes}
 use Rattle.velo_tables.specs.LastAccesses.{HasRoomFor}
 use Rattle.velo_traces.proofs.OnFlaws.{MayFollow-from_no_flaw}
 use Rattle.velo_world.specs.NodeRoom.{HasSlot}
-use Rattle.velo_world.proofs.OnAlarms.{length-before}
 use Rattle.velo_world.proofs.OnNodeRoom.{HasSlot-reserved}
 use Rattle.velo_world.proofs.OnLogReplays.{flaw-by, follows-by, on_ok-at, on_err-at}
 use Rattle.velo_world.proofs.log_replay.LogReplay.make_room.Goals as goal
@@ -16,16 +15,23 @@ make_node_room-requires-clause-follows c =
     let stands = c.requires.stands.entered in
     follows-by _ _ _ c.event-recorded.result.now stands.bounds (MayFollow-from_no_flaw _ _ c.event-recorded.result.now stands.heap.well_formed (c.in_ok-judge.ensures.flawless _ stands.heap))
 
+pub returns-then-is_err-clause-stands : goal.returns-then-is_err-clause-stands
+returns-then-is_err-clause-stands c =
+    let stands = c.requires.stands.entered in
+    record {
+      entered = record { short = stands.short; bounds = stands.bounds; heap = stands.heap; book = stands.book; unborn = stands.unborn; shares = stands.shares };
+      watched = c.make_node_room.ensures.stands;
+    }
+
 pub returns-then-is_err-clause-fault : goal.returns-then-is_err-clause-fault
 returns-then-is_err-clause-fault c =
-    let here = length-before c.args.events.now c.args.position c.args.event.now c.requires.here in
     let stands = c.requires.stands.entered in
     let none = c.in_ok-judge.ensures.flawless _ stands.heap in
-    let inside = c.in_ok-judge.ensures.short in rw (← c.event-recorded.ensures) (
-      sym here,
+    rw (← c.event-recorded.ensures) (
+      refl,
       inr (
         flaw-by _ _ _ c.event-recorded.result.now stands.bounds none,
-        inr (refl, (let room = inside in omega (arith, here, room)), on_err-at c.make_node_room.result (sym c.is_err.ensures.value ∙ c.if-is_err.true) c.make_node_room.ensures.full),
+        inr (refl, c.in_ok-judge.ensures.short, on_err-at c.make_node_room.result (sym c.is_err.ensures.value ∙ c.if-is_err.true) c.make_node_room.ensures.full),
       ),
     )
 
@@ -63,6 +69,17 @@ returns-in-Ok-clause-stands c =
       };
     }
 
+pub returns-in-Err-clause-stands : goal.returns-in-Err-clause-stands
+returns-in-Err-clause-stands c =
+    let stands = c.requires.stands.entered in
+    record {
+      entered = record { short = stands.short; bounds = stands.bounds; heap = stands.heap; book = stands.book; unborn = stands.unborn; shares = stands.shares };
+      watched = record {
+        stands = c.reserve.ensures.same _ _ c.make_node_room.ensures.stands.stands;
+        nodes = ap (λ (n : Nodes). limit_of n.slots) c.reserve.ensures.nodes ∙ c.make_node_room.ensures.stands.nodes;
+      };
+    }
+
 pub returns-in-Ok-clause-flawless : goal.returns-in-Ok-clause-flawless
 returns-in-Ok-clause-flawless c =
     let stands = c.requires.stands.entered in
@@ -81,6 +98,5 @@ returns-in-Ok-clause-room c =
 
 pub returns-in_err-judge-clause-fault : goal.returns-in_err-judge-clause-fault
 returns-in_err-judge-clause-fault c =
-    let here = length-before c.args.events.now c.args.position c.args.event.now c.requires.here in
     let failed = err_from_is_err_and c.from_residual.result c.from_residual.ensures.1 in
-    rw (failed.1, failed.2, ← c.event-recorded.ensures) (c.in_err-judge.ensures.fault _ c.requires.stands.entered.heap (sym here))
+    rw (failed.1, failed.2, ← c.event-recorded.ensures) (c.in_err-judge.ensures.fault _ c.requires.stands.entered.heap refl)
