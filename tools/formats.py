@@ -8,8 +8,10 @@ sites (a.sites). A path that ends in `.work` is that of a workload, which is exp
 """
 import json
 import os
+import re
 import subprocess
 import sys
+import urllib.parse
 import xml.etree.ElementTree
 
 DOCS = os.path.join(os.path.dirname(os.path.dirname(os.path.abspath(__file__))), "docs")
@@ -31,20 +33,39 @@ def named(thing):
     return str(thing["number"]) + ("" if thing["name"] is None else " " + thing["name"])
 
 
+def source_of(event):
+    """The file and the line of an event's site FILE:LINE FUNCTION, or None: up to the first colon that a line follows as a word."""
+    found = re.match(r"(.+?):([1-9][0-9]{0,9})(?= |$)", event["site"] or "", re.S)
+    return (found[1], int(found[2])) if found and int(found[2]) < 2 ** 31 else None
+
+
+def line_text(event):
+    """The line of an event, and its place."""
+    return f"line {event['line']}" + ("" if event["site"] is None else f" at {event['site']}")
+
+
+def physical(location):
+    """The file and the line of a location of SARIF."""
+    place = location["physicalLocation"]
+    return urllib.parse.unquote(place["artifactLocation"]["uri"]), place["region"]["startLine"]
+
+
 def findings(program, log, words, status, answer):
     sarif, one = printed(program, "audit", log, [*words, "--format", "sarif"])
     junit, other = printed(program, "audit", log, [*words, "--format", "junit"])
-    results = [(result["locations"][0]["physicalLocation"]["region"]["startLine"], result["message"]["text"])
+    results = [(result["message"]["text"], [physical(location) for location in result["locations"]],
+                [physical(location) for location in result.get("relatedLocations", [])])
                for result in json.loads(sarif)["runs"][0]["results"]]
-    cases = [(case.get("name"), case[0].get("message") if len(case) else None)
+    cases = [(case.get("name"), case.get("file"), case.get("line"), case[0].get("message") if len(case) else None)
              for case in xml.etree.ElementTree.fromstring(junit.encode()).iter("testcase")]
-    blocks = [(f"block {named(block['label'])}", block["begin"]["line"], alarm["closing"]["line"])
-              for alarm in answer["alarms"] for block in alarm["blocks"]]
-    said = [f"{name}, from line {line}, is not atomic: line {closing} closes a cycle" for name, line, closing in blocks]
+    blocks = [(f"block {named(block['label'])}", block["begin"], alarm["closing"]) for alarm in answer["alarms"] for block in alarm["blocks"]]
+    said = [f"{name}, from {line_text(begin)}, is not atomic: {line_text(closing)} closes a cycle" for name, begin, closing in blocks]
+    places = [[source for source in (source_of(begin), (answer["log"], begin["line"])) if source] for _, begin, _ in blocks]
+    files = [(file, str(line)) if more else (None, None) for (file, line), *more in places]
     return [what for what, right in (
         ("status of findings", one == other == status),
-        ("sarif", results == [(line, text) for (_, line, _), text in zip(blocks, said)]),
-        ("junit", cases == ([(name, text) for (name, _, _), text in zip(blocks, said)] or [("atomic", None)])),
+        ("sarif", results == [(text, place[:1], place[1:]) for text, place in zip(said, places)]),
+        ("junit", cases == ([(name, *file, text) for (name, _, _), file, text in zip(blocks, files, said)] or [("atomic", None, None, None)])),
     ) if not right]
 
 

@@ -102,9 +102,9 @@ IsPageIn Json names sites log path asked listing rounds atomic page =
     IsJsonText (record { log = log; names = names; sites = sites }) path asked listing
     (rest_of (left_out_at_first asked) log) rounds atomic page
 IsPageIn Sarif names sites log path asked listing rounds atomic page =
-    page ≡ sarif_text names log path rounds
+    page ≡ sarif_text (record { log = log; names = names; sites = sites }) path rounds
 IsPageIn Junit names sites log path asked listing rounds atomic page =
-    page ≡ junit_text names log path rounds
+    page ≡ junit_text (record { log = log; names = names; sites = sites }) path rounds
 
 abbrev pub IsAuditPage : NameLists → Option Table → List Event → Asked → AuditOptions → List Told → ℕ
     → List ℕ → Type 0

@@ -9,6 +9,8 @@ ghost use Rattle.velo_audit_text.specs.Entries.{IsListed};
 ghost use Rattle.velo_audit_text.specs.Listing.{IsListingText};
 ghost use Rattle.velo_audit_forms.specs.Answer.{IsJsonText};
 ghost use Rattle.velo_audit_forms.specs.Events.{known_of};
+ghost use Rattle.velo_audit_findings.specs.Junit.{junit_text};
+ghost use Rattle.velo_audit_findings.specs.Sarif.{sarif_text};
 ghost use Rattle.velo_predict_text.specs.Text.{CanBeTold, CanTellDeadlock};
 ghost use Rattle.velo_audit_commands.specs.Auditing.{IsAuditPage, IsAuditText, listing_of};
 ghost use Rattle.velo_audit_commands.specs.Predicting.{predictions_page};
@@ -162,6 +164,28 @@ fn json_of(
     Ok(page)
 }
 
+/// The rounds as a SARIF log.
+fn sarif_of(inquiry: &Inquiry<AuditOptions>, log: &Trace, rounds: &[Told]) -> Result<Page, Memory>
+    requires few { length log.now.events ≤ MAX_EVENTS }
+    ensures { IfOk result (λ page. page ≡ sarif_text
+        (record { log = log.now.events; names = inquiry.now.names.now; sites = inquiry.now.sites.now })
+        inquiry.now.options.now.input.now rounds.now) }
+{
+    let background = background_of(inquiry, log);
+    audit_sarif(&background, inquiry.options.input, rounds)
+}
+
+/// The rounds as a JUnit report.
+fn junit_of(inquiry: &Inquiry<AuditOptions>, log: &Trace, rounds: &[Told]) -> Result<Page, Memory>
+    requires few { length log.now.events ≤ MAX_EVENTS }
+    ensures { IfOk result (λ page. page ≡ junit_text
+        (record { log = log.now.events; names = inquiry.now.names.now; sites = inquiry.now.sites.now })
+        inquiry.now.options.now.input.now rounds.now) }
+{
+    let background = background_of(inquiry, log);
+    audit_junit(&background, inquiry.options.input, rounds)
+}
+
 /// The page of the rounds, in the form that was asked for.
 ///
 /// # Errors
@@ -179,16 +203,12 @@ pub(crate) fn page_of(
     ensures { IfOk result (λ page. IsAuditPage inquiry.now.names.now inquiry.now.sites.now
         log.now.events inquiry.now.asked.now inquiry.now.options.now rounds.now atomic page) }
 {
-    let alloc = inquiry.alloc;
-    let names = inquiry.names;
-    let options = inquiry.options;
-    let listing = listing_of(options);
-    let path = options.input;
-    match options.format {
+    let listing = listing_of(inquiry.options);
+    match inquiry.options.format {
         OutputFormat::Text => text_of(inquiry, bounds, log, listing, rounds, atomic),
         OutputFormat::Json => json_of(inquiry, bounds, log, listing, rounds, atomic),
-        OutputFormat::Sarif => audit_sarif(alloc, names, log, path, rounds),
-        OutputFormat::Junit => audit_junit(alloc, names, log, path, rounds),
+        OutputFormat::Sarif => sarif_of(inquiry, log, rounds),
+        OutputFormat::Junit => junit_of(inquiry, log, rounds),
     }
 }
 

@@ -1,6 +1,6 @@
 -- Texts one after another on a page.
 use Rattle.std.proofs.Common.{◌≡◌, ℕ, List, [], ◌∷◌, ◌++◌, sym, ap, ◌∙◌, append_assoc}
-use Rattle.std.specs.Prelude.{OnOk, Result, Ok, Err, codes, decimal}
+use Rattle.std.specs.Prelude.{OnOk, Result, Ok, Err}
 use Rattle.std.proofs.lemmas.List.{append-nil}
 use Rattle.velo_explain.specs.Pieces.{joined}
 
@@ -12,11 +12,3 @@ before (Err e) start page text new texts is h = tt
 pub last : {A E : Type 0} (r : Result A E) (page text new : List ℕ) → OnOk r (new ≡ page ++ text) → OnOk r (new ≡ page ++ joined (text ∷ []))
 last (Ok x) page text new h = h ∙ ap (λ (t : List ℕ). page ++ t) (sym (append-nil text))
 last (Err e) page text new h = tt
-
--- the lines behind the words of a block
-abbrev lines : ℕ → ℕ → List ℕ
-lines m n = joined (codes ", from line " ∷ decimal m ∷ codes ", is not atomic: line " ∷ decimal n ∷ codes " closes a cycle" ∷ [])
-
-pub message_said : (words page new : List ℕ) (a b m n : ℕ) → page ≡ words → m ≡ a → n ≡ b → new ≡ page ++ lines m n → new ≡ words ++ lines a b
-message_said words page new a b m n is first second all =
-    all ∙ ap (λ (t : List ℕ). t ++ lines m n) is ∙ ap (λ (k : ℕ). words ++ lines k n) first ∙ ap (λ (k : ℕ). words ++ lines a k) second

@@ -1,3 +1,4 @@
 pub mod Findings
+pub mod Sources
 pub mod Sarif
 pub mod Junit

@@ -1,17 +1,17 @@
 -- The blocks that an audit reports as a SARIF log, version 2.1.0: one run, one rule, and a result for
 -- each block.
-use Rattle.std.specs.Prelude.{ℕ, ◌+◌, ◌/◌, ◌%◌, ◌==◌, ◌||◌, ◌&&◌, nat_lt, nat_le, Bool, List, [], ◌∷◌, ◌++◌, codes, if◌then◌else◌, map}
+use Rattle.std.specs.Prelude.{ℕ, ◌+◌, ◌/◌, ◌%◌, ◌==◌, ◌||◌, ◌&&◌, nat_lt, nat_le, Bool, List, [], ◌∷◌, ◌++◌, codes, if◌then◌else◌, map, Option, Some, None}
 use Rattle.std.specs.List.{flat_map}
 use Rattle.json.specs.Json.{Json, string}
 use Rattle.json.specs.Token.{Token}
 use Rattle.json.specs.Print.{print}
 use Rattle.json.specs.Tree.{json_tokens}
-use Rattle.velo_events.specs.declared.event.Event.{Event}
 use Rattle.velo_traces.specs.declared.block.Block.{Block}
-use Rattle.velo_names.specs.Names.{NameLists}
 use Rattle.velo_audit.specs.declared.told.Told.{Told}
 use Rattle.velo_json.specs.Tree.{array_of, count, object_of}
+use Rattle.velo_audit_forms.specs.Events.{Known}
 use Rattle.velo_audit_findings.specs.Findings.{line_at, message}
+use Rattle.velo_audit_findings.specs.Sources.{Source, source_in}
 
 -- ---- a path as a URI: each byte but those of letters, digits, `-`, `.`, `_`, `~` and `/` by its number
 
@@ -40,7 +40,7 @@ file_json path = object_of ((codes "uri", string (uri path)) ∷ [])
 unfoldable pub region_json : ℕ → Json
 region_json line = object_of ((codes "startLine", count line) ∷ [])
 
--- the file of the log, and a line of it
+-- a file, and a line of it
 unfoldable pub physical_json : List ℕ → ℕ → Json
 physical_json path line =
     object_of ((codes "artifactLocation", file_json path) ∷ (codes "region", region_json line) ∷ [])
@@ -54,26 +54,41 @@ one json = array_of (λ (j : Json). j) (json ∷ [])
 abbrev pub rule : List ℕ
 rule = codes "not-atomic"
 
-unfoldable pub result_json : NameLists → List Event → List ℕ → Told → Block → Json
-result_json names log path told block = object_of (
-    (codes "ruleId", string rule)
-    ∷ (codes "level", string (codes "error"))
-    ∷ (codes "message", text_json (message names log told block))
-    ∷ (codes "locations", one (location_json path (line_at log block.first)))
+-- the line of a begin in the log, beside its place in the source
+unfoldable pub related_json : List ℕ → ℕ → Json
+related_json path line = object_of (
+    (codes "physicalLocation", physical_json path line)
+    ∷ (codes "message", text_json (codes "the begin in the log"))
     ∷ [])
 
-abbrev pub results_of : NameLists → List Event → List ℕ → Told → List Json
-results_of names log path told = map (result_json names log path told) told.blocks.items
+-- The members that say where a begin is: its file and line in the source, and its line in the log as a
+-- related location; that line alone, if no file and line are known
+abbrev pub place_members : Option Source → List ℕ → ℕ → List (List ℕ × Json)
+place_members None path line = (codes "locations", one (location_json path line)) ∷ []
+place_members (Some source) path line =
+    (codes "locations", one (location_json source.file source.line))
+    ∷ (codes "relatedLocations", one (related_json path line))
+    ∷ []
+
+unfoldable pub result_json : Known → List ℕ → Told → Block → Json
+result_json known path told block = object_of (
+    (codes "ruleId", string rule)
+    ∷ (codes "level", string (codes "error"))
+    ∷ (codes "message", text_json (message known told block))
+    ∷ place_members (source_in known.sites block.first) path (line_at known.log block.first))
+
+abbrev pub results_of : Known → List ℕ → Told → List Json
+results_of known path told = map (result_json known path told) told.blocks.items
 
 -- one round after another
-unfoldable pub results_json : NameLists → List Event → List ℕ → List Told → Json
-results_json names log path rounds =
-    array_of (λ (j : Json). j) (flat_map (results_of names log path) rounds)
+unfoldable pub results_json : Known → List ℕ → List Told → Json
+results_json known path rounds =
+    array_of (λ (j : Json). j) (flat_map (results_of known path) rounds)
 
 -- the tokens of the results of a round. Private contracts cite this word
-abbrev pub tokens_of_round : NameLists → List Event → List ℕ → Told → List Token
-tokens_of_round names log path told =
-    flat_map (λ (block : Block). json_tokens (result_json names log path told block)) told.blocks.items
+abbrev pub tokens_of_round : Known → List ℕ → Told → List Token
+tokens_of_round known path told =
+    flat_map (λ (block : Block). json_tokens (result_json known path told block)) told.blocks.items
 
 unfoldable pub rule_json : Json
 rule_json = object_of (
@@ -87,19 +102,19 @@ driver_json = object_of ((codes "name", string (codes "velodrome")) ∷ (codes "
 unfoldable pub tool_json : Json
 tool_json = object_of ((codes "driver", driver_json) ∷ [])
 
-unfoldable pub run_json : NameLists → List Event → List ℕ → List Told → Json
-run_json names log path rounds = object_of (
+unfoldable pub run_json : Known → List ℕ → List Told → Json
+run_json known path rounds = object_of (
     (codes "tool", tool_json)
-    ∷ (codes "results", results_json names log path rounds)
+    ∷ (codes "results", results_json known path rounds)
     ∷ [])
 
-unfoldable pub sarif_json : NameLists → List Event → List ℕ → List Told → Json
-sarif_json names log path rounds = object_of (
+unfoldable pub sarif_json : Known → List ℕ → List Told → Json
+sarif_json known path rounds = object_of (
     (codes "$schema", string (codes "https://json.schemastore.org/sarif-2.1.0.json"))
     ∷ (codes "version", string (codes "2.1.0"))
-    ∷ (codes "runs", one (run_json names log path rounds))
+    ∷ (codes "runs", one (run_json known path rounds))
     ∷ [])
 
 -- its text, on a line
-abbrev pub sarif_text : NameLists → List Event → List ℕ → List Told → List ℕ
-sarif_text names log path rounds = print (json_tokens (sarif_json names log path rounds)) ++ codes "\n"
+abbrev pub sarif_text : Known → List ℕ → List Told → List ℕ
+sarif_text known path rounds = print (json_tokens (sarif_json known path rounds)) ++ codes "\n"

@@ -1,17 +1,20 @@
 //! A JUnit report.
-ghost use Rattle.std.specs.Prelude.{◌≡◌, ◌≤◌, ◌++◌, length, IfOk, OnOk};
+ghost use Rattle.std.specs.Prelude.{◌≡◌, ◌≤◌, ◌++◌, length, IfOk, OnOk, Some};
 ghost use Rattle.std.specs.List.{flat_map};
 ghost use Rattle.velo_events.specs.declared.limits.TheConstants.{MAX_EVENTS};
-ghost use Rattle.velo_audit_findings.specs.Junit.{case_text, cases_of, cases_text, end_text, head_text, junit_text, passed_text};
+ghost use Rattle.velo_audit_findings.specs.Junit.{case_text, cases_of, cases_text, end_text, head_text, junit_text, passed_text, place_attributes};
+ghost use Rattle.velo_audit_findings.specs.Sources.{shown, source_in};
+ghost use Rattle.velo_audit_forms.specs.Events.{known_of};
 
 use crate::findings::{message_of, words_of};
+use crate::sources::{Source, source_in};
 use crate::xml::add_escaped;
-use std::alloc::Global;
 use velo_audit::Told;
-use velo_events::{Event, Memory};
-use velo_explain::Page;
-use velo_names::Names;
-use velo_traces::{Block, Trace};
+use velo_audit_text::Background;
+use velo_events::Memory;
+use velo_explain::{Page, Piece};
+use velo_sites::Sites;
+use velo_traces::Block;
 
 /// Adds what comes before the cases.
 #[tactic(auto, unfolding(crate::specs::Junit::head_text))]
@@ -25,28 +28,50 @@ fn add_head(page: &mut Page, path: &[u8]) -> Result<(), Memory>
     page.add_bytes(b"\">\n")
 }
 
+/// Adds a file and a line of the source as attributes.
+fn add_source(page: &mut Page, source: Source<'_>) -> Result<(), Memory>
+    ensures { OnOk result (page.new ≡ page.old ++ place_attributes (Some (shown source.entry))) }
+{
+    page.add_bytes(b" file=\"")?;
+    add_escaped(page, source.file)?;
+    page.add_bytes(b"\" line=\"")?;
+    page.add(&[Piece::Number(source.line)])?;
+    page.add_bytes(b"\"")
+}
+
+/// Adds as attributes where in the source an event happened, if this is known.
+fn add_place(page: &mut Page, sites: &Option<Sites>, position: usize) -> Result<(), Memory>
+    ensures { OnOk result (page.new
+        ≡ page.old ++ place_attributes (source_in sites.now position)) }
+{
+    match source_in(sites, position) {
+        None => Ok(()),
+        Some(source) => add_source(page, source),
+    }
+}
+
 /// Adds a failed case.
 #[tactic(auto, unfolding(crate::specs::Junit::case_text))]
 fn add_case(
     page: &mut Page,
-    names: &Names,
-    alloc: Global,
-    events: &[Event],
+    background: &Background,
     path: &[u8],
     told: &Told,
     block: Block,
 ) -> Result<(), Memory>
-    requires few { length events.now ≤ MAX_EVENTS }
+    requires few { length background.now.events.now ≤ MAX_EVENTS }
     ensures { OnOk result (page.new
-        ≡ page.old ++ case_text names.now events.now path.now told.now block) }
+        ≡ page.old ++ case_text (known_of background.now) path.now told.now block) }
 {
-    let name = words_of(alloc, names, block)?;
-    let message = message_of(alloc, names, events, told, block)?;
+    let name = words_of(background.alloc, background.names, block)?;
+    let message = message_of(background, told, block)?;
     page.add_bytes(b"<testcase classname=\"")?;
     add_escaped(page, path)?;
     page.add_bytes(b"\" name=\"")?;
     add_escaped(page, name.as_slice())?;
-    page.add_bytes(b"\"><failure message=\"")?;
+    page.add_bytes(b"\"")?;
+    add_place(page, background.sites, block.first)?;
+    page.add_bytes(b"><failure message=\"")?;
     add_escaped(page, message.as_slice())?;
     page.add_bytes(b"\"/></testcase>\n")
 }
@@ -54,18 +79,16 @@ fn add_case(
 /// Adds the cases of a round.
 fn add_cases_of(
     page: &mut Page,
-    names: &Names,
-    alloc: Global,
-    events: &[Event],
+    background: &Background,
     path: &[u8],
     told: &Told,
 ) -> Result<(), Memory>
-    requires few { length events.now ≤ MAX_EVENTS }
+    requires few { length background.now.events.now ≤ MAX_EVENTS }
     ensures { OnOk result (page.new
-        ≡ page.old ++ cases_of names.now events.now path.now told.now) }
+        ≡ page.old ++ cases_of (known_of background.now) path.now told.now) }
 {
     for block in &told.blocks {
-        add_case(page, names, alloc, events, path, told, *block)?;
+        add_case(page, background, path, told, *block)?;
     }
     Ok(())
 }
@@ -73,18 +96,16 @@ fn add_cases_of(
 /// Adds the cases of the rounds.
 fn add_failed(
     page: &mut Page,
-    names: &Names,
-    alloc: Global,
-    events: &[Event],
+    background: &Background,
     path: &[u8],
     rounds: &[Told],
 ) -> Result<(), Memory>
-    requires few { length events.now ≤ MAX_EVENTS }
+    requires few { length background.now.events.now ≤ MAX_EVENTS }
     ensures { OnOk result (page.new
-        ≡ page.old ++ flat_map (cases_of names.now events.now path.now) rounds.now) }
+        ≡ page.old ++ flat_map (cases_of (known_of background.now) path.now) rounds.now) }
 {
     for told in rounds {
-        add_cases_of(page, names, alloc, events, path, told)?;
+        add_cases_of(page, background, path, told)?;
     }
     Ok(())
 }
@@ -102,20 +123,18 @@ fn add_passed(page: &mut Page, path: &[u8]) -> Result<(), Memory>
 /// Adds the cases.
 fn add_cases(
     page: &mut Page,
-    names: &Names,
-    alloc: Global,
-    events: &[Event],
+    background: &Background,
     path: &[u8],
     rounds: &[Told],
 ) -> Result<(), Memory>
-    requires few { length events.now ≤ MAX_EVENTS }
+    requires few { length background.now.events.now ≤ MAX_EVENTS }
     ensures { OnOk result (page.new
-        ≡ page.old ++ cases_text names.now events.now path.now rounds.now) }
+        ≡ page.old ++ cases_text (known_of background.now) path.now rounds.now) }
 {
     if rounds.is_empty() {
         return add_passed(page, path);
     }
-    add_failed(page, names, alloc, events, path, rounds)
+    add_failed(page, background, path, rounds)
 }
 
 /// Adds what comes after the cases.
@@ -130,20 +149,14 @@ fn add_end(page: &mut Page) -> Result<(), Memory>
 ///
 /// # Errors
 /// `Memory` if an allocation failed.
-pub fn audit_junit(
-    alloc: Global,
-    names: &Names,
-    log: &Trace,
-    path: &str,
-    rounds: &[Told],
-) -> Result<Page, Memory>
-    requires few { length log.now.events ≤ MAX_EVENTS }
-    ensures { IfOk result (λ page. page ≡ junit_text names.now log.now.events path.now rounds.now) }
+pub fn audit_junit(background: &Background, path: &str, rounds: &[Told]) -> Result<Page, Memory>
+    requires few { length background.now.events.now ≤ MAX_EVENTS }
+    ensures { IfOk result (λ page. page
+        ≡ junit_text (known_of background.now) path.now rounds.now) }
 {
-    let events = log.as_slice();
-    let mut page = Page::new(alloc);
+    let mut page = Page::new(background.alloc);
     add_head(&mut page, path.as_bytes())?;
-    add_cases(&mut page, names, alloc, events, path.as_bytes(), rounds)?;
+    add_cases(&mut page, background, path.as_bytes(), rounds)?;
     add_end(&mut page)?;
     Ok(page)
 }

@@ -4,6 +4,7 @@
 mod findings;
 mod junit;
 mod sarif;
+mod sources;
 mod uri;
 mod xml;
 

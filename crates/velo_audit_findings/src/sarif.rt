@@ -1,21 +1,25 @@
 //! A SARIF log.
-ghost use Rattle.std.specs.Prelude.{◌≡◌, ◌≤◌, ◌++◌, ◌∷◌, [], codes, length, IfOk};
+ghost use Rattle.std.specs.Prelude.{◌≡◌, ◌≤◌, ◌++◌, ◌∷◌, [], None, Some, codes, length, IfOk};
 ghost use Rattle.std.specs.List.{flat_map};
 ghost use Rattle.json.specs.Token.{key, string};
-ghost use Rattle.json.specs.Tree.{json_tokens};
+ghost use Rattle.json.specs.Tree.{json_tokens, members_tokens};
+ghost use Rattle.velo_json.specs.Tree.{members_of};
+ghost use Rattle.velo_audit_forms.specs.Events.{known_of};
 ghost use Rattle.velo_audit_findings.specs.Findings.{line_at, message};
+ghost use Rattle.velo_audit_findings.specs.Sources.{shown, source_in};
 ghost use Rattle.velo_events.specs.declared.limits.TheConstants.{MAX_EVENTS};
-ghost use Rattle.velo_audit_findings.specs.Sarif.{driver_json, file_json, location_json, one, physical_json, region_json, result_json, results_json, rule_json, run_json, sarif_json, sarif_text, text_json, tokens_of_round, tool_json, uri};
+ghost use Rattle.velo_audit_findings.specs.Sarif.{driver_json, file_json, location_json, one, physical_json, place_members, region_json, related_json, result_json, results_json, rule_json, run_json, sarif_json, sarif_text, text_json, tokens_of_round, tool_json, uri};
 
 use crate::findings::{line_at, message_of};
+use crate::sources::{Source, source_in};
 use crate::uri::uri_of;
 use std::alloc::Global;
 use velo_audit::Told;
-use velo_events::{Event, Memory};
+use velo_audit_text::Background;
+use velo_events::Memory;
 use velo_explain::Page;
 use velo_json::JsonWriter;
-use velo_names::Names;
-use velo_traces::{Block, Trace};
+use velo_traces::Block;
 
 /// Adds a text as an object.
 #[tactic(auto, unfolding(crate::specs::Sarif::text_json))]
@@ -98,77 +102,127 @@ fn add_locations(
     add_location(json, alloc, path, line)?.end_array()
 }
 
-/// Adds the member with what is said of a block.
-fn add_message(
+/// Adds the place of a begin in the log.
+#[tactic(auto, unfolding(crate::specs::Sarif::related_json))]
+fn add_related(
     json: JsonWriter,
     alloc: Global,
-    names: &Names,
-    events: &[Event],
-    told: &Told,
-    block: Block,
+    path: &[u8],
+    line: u64,
 ) -> Result<JsonWriter, Memory>
-    requires few { length events.now ≤ MAX_EVENTS }
-    ensures { IfOk result (λ written. written ≡ json ++ key (codes "message")
-        ∷ json_tokens (text_json (message names.now events.now told.now block))) }
+    ensures { IfOk result (λ written.
+        written ≡ json ++ json_tokens (related_json path.now line)) }
 {
-    let message = message_of(alloc, names, events, told, block)?;
-    add_text(json.key("message")?, message.as_slice())
+    let json = json.begin_object()?.key("physicalLocation")?;
+    let json = add_physical(json, alloc, path, line)?.key("message")?;
+    add_text(json, b"the begin in the log")?.end_object()
 }
 
-/// Adds the member with the location of a block.
-fn add_locations_of(
+/// Adds an array of the place of a begin in the log alone.
+fn add_related_array(
     json: JsonWriter,
     alloc: Global,
-    events: &[Event],
+    path: &[u8],
+    line: u64,
+) -> Result<JsonWriter, Memory>
+    ensures { IfOk result (λ written.
+        written ≡ json ++ json_tokens (one (related_json path.now line))) }
+{
+    let json = json.begin_array()?;
+    add_related(json, alloc, path, line)?.end_array()
+}
+
+/// Adds the location of a begin whose place in the source is not known, and ends the result.
+fn add_in_log(json: JsonWriter, alloc: Global, path: &[u8], line: u64) -> Result<JsonWriter, Memory>
+    ensures { IfOk result (λ written. written ≡ json
+        ++ members_tokens (members_of (place_members None path.now line))) }
+{
+    add_locations(json.key("locations")?, alloc, path, line)?.end_object()
+}
+
+/// Adds the locations of a begin in the source and in the log, and ends the result.
+fn add_in_source(
+    json: JsonWriter,
+    alloc: Global,
+    source: Source<'_>,
+    path: &[u8],
+    line: u64,
+) -> Result<JsonWriter, Memory>
+    ensures { IfOk result (λ written. written ≡ json
+        ++ members_tokens (members_of (place_members (Some (shown source.entry)) path.now line))) }
+{
+    let json = add_locations(json.key("locations")?, alloc, source.file, source.line)?;
+    let json = json.key("relatedLocations")?;
+    add_related_array(json, alloc, path, line)?.end_object()
+}
+
+/// Adds where a block begins, and ends the result.
+fn add_place_of(
+    json: JsonWriter,
+    background: &Background,
     path: &[u8],
     block: Block,
 ) -> Result<JsonWriter, Memory>
-    requires few { length events.now ≤ MAX_EVENTS }
-    ensures { IfOk result (λ written. written ≡ json ++ key (codes "locations")
-        ∷ json_tokens (one (location_json path.now (line_at events.now block.first)))) }
+    requires few { length background.now.events.now ≤ MAX_EVENTS }
+    ensures { IfOk result (λ written. written ≡ json ++ members_tokens (members_of
+        (place_members (source_in background.now.sites.now block.first) path.now
+        (line_at background.now.events.now block.first)))) }
 {
-    let line = line_at(events, block.first);
-    add_locations(json.key("locations")?, alloc, path, line)
+    let line = line_at(background.events, block.first);
+    match source_in(background.sites, block.first) {
+        None => add_in_log(json, background.alloc, path, line),
+        Some(source) => add_in_source(json, background.alloc, source, path, line),
+    }
+}
+
+/// Adds the member with what is said of a block.
+fn add_message(
+    json: JsonWriter,
+    background: &Background,
+    told: &Told,
+    block: Block,
+) -> Result<JsonWriter, Memory>
+    requires few { length background.now.events.now ≤ MAX_EVENTS }
+    ensures { IfOk result (λ written. written ≡ json ++ key (codes "message")
+        ∷ json_tokens (text_json (message (known_of background.now) told.now block))) }
+{
+    let message = message_of(background, told, block)?;
+    add_text(json.key("message")?, message.as_slice())
 }
 
 /// Adds the result of a block.
 #[tactic(auto, unfolding(crate::specs::Sarif::result_json))]
 fn add_result(
     json: JsonWriter,
-    alloc: Global,
-    names: &Names,
-    events: &[Event],
+    background: &Background,
     path: &[u8],
     told: &Told,
     block: Block,
 ) -> Result<JsonWriter, Memory>
-    requires few { length events.now ≤ MAX_EVENTS }
+    requires few { length background.now.events.now ≤ MAX_EVENTS }
     ensures { IfOk result (λ written. written ≡ json ++ json_tokens
-        (result_json names.now events.now path.now told.now block)) }
+        (result_json (known_of background.now) path.now told.now block)) }
 {
     let json = json.begin_object()?.key("ruleId")?.string(b"not-atomic")?;
     let json = json.key("level")?.string(b"error")?;
-    let json = add_message(json, alloc, names, events, told, block)?;
-    let json = add_locations_of(json, alloc, events, path, block)?;
-    json.end_object()
+    let json = add_message(json, background, told, block)?;
+    add_place_of(json, background, path, block)
 }
 
 /// Adds the results of a round.
 fn add_results_of(
     json: JsonWriter,
-    alloc: Global,
-    names: &Names,
-    events: &[Event],
+    background: &Background,
     path: &[u8],
     told: &Told,
 ) -> Result<JsonWriter, Memory>
-    requires few { length events.now ≤ MAX_EVENTS }
+    requires few { length background.now.events.now ≤ MAX_EVENTS }
     ensures { IfOk result (λ written.
-        written ≡ json ++ tokens_of_round names.now events.now path.now told.now) }
+        written ≡ json ++ tokens_of_round (known_of background.now) path.now told.now) }
 {
     let mut written = json;
     for block in &told.blocks {
-        written = add_result(written, alloc, names, events, path, told, *block)?;
+        written = add_result(written, background, path, told, *block)?;
     }
     Ok(written)
 }
@@ -176,19 +230,17 @@ fn add_results_of(
 /// Adds the results of the rounds, one round after another.
 fn add_results(
     json: JsonWriter,
-    alloc: Global,
-    names: &Names,
-    events: &[Event],
+    background: &Background,
     path: &[u8],
     rounds: &[Told],
 ) -> Result<JsonWriter, Memory>
-    requires few { length events.now ≤ MAX_EVENTS }
+    requires few { length background.now.events.now ≤ MAX_EVENTS }
     ensures { IfOk result (λ written. written ≡ json
-        ++ flat_map (tokens_of_round names.now events.now path.now) rounds.now) }
+        ++ flat_map (tokens_of_round (known_of background.now) path.now) rounds.now) }
 {
     let mut written = json;
     for told in rounds {
-        written = add_results_of(written, alloc, names, events, path, told)?;
+        written = add_results_of(written, background, path, told)?;
     }
     Ok(written)
 }
@@ -196,18 +248,16 @@ fn add_results(
 /// Adds the results as an array.
 fn add_result_array(
     json: JsonWriter,
-    alloc: Global,
-    names: &Names,
-    events: &[Event],
+    background: &Background,
     path: &[u8],
     rounds: &[Told],
 ) -> Result<JsonWriter, Memory>
-    requires few { length events.now ≤ MAX_EVENTS }
+    requires few { length background.now.events.now ≤ MAX_EVENTS }
     ensures { IfOk result (λ written. written ≡ json ++ json_tokens
-        (results_json names.now events.now path.now rounds.now)) }
+        (results_json (known_of background.now) path.now rounds.now)) }
 {
     let json = json.begin_array()?;
-    let written = add_results(json, alloc, names, events, path, rounds)?.end_array()?;
+    let written = add_results(json, background, path, rounds)?.end_array()?;
     Ok(written)
 }
 
@@ -237,40 +287,36 @@ fn add_tool(json: JsonWriter) -> Result<JsonWriter, Memory>
 #[tactic(auto, unfolding(crate::specs::Sarif::run_json))]
 fn add_run(
     json: JsonWriter,
-    alloc: Global,
-    names: &Names,
-    events: &[Event],
+    background: &Background,
     path: &[u8],
     rounds: &[Told],
 ) -> Result<JsonWriter, Memory>
-    requires few { length events.now ≤ MAX_EVENTS }
+    requires few { length background.now.events.now ≤ MAX_EVENTS }
     ensures { IfOk result (λ written. written ≡ json ++ json_tokens
-        (run_json names.now events.now path.now rounds.now)) }
+        (run_json (known_of background.now) path.now rounds.now)) }
 {
     let json = json.begin_object()?.key("tool")?;
     let json = add_tool(json)?.key("results")?;
-    add_result_array(json, alloc, names, events, path, rounds)?.end_object()
+    add_result_array(json, background, path, rounds)?.end_object()
 }
 
 /// Adds the log.
 #[tactic(auto, unfolding(crate::specs::Sarif::sarif_json))]
 fn add_sarif(
     json: JsonWriter,
-    alloc: Global,
-    names: &Names,
-    events: &[Event],
+    background: &Background,
     path: &[u8],
     rounds: &[Told],
 ) -> Result<JsonWriter, Memory>
-    requires few { length events.now ≤ MAX_EVENTS }
+    requires few { length background.now.events.now ≤ MAX_EVENTS }
     ensures { IfOk result (λ written. written ≡ json ++ json_tokens
-        (sarif_json names.now events.now path.now rounds.now)) }
+        (sarif_json (known_of background.now) path.now rounds.now)) }
 {
     let json = json.begin_object()?.key("$schema")?;
     let json = json.string(b"https://json.schemastore.org/sarif-2.1.0.json")?;
     let json = json.key("version")?.string(b"2.1.0")?;
     let json = json.key("runs")?.begin_array()?;
-    let json = add_run(json, alloc, names, events, path, rounds)?.end_array()?;
+    let json = add_run(json, background, path, rounds)?.end_array()?;
     json.end_object()
 }
 
@@ -278,21 +324,15 @@ fn add_sarif(
 ///
 /// # Errors
 /// `Memory` if an allocation failed.
-pub fn audit_sarif(
-    alloc: Global,
-    names: &Names,
-    log: &Trace,
-    path: &str,
-    rounds: &[Told],
-) -> Result<Page, Memory>
-    requires few { length log.now.events ≤ MAX_EVENTS }
-    ensures { IfOk result (λ page. page ≡ sarif_text names.now log.now.events path.now rounds.now) }
+pub fn audit_sarif(background: &Background, path: &str, rounds: &[Told]) -> Result<Page, Memory>
+    requires few { length background.now.events.now ≤ MAX_EVENTS }
+    ensures { IfOk result (λ page. page
+        ≡ sarif_text (known_of background.now) path.now rounds.now) }
 {
-    let events = log.as_slice();
-    let json = JsonWriter::new(alloc);
-    let json = add_sarif(json, alloc, names, events, path.as_bytes(), rounds)?;
+    let json = JsonWriter::new(background.alloc);
+    let json = add_sarif(json, background, path.as_bytes(), rounds)?;
     let text = json.into_text();
-    let mut page = Page::new(alloc);
+    let mut page = Page::new(background.alloc);
     page.add_bytes(text.as_slice())?;
     page.add_bytes(b"\n")?;
     Ok(page)

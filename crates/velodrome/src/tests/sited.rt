@@ -51,6 +51,40 @@ line 5 at bank.c:20 audit\n\
 atomic 0 labels\n\
 rounds 2\n";
 
+/// The file has a blank in its name, and a colon that no line follows.
+const IN_FILES: &str =
+    "vsites 1 3 5\nsrc/a b:c.c:10 <deposit>\nsrc/a b:c.c:12 audit\nsrc/a b:c.c:13\n0\n1\n0\n2\n3\n";
+
+/// Neither has a line: there is no number, or it is 0.
+const WITHOUT_LINES: &str = "vsites 1 2 5\nbank.c:1x deposit\nbank.c:0 deposit\n0\n1\n0\n0\n2\n";
+
+/// As a SARIF log: the block in the source, and in the log.
+const AS_SARIF: &str = "\
+{\"$schema\":\"https://json.schemastore.org/sarif-2.1.0.json\",\"version\":\"2.1.0\",\"runs\":[{\
+\"tool\":{\"driver\":{\"name\":\"velodrome\",\"rules\":[{\"id\":\"not-atomic\",\"shortDescription\":\
+{\"text\":\"A block that is not atomic\"}}]}},\"results\":[{\"ruleId\":\"not-atomic\",\"level\":\
+\"error\",\"message\":{\"text\":\"block 7, from line 3 at src/a b:c.c:10 <deposit>, is not atomic: \
+line 6 at src/a b:c.c:13 closes a cycle\"},\"locations\":[{\"physicalLocation\":{\
+\"artifactLocation\":{\"uri\":\"src/a%20b%3Ac.c\"},\"region\":{\"startLine\":10}}}],\
+\"relatedLocations\":[{\"physicalLocation\":{\"artifactLocation\":{\"uri\":\"a\"},\"region\":{\
+\"startLine\":3}},\"message\":{\"text\":\"the begin in the log\"}}]}]}]}\n";
+
+/// The same where the sites do not give a line.
+const IN_THE_LOG: &str = "\
+{\"$schema\":\"https://json.schemastore.org/sarif-2.1.0.json\",\"version\":\"2.1.0\",\"runs\":[{\
+\"tool\":{\"driver\":{\"name\":\"velodrome\",\"rules\":[{\"id\":\"not-atomic\",\"shortDescription\":\
+{\"text\":\"A block that is not atomic\"}}]}},\"results\":[{\"ruleId\":\"not-atomic\",\"level\":\
+\"error\",\"message\":{\"text\":\"block 7, from line 3 at bank.c:1x deposit, is not atomic: \
+line 6 at bank.c:0 deposit closes a cycle\"},\"locations\":[{\"physicalLocation\":{\
+\"artifactLocation\":{\"uri\":\"a\"},\"region\":{\"startLine\":3}}}]}]}]}\n";
+
+const AS_JUNIT: &str = "\
+<?xml version=\"1.0\" encoding=\"UTF-8\"?>\n<testsuites>\n\
+<testsuite name=\"velodrome audit a\">\n\
+<testcase classname=\"a\" name=\"block 7\" file=\"src/a b:c.c\" line=\"10\"><failure message=\"block 7, \
+from line 3 at src/a b:c.c:10 &lt;deposit&gt;, is not atomic: line 6 at src/a b:c.c:13 closes a cycle\"/>\
+</testcase>\n</testsuite>\n</testsuites>\n";
+
 /// What the program prints for these files, of which one is a file of sites.
 struct Sited {
     words: &'static [&'static str],
@@ -61,7 +95,7 @@ struct Sited {
     status: u8,
 }
 
-static SITED: [Sited; 9] = [
+static SITED: [Sited; 12] = [
     Sited {
         words: &["velodrome", "audit", "a", "--sites", "s"],
         log: LOST_UPDATE,
@@ -93,6 +127,31 @@ static SITED: [Sited; 9] = [
         log: LOST_UPDATE,
         sites: "vsites 1 0 5\n0\n0\n0\n0\n0\n",
         out: "not atomic 7\natomic 0 labels\nrounds 2\n",
+        err: "",
+        status: 3,
+    },
+    // for tools that show findings beside the source
+    Sited {
+        words: &["velodrome", "audit", "a", "--sites=s", "--format=sarif"],
+        log: LOST_UPDATE,
+        sites: IN_FILES,
+        out: AS_SARIF,
+        err: "",
+        status: 3,
+    },
+    Sited {
+        words: &["velodrome", "audit", "a", "--sites=s", "--format=sarif"],
+        log: LOST_UPDATE,
+        sites: WITHOUT_LINES,
+        out: IN_THE_LOG,
+        err: "",
+        status: 3,
+    },
+    Sited {
+        words: &["velodrome", "audit", "a", "--sites=s", "--format=junit"],
+        log: LOST_UPDATE,
+        sites: IN_FILES,
+        out: AS_JUNIT,
         err: "",
         status: 3,
     },
