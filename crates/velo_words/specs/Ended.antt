@@ -8,7 +8,6 @@ use Rattle.velo_events.specs.declared.event.ThreadId.{ThreadId}
 use Rattle.velo_events.specs.declared.refusal.Refusal.{Refusal}
 use Rattle.velo_events.specs.declared.refusal.Refusal.TheVariants as refusal
 use Rattle.velo_explain.specs.Pieces.{joined}
-use Rattle.velo_fate.specs.Format.{Reads, bytes_up_to}
 use Rattle.velo_request.specs.declared.request.ReplayOptions.{ReplayOptions}
 use Rattle.velo_request.specs.declared.request.Request.{Request}
 use Rattle.velo_request.specs.declared.request.Request.TheVariants.{Explore, Replay, Run}
@@ -24,6 +23,7 @@ use Rattle.velo_worker.specs.declared.ending.Ending.{Ending}
 use Rattle.velo_worker.specs.declared.ending.Ending.TheVariants as ending
 use Rattle.velo_workload.specs.Program.{Program, meaning_of}
 use Rattle.velo_workload.specs.declared.limits.TheConstants.{MAX_WORKLOAD_BYTES}
+use Rattle.velo_words.specs.Again.{ReadsAgain}
 use Rattle.velo_world.specs.World.{WorldState}
 
 -- ---- turns of no thread
@@ -85,7 +85,7 @@ stuck_words path waits =
 -- the workload of the file at a path
 pub record IsWorkloadAt (disk : Disk) (path : List ℕ) (program : Program) : Type 0 where
   pub bytes : List ℕ
-  pub read : Reads (bytes_up_to MAX_WORKLOAD_BYTES) disk path bytes
+  pub read : ReadsAgain MAX_WORKLOAD_BYTES disk path bytes
   pub utf8 : IsUtf8 bytes
   pub text : meaning_of bytes ≡ Ok program
 
@@ -94,7 +94,7 @@ abbrev pub IsScheduleAt : Disk → ScheduleSource → List ThreadId → Type 0
 IsScheduleAt disk (source.Text text) schedule = IsSchedule text.now schedule
 IsScheduleAt disk (source.Turns text) schedule = SaysTurns text.now schedule
 IsScheduleAt disk (source.File path) schedule =
-    (bytes : List ℕ) × Reads (bytes_up_to MAX_SCHEDULE_BYTES) disk path.now bytes
+    (bytes : List ℕ) × ReadsAgain MAX_SCHEDULE_BYTES disk path.now bytes
     × IsScheduleIn bytes schedule
 
 -- ---- what is said
