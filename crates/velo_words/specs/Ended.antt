@@ -150,6 +150,6 @@ SaysEnd disk request ended words = ⊥
 -- of a search that is undecided
 abbrev pub SaysOpen : Request → List ℕ → Type 0
 SaysOpen (Explore options) words =
-    words ≡ whole_words options.input.now (codes "not every schedule was tried, and nothing was found")
-    (codes "help: raise --states, --seconds or --events; or make runs by chance: see --random\n")
+    words ≡ whole_words options.input.now (codes "some findings are undecided")
+    (codes "help: raise --states, --seconds, --events or --nodes; or make runs by chance: see --random\n")
 SaysOpen request words = ⊥

@@ -361,8 +361,8 @@ pub(crate) fn words_of_open(alloc: Global, request: &Request) -> Option<Page>
         Request::Explore(options) => {
             let complaint = Complaint {
                 line: 0,
-                reason: "not every schedule was tried, and nothing was found",
-                help: "help: raise --states, --seconds or --events; or make runs by chance: see --random\n",
+                reason: "some findings are undecided",
+                help: "help: raise --states, --seconds, --events or --nodes; or make runs by chance: see --random\n",
             };
             place_words(alloc, options.input, &[], complaint).ok()
         }
