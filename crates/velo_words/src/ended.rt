@@ -77,7 +77,7 @@ fn refused_act(refusal: Refusal) -> &'static str
         Refusal::NotHolder => "releases a lock that it does not hold",
         Refusal::NoOpenBlock => "ends a block, but has none open",
         Refusal::TooDeep => "begins a block, but has 32 open, as many as there may be",
-        Refusal::AlreadyForked => "forks a thread that was forked before",
+        Refusal::AlreadyForked => "forks a thread that runs already or was forked before",
         Refusal::NotForked => "joins a thread that was not forked",
         Refusal::AlreadyJoined => "joins a thread that was joined before",
         Refusal::BlockOpen => "ends, but has a block open",
