@@ -51,7 +51,7 @@ place_of (source.File path) = path.now
 
 abbrev pub refused_act : Refusal → List ℕ
 refused_act refusal.AlreadyHeld = codes "acquires a lock that it holds already"
-refused_act refusal.NotHolder = codes "releases a lock that it does not hold"
+refused_act refusal.NotHolder = codes "releases a lock that it does not hold in this way"
 refused_act refusal.NoOpenBlock = codes "ends a block, but has none open"
 refused_act refusal.TooDeep = codes "begins a block, but has 32 open, as many as there may be"
 refused_act refusal.AlreadyForked = codes "forks a thread that runs already or was forked before"
@@ -68,7 +68,7 @@ refused_help refusal.LogFull = codes "help: raise the limit with --events, up to
 refused_help refusal.GraphFull = codes "help: raise the limit with --nodes, up to 4096\n"
 refused_help r = []
 
--- "velodrome: w.work: thread main releases a lock that it does not hold"
+-- "velodrome: w.work: thread main releases a lock that it does not hold in this way"
 unfoldable pub act_words : List ℕ → List (List ℕ) → ℕ → Refusal → List ℕ
 act_words path names t r = joined (
     of_file path ∷ codes "thread " ∷ name_or_number names t ∷ codes " " ∷ refused_act r

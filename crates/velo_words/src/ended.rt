@@ -74,7 +74,7 @@ fn refused_act(refusal: Refusal) -> &'static str
 {
     match refusal {
         Refusal::AlreadyHeld => "acquires a lock that it holds already",
-        Refusal::NotHolder => "releases a lock that it does not hold",
+        Refusal::NotHolder => "releases a lock that it does not hold in this way",
         Refusal::NoOpenBlock => "ends a block, but has none open",
         Refusal::TooDeep => "begins a block, but has 32 open, as many as there may be",
         Refusal::AlreadyForked => "forks a thread that runs already or was forked before",
