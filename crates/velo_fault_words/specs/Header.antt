@@ -3,7 +3,7 @@ use Rattle.std.specs.Prelude.{ℕ, ◌==◌, ◌||◌, nat_lt, Bool, is_some, Li
 use Rattle.velo_bytes.specs.Parsing.{Taken, after_word, number_at, spaced_number_at}
 use Rattle.velo_events.specs.declared.limits.TheConstants.{MAX_LOCKS, MAX_THREADS}
 use Rattle.velo_fault_words.specs.declared.header.HeaderFault.{HeaderFault}
-use Rattle.velo_fault_words.specs.declared.header.HeaderFault.TheVariants.{Locks, Marked, Other, Returned, Threads, Variables, Version, Workload}
+use Rattle.velo_fault_words.specs.declared.header.HeaderFault.TheVariants.{Cut, Locks, Longer, Marked, Other, Returned, Threads, Variables, Version, Workload}
 use Rattle.velo_fault_words.specs.Lines.{ends_in_return, first_line}
 
 -- the bytes begin with the word
@@ -24,10 +24,14 @@ abbrev pub most : ℕ
 most = 2 ^ 64 - 1
 
 -- ---- after `vlog `: version, threads, variables and locks, each read as any number of 64 bits. The
--- first that is outside its range is the fault
+-- first that is outside its range is the fault, and else what stands after them
+
+abbrev pub end_fault : List ℕ → HeaderFault
+end_fault [] = Cut
+end_fault (b ∷ bs) = if begins (codes "\n") (b ∷ bs) then Other else Longer
 
 abbrev pub locks_of : Taken ℕ → HeaderFault
-locks_of (Some (locks, rest)) = if nat_lt MAX_LOCKS locks then Locks locks else Other
+locks_of (Some (locks, rest)) = if nat_lt MAX_LOCKS locks then Locks locks else end_fault rest
 locks_of None = Other
 
 abbrev pub locks_fault : List ℕ → HeaderFault

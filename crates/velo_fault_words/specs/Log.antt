@@ -4,7 +4,7 @@ use Rattle.velo_explain.specs.Pieces.{joined}
 use Rattle.velo_logtext.specs.declared.fault.LogFault.{LogFault}
 use Rattle.velo_logtext.specs.declared.fault.LogFault.TheVariants.{BadHeader, BadLine, TooLong, Truncated}
 use Rattle.velo_fault_words.specs.declared.header.HeaderFault.{HeaderFault}
-use Rattle.velo_fault_words.specs.declared.header.HeaderFault.TheVariants.{Locks, Marked, Other, Returned, Threads, Variables, Version, Workload}
+use Rattle.velo_fault_words.specs.declared.header.HeaderFault.TheVariants.{Cut, Locks, Longer, Marked, Other, Returned, Threads, Variables, Version, Workload}
 use Rattle.velo_fault_words.specs.declared.line.LineFault.{LineFault}
 use Rattle.velo_fault_words.specs.declared.line.LineFault.TheVariants.{Blank, Comment, Label, Later, Lock, Long, More, Sound, Spaces, Tab, Thread, Unknown, Value, Variable}
 use Rattle.velo_fault_words.specs.declared.line.LineFault.TheVariants as line
@@ -25,6 +25,8 @@ header_reason (Version n) =
 header_reason (Threads n) = joined (decimal n ∷ codes " threads; a log has 1 to 64" ∷ [])
 header_reason (Variables n) = joined (decimal n ∷ codes " variables; a log has at most 65535" ∷ [])
 header_reason (Locks n) = joined (decimal n ∷ codes " locks; a log has at most 4096" ∷ [])
+header_reason Cut = codes "the line of the header has no newline"
+header_reason Longer = codes "the header goes on after its number of locks"
 header_reason Other =
     codes "this is not a log: expected a first line `vlog 2 THREADS VARIABLES LOCKS`"
 

@@ -42,6 +42,11 @@ turns_reason Blank = codes "one space parts words, and none stands at either end
 turns_reason Thread = codes "expected a thread's number from 0 to 63, or such a number, a star and a number of turns"
 turns_reason Count = codes "expected a number of turns from 2 to 1000000 after the star"
 
+-- of a word of thread numbers alone, in which no star stands
+abbrev pub numbers_reason : TurnsFault → List ℕ
+numbers_reason Thread = codes "expected a thread's number from 0 to 63"
+numbers_reason fault = turns_reason fault
+
 -- ---- a text
 
 -- the words, parted by one space
@@ -74,19 +79,23 @@ first_bad n [] = None
 first_bad n (word ∷ words) = bad_or n word (turns_fault word) (first_bad (n + 1) words)
 
 -- "velodrome: WHERE: word 3: .."
-unfoldable pub bad_word_words : List ℕ → BadWord → List ℕ
-bad_word_words place bad = joined (
-    of_file place ∷ codes "word " ∷ decimal bad.place ∷ codes ": " ∷ turns_reason bad.fault ∷ codes "\n"
+unfoldable pub bad_word_words : List ℕ → List ℕ → BadWord → List ℕ
+bad_word_words place reason bad = joined (
+    of_file place ∷ codes "word " ∷ decimal bad.place ∷ codes ": " ∷ reason ∷ codes "\n"
     ∷ shown_line bad.word ∷ [])
 
 -- too many turns, where each word is one of turns
-abbrev pub by_bad_word : List ℕ → Option BadWord → List ℕ
-by_bad_word place (Some bad) = bad_word_words place bad
-by_bad_word place None = whole_words place (codes "the schedule has more than 1000000 turns") []
+abbrev pub many_words : List ℕ → List ℕ
+many_words place = whole_words place (codes "the schedule has more than 1000000 turns") []
+
+-- by what is said of a fault
+abbrev pub by_bad_word : List ℕ → (TurnsFault → List ℕ) → Option BadWord → List ℕ
+by_bad_word place reason (Some bad) = bad_word_words place (reason bad.fault) bad
+by_bad_word place reason None = many_words place
 
 -- of a text of turns
 abbrev pub turns_words : List ℕ → List ℕ → List ℕ
-turns_words place text = by_bad_word place (first_bad 1 (words_of text))
+turns_words place text = by_bad_word place turns_reason (first_bad 1 (words_of text))
 
 -- of a text of thread numbers alone
 abbrev pub numbers_words : List ℕ → List ℕ → List ℕ
@@ -94,7 +103,7 @@ numbers_words place text =
     if list_any (λ b. b == 42) text
     then whole_words place (codes "there is a star in the text, which may have thread numbers alone")
     (codes "help: for turns such as 0*3 there is --turns\n")
-    else turns_words place text
+    else by_bad_word place numbers_reason (first_bad 1 (words_of text))
 
 -- ---- a file
 

@@ -40,15 +40,29 @@ line_reason (TooMany n) line =
     codes "one too many of its kind, or the body of the thread costs too much"
 line_reason Memory line = []
 
-abbrev pub work_reason : WorkFault → List ℕ → List ℕ
-work_reason fault line =
-    if work_line fault == 0 then codes "this is not UTF-8, has no thread, or is too long"
-    else line_reason fault line
+-- of a text that is not too long
+abbrev pub text_reason : List ℕ → List ℕ
+text_reason [] = codes "the workload is empty"
+text_reason (b ∷ bs) = codes "this is not UTF-8, or has no thread"
+
+abbrev pub whole_reason : WorkFault → List ℕ → List ℕ
+whole_reason (TooMany n) bytes = codes "the workload has more than 16777216 bytes"
+whole_reason fault bytes = text_reason bytes
+
+abbrev pub work_reason : WorkFault → List ℕ → List ℕ → List ℕ
+work_reason fault line bytes =
+    if work_line fault == 0 then whole_reason fault bytes else line_reason fault line
+
+-- a thread can be one too many, or its body costs too much
+abbrev pub many_help : List ℕ → List ℕ
+many_help line =
+    if_after (after_word (codes "thread ") line)
+    (λ rest. codes "help: there may be 64 threads, and a body may cost 16777216: a statement costs 1, `repeat n` 1 + n * (1 + what it repeats)\n")
+    (codes "help: there may be 65535 variables, 4096 locks, 1000000 statements and 8 repeats in one another\n")
 
 abbrev pub line_help : WorkFault → List ℕ → List ℕ
 line_help (BadLine n) line = bad_line_help line
-line_help (TooMany n) line =
-    codes "help: a body may cost 16777216: a statement costs 1, and `repeat n` 1 + n * (1 + what it repeats)\n"
+line_help (TooMany n) line = many_help line
 line_help fault line = []
 
 abbrev pub work_help : WorkFault → List ℕ → List ℕ
@@ -57,5 +71,6 @@ work_help fault line = if work_line fault == 0 then [] else line_help fault line
 -- by the path and the bytes of the text
 abbrev pub work_words : List ℕ → List ℕ → WorkFault → List ℕ
 work_words path bytes fault =
-    place_words path bytes (work_line fault) (work_reason fault (line_at (work_line fault) bytes))
+    place_words path bytes (work_line fault)
+    (work_reason fault (line_at (work_line fault) bytes) bytes)
     (work_help fault (line_at (work_line fault) bytes))

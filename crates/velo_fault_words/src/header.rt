@@ -1,6 +1,6 @@
 //! What is wrong with the first line of a log.
 ghost use Rattle.std.specs.Prelude.{◌≡◌};
-ghost use Rattle.velo_fault_words.specs.Header.{begins, bounds_fault, header_fault_of, looks_like_workload, locks_fault, looks_marked, variables_fault, version_fault};
+ghost use Rattle.velo_fault_words.specs.Header.{begins, bounds_fault, end_fault, header_fault_of, looks_like_workload, locks_fault, looks_marked, variables_fault, version_fault};
 ghost use Rattle.velo_fault_words.specs.Lines.{first_line};
 
 use crate::lines::{ends_in_return, first_line};
@@ -24,6 +24,10 @@ pub enum HeaderFault {
     Variables(u64),
     /// It has this number of locks, which is too large.
     Locks(u64),
+    /// The text ends after its numbers, without a newline.
+    Cut,
+    /// It goes on after its numbers.
+    Longer,
     /// It is another line.
     Other,
 }
@@ -52,13 +56,33 @@ fn looks_like_workload(bytes: &[u8]) -> bool
     begins(b"var ", bytes) || begins(b"lock ", bytes) || begins(b"thread ", bytes)
 }
 
-/// What is wrong with the number of locks, which stands at the front.
+/// What is wrong with what stands after the numbers.
+fn end_fault(rest: &[u8]) -> HeaderFault
+    ensures { result ≡ end_fault rest.now }
+{
+    if rest.is_empty() {
+        return HeaderFault::Cut;
+    }
+    if begins(b"\n", rest) {
+        HeaderFault::Other
+    } else {
+        HeaderFault::Longer
+    }
+}
+
+/// What is wrong with the number of locks, which stands at the front, or with what is after it.
 fn locks_fault(bytes: &[u8]) -> HeaderFault
     ensures { result ≡ locks_fault bytes.now }
 {
     match number(bytes, u64::MAX) {
-        Some((locks, _)) if locks > u64::from(MAX_LOCKS) => HeaderFault::Locks(locks),
-        _ => HeaderFault::Other,
+        None => HeaderFault::Other,
+        Some((locks, rest)) => {
+            if locks > u64::from(MAX_LOCKS) {
+                HeaderFault::Locks(locks)
+            } else {
+                end_fault(rest)
+            }
+        }
     }
 }
 

@@ -48,6 +48,10 @@ fn add_header_reason(page: &mut Page, fault: HeaderFault) -> Result<(), Memory>
                 Piece::Text(" locks; a log has at most 4096"),
             ])
         }
+        HeaderFault::Cut => page.add(&[Piece::Text("the line of the header has no newline")]),
+        HeaderFault::Longer => page.add(&[Piece::Text(
+            "the header goes on after its number of locks",
+        )]),
         HeaderFault::Other => page.add(&[Piece::Text(
             "this is not a log: expected a first line `vlog 2 THREADS VARIABLES LOCKS`",
         )]),

@@ -2,7 +2,7 @@
 ghost use Rattle.std.specs.Prelude.{◌≡◌, ◌≤◌, ◌<◌, ◌==◌, ◌++◌, ◌∷◌, IfOk, OnOk, IfSome, length, option_map};
 ghost use Rattle.std.specs.List.{list_any, position_or_len};
 ghost use Rattle.std.specs.Option.{option_copied};
-ghost use Rattle.velo_fault_words.specs.Schedule.{bad_word, bad_word_words, count_fault, first_bad, numbers_words, others_of, rest_fault, schedule_words, turns_fault, turns_reason, turns_words, without_newline, words_of};
+ghost use Rattle.velo_fault_words.specs.Schedule.{bad_word, bad_word_words, count_fault, first_bad, many_words, numbers_reason, numbers_words, others_of, rest_fault, schedule_words, turns_fault, turns_reason, turns_words, without_newline, words_of};
 ghost use Rattle.velo_fault_words.specs.Place.{whole_words};
 
 use crate::lines::{add_file, add_shown};
@@ -84,6 +84,16 @@ fn turns_reason(fault: TurnsFault) -> &'static str
     }
 }
 
+/// What is wrong with a word of thread numbers alone, in which no star stands.
+fn numbers_reason(fault: TurnsFault) -> &'static str
+    ensures { result.now ≡ numbers_reason fault }
+{
+    match fault {
+        TurnsFault::Thread => "expected a thread's number from 0 to 63",
+        _ => turns_reason(fault),
+    }
+}
+
 /// The index of the first space, or the length.
 fn word_end(bytes: &[u8]) -> usize
     ensures value { result ≡ position_or_len (λ b. b == 32) bytes.now }
@@ -130,26 +140,33 @@ fn first_bad(text: &[u8]) -> Option<BadWord<'_>>
 
 /// Adds what is said of a word.
 #[tactic(auto, unfolding(crate::specs::Schedule::bad_word_words))]
-fn add_bad_word(page: &mut Page, alloc: Global, place: &str, bad: BadWord) -> Result<(), Memory>
-    ensures { OnOk result (page.new ≡ page.old ++ bad_word_words place.now (bad_word bad.entry)) }
+fn add_bad_word(
+    page: &mut Page,
+    alloc: Global,
+    place: &str,
+    reason: &str,
+    bad: BadWord,
+) -> Result<(), Memory>
+    ensures { OnOk result
+        (page.new ≡ page.old ++ bad_word_words place.now reason.now (bad_word bad.entry)) }
 {
     add_file(page, place)?;
     page.add(&[
         Piece::Text("word "),
         Piece::Number(bad.place as u64),
         Piece::Text(": "),
-        Piece::Text(turns_reason(bad.fault)),
+        Piece::Text(reason),
         Piece::Text("\n"),
     ])?;
     add_shown(page, alloc, bad.word)
 }
 
 /// What is said of a word.
-fn bad_word_words(alloc: Global, place: &str, bad: BadWord) -> Result<Page, Memory>
-    ensures { IfOk result (λ page. page ≡ bad_word_words place.now (bad_word bad.entry)) }
+fn bad_word_words(alloc: Global, place: &str, reason: &str, bad: BadWord) -> Result<Page, Memory>
+    ensures { IfOk result (λ page. page ≡ bad_word_words place.now reason.now (bad_word bad.entry)) }
 {
     let mut page = Page::new(alloc);
-    add_bad_word(&mut page, alloc, place, bad)?;
+    add_bad_word(&mut page, alloc, place, reason, bad)?;
     Ok(page)
 }
 
@@ -165,6 +182,13 @@ fn whole_words(alloc: Global, place: &str, reason: &str, help: &str) -> Result<P
     place_words(alloc, place, &[], complaint)
 }
 
+/// What is said of a text in which each word is one of turns.
+fn many_words(alloc: Global, place: &str) -> Result<Page, Memory>
+    ensures { IfOk result (λ page. page ≡ many_words place.now) }
+{
+    whole_words(alloc, place, "the schedule has more than 1000000 turns", "")
+}
+
 /// What is said of a text that says no turns.
 ///
 /// # Errors
@@ -173,8 +197,8 @@ pub fn turns_words(alloc: Global, place: &str, text: &[u8]) -> Result<Page, Memo
     ensures { IfOk result (λ page. page ≡ turns_words place.now text.now) }
 {
     match first_bad(text) {
-        Some(bad) => bad_word_words(alloc, place, bad),
-        None => whole_words(alloc, place, "the schedule has more than 1000000 turns", ""),
+        Some(bad) => bad_word_words(alloc, place, turns_reason(bad.fault), bad),
+        None => many_words(alloc, place),
     }
 }
 
@@ -193,7 +217,10 @@ pub fn numbers_words(alloc: Global, place: &str, text: &[u8]) -> Result<Page, Me
             "help: for turns such as 0*3 there is --turns\n",
         );
     }
-    turns_words(alloc, place, text)
+    match first_bad(text) {
+        Some(bad) => bad_word_words(alloc, place, numbers_reason(bad.fault), bad),
+        None => many_words(alloc, place),
+    }
 }
 
 /// The bytes without a newline at their end.

@@ -1,6 +1,6 @@
 //! What is said of a text that is no workload.
 ghost use Rattle.std.specs.Prelude.{◌≡◌, IfOk};
-ghost use Rattle.velo_fault_words.specs.Work.{bad_line_help, bad_line_reason, line_help, line_reason, work_help, work_line, work_reason, work_words};
+ghost use Rattle.velo_fault_words.specs.Work.{bad_line_help, bad_line_reason, line_help, line_reason, many_help, text_reason, whole_reason, work_help, work_line, work_reason, work_words};
 
 use crate::lines::line_at;
 use crate::place::{Complaint, place_words};
@@ -58,14 +58,48 @@ fn line_reason(fault: WorkFault, line: &[u8]) -> &'static str
     }
 }
 
-/// What is wrong with the text.
-fn work_reason(fault: WorkFault, line: &[u8]) -> &'static str
-    ensures { result.now ≡ work_reason fault line.now }
+/// What is wrong with a text that is not too long.
+fn text_reason(bytes: &[u8]) -> &'static str
+    ensures { result.now ≡ text_reason bytes.now }
+{
+    if bytes.is_empty() {
+        return "the workload is empty";
+    }
+    "this is not UTF-8, or has no thread"
+}
+
+/// What is wrong with all of the text.
+fn whole_reason(fault: WorkFault, bytes: &[u8]) -> &'static str
+    ensures { result.now ≡ whole_reason fault bytes.now }
+{
+    match fault {
+        WorkFault::TooMany(_) => "the workload has more than 16777216 bytes",
+        _ => text_reason(bytes),
+    }
+}
+
+/// What is wrong with the text, by the line of the fault.
+fn work_reason(fault: WorkFault, line: &[u8], bytes: &[u8]) -> &'static str
+    ensures { result.now ≡ work_reason fault line.now bytes.now }
 {
     if work_line(fault) == 0 {
-        return "this is not UTF-8, has no thread, or is too long";
+        return whole_reason(fault, bytes);
     }
     line_reason(fault, line)
+}
+
+/// What to do about a line that is one too many.
+fn many_help(line: &[u8]) -> &'static str
+    ensures { result.now ≡ many_help line.now }
+{
+    match after(line, b"thread ") {
+        Some(_) => {
+            "help: there may be 64 threads, and a body may cost 16777216: a statement costs 1, `repeat n` 1 + n * (1 + what it repeats)\n"
+        }
+        None => {
+            "help: there may be 65535 variables, 4096 locks, 1000000 statements and 8 repeats in one another\n"
+        }
+    }
 }
 
 /// What to do about the line of a fault.
@@ -74,9 +108,7 @@ fn line_help(fault: WorkFault, line: &[u8]) -> &'static str
 {
     match fault {
         WorkFault::BadLine(_) => bad_line_help(line),
-        WorkFault::TooMany(_) => {
-            "help: a body may cost 16777216: a statement costs 1, and `repeat n` 1 + n * (1 + what it repeats)\n"
-        }
+        WorkFault::TooMany(_) => many_help(line),
         _ => "",
     }
 }
@@ -102,7 +134,7 @@ pub fn work_words(alloc: Global, path: &str, bytes: &[u8], fault: WorkFault) -> 
     let shown = line_at(line, bytes);
     let complaint = Complaint {
         line,
-        reason: work_reason(fault, shown),
+        reason: work_reason(fault, shown, bytes),
         help: work_help(fault, shown),
     };
     place_words(alloc, path, bytes, complaint)

@@ -8,7 +8,6 @@ use Rattle.velo_events.specs.declared.event.ThreadId.{ThreadId}
 use Rattle.velo_events.specs.declared.refusal.Refusal.{Refusal}
 use Rattle.velo_events.specs.declared.refusal.Refusal.TheVariants as refusal
 use Rattle.velo_explain.specs.Pieces.{joined}
-use Rattle.velo_fate.specs.Format.{Reads, bytes_up_to}
 use Rattle.velo_request.specs.declared.request.ReplayOptions.{ReplayOptions}
 use Rattle.velo_request.specs.declared.request.Request.{Request}
 use Rattle.velo_request.specs.declared.request.Request.TheVariants.{Explore, Replay, Run}
@@ -24,6 +23,7 @@ use Rattle.velo_worker.specs.declared.ending.Ending.{Ending}
 use Rattle.velo_worker.specs.declared.ending.Ending.TheVariants as ending
 use Rattle.velo_workload.specs.Program.{Program, meaning_of}
 use Rattle.velo_workload.specs.declared.limits.TheConstants.{MAX_WORKLOAD_BYTES}
+use Rattle.velo_words.specs.Again.{ReadsAgain}
 use Rattle.velo_world.specs.World.{WorldState}
 
 -- ---- turns of no thread
@@ -51,10 +51,10 @@ place_of (source.File path) = path.now
 
 abbrev pub refused_act : Refusal → List ℕ
 refused_act refusal.AlreadyHeld = codes "acquires a lock that it holds already"
-refused_act refusal.NotHolder = codes "releases a lock that it does not hold"
+refused_act refusal.NotHolder = codes "releases a lock that it does not hold in this way"
 refused_act refusal.NoOpenBlock = codes "ends a block, but has none open"
 refused_act refusal.TooDeep = codes "begins a block, but has 32 open, as many as there may be"
-refused_act refusal.AlreadyForked = codes "forks a thread that was forked before"
+refused_act refusal.AlreadyForked = codes "forks a thread that runs already or was forked before"
 refused_act refusal.NotForked = codes "joins a thread that was not forked"
 refused_act refusal.AlreadyJoined = codes "joins a thread that was joined before"
 refused_act refusal.BlockOpen = codes "ends, but has a block open"
@@ -68,7 +68,7 @@ refused_help refusal.LogFull = codes "help: raise the limit with --events, up to
 refused_help refusal.GraphFull = codes "help: raise the limit with --nodes, up to 4096\n"
 refused_help r = []
 
--- "velodrome: w.work: thread main releases a lock that it does not hold"
+-- "velodrome: w.work: thread main releases a lock that it does not hold in this way"
 unfoldable pub act_words : List ℕ → List (List ℕ) → ℕ → Refusal → List ℕ
 act_words path names t r = joined (
     of_file path ∷ codes "thread " ∷ name_or_number names t ∷ codes " " ∷ refused_act r
@@ -85,7 +85,7 @@ stuck_words path waits =
 -- the workload of the file at a path
 pub record IsWorkloadAt (disk : Disk) (path : List ℕ) (program : Program) : Type 0 where
   pub bytes : List ℕ
-  pub read : Reads (bytes_up_to MAX_WORKLOAD_BYTES) disk path bytes
+  pub read : ReadsAgain MAX_WORKLOAD_BYTES disk path bytes
   pub utf8 : IsUtf8 bytes
   pub text : meaning_of bytes ≡ Ok program
 
@@ -94,7 +94,7 @@ abbrev pub IsScheduleAt : Disk → ScheduleSource → List ThreadId → Type 0
 IsScheduleAt disk (source.Text text) schedule = IsSchedule text.now schedule
 IsScheduleAt disk (source.Turns text) schedule = SaysTurns text.now schedule
 IsScheduleAt disk (source.File path) schedule =
-    (bytes : List ℕ) × Reads (bytes_up_to MAX_SCHEDULE_BYTES) disk path.now bytes
+    (bytes : List ℕ) × ReadsAgain MAX_SCHEDULE_BYTES disk path.now bytes
     × IsScheduleIn bytes schedule
 
 -- ---- what is said
@@ -150,6 +150,6 @@ SaysEnd disk request ended words = ⊥
 -- of a search that is undecided
 abbrev pub SaysOpen : Request → List ℕ → Type 0
 SaysOpen (Explore options) words =
-    words ≡ whole_words options.input.now (codes "not every schedule was tried, and nothing was found")
-    (codes "help: raise --states, --seconds or --events; or make runs by chance: see --random\n")
+    words ≡ whole_words options.input.now (codes "some findings are undecided")
+    (codes "help: raise --states, --seconds, --events or --nodes; or make runs by chance: see --random\n")
 SaysOpen request words = ⊥

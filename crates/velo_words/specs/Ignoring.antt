@@ -2,7 +2,6 @@
 use Rattle.std.specs.Prelude.{◌≡◌, ◌==◌, ◌++◌, ℕ, Bool, true, false, find, length, List, [], codes, Option, Some, None, IsSomeAnd, Ok}
 use Rattle.std.specs.Borrow.{Bor}
 use Rattle.velo_delivery.specs.Disk.{Disk}
-use Rattle.velo_fate.specs.Format.{Reads, bytes_up_to}
 use Rattle.velo_names.specs.Names.{NameLists, ReadsAs, meant_by, no_names}
 use Rattle.velo_names.specs.declared.kind.NameKind.{NameKind}
 use Rattle.velo_names.specs.declared.kind.NameKind.TheVariants as kind
@@ -12,6 +11,7 @@ use Rattle.velo_request.specs.declared.request.Ignorable.TheVariants.{Label, Loc
 use Rattle.velo_request.specs.declared.request.Ignored.{Ignored}
 use Rattle.velo_request.specs.declared.request.Request.{Request}
 use Rattle.velo_request.specs.declared.request.Request.TheVariants.{Audit, Explain, Predict, Thin}
+use Rattle.velo_words.specs.Again.{ReadsAgain}
 use Rattle.velo_words.specs.Given.{names_explained_of}
 use Rattle.velo_fault_words.specs.Lines.{shown_line}
 use Rattle.velo_fault_words.specs.Place.{whole_words}
@@ -85,7 +85,7 @@ pub record SaysVainOf (bytes : List ℕ) (what : Ignorable) (ignored : Ignored) 
 pub record SaysVainAt (disk : Disk) (path : List ℕ) (what : Ignorable) (ignored : Ignored)
     (words : List ℕ) : Type 0 where
   pub bytes : List ℕ
-  pub read : Reads (bytes_up_to MAX_NAMES_BYTES) disk path bytes
+  pub read : ReadsAgain MAX_NAMES_BYTES disk path bytes
   pub said : SaysVainOf bytes what ignored words
 
 -- by the names that are given; without a file there are none

@@ -1,3 +1,4 @@
+pub mod Again
 pub mod Ended
 pub mod Events
 pub mod Failing

@@ -74,12 +74,27 @@ not_live_words bounds before t =
     if nat_le bounds.threads t.0 then bound_words bounds.threads (codes "threads")
     else at_line (codes ", but exited in line ") (last_of (Exit t) before) (codes ", but no line before forks it")
 
--- who holds the lock that is acquired or released
+-- who holds the lock that is acquired
 abbrev pub held_words : List Event → Kind → List ℕ → List ℕ
 held_words before (kind.Acquire m) without = holder_words (last_of (OnLock m) before) without
 held_words before (kind.AcquireShared m) without = holder_words (last_of (OnLock m) before) without
-held_words before (kind.Release m) without = holder_words (last_of (OnLock m) before) without
 held_words before k without = without
+
+-- of a lock that a thread does not hold alone, by its last acquire of it. A share may still be held
+abbrev pub unheld_after : Kind → List ℕ
+unheld_after (kind.AcquireShared m) = codes ", which it does not hold alone"
+unheld_after k = codes ", which it does not hold"
+
+abbrev pub unheld : Option (ℕ × Event) → List ℕ
+unheld (Some (n, e)) = unheld_after e.kind
+unheld None = codes ", which it does not hold"
+
+-- how the thread does not hold what it releases
+abbrev pub not_holder_words : List Event → ThreadId → Kind → List ℕ
+not_holder_words before t (kind.Release m) =
+    holder_words (last_of (OnLock m) before) (unheld (last_of (Acquire t m) before))
+not_holder_words before t (kind.ReleaseShared m) = codes ", of which it holds no share"
+not_holder_words before t k = []
 
 -- since when the thread itself holds it
 abbrev pub own_words : List Event → ThreadId → Option LockId → List ℕ
@@ -123,7 +138,7 @@ reason bounds before e refusal.NoSuchLock = bound_words bounds.locks (codes "loc
 reason bounds before e refusal.NoSuchThread = bound_words bounds.threads (codes "threads")
 reason bounds before e refusal.Busy = held_words before e.kind (codes ", of which others hold a share")
 reason bounds before e refusal.AlreadyHeld = own_words before e.thread (lock_acquired e.kind)
-reason bounds before e refusal.NotHolder = held_words before e.kind (codes ", which it does not hold")
+reason bounds before e refusal.NotHolder = not_holder_words before e.thread e.kind
 reason bounds before e refusal.AlreadyForked = forked_words before e.kind
 reason bounds before e refusal.AlreadyJoined = joined_words before e.kind
 reason bounds before e refusal.LogFull = full_words (length before)
@@ -132,7 +147,6 @@ reason bounds before e r = plain_refusal r
 -- ---- what to do
 
 abbrev pub refusal_help : Refusal → List ℕ
-refusal_help refusal.NotLive = codes "help: write a line `T fork U` before the first event of thread U\n"
 refusal_help refusal.NoSuchVariable = codes "help: the header is `vlog 2 THREADS VARIABLES LOCKS`\n"
 refusal_help refusal.NoSuchLock = codes "help: the header is `vlog 2 THREADS VARIABLES LOCKS`\n"
 refusal_help refusal.NoSuchThread = codes "help: the header is `vlog 2 THREADS VARIABLES LOCKS`\n"
@@ -140,6 +154,21 @@ refusal_help refusal.AlreadyHeld = codes "help: write down the outermost acquire
 refusal_help refusal.LogFull = codes "help: raise the limit with --events, up to 16777216\n"
 refusal_help refusal.GraphFull = codes "help: raise the limit with --nodes, up to 4096\n"
 refusal_help r = []
+
+-- whether the thread exited
+abbrev pub forking_help : Option (ℕ × Event) → List ℕ
+forking_help (Some (n, e)) = []
+forking_help None = codes "help: write a line `T fork U` before the first event of thread U\n"
+
+-- it is beyond the threads, has exited, or was not forked
+abbrev pub not_live_help : Bounds → List Event → ThreadId → List ℕ
+not_live_help bounds before t =
+    if nat_le bounds.threads t.0 then codes "help: the header is `vlog 2 THREADS VARIABLES LOCKS`\n"
+    else forking_help (last_of (Exit t) before)
+
+abbrev pub help_after : Bounds → List Event → ThreadId → Refusal → List ℕ
+help_after bounds before t refusal.NotLive = not_live_help bounds before t
+help_after bounds before t r = refusal_help r
 
 -- ---- the words, by path, header, the events before and the event. Its line is shown
 
@@ -149,7 +178,7 @@ shown_event e = joined (codes "\n    " ∷ event_text e ∷ codes "\n" ∷ [])
 unfoldable pub refused_words : List ℕ → Bounds → List Event → Event → Refusal → List ℕ
 refused_words path bounds before e r = joined (
     of_line path (line_of (length before)) ∷ thread_words e.thread ∷ kind_words e.kind
-    ∷ reason bounds before e r ∷ shown_event e ∷ refusal_help r ∷ [])
+    ∷ reason bounds before e r ∷ shown_event e ∷ help_after bounds before e.thread r ∷ [])
 
 -- the value that the variable has instead
 abbrev pub read_words : List Event → Kind → List ℕ

@@ -8,7 +8,6 @@ use Rattle.velo_events.specs.declared.event.Event.{Event}
 use Rattle.velo_events.specs.declared.refusal.Refusal.{Refusal}
 use Rattle.velo_explain.specs.Pieces.{line_of}
 use Rattle.velo_fate.specs.Fate.{Closes, Ends, last_line_of, status_of}
-use Rattle.velo_fate.specs.Format.{Reads, bytes_up_to}
 use Rattle.velo_fate.specs.declared.fate.Fate.{Fate}
 use Rattle.velo_fate.specs.declared.fate.Fate.TheVariants as fate
 use Rattle.velo_fate.specs.declared.fault.CheckFault.TheVariants as check_fault
@@ -22,6 +21,7 @@ use Rattle.velo_schedule_text.specs.declared.schedule.ScheduleFault.TheVariants 
 use Rattle.velo_sites.specs.declared.fault.SitesFault.TheVariants as sites_fault
 use Rattle.velo_suppressions.specs.declared.fault.ListFault.TheVariants as list_fault
 use Rattle.velo_workload.specs.declared.fault.WorkFault.TheVariants as work_fault
+use Rattle.velo_words.specs.Again.{ReadsAgain}
 use Rattle.velo_words.specs.declared.failing.SystemReason.{SystemReason}
 use Rattle.velo_words.specs.Ended.{SaysEnd, SaysOpen}
 use Rattle.velo_words.specs.Events.{HasEvent}
@@ -60,7 +60,7 @@ work_of _ = None
 -- was read once more, all of them or more than the fault asks for
 pub record SaysFault (disk : Disk) (path : List ℕ) (fault : FileFault) (words : List ℕ) : Type 0 where
   pub bytes : List ℕ
-  pub read : Reads (bytes_up_to (most_bytes_for fault)) disk path bytes
+  pub read : ReadsAgain (most_bytes_for fault) disk path bytes
   pub said : words ≡ fault_words path bytes fault
 
 -- what is said of a text that is no schedule, by the option that has it, or by the bytes that its
@@ -69,7 +69,7 @@ abbrev pub SaysSchedule : Disk → ScheduleSource → List ℕ → Type 0
 SaysSchedule disk (source.Text text) words = words ≡ numbers_words (codes "--schedule") text.now
 SaysSchedule disk (source.Turns text) words = words ≡ turns_words (codes "--turns") text.now
 SaysSchedule disk (source.File path) words =
-    (bytes : List ℕ) × Reads (bytes_up_to MAX_SCHEDULE_BYTES) disk path.now bytes
+    (bytes : List ℕ) × ReadsAgain MAX_SCHEDULE_BYTES disk path.now bytes
     × (words ≡ schedule_words path.now bytes)
 
 -- by the header, the events before it and the event: that it is refused, or else reads a wrong value
@@ -91,7 +91,7 @@ pub record IsTextAt (path : List ℕ) (refusal : Option Refusal) (p : ℕ) (byte
 pub record SaysEvent (disk : Disk) (path : List ℕ) (refusal : Option Refusal) (p : ℕ)
     (words : List ℕ) : Type 0 where
   pub bytes : List ℕ
-  pub read : Reads (bytes_up_to (most_up_to (line_of p))) disk path bytes
+  pub read : ReadsAgain (most_up_to (line_of p)) disk path bytes
   pub said : IsTextAt path refusal p bytes words
 
 -- what is said of a fate

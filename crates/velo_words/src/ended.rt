@@ -7,12 +7,12 @@ ghost use Rattle.velo_request.specs.declared.request.ScheduleSource.TheVariants.
 ghost use Rattle.velo_worker.specs.declared.ending.Ending.TheVariants.{Refused as RefusedOf, Stuck};
 ghost use Rattle.velo_words.specs.Ended.{IsScheduleAt, IsStuckReplay, IsWorkloadAt, SaysEnd, SaysOpen, SaysReplay, SaysRun, SaysStop, act_words, foreign_in, foreign_words, none_of_words, place_of, refused_act, refused_help, stuck_words};
 
+use crate::again::read_again;
 use std::alloc::Global;
 use velo_deadlock::waits_of;
 use velo_delivery::Files;
 use velo_events::{Config, Memory, Refusal, ThreadId};
 use velo_explain::{Page, Piece};
-use velo_fate::read_file;
 use velo_fault_words::{Complaint, add_file, add_text, place_words};
 use velo_request::{ReplayOptions, Request, RunOptions, ScheduleSource};
 use velo_schedule_text::{MAX_SCHEDULE_BYTES, schedule_in, schedule_of, turns_of};
@@ -74,10 +74,10 @@ fn refused_act(refusal: Refusal) -> &'static str
 {
     match refusal {
         Refusal::AlreadyHeld => "acquires a lock that it holds already",
-        Refusal::NotHolder => "releases a lock that it does not hold",
+        Refusal::NotHolder => "releases a lock that it does not hold in this way",
         Refusal::NoOpenBlock => "ends a block, but has none open",
         Refusal::TooDeep => "begins a block, but has 32 open, as many as there may be",
-        Refusal::AlreadyForked => "forks a thread that was forked before",
+        Refusal::AlreadyForked => "forks a thread that runs already or was forked before",
         Refusal::NotForked => "joins a thread that was not forked",
         Refusal::AlreadyJoined => "joins a thread that was joined before",
         Refusal::BlockOpen => "ends, but has a block open",
@@ -147,10 +147,7 @@ fn add_stuck(page: &mut Page, path: &str, waits: &str) -> Result<(), Memory>
 fn workload_at<F: Files>(alloc: Global, path: &str, files: &F) -> Option<Workload>
     ensures { IfSome result (IsWorkloadAt (F.disk files.now) path.now) }
 {
-    if !files.are_one(path, path) {
-        return None;
-    }
-    let bytes = read_file(alloc, path, MAX_WORKLOAD_BYTES, files).ok()?;
+    let bytes = read_again(alloc, path, MAX_WORKLOAD_BYTES, files)?;
     let text = text_of(&bytes).ok()?;
     parse(alloc, text).ok()
 }
@@ -159,10 +156,7 @@ fn workload_at<F: Files>(alloc: Global, path: &str, files: &F) -> Option<Workloa
 fn schedule_at<F: Files>(alloc: Global, path: &str, files: &F) -> Option<Vec<ThreadId>>
     ensures { IfSome result (λ schedule. IsScheduleAt (F.disk files.now) (FileOf path.entry) schedule.items) }
 {
-    if !files.are_one(path, path) {
-        return None;
-    }
-    let bytes = read_file(alloc, path, MAX_SCHEDULE_BYTES, files).ok()?;
+    let bytes = read_again(alloc, path, MAX_SCHEDULE_BYTES, files)?;
     schedule_in(alloc, &bytes).ok()
 }
 
@@ -367,8 +361,8 @@ pub(crate) fn words_of_open(alloc: Global, request: &Request) -> Option<Page>
         Request::Explore(options) => {
             let complaint = Complaint {
                 line: 0,
-                reason: "not every schedule was tried, and nothing was found",
-                help: "help: raise --states, --seconds or --events; or make runs by chance: see --random\n",
+                reason: "some findings are undecided",
+                help: "help: raise --states, --seconds, --events or --nodes; or make runs by chance: see --random\n",
             };
             place_words(alloc, options.input, &[], complaint).ok()
         }

@@ -3,12 +3,12 @@ ghost use Rattle.std.specs.Prelude.{◌≡◌, ◌==◌, IfOk, IfSome, Some, fal
 ghost use Rattle.velo_names.specs.Names.{meant_by, no_names};
 ghost use Rattle.velo_words.specs.Ignoring.{SaysVain, SaysVainAt, SaysVainBy, SaysVainOf, first_in_vain, ignored_of, kind_of, option_of, vain_help, vain_reason, vain_words, words_of};
 
+use crate::again::read_again;
 use crate::given::names_explained_of;
 use std::alloc::Global;
 use velo_delivery::Files;
 use velo_events::Memory;
 use velo_explain::Page;
-use velo_fate::read_file;
 use velo_fault_words::{Complaint, add_shown, add_text, place_words};
 use velo_names::{MAX_NAMES_BYTES, NameKind, Names};
 use velo_request::{Ignorable, Ignored, Request};
@@ -155,13 +155,8 @@ fn words_by_file<F: Files>(
 ) -> Option<Page>
     ensures { IfSome result (SaysVainAt (F.disk files.now) path.now what ignored.entry) }
 {
-    if !files.are_one(path, path) {
-        return None;
-    }
-    match read_file(alloc, path, MAX_NAMES_BYTES, files) {
-        Ok(bytes) => words_by_names(alloc, &bytes, what, ignored),
-        Err(_) => None,
-    }
+    let bytes = read_again(alloc, path, MAX_NAMES_BYTES, files)?;
+    words_by_names(alloc, &bytes, what, ignored)
 }
 
 /// The same, where there are no names.

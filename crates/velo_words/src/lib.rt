@@ -1,6 +1,7 @@
 //! How a command or a run ended, in words: which file has a fault or failed, and why a run did not go on.
 #![tactic(auto)]
 
+mod again;
 mod ended;
 mod events;
 mod failing;

@@ -2,7 +2,7 @@
 ghost use Rattle.std.specs.Prelude.{◌≡◌, ◌≤◌, ◌++◌, IfOk, OnOk, length};
 ghost use Rattle.velo_events.specs.Event.{value_of};
 ghost use Rattle.velo_events.specs.declared.limits.TheConstants.{MAX_EVENTS};
-ghost use Rattle.velo_words.specs.Refused.{at_line, bound_words, by_acquire, by_line, forked_words, full_words, held_words, holder_words, joined_words, kind_words, lock_acquired, not_live_words, own_words, plain_refusal, read_help, read_words, reason, refusal_help, refused_words, shown_event, since_words, thread_words, value_words, wrong_value_words};
+ghost use Rattle.velo_words.specs.Refused.{at_line, bound_words, by_acquire, by_line, forked_words, full_words, held_words, help_after, holder_words, joined_words, kind_words, lock_acquired, not_holder_words, not_live_help, not_live_words, own_words, plain_refusal, read_help, read_words, reason, refusal_help, refused_words, shown_event, since_words, thread_words, unheld, unheld_after, value_words, wrong_value_words};
 
 use crate::events::{Sought, last_of};
 use std::alloc::Global;
@@ -208,16 +208,57 @@ fn add_not_live(
     )
 }
 
-/// Adds who holds the lock of an operation, or the words where nobody does.
+/// Adds who holds the lock that is acquired, or the words where nobody holds it alone.
 fn add_held(page: &mut Page, before: &[Event], kind: Kind, without: &str) -> Result<(), Memory>
     requires { length before.now ≤ MAX_EVENTS }
     ensures { OnOk result (page.new ≡ page.old ++ held_words before.now kind without.now) }
 {
     match kind {
-        Kind::Acquire(m) | Kind::AcquireShared(m) | Kind::Release(m) => {
+        Kind::Acquire(m) | Kind::AcquireShared(m) => {
             add_holder(page, last_of(before, Sought::OnLock(m)), without)
         }
         _ => add_text(page, without),
+    }
+}
+
+/// What is said of a lock that a thread does not hold alone, by its last acquire of it. A share may
+/// still be held.
+fn unheld_after(kind: Kind) -> &'static str
+    ensures { result.now ≡ unheld_after kind }
+{
+    match kind {
+        Kind::AcquireShared(_) => ", which it does not hold alone",
+        _ => ", which it does not hold",
+    }
+}
+
+/// The same, where a thread may have acquired it never.
+fn unheld(last: Option<(u64, Event)>) -> &'static str
+    ensures { result.now ≡ unheld last }
+{
+    match last {
+        Some((_, event)) => unheld_after(event.kind),
+        None => ", which it does not hold",
+    }
+}
+
+/// Adds how a thread does not hold what it releases.
+fn add_not_holder(
+    page: &mut Page,
+    before: &[Event],
+    thread: ThreadId,
+    kind: Kind,
+) -> Result<(), Memory>
+    requires { length before.now ≤ MAX_EVENTS }
+    ensures { OnOk result (page.new ≡ page.old ++ not_holder_words before.now thread kind) }
+{
+    match kind {
+        Kind::Release(m) => {
+            let own = last_of(before, Sought::Acquire(thread, m));
+            add_holder(page, last_of(before, Sought::OnLock(m)), unheld(own))
+        }
+        Kind::ReleaseShared(_) => add_text(page, ", of which it holds no share"),
+        _ => Ok(()),
     }
 }
 
@@ -334,7 +375,7 @@ fn add_reason(
         Refusal::NoSuchThread => add_bound(page, u64::from(bounds.threads), "threads"),
         Refusal::Busy => add_held(page, before, event.kind, ", of which others hold a share"),
         Refusal::AlreadyHeld => add_own(page, before, event.thread, lock_acquired(event.kind)),
-        Refusal::NotHolder => add_held(page, before, event.kind, ", which it does not hold"),
+        Refusal::NotHolder => add_not_holder(page, before, event.thread, event.kind),
         Refusal::AlreadyForked => add_forked(page, before, event.kind),
         Refusal::AlreadyJoined => add_joined(page, before, event.kind),
         Refusal::LogFull => add_full(page, before.len()),
@@ -342,12 +383,11 @@ fn add_reason(
     }
 }
 
-/// What to do about a refusal.
+/// What to do about a refusal that needs no other line.
 fn refusal_help(refusal: Refusal) -> &'static str
     ensures { result.now ≡ refusal_help refusal }
 {
     match refusal {
-        Refusal::NotLive => { "help: write a line `T fork U` before the first event of thread U\n" }
         Refusal::NoSuchVariable | Refusal::NoSuchLock | Refusal::NoSuchThread => {
             "help: the header is `vlog 2 THREADS VARIABLES LOCKS`\n"
         }
@@ -358,11 +398,43 @@ fn refusal_help(refusal: Refusal) -> &'static str
     }
 }
 
-/// Adds what to do about a refusal.
-fn add_refusal_help(page: &mut Page, refusal: Refusal) -> Result<(), Memory>
-    ensures { OnOk result (page.new ≡ page.old ++ refusal_help refusal) }
+/// What to do about a thread that is not running. One that exited has no help.
+fn not_live_help(bounds: Bounds, before: &[Event], thread: ThreadId) -> &'static str
+    requires { length before.now ≤ MAX_EVENTS }
+    ensures { result.now ≡ not_live_help bounds before.now thread }
 {
-    add_text(page, refusal_help(refusal))?;
+    if bounds.threads <= thread.0 {
+        return "help: the header is `vlog 2 THREADS VARIABLES LOCKS`\n";
+    }
+    match last_of(before, Sought::Exit(thread)) {
+        Some(_) => "",
+        None => "help: write a line `T fork U` before the first event of thread U\n",
+    }
+}
+
+/// What to do about a refusal after these events.
+fn help_after(bounds: Bounds, before: &[Event], thread: ThreadId, refusal: Refusal) -> &'static str
+    requires { length before.now ≤ MAX_EVENTS }
+    ensures { result.now ≡ help_after bounds before.now thread refusal }
+{
+    match refusal {
+        Refusal::NotLive => not_live_help(bounds, before, thread),
+        _ => refusal_help(refusal),
+    }
+}
+
+/// Adds what to do about a refusal after these events.
+fn add_help(
+    page: &mut Page,
+    bounds: Bounds,
+    before: &[Event],
+    thread: ThreadId,
+    refusal: Refusal,
+) -> Result<(), Memory>
+    requires { length before.now ≤ MAX_EVENTS }
+    ensures { OnOk result (page.new ≡ page.old ++ help_after bounds before.now thread refusal) }
+{
+    add_text(page, help_after(bounds, before, thread, refusal))?;
     Ok(())
 }
 
@@ -396,7 +468,7 @@ fn add_refused(
     add_kind(page, event.kind)?;
     add_reason(page, bounds, before, event, refusal)?;
     add_event(page, event)?;
-    add_refusal_help(page, refusal)?;
+    add_help(page, bounds, before, event.thread, refusal)?;
     Ok(())
 }
 

@@ -8,6 +8,7 @@ ghost use Rattle.velo_fault_words.specs.Beside.{other_sites_words};
 ghost use Rattle.velo_words.specs.Failing.{SaysFailure};
 ghost use Rattle.velo_words.specs.Saying.{EndsInWords, IsSaid, IsTextAt, SaysEvent, SaysFault, SaysSchedule, event_words, log_of, work_of};
 
+use crate::again::read_again;
 use crate::ended::{words_of_end, words_of_open};
 use crate::events::events_up_to;
 use crate::failing::{Recall, words_of_failure};
@@ -21,7 +22,7 @@ use velo_claims::ReportFault;
 use velo_delivery::Files;
 use velo_events::{Bounds, Event, Memory, Refusal};
 use velo_explain::Page;
-use velo_fate::{CheckFault, Fate, end_with, read_file};
+use velo_fate::{CheckFault, Fate, end_with};
 use velo_fault_words::{
     FileFault, fault_words, most_bytes_for, most_up_to, numbers_words, other_sites_words,
     schedule_words, turns_words,
@@ -71,31 +72,20 @@ fn work_of<'a>(request: &Request<'a>) -> Option<&'a str>
     }
 }
 
-/// What is said of a fault of the file at a path, whose bytes are read again. Only what is known to
-/// be a file is opened, as another thing could keep its reader waiting.
+/// What is said of a fault of the file at a path, whose bytes are read again.
 fn words_of_file<F: Files>(alloc: Global, path: &str, fault: FileFault, files: &F) -> Option<Page>
     ensures { IfSome result (SaysFault (F.disk files.now) path.now fault) }
 {
-    if !files.are_one(path, path) {
-        return None;
-    }
-    match read_file(alloc, path, most_bytes_for(fault), files) {
-        Ok(bytes) => fault_words(alloc, path, &bytes, fault).ok(),
-        Err(_) => None,
-    }
+    let bytes = read_again(alloc, path, most_bytes_for(fault), files)?;
+    fault_words(alloc, path, &bytes, fault).ok()
 }
 
 /// What is said of the file at a path that says no turns, by its bytes, which are read again.
 fn words_of_turns_file<F: Files>(alloc: Global, path: &str, files: &F) -> Option<Page>
     ensures { IfSome result (λ page. SaysSchedule (F.disk files.now) (FileOf path.entry) page) }
 {
-    if !files.are_one(path, path) {
-        return None;
-    }
-    match read_file(alloc, path, MAX_SCHEDULE_BYTES, files) {
-        Ok(bytes) => schedule_words(alloc, path, &bytes).ok(),
-        Err(_) => None,
-    }
+    let bytes = read_again(alloc, path, MAX_SCHEDULE_BYTES, files)?;
+    schedule_words(alloc, path, &bytes).ok()
 }
 
 /// What is said of a text that is no schedule.
@@ -162,13 +152,8 @@ fn words_of_event<F: Files>(
 ) -> Option<Page>
     ensures { IfSome result (SaysEvent (F.disk files.now) path.now refusal position) }
 {
-    if !files.are_one(path, path) {
-        return None;
-    }
-    match read_file(alloc, path, most_up_to(position.saturating_add(2)), files) {
-        Ok(bytes) => words_in(alloc, path, &bytes, position, refusal),
-        Err(_) => None,
-    }
+    let bytes = read_again(alloc, path, most_up_to(position.saturating_add(2)), files)?;
+    words_in(alloc, path, &bytes, position, refusal)
 }
 
 /// What is said of a fate, if there is something to say.
