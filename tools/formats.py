@@ -17,6 +17,7 @@ COMMANDS = ("audit", "explain", "explore", "predict")
 AUDITS = ([], ["--no-witness"], ["--counts"], ["--innermost", "--by-count", "--counts"])
 EXPLANATIONS = ([], ["--ignore-lock", "0", "--ignore-variable", "0"], ["--ignore-locks"])
 EXPLORATIONS = ([], ["--first"], ["--states", "9"], ["--random", "20"])
+NUMBERS = "  lines below are its own; its values are the lines of the log that wrote them (0: none)"
 PREDICTIONS = (["--tries", "20"], ["--tries", "20", "--values"], ["--tries", "20", "--ignore-lock", "0", "--ignore-variable", "0"])
 
 
@@ -137,24 +138,31 @@ def explanation_faults(program, log, words, text, status, answer):
     ) if not right]
 
 
-def told(prediction):
+def recorded(value, values):
+    """What a read had in the log: a value of the program, or what a line wrote."""
+    if values:
+        return f"read {value} in the log"
+    return f"read in the log what line {value} there wrote" if value else "read in the log the start value"
+
+
+def told(prediction, values):
     """The lines of a prediction, up to the cycle."""
     if prediction["kind"] == "deadlock":
         first, last = [f"deadlock? {len(prediction['circle'])} threads wait in a circle"], [
             f"  thread {named(one['thread'])} waits at {about(one)}" for one in prediction["circle"]]
     else:
         first, last = ["not atomic? " + named(block["label"]) for block in prediction["alarm"]["blocks"]], [cycle(prediction["alarm"])]
-    return [*first, f"  witness {prediction['events']} events",
-            *(f"  line {one['event']['line']} {about(one['event'])} read {one['recorded']} in the log" for one in prediction["differing"]), *last]
+    return [*first, f"  witness {prediction['events']} events", *([] if values else [NUMBERS]),
+            *(f"  line {one['event']['line']} {about(one['event'])} {recorded(one['recorded'], values)}" for one in prediction["differing"]), *last]
 
 
 def prediction_faults(program, log, words, text, status, answer):
     lines = text.splitlines()
-    heads = [line for line in lines if line[0] != " " or line.startswith(("  witness ", "  line ", "  thread ", "  Line "))]
+    heads = [line for line in lines if line[0] != " " or line.startswith(("  witness ", "  lines ", "  line ", "  thread ", "  Line "))]
     labels = [dict.fromkeys("not atomic " + named(block["label"]) for block in alarm["blocks"]) for alarm in answer["alarms"]]
     expected = (left_out(answer["left_out"])
                 + [line for some, alarm in zip(labels, answer["alarms"]) for line in (*some, cycle(alarm))]
-                + [line for prediction in answer["predictions"] for line in told(prediction)]
+                + [line for prediction in answer["predictions"] for line in told(prediction, "--values" in words)]
                 + [f"nothing{' else' * answer['found']} found in {answer['tries']} tries"])
     return [what for what, right in (
         ("lines", heads == expected),

@@ -63,13 +63,13 @@ first_trace (found ∷ cycles) deadlocks = Some found.trace.events
 first_trace [] (deadlock ∷ deadlocks) = Some deadlock.trace.events
 first_trace [] [] = None
 
--- The page of the rounds and the predictions in the form that was asked for: a text, or one JSON
--- object, which has the path of the log
+-- The page of the rounds and the predictions in the form that was asked for: a text, which says where
+-- the values are not those of the program, or one JSON object, which has the path of the log
 abbrev pub predictions_page : TextOrJson → NameLists → Option Table → List Event → List ℕ → Asked
-    → PredictedFindings → List ℕ
-predictions_page Text names sites log path asked findings =
-    predictions_text names sites log asked findings
-predictions_page Json names sites log path asked findings =
+    → Bool → PredictedFindings → List ℕ
+predictions_page Text names sites log path asked values findings =
+    predictions_text names sites log asked values findings
+predictions_page Json names sites log path asked values findings =
     line_text (predictions_json (record { log = log; names = names; sites = sites }) path asked findings)
 
 -- this trace is to be saved as a log, and the rounds of the log itself and the predictions are to be
@@ -79,7 +79,8 @@ abbrev pub predicted : NameLists → Option Table → PredictOptions → Bounds 
 predicted names sites options bounds log asked findings =
     record {
       saved = option_map (log_text bounds) (first_trace findings.cycles.items findings.deadlocks.items);
-      printed = Some (predictions_page options.format names sites log options.input.now asked findings);
+      printed = Some (predictions_page options.format names sites log options.input.now asked
+          options.values findings);
       fate = Finished Done (is_something_told findings);
     }
 

@@ -208,7 +208,7 @@ pub(crate) fn page_of_predictions(
     requires deadlocks { All CanTellDeadlock findings.now.deadlocks.items }
     ensures { IfOk result (λ page. page ≡ predictions_page inquiry.now.options.now.format
         inquiry.now.names.now inquiry.now.sites.now log.now.events inquiry.now.options.now.input.now
-        inquiry.now.asked.now findings.now) }
+        inquiry.now.asked.now inquiry.now.options.now.values findings.now) }
 {
     let input = inquiry.options.input;
     match inquiry.options.format {
@@ -218,6 +218,7 @@ pub(crate) fn page_of_predictions(
             inquiry.sites,
             log,
             inquiry.asked,
+            inquiry.options.values,
             findings,
         ),
         TextOrJson::Json => predictions_json(

@@ -1,5 +1,5 @@
 -- What a log shows and foretells, as text.
-use Rattle.std.specs.Prelude.{ℕ, ◌<◌, ◌≤◌, ◌||◌, Bool, true, false, List, [], ◌∷◌, ◌++◌, length, codes, decimal, All, Option, None}
+use Rattle.std.specs.Prelude.{ℕ, zero, suc, ◌<◌, ◌≤◌, ◌||◌, Bool, true, false, List, [], ◌∷◌, ◌++◌, length, codes, decimal, All, Option, None}
 use Rattle.std.specs.List.{flat_map}
 use Rattle.velo_events.specs.declared.limits.TheConstants.{MAX_EVENTS}
 use Rattle.velo_events.specs.declared.event.Event.{Event}
@@ -25,23 +25,37 @@ use Rattle.velo_predict_text.specs.declared.findings.PredictedFindings.{Predicte
 unfoldable pub maybe_text : NameLists → Block → List ℕ
 maybe_text names block = joined (codes "not atomic? " ∷ decimal block.label.0 ∷ named names kind.Label block.label.0 ∷ codes "\n" ∷ [])
 
--- "  witness 10 events"
-unfoldable pub size_text : ℕ → List ℕ
-size_text n = joined (codes "  witness " ∷ decimal n ∷ codes " events\n" ∷ [])
+-- where the values are not those of the program, what the numbers mean
+abbrev pub events_text : Bool → List ℕ
+events_text true = codes " events\n"
+events_text false = codes " events\n  lines below are its own; its values are the lines of the log that wrote them (0: none)\n"
 
--- "  line 9 `1 rd 0 0` total read 5 in the log"
-unfoldable pub difference_text : NameLists → List Event → Differing → List ℕ
-difference_text names trace d = joined (
-    codes "  line " ∷ decimal (line_of d.position) ∷ codes " `" ∷ event_text (event_at trace d.position) ∷ codes "`"
-    ∷ name_text (name_about names (event_at trace d.position).kind) ∷ codes " read " ∷ decimal d.recorded ∷ codes " in the log\n" ∷ [])
+-- "  witness 10 events"
+unfoldable pub size_text : Bool → ℕ → List ℕ
+size_text values n = joined (codes "  witness " ∷ decimal n ∷ events_text values ∷ [])
+
+-- "  line 9 `1 rd 0 0` total"
+unfoldable pub read_text : NameLists → List Event → ℕ → List ℕ
+read_text names trace position = joined (
+    codes "  line " ∷ decimal (line_of position) ∷ codes " `" ∷ event_text (event_at trace position) ∷ codes "`"
+    ∷ name_text (name_about names (event_at trace position).kind) ∷ [])
+
+-- what it read in the log: a value of the program, or what a line wrote
+unfoldable pub recorded_text : Bool → ℕ → List ℕ
+recorded_text true value = joined (codes " read " ∷ decimal value ∷ codes " in the log\n" ∷ [])
+recorded_text false zero = joined (codes " read in the log the start value\n" ∷ [])
+recorded_text false (suc n) = joined (codes " read in the log what line " ∷ decimal (suc n) ∷ codes " there wrote\n" ∷ [])
+
+abbrev pub difference_text : NameLists → Bool → List Event → Differing → List ℕ
+difference_text names values trace d = read_text names trace d.position ++ recorded_text values d.recorded
 
 -- the blocks to blame, outermost first; how long the trace is; the reads that differ from the log; and the cycle, as an audit prints it.
 -- The lines are those of the trace as a log, whose events have no sites
-abbrev pub found_text : NameLists → PredictedCycle → List ℕ
-found_text names found =
+abbrev pub found_text : NameLists → Bool → PredictedCycle → List ℕ
+found_text names values found =
     flat_map (maybe_text names) found.told.blocks.items
-    ++ (size_text (length found.trace.events)
-    ++ (flat_map (difference_text names found.trace.events) found.differing.items
+    ++ (size_text values (length found.trace.events)
+    ++ (flat_map (difference_text names values found.trace.events) found.differing.items
     ++ optional_witness_text names None found.trace.events found.told.closing found.told.witness))
 
 -- "  thread 0 main waits at `0 acq 1` n"
@@ -55,11 +69,11 @@ unfoldable pub circle_text : ℕ → List ℕ
 circle_text n = joined (codes "deadlock? " ∷ decimal n ∷ codes " threads wait in a circle\n" ∷ [])
 
 -- how many threads wait; how long the trace is; the reads that differ from the log; and what each thread waits to do
-abbrev pub deadlock_text : NameLists → Deadlock → List ℕ
-deadlock_text names deadlock =
+abbrev pub deadlock_text : NameLists → Bool → Deadlock → List ℕ
+deadlock_text names values deadlock =
     circle_text (length deadlock.waiting.items)
-    ++ (size_text (length deadlock.trace.events)
-    ++ (flat_map (difference_text names deadlock.trace.events) deadlock.differing.items
+    ++ (size_text values (length deadlock.trace.events)
+    ++ (flat_map (difference_text names values deadlock.trace.events) deadlock.differing.items
     ++ flat_map (waiting_text names) deadlock.waiting.items))
 
 abbrev is_there : {X : Type 0} → List X → Bool
@@ -81,12 +95,12 @@ end_text something tries = joined (nothing_text something ∷ decimal tries ∷ 
 
 -- what was to be left out and the rounds of the log itself, both as an audit prints them; the labels that may not be atomic, and the
 -- deadlocks; and how many delays were tried
-abbrev pub predictions_text : NameLists → Option Table → List Event → Asked → PredictedFindings → List ℕ
-predictions_text names sites log asked findings =
+abbrev pub predictions_text : NameLists → Option Table → List Event → Asked → Bool → PredictedFindings → List ℕ
+predictions_text names sites log asked values findings =
     asked_text names asked
     ++ (flat_map (told_text names sites log) findings.rounds.items
-    ++ (flat_map (found_text names) findings.cycles.items
-    ++ (flat_map (deadlock_text names) findings.deadlocks.items
+    ++ (flat_map (found_text names values) findings.cycles.items
+    ++ (flat_map (deadlock_text names values) findings.deadlocks.items
     ++ end_text (is_something_told findings) findings.tries)))
 
 -- ---- what can be told. Private contracts cite these words

@@ -4,7 +4,7 @@ ghost use Rattle.std.specs.List.{flat_map};
 ghost use Rattle.velo_events.specs.declared.limits.TheConstants.{MAX_EVENTS};
 ghost use Rattle.velo_filter.specs.Thinned.{CanComeAbout};
 ghost use Rattle.velo_audit.specs.Audit.{TellsTruly};
-ghost use Rattle.velo_predict_text.specs.Text.{CanBeTold, CanTellDeadlock, maybe_text, size_text, difference_text, found_text, waiting_text, circle_text, deadlock_text, is_something_told, nothing_text, end_text, predictions_text};
+ghost use Rattle.velo_predict_text.specs.Text.{CanBeTold, CanTellDeadlock, maybe_text, events_text, size_text, read_text, recorded_text, difference_text, found_text, waiting_text, circle_text, deadlock_text, is_something_told, nothing_text, end_text, predictions_text};
 
 use crate::findings::PredictedFindings;
 use std::alloc::Global;
@@ -29,42 +29,82 @@ fn add_maybe(page: &mut Page, names: &Names, block: Block) -> Result<(), Memory>
     ])
 }
 
+/// How the length of a trace ends: where the values are not those of the program, by what the numbers mean.
+fn events_words(values: bool) -> &'static str
+    ensures { result.now ≡ events_text values }
+{
+    match values {
+        true => " events\n",
+        false => {
+            " events\n  lines below are its own; its values are the lines of the log that wrote them (0: none)\n"
+        }
+    }
+}
+
 /// Adds how long a trace is.
 #[tactic(auto, unfolding(crate::specs::Text::size_text))]
-fn add_size(page: &mut Page, count: usize) -> Result<(), Memory>
-    ensures { OnOk result (page.new ≡ page.old ++ size_text count) }
+fn add_size(page: &mut Page, values: bool, count: usize) -> Result<(), Memory>
+    ensures { OnOk result (page.new ≡ page.old ++ size_text values count) }
 {
     page.add(&[
         Piece::Text("  witness "),
         Piece::Number(count as u64),
-        Piece::Text(" events\n"),
+        Piece::Text(events_words(values)),
     ])
 }
 
+/// Adds a read of a trace.
+#[tactic(auto, unfolding(crate::specs::Text::read_text))]
+fn add_read(page: &mut Page, names: &Names, events: &[Event], position: usize) -> Result<(), Memory>
+    requires within { position < length events.now }
+    requires few { length events.now ≤ MAX_EVENTS }
+    ensures { OnOk result (page.new ≡ page.old ++ read_text names.now events.now position) }
+{
+    let event = events[position];
+    page.add(&[
+        Piece::Text("  line "),
+        Piece::Number(line_of(position)),
+        Piece::Text(" `"),
+        Piece::Words(event),
+        Piece::Text("`"),
+        Piece::KindName(names, event.kind),
+    ])
+}
+
+/// Adds what a read had in the log: a value of the program, or what a line wrote.
+#[tactic(auto, unfolding(crate::specs::Text::recorded_text))]
+fn add_recorded(page: &mut Page, values: bool, recorded: u64) -> Result<(), Memory>
+    ensures { OnOk result (page.new ≡ page.old ++ recorded_text values recorded) }
+{
+    match (values, recorded) {
+        (true, value) => page.add(&[
+            Piece::Text(" read "),
+            Piece::Number(value),
+            Piece::Text(" in the log\n"),
+        ]),
+        (false, 0) => page.add(&[Piece::Text(" read in the log the start value\n")]),
+        (false, line) => page.add(&[
+            Piece::Text(" read in the log what line "),
+            Piece::Number(line),
+            Piece::Text(" there wrote\n"),
+        ]),
+    }
+}
+
 /// Adds a read that has another value than in the log.
-#[tactic(auto, unfolding(crate::specs::Text::difference_text))]
 fn add_difference(
     page: &mut Page,
     names: &Names,
+    values: bool,
     events: &[Event],
     differing: Differing,
 ) -> Result<(), Memory>
     requires within { differing.position < length events.now }
     requires few { length events.now ≤ MAX_EVENTS }
-    ensures { OnOk result (page.new ≡ page.old ++ difference_text names.now events.now differing) }
+    ensures { OnOk result (page.new ≡ page.old ++ difference_text names.now values events.now differing) }
 {
-    let event = events[differing.position];
-    page.add(&[
-        Piece::Text("  line "),
-        Piece::Number(line_of(differing.position)),
-        Piece::Text(" `"),
-        Piece::Words(event),
-        Piece::Text("`"),
-        Piece::KindName(names, event.kind),
-        Piece::Text(" read "),
-        Piece::Number(differing.recorded),
-        Piece::Text(" in the log\n"),
-    ])
+    add_read(page, names, events, differing.position)?;
+    add_recorded(page, values, differing.recorded)
 }
 
 /// Adds the labels of the blocks.
@@ -81,15 +121,16 @@ fn add_labels(page: &mut Page, names: &Names, blocks: &[Block]) -> Result<(), Me
 fn add_differences(
     page: &mut Page,
     names: &Names,
+    values: bool,
     events: &[Event],
     differing: &[Differing],
 ) -> Result<(), Memory>
     requires within { All (λ d. d.position < length events.now) differing.now }
     requires few { length events.now ≤ MAX_EVENTS }
-    ensures { OnOk result (page.new ≡ page.old ++ flat_map (difference_text names.now events.now) differing.now) }
+    ensures { OnOk result (page.new ≡ page.old ++ flat_map (difference_text names.now values events.now) differing.now) }
 {
     for one in differing {
-        add_difference(page, names, events, *one)?;
+        add_difference(page, names, values, events, *one)?;
     }
     Ok(())
 }
@@ -99,15 +140,16 @@ fn add_found(
     page: &mut Page,
     names: &Names,
     alloc: Global,
+    values: bool,
     found: &PredictedCycle,
 ) -> Result<(), Memory>
     requires { CanBeTold found.now }
-    ensures { OnOk result (page.new ≡ page.old ++ found_text names.now found.now) }
+    ensures { OnOk result (page.new ≡ page.old ++ found_text names.now values found.now) }
 {
     let events = found.trace.as_slice();
     add_labels(page, names, &found.told.blocks)?;
-    add_size(page, events.len())?;
-    add_differences(page, names, events, &found.differing)?;
+    add_size(page, values, events.len())?;
+    add_differences(page, names, values, events, &found.differing)?;
     let trace = Background {
         alloc,
         names,
@@ -157,24 +199,34 @@ fn add_circle(page: &mut Page, count: usize) -> Result<(), Memory>
 }
 
 /// Adds a deadlock.
-fn add_deadlock(page: &mut Page, names: &Names, deadlock: &Deadlock) -> Result<(), Memory>
+fn add_deadlock(
+    page: &mut Page,
+    names: &Names,
+    values: bool,
+    deadlock: &Deadlock,
+) -> Result<(), Memory>
     requires { CanTellDeadlock deadlock.now }
-    ensures { OnOk result (page.new ≡ page.old ++ deadlock_text names.now deadlock.now) }
+    ensures { OnOk result (page.new ≡ page.old ++ deadlock_text names.now values deadlock.now) }
 {
     let events = deadlock.trace.as_slice();
     add_circle(page, deadlock.waiting.len())?;
-    add_size(page, events.len())?;
-    add_differences(page, names, events, &deadlock.differing)?;
+    add_size(page, values, events.len())?;
+    add_differences(page, names, values, events, &deadlock.differing)?;
     add_all_waiting(page, names, &deadlock.waiting)
 }
 
 /// Adds the deadlocks.
-fn add_deadlocks(page: &mut Page, names: &Names, deadlocks: &[Deadlock]) -> Result<(), Memory>
+fn add_deadlocks(
+    page: &mut Page,
+    names: &Names,
+    values: bool,
+    deadlocks: &[Deadlock],
+) -> Result<(), Memory>
     requires { All CanTellDeadlock deadlocks.now }
-    ensures { OnOk result (page.new ≡ page.old ++ flat_map (deadlock_text names.now) deadlocks.now) }
+    ensures { OnOk result (page.new ≡ page.old ++ flat_map (deadlock_text names.now values) deadlocks.now) }
 {
     for deadlock in deadlocks {
-        add_deadlock(page, names, deadlock)?;
+        add_deadlock(page, names, values, deadlock)?;
     }
     Ok(())
 }
@@ -213,13 +265,14 @@ fn add_cycles(
     page: &mut Page,
     names: &Names,
     alloc: Global,
+    values: bool,
     cycles: &[PredictedCycle],
 ) -> Result<(), Memory>
     requires { All CanBeTold cycles.now }
-    ensures { OnOk result (page.new ≡ page.old ++ flat_map (found_text names.now) cycles.now) }
+    ensures { OnOk result (page.new ≡ page.old ++ flat_map (found_text names.now values) cycles.now) }
 {
     for found in cycles {
-        add_found(page, names, alloc, found)?;
+        add_found(page, names, alloc, values, found)?;
     }
     Ok(())
 }
@@ -237,6 +290,7 @@ pub fn predictions_text(
     sites: &Option<Sites>,
     log: &Trace,
     asked: &Asked,
+    values: bool,
     findings: &PredictedFindings,
 ) -> Result<Page, Memory>
     requires few { length log.now.events ≤ MAX_EVENTS }
@@ -244,7 +298,7 @@ pub fn predictions_text(
     requires truly { All (TellsTruly log.now.events) findings.now.rounds.items }
     requires cycles { All CanBeTold findings.now.cycles.items }
     requires deadlocks { All CanTellDeadlock findings.now.deadlocks.items }
-    ensures { IfOk result (λ page. page ≡ predictions_text names.now sites.now log.now.events asked.now findings.now) }
+    ensures { IfOk result (λ page. page ≡ predictions_text names.now sites.now log.now.events asked.now values findings.now) }
 {
     let mut page = Page::new(alloc);
     add_asked(&mut page, names, asked)?;
@@ -255,8 +309,8 @@ pub fn predictions_text(
         events: log.as_slice(),
     };
     add_rounds(&mut page, &background, &findings.rounds)?;
-    add_cycles(&mut page, names, alloc, &findings.cycles)?;
-    add_deadlocks(&mut page, names, &findings.deadlocks)?;
+    add_cycles(&mut page, names, alloc, values, &findings.cycles)?;
+    add_deadlocks(&mut page, names, values, &findings.deadlocks)?;
     add_end(&mut page, is_something_told(findings), findings.tries)?;
     Ok(page)
 }

@@ -13,11 +13,12 @@ const CLEAN: &str = "vlog 2 2 1 1\n0 fork 1\n\
 const WITNESS: &str = "vlog 2 2 1 1\n0 fork 1\n\
 0 begin 7\n0 acq 0\n0 rd 0 0\n0 rel 0\n1 begin 7\n1 acq 0\n1 rd 0 0\n1 rel 0\n0 acq 0\n";
 
-/// Without `--values` the value in the log is the line of the write.
+/// Without `--values` lines of the log stand for values.
 const FORETOLD: &str = "\
 not atomic? 7 flush\n  \
 witness 10 events\n  \
-line 9 `1 rd 0 0` read 8 in the log\n  \
+lines below are its own; its values are the lines of the log that wrote them (0: none)\n  \
+line 9 `1 rd 0 0` read in the log what line 8 there wrote\n  \
 Line 11 `0 acq 0` closes a cycle of 2 transactions:\n  \
 T1: thread 0, block 7 flush, lines 3 to 11\n  \
 T2: thread 1, block 7 flush, lines 7 to 10\n  \
