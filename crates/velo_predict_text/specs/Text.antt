@@ -1,5 +1,5 @@
 -- What a log shows and foretells, as text.
-use Rattle.std.specs.Prelude.{ℕ, zero, suc, ◌<◌, ◌≤◌, ◌||◌, Bool, true, false, List, [], ◌∷◌, ◌++◌, length, codes, decimal, All, Option, None}
+use Rattle.std.specs.Prelude.{ℕ, ◌==◌, if◌then◌else◌, ◌<◌, ◌≤◌, ◌||◌, Bool, true, false, List, [], ◌∷◌, ◌++◌, length, codes, decimal, All, Option, None}
 use Rattle.std.specs.List.{flat_map}
 use Rattle.velo_events.specs.declared.limits.TheConstants.{MAX_EVENTS}
 use Rattle.velo_events.specs.declared.event.Event.{Event}
@@ -43,8 +43,9 @@ read_text names trace position = joined (
 -- what it read in the log: a value of the program, or what a line wrote
 unfoldable pub recorded_text : Bool → ℕ → List ℕ
 recorded_text true value = joined (codes " read " ∷ decimal value ∷ codes " in the log\n" ∷ [])
-recorded_text false zero = joined (codes " read in the log the start value\n" ∷ [])
-recorded_text false (suc n) = joined (codes " read in the log what line " ∷ decimal (suc n) ∷ codes " there wrote\n" ∷ [])
+recorded_text false line =
+    if line == 0 then joined (codes " read in the log the start value\n" ∷ [])
+    else joined (codes " read in the log what line " ∷ decimal line ∷ codes " there wrote\n" ∷ [])
 
 abbrev pub difference_text : NameLists → Bool → List Event → Differing → List ℕ
 difference_text names values trace d = read_text names trace d.position ++ recorded_text values d.recorded
