@@ -1,6 +1,6 @@
 -- What is found one after another.
 use Rattle.std.proofs.Common.{◌≡◌, ℕ, zero, suc, ◌<◌, ◌≤◌, true, List, [], ◌∷◌, ◌++◌, get_or, length, map, take, Option, Some, None, refl, sym, ap, ◌∙◌, subst, append_assoc, arith, ⊎_elim}
-use Rattle.std.specs.Prelude.{Bool, All, Contains, IfSome, IsFalse, IsTrue, OnOk, Result, Ok, Err, slice_get}
+use Rattle.std.specs.Prelude.{Bool, All, Contains, IfSome, IsFalse, IsTrue, OnOk, Result, Ok, Err, slice_get, slice_index}
 use Rattle.std.proofs.lemmas.Bool.{eq-eqb, or_left, or_right}
 use Rattle.std.proofs.lemmas.List.{append-nil, length-append, take-append-le, take_all}
 use Rattle.std.proofs.lemmas.List.Elements.{All-head, All-weaker, All-contains_itself}
@@ -8,7 +8,7 @@ use Rattle.std.proofs.lemmas.Option.{none-some, same_Some, slice_get-get_or, sli
 use Rattle.velo_events.specs.declared.config.Bounds.{Bounds}
 use Rattle.velo_events.specs.declared.event.Event.{Event}
 use Rattle.velo_traces.specs.declared.block.Block.{Block}
-use Rattle.velo_filter.specs.Left.{Omitted, is_listed, rest_of, with_labels}
+use Rattle.velo_filter.specs.Left.{Omitted, is_listed, place_of, places_of, rest_of, with_labels}
 use Rattle.velo_audit.specs.Audit.{AreWitnessed}
 use Rattle.velo_audit.specs.Rounds.{IsRound, Rounds}
 use Rattle.velo_audit.specs.Tells.{numbers_of}
@@ -61,22 +61,27 @@ left_out_behind-push left (f ∷ rest) found = left_out_behind-push (with_labels
 
 -- ---- what is found one after another
 
-module _ (bounds : Bounds) (log : List Event) where
-  in_turn-push : (left : Omitted) (founds : List PredictedCycle) (found : PredictedCycle) → AreFoundInTurn bounds log left founds → IsFound bounds log found → HasNew (left_out_behind left founds).labels (labels_blamed found)
-      → AreFoundInTurn bounds log left (founds ++ found ∷ [])
+-- the places of what is left
+pub placed : (omitted : Omitted) (log : List Event) (places : List ℕ) → places ≡ places_of omitted log → slice_index places ≡ place_of omitted log
+unfolding place_of
+placed omitted log places is = ap slice_index is
+
+module _ (bounds : Bounds) (log : List Event) (place : ℕ → ℕ) where
+  in_turn-push : (left : Omitted) (founds : List PredictedCycle) (found : PredictedCycle) → AreFoundInTurn bounds log place left founds → IsFound bounds log place found → HasNew (left_out_behind left founds).labels (labels_blamed found)
+      → AreFoundInTurn bounds log place left (founds ++ found ∷ [])
   unfolding AreFoundInTurn left_out_behind
   in_turn-push left [] found are is new = ((is, new), tt)
   in_turn-push left (f ∷ rest) found are is new = (are.0, in_turn-push (with_labels left (labels_blamed f)) rest found are.1 is new)
 
-  pub GoesOn-none : (left : Omitted) (founds : List PredictedCycle) → GoesOn bounds log left left founds founds
+  pub GoesOn-none : (left : Omitted) (founds : List PredictedCycle) → GoesOn bounds log place left left founds founds
   unfolding AreFoundInTurn left_out_behind
   GoesOn-none left founds = record { more = []; is_longer = sym (append-nil founds); are_found = tt; behind = refl }
 
-  GoesOn-same : (one two three : Omitted) (xs ys zs : List PredictedCycle) → GoesOn bounds log one two xs ys → three ≡ two → zs ≡ ys → GoesOn bounds log one three xs zs
+  GoesOn-same : (one two three : Omitted) (xs ys zs : List PredictedCycle) → GoesOn bounds log place one two xs ys → three ≡ two → zs ≡ ys → GoesOn bounds log place one three xs zs
   GoesOn-same one two three xs ys zs on left same = record { more = on.more; is_longer = same ∙ on.is_longer; are_found = on.are_found; behind = left ∙ on.behind }
 
-  GoesOn-push : (one two three : Omitted) (xs ys zs : List PredictedCycle) → GoesOn bounds log one two xs ys → (found : PredictedCycle) → IsFound bounds log found → HasNew two.labels (labels_blamed found)
-      → three ≡ with_labels two (labels_blamed found) → zs ≡ ys ++ found ∷ [] → GoesOn bounds log one three xs zs
+  GoesOn-push : (one two three : Omitted) (xs ys zs : List PredictedCycle) → GoesOn bounds log place one two xs ys → (found : PredictedCycle) → IsFound bounds log place found → HasNew two.labels (labels_blamed found)
+      → three ≡ with_labels two (labels_blamed found) → zs ≡ ys ++ found ∷ [] → GoesOn bounds log place one three xs zs
   GoesOn-push one two three xs ys zs on found is new left more = record {
     more = on.more ++ found ∷ [];
     is_longer = more ∙ (ap (λ (ws : List PredictedCycle). ws ++ found ∷ []) on.is_longer ∙ append_assoc xs on.more (found ∷ []));
@@ -85,8 +90,8 @@ module _ (bounds : Bounds) (log : List Event) where
   }
 
   -- what was found is taken in
-  pub GoesOn-takes : (one two three : Omitted) (xs ys zs : List PredictedCycle) → GoesOn bounds log one two xs ys → (found : Option PredictedCycle) → IfSome found (λ (f : PredictedCycle). IsFound bounds log f) → TakesIn two three ys zs found
-      → GoesOn bounds log one three xs zs
+  pub GoesOn-takes : (one two three : Omitted) (xs ys zs : List PredictedCycle) → GoesOn bounds log place one two xs ys → (found : Option PredictedCycle) → IfSome found (λ (f : PredictedCycle). IsFound bounds log place f) → TakesIn two three ys zs found
+      → GoesOn bounds log place one three xs zs
   GoesOn-takes one two three xs ys zs on None is takes = GoesOn-same one two three xs ys zs on takes.0 takes.1
   GoesOn-takes one two three xs ys zs on (Some found) is takes = ⊎_elim
       (λ same. GoesOn-same one two three xs ys zs on same.0 same.1)
@@ -105,7 +110,7 @@ module _ (bounds : Bounds) (log : List Event) (first : Omitted) where
 
   -- the first of them are known, and without what they blame the others are found, one after another
   grown : (k : ℕ) (left : Omitted) (founds more : List PredictedCycle) → k ≤ length founds → left ≡ left_out_behind first founds → AreFoundIn bounds log first founds
-      → AreFoundInTurn bounds (rest_of (left_out_behind first (take k founds)) log) left more → AreFoundIn bounds log first (founds ++ more) × (left_out_behind left more ≡ left_out_behind first (founds ++ more))
+      → AreFoundInTurn bounds (rest_of (left_out_behind first (take k founds)) log) (place_of (left_out_behind first (take k founds)) log) left more → AreFoundIn bounds log first (founds ++ more) × (left_out_behind left more ≡ left_out_behind first (founds ++ more))
   unfolding AreFoundInTurn left_out_behind
   grown k left founds [] few behind are more = (
     subst (AreFoundIn bounds log first) (sym (append-nil founds)) are,
@@ -122,15 +127,15 @@ module _ (bounds : Bounds) (log : List Event) (first : Omitted) where
       let w = grown k (with_labels left (labels_blamed f)) longer rest (omega (arith, length-append founds (f ∷ [])))
       (ap (λ (l : Omitted). with_labels l (labels_blamed f)) behind ∙ sym (left_out_behind-push first founds f))
       (record { each = each-push (IsFoundAfter bounds log first) founds f are.each after })
-      (subst (λ (fs : List PredictedCycle). AreFoundInTurn bounds (rest_of (left_out_behind first fs) log) (with_labels left (labels_blamed f)) rest) (sym known) more.1) in
+      (subst (λ (fs : List PredictedCycle). AreFoundInTurn bounds (rest_of (left_out_behind first fs) log) (place_of (left_out_behind first fs) log) (with_labels left (labels_blamed f)) rest) (sym known) more.1) in
       let same : longer ++ rest ≡ founds ++ f ∷ rest = append_assoc founds (f ∷ []) rest in
       (subst (AreFoundIn bounds log first) same w.0, w.1 ∙ ap (left_out_behind first) same)
 
   -- a round finds some more
-  module _ (left new : Omitted) (before after : List PredictedCycle) (behind : left ≡ left_out_behind first before) (are : AreFoundIn bounds log first before) (on : GoesOn bounds (rest_of left log) left new before after) where
+  module _ (left new : Omitted) (before after : List PredictedCycle) (behind : left ≡ left_out_behind first before) (are : AreFoundIn bounds log first before) (on : GoesOn bounds (rest_of left log) (place_of left log) left new before after) where
     both : AreFoundIn bounds log first (before ++ on.more) × (left_out_behind left on.more ≡ left_out_behind first (before ++ on.more))
     both = grown (length before) left before on.more (omega arith) behind are
-        (subst (λ (l : Omitted). AreFoundInTurn bounds (rest_of l log) left on.more) (behind ∙ ap (left_out_behind first) (sym (take_all (length before) before (omega arith)))) on.are_found)
+        (subst (λ (l : Omitted). AreFoundInTurn bounds (rest_of l log) (place_of l log) left on.more) (behind ∙ ap (left_out_behind first) (sym (take_all (length before) before (omega arith)))) on.are_found)
 
     pub AreFoundIn-more : AreFoundIn bounds log first after
     AreFoundIn-more = subst (AreFoundIn bounds log first) (sym on.is_longer) both.0

@@ -1,5 +1,5 @@
 //! A search for deadlocks: a thread is stopped where it wants a second lock.
-ghost use Rattle.std.specs.Prelude.{◌≡◌, ◌≤◌, [], length, option_map, IfOk, IfSome, IsTrue, OnOk};
+ghost use Rattle.std.specs.Prelude.{◌≡◌, ◌≤◌, [], length, option_map, slice_index, IfOk, IfSome, IsTrue, OnOk};
 ghost use Rattle.velo_events.specs.declared.event.LockId.{LockId as LockOf};
 ghost use Rattle.velo_events.specs.declared.limits.TheConstants.{MAX_EVENTS};
 ghost use Rattle.velo_events.specs.WellFormed.{IsWellFormed};
@@ -12,12 +12,12 @@ use crate::drawing::WINDOW;
 use crate::lookup::{Lookup, number_at, put_number};
 use crate::rounds::follow_to;
 use crate::run::{Run, held_after};
-use crate::stuck::{Deadlock, judge_deadlock};
+use crate::stuck::{Awaited, Deadlock, judge_deadlock};
 use crate::trying::{go_on_without, joined};
 use std::alloc::Global;
 use velo_events::growth::{filled, reserve};
 use velo_events::{Config, Event, Kind, LockId, Memory, ThreadId};
-use velo_filter::{LeftOut, thin};
+use velo_filter::{LeftOut, Thinned, thin};
 use velo_traces::Trace;
 
 /// Where a thread that holds a lock acquires another one.
@@ -132,25 +132,25 @@ fn find_by(
     alloc: Global,
     config: &Config,
     base: &Run,
-    log: &Trace,
+    rest: &Thinned,
     lookup: &Lookup,
     want: Want,
 ) -> Result<Option<Deadlock>, Memory>
     requires { Stands base.now.heap }
-    ensures { IfOk result (λ found. IfSome found (λ found. IsDeadlock config.now.bounds log.now.events found)) }
+    ensures { IfOk result (λ found. IfSome found (λ found. IsDeadlock config.now.bounds rest.now.trace.events (slice_index rest.now.places.items) found)) }
 {
-    match try_one(alloc, base, log, lookup, want)? {
-        Some(trace) => judge_deadlock(alloc, config, log, trace),
+    match try_one(alloc, base, &rest.trace, lookup, want)? {
+        Some(trace) => judge_deadlock(alloc, config, rest, trace),
         None => Ok(None),
     }
 }
 
 /// Whether one of the threads waits for a lock that is not done.
-fn has_new(waiting: &[Event], done: &LeftOut) -> bool
+fn has_new(waiting: &[Awaited], done: &LeftOut) -> bool
     ensures { IsTrue result → HasNew (left_of done.now).locks (locks_of waiting.now) }
 {
-    for event in waiting {
-        if let Some(lock) = lock_wanted(event.kind) {
+    for one in waiting {
+        if let Some(lock) = lock_wanted(one.event.kind) {
             if !done.has_lock(lock) {
                 return true;
             }
@@ -160,11 +160,11 @@ fn has_new(waiting: &[Event], done: &LeftOut) -> bool
 }
 
 /// The locks that the threads wait for are done.
-fn leave_out_wanted(done: &mut LeftOut, waiting: &[Event]) -> Result<(), Memory>
+fn leave_out_wanted(done: &mut LeftOut, waiting: &[Awaited]) -> Result<(), Memory>
     ensures { OnOk result ((left_of done.new).locks ≡ with_numbers (left_of done.old).locks (locks_of waiting.now)) }
 {
-    for event in waiting {
-        if let Some(lock) = lock_wanted(event.kind) {
+    for one in waiting {
+        if let Some(lock) = lock_wanted(one.event.kind) {
             done.leave_out_lock(lock)?;
         }
     }
@@ -196,13 +196,13 @@ fn take_in(
 fn try_all(
     alloc: Global,
     config: &Config,
-    log: &Trace,
+    rest: &Thinned,
     lookup: &Lookup,
     wants: &[Want],
     deadlocks: &mut Deadlocks,
 ) -> Result<(), Memory>
     requires none { deadlocks.old.found.items ≡ [] }
-    ensures { OnOk result (AreDeadlocks config.now.bounds log.now.events deadlocks.new.found.items) }
+    ensures { OnOk result (AreDeadlocks config.now.bounds rest.now.trace.events (slice_index rest.now.places.items) deadlocks.new.found.items) }
 {
     let mut base = Run::new(alloc, config, lookup, false)?;
     let mut done = LeftOut::new(alloc);
@@ -212,10 +212,10 @@ fn try_all(
         if done.has_lock(want.lock) {
             continue;
         }
-        follow_to(&mut base, log, lookup, position, want.position)?;
+        follow_to(&mut base, &rest.trace, lookup, position, want.position)?;
         position = position.max(want.position);
         deadlocks.tries = deadlocks.tries.saturating_add(1);
-        let found = find_by(alloc, config, &base, log, lookup, want)?;
+        let found = find_by(alloc, config, &base, rest, lookup, want)?;
         take_in(deadlocks, &mut done, found)?;
     }
     Ok(())
@@ -247,6 +247,6 @@ pub fn search_deadlocks(
         found: Vec::new(alloc),
         tries: 0,
     };
-    try_all(alloc, config, &rest.trace, &lookup, &tried, &mut deadlocks)?;
+    try_all(alloc, config, &rest, &lookup, &tried, &mut deadlocks)?;
     Ok(deadlocks)
 }

@@ -1,5 +1,5 @@
 //! A trace that was found, judged.
-ghost use Rattle.std.specs.Prelude.{◌≡◌, ◌≤◌, ◌<◌, false, true, length, map, All, IfOk, IfSome, IsTrue};
+ghost use Rattle.std.specs.Prelude.{◌≡◌, ◌≤◌, ◌<◌, false, true, length, map, slice_index, All, IfOk, IfSome, IsTrue};
 ghost use Rattle.velo_events.specs.Event.{value_of};
 ghost use Rattle.velo_events.specs.WellFormed.{IsWellFormed};
 ghost use Rattle.velo_filter.specs.Left.{nothing};
@@ -10,11 +10,12 @@ ghost use Rattle.velo_audit.specs.Witness.{HasWitness};
 ghost use Rattle.velo_delays.specs.Differing.{differing_of, AreDiffering};
 ghost use Rattle.velo_delays.specs.Found.{IsFound};
 
+use crate::sources::sources_as_read;
 use std::alloc::Global;
 use velo_audit::{AuditFault, Told, audit};
 use velo_events::growth::with_capacity;
 use velo_events::{Config, Event, Kind, Memory};
-use velo_filter::LeftOut;
+use velo_filter::{LeftOut, Thinned};
 use velo_predict::{Difference, differing_reads, predicts_cycle};
 use velo_traces::Trace;
 
@@ -36,6 +37,8 @@ pub struct PredictedCycle {
     pub told: Told,
     /// The reads that have another value than in the log.
     pub differing: Vec<Differing>,
+    /// For each event the position in the log as read, if it is one of that log.
+    pub sources: Vec<Option<usize>>,
 }
 
 /// What an audit of the trace tells first, if it blames a block.
@@ -104,27 +107,27 @@ pub(crate) fn differing_of(
     Ok(Some(differing))
 }
 
-/// The trace with what is to be said of it, if it is a prediction of the log that has a cycle and some block is to blame.
+/// The trace with what is to be said of it, if it is a prediction of what is left of a log that has a cycle and some block is to blame.
 ///
 /// # Errors
 /// `Memory` where a growth was refused.
 pub(crate) fn judge(
     alloc: Global,
     config: &Config,
-    log: &Trace,
+    rest: &Thinned,
     trace: Trace,
 ) -> Result<Option<PredictedCycle>, Memory>
     requires goes_on { config.now.stop ≡ false }
-    ensures { IfOk result (λ found. IfSome found (λ found. IsFound config.now.bounds log.now.events found)) }
+    ensures { IfOk result (λ found. IfSome found (λ found. IsFound config.now.bounds rest.now.trace.events (slice_index rest.now.places.items) found)) }
 {
     if trace.len() > config.events as usize {
         return Ok(None);
     }
-    let cycle = predicts_cycle(alloc, config, log, &trace)?;
+    let cycle = predicts_cycle(alloc, config, &rest.trace, &trace)?;
     let Some(_closing) = cycle else {
         return Ok(None);
     };
-    let reads = differing_of(alloc, config, log, &trace)?;
+    let reads = differing_of(alloc, config, &rest.trace, &trace)?;
     let Some(differing) = reads else {
         return Ok(None);
     };
@@ -132,9 +135,11 @@ pub(crate) fn judge(
     let Some(told) = round else {
         return Ok(None);
     };
+    let sources = sources_as_read(alloc, rest, &trace)?;
     Ok(Some(PredictedCycle {
         trace,
         told,
         differing,
+        sources,
     }))
 }

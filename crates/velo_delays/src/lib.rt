@@ -10,6 +10,7 @@ mod lookup;
 mod marks;
 mod rounds;
 mod run;
+mod sources;
 mod stuck;
 mod trying;
 
@@ -17,7 +18,7 @@ pub use anew::with_lines;
 pub use deadlocks::{Deadlocks, search_deadlocks};
 pub use judged::{Differing, PredictedCycle};
 pub use rounds::{Draws, PredictedCycles, search};
-pub use stuck::Deadlock;
+pub use stuck::{Awaited, Deadlock};
 
 #[cfg(test)]
 mod tests;

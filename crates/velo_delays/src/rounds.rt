@@ -1,5 +1,5 @@
 //! Rounds of a search. What one finds is left out in the next.
-ghost use Rattle.std.specs.Prelude.{◌≡◌, ◌≤◌, false, length, IfOk, IfSome, IsTrue, OnOk};
+ghost use Rattle.std.specs.Prelude.{◌≡◌, ◌≤◌, false, length, slice_index, IfOk, IfSome, IsTrue, OnOk};
 ghost use Rattle.velo_events.specs.declared.limits.TheConstants.{MAX_EVENTS};
 ghost use Rattle.velo_events.specs.WellFormed.{IsWellFormed};
 ghost use Rattle.velo_filter.specs.Left.{with_labels};
@@ -17,7 +17,7 @@ use rand_xoshiro::Xoshiro256PlusPlus;
 use std::alloc::Global;
 use velo_events::growth::reserve;
 use velo_events::{Config, Label, Memory};
-use velo_filter::{LabelSet, LeftOut, thin};
+use velo_filter::{LabelSet, LeftOut, Thinned, thin};
 use velo_traces::{Block, Trace};
 
 /// How delays are drawn.
@@ -102,16 +102,16 @@ fn find_by(
     alloc: Global,
     config: &Config,
     base: &Run,
-    log: &Trace,
+    rest: &Thinned,
     lookup: &Lookup,
     delay: Delay,
 ) -> Result<Option<PredictedCycle>, Memory>
     requires goes_on { config.now.stop ≡ false }
     requires stands { Stands base.now.heap }
-    ensures { IfOk result (λ found. IfSome found (λ found. IsFound config.now.bounds log.now.events found)) }
+    ensures { IfOk result (λ found. IfSome found (λ found. IsFound config.now.bounds rest.now.trace.events (slice_index rest.now.places.items) found)) }
 {
-    match try_one(alloc, base, log, lookup, delay)? {
-        Some(trace) => judge(alloc, config, log, trace),
+    match try_one(alloc, base, &rest.trace, lookup, delay)? {
+        Some(trace) => judge(alloc, config, rest, trace),
         None => Ok(None),
     }
 }
@@ -144,14 +144,14 @@ fn take_in(
 fn try_all(
     alloc: Global,
     config: &Config,
-    log: &Trace,
+    rest: &Thinned,
     lookup: &Lookup,
     delays: &[Delay],
     left: &mut LeftOut,
     searched: &mut PredictedCycles,
 ) -> Result<(), Memory>
     requires goes_on { config.now.stop ≡ false }
-    ensures { OnOk result (GoesOn config.now.bounds log.now.events (left_of left.old) (left_of left.new) searched.old.found.items searched.new.found.items) }
+    ensures { OnOk result (GoesOn config.now.bounds rest.now.trace.events (slice_index rest.now.places.items) (left_of left.old) (left_of left.new) searched.old.found.items searched.new.found.items) }
 {
     let mut base = Run::new(alloc, config, lookup, true)?;
     let mut done = LabelSet::new(alloc);
@@ -161,10 +161,10 @@ fn try_all(
         if done.contains(delay.block.label) {
             continue;
         }
-        follow_to(&mut base, log, lookup, position, delay.from)?;
+        follow_to(&mut base, &rest.trace, lookup, position, delay.from)?;
         position = position.max(delay.from);
         searched.tries = searched.tries.saturating_add(1);
-        let found = find_by(alloc, config, &base, log, lookup, delay)?;
+        let found = find_by(alloc, config, &base, rest, lookup, delay)?;
         take_in(searched, left, &mut done, delay.block.label, found)?;
     }
     Ok(())
@@ -196,7 +196,7 @@ fn search_once(
         threads,
         tries,
     )?;
-    try_all(alloc, config, &rest.trace, &lookup, &delays, left, searched)
+    try_all(alloc, config, &rest, &lookup, &delays, left, searched)
 }
 
 /// Searches for predictions of the log that have a cycle, in rounds: the labels that one blames are left out in the next, until a

@@ -2,6 +2,7 @@ pub mod OnPredictions
 pub mod OnCourses
 pub mod OnFollowing
 pub mod OnDifferences
+pub mod OnSources
 pub mod OnJudged
 pub mod OnClosings
 pub mod OnCircles

@@ -1,9 +1,9 @@
 -- What a judge knows of a trace, after one more event.
-use Rattle.std.proofs.Common.{◌≡◌, ◌≢◌, ℕ, zero, suc, ◌+◌, ◌<◌, ◌≤◌, Bool, true, false, cond, List, [], ◌∷◌, ◌++◌, length, take, drop, set, replicate, Some, refl, sym, ap, ◌∙◌, subst, arith, length-append, ⊎_elim, inl, inr}
+use Rattle.std.proofs.Common.{◌≡◌, ◌≢◌, ℕ, ◌+◌, ◌<◌, ◌≤◌, Bool, true, false, cond, List, [], ◌∷◌, ◌++◌, length, take, drop, set, replicate, Some, refl, sym, ap, ◌∙◌, subst, arith, length-append, ⊎_elim, inl, inr}
 use Rattle.std.specs.Prelude.{◌⊎◌, ◌||◌, slice_get, IsTrue, IsFalse}
 use Rattle.std.proofs.Math.Seq.{take-append_seam}
 use Rattle.std.proofs.lemmas.Bool.{cases_eq, cases_lt, or_cases, or_parts, eq-eqb, ne_eqb, both_ways, false≢true}
-use Rattle.std.proofs.lemmas.List.{append_assoc, drop_more, length-replicate, take-append-le}
+use Rattle.std.proofs.lemmas.List.{append_assoc, drop_all, drop_more, length-replicate, take-append-le}
 use Rattle.std.proofs.lemmas.Option.{none-some, slice_get_within, same_Some, get_or_from_slice_get}
 use Rattle.velo_events.specs.declared.config.Bounds.{Bounds}
 use Rattle.velo_events.specs.declared.event.Event.{Event}
@@ -38,6 +38,18 @@ pub own-drop_no : (log : List Event) (t n : ℕ) (e : Event) → slice_get log n
 own-drop_no log t n e at other =
     ap (own t) (here_at log n e at) ∙ ap (λ b. cond b (e ∷ own t (drop (n + 1) log)) (own t (drop (n + 1) log))) (ne_eqb (thread_of e) t other)
 
+-- ---- events by their thread and kind
+
+event_of : ThreadId → Kind → Event
+event_of t k = record { thread = t; kind = k }
+
+thread_same : (s t : ThreadId) → s.0 ≡ t.0 → s ≡ t
+thread_same s t h = ap (λ n. let u : ThreadId = record { 0 = n } in u) h
+
+pub same_event : (f g : Event) → thread_of f ≡ thread_of g → f.kind ≡ g.kind → f ≡ g
+unfolding event_of
+same_event f g threads kinds = ap (λ u. event_of u f.kind) (thread_same f.thread g.thread threads) ∙ ap (event_of g.thread) kinds
+
 -- ---- one thread
 
 module _ (log trace : List Event) (e : Event) (course : Course) (stands : IsCourse log trace (thread_of e) course) where
@@ -59,13 +71,7 @@ module _ (log trace : List Event) (e : Event) (course : Course) (stands : IsCour
 
   -- a thread of whose events none is left has done what it did in the log
   pub nothing_next : (at : ℕ) → IsFalse course.is_unsure → own (thread_of e) (drop course.place log) ≡ own (thread_of e) (drop at log) → length log ≤ at → own (thread_of e) log ≡ own (thread_of e) trace ++ []
-  nothing_next at sure passed over = stands.along sure ∙ ap (λ es. own (thread_of e) trace ++ es) (passed ∙ ap (own (thread_of e)) (drop_all log at over))
-    where
-      drop_all : (xs : List Event) (n : ℕ) → length xs ≤ n → drop n xs ≡ []
-      drop_all [] zero l = refl
-      drop_all [] (suc n) l = refl
-      drop_all (x ∷ xs) zero l = absurd (omega (arith, l))
-      drop_all (x ∷ xs) (suc n) l = drop_all xs n (omega (arith, l))
+  nothing_next at sure passed over = stands.along sure ∙ ap (λ es. own (thread_of e) trace ++ es) (passed ∙ ap (own (thread_of e)) (drop_all at log over))
 
   -- nothing is foretold where the log has no more
   pub none_foretold : (at : ℕ) → IsFalse course.is_unsure → own (thread_of e) (drop course.place log) ≡ own (thread_of e) (drop at log) → length log ≤ at → ¬ IsForetold log trace e
@@ -116,15 +122,6 @@ module _ (log trace : List Event) (e : Event) (course : Course) (stands : IsCour
       cases_loose : (b : Bool) → IsFalse b ⊎ IsTrue b
       cases_loose true = inr refl
       cases_loose false = inl refl
-
-      event_of : ThreadId → Kind → Event
-      event_of t k = record { thread = t; kind = k }
-
-      thread_same : (s t : ThreadId) → s.0 ≡ t.0 → s ≡ t
-      thread_same s t h = ap (λ n. let u : ThreadId = record { 0 = n } in u) h
-
-      same_event : (f g : Event) → thread_of f ≡ thread_of g → f.kind ≡ g.kind → f ≡ g
-      same_event f g threads kinds = ap (λ u. event_of u f.kind) (thread_same f.thread g.thread threads) ∙ ap (event_of g.thread) kinds
 
 -- ---- the other threads
 

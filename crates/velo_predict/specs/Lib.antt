@@ -5,3 +5,4 @@ pub mod Differences
 pub mod Circles
 pub mod Waits
 pub mod Courses
+pub mod Sources

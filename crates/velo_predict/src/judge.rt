@@ -61,7 +61,7 @@ fn is_read(kind: Kind) -> bool
 }
 
 /// Whether the operations are of one action: a read may give another value.
-fn are_of_one_action(kind: Kind, next: Kind) -> bool
+pub fn are_of_one_action(kind: Kind, next: Kind) -> bool
     ensures { IsTrue result ↔ (action_of kind ≡ action_of next) }
 {
     match (kind, next) {

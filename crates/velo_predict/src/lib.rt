@@ -6,6 +6,7 @@ mod cycle;
 mod difference;
 mod feasible;
 mod judge;
+mod sources;
 #[cfg(test)]
 mod tests;
 mod waits;
@@ -16,4 +17,5 @@ pub use feasible::{
     blame_is_feasible, cycles_are_feasible, deadlocks_are_feasible, kept_are_runs, kept_deadlocks,
 };
 pub use judge::{differing_reads, is_prediction};
+pub use sources::sources_of;
 pub use waits::{Waiting, predicts_deadlock};

@@ -1,9 +1,9 @@
 -- What a log shows and foretells as one JSON object.
-use Rattle.std.specs.Prelude.{ℕ, List, [], ◌∷◌, ◌++◌, codes, length, map, Option, None}
+use Rattle.std.specs.Prelude.{ℕ, List, [], ◌∷◌, ◌++◌, codes, length, map, Option}
 use Rattle.json.specs.Json.{Json, boolean, string}
 use Rattle.velo_events.specs.declared.event.Event.{Event}
 use Rattle.velo_names.specs.declared.kind.NameKind.TheVariants as kind
-use Rattle.velo_names.specs.Names.{NameLists}
+use Rattle.velo_sites.specs.Sites.{place_in, sites_seen_from}
 use Rattle.velo_explain.specs.Pieces.{event_text, name_about}
 use Rattle.velo_audit_text.specs.declared.words.Asked.{Asked}
 use Rattle.velo_audit_forms.specs.Events.{Known, event_at_json, named_json}
@@ -11,6 +11,7 @@ use Rattle.velo_audit_forms.specs.Alarms.{alarm_json}
 use Rattle.velo_audit_forms.specs.Answer.{asked_json}
 use Rattle.velo_delays.specs.declared.judged.Differing.{Differing}
 use Rattle.velo_delays.specs.declared.judged.PredictedCycle.{PredictedCycle}
+use Rattle.velo_delays.specs.declared.stuck.Awaited.{Awaited}
 use Rattle.velo_delays.specs.declared.stuck.Deadlock.{Deadlock}
 use Rattle.velo_predict_text.specs.Text.{is_something_told}
 use Rattle.velo_predict_text.specs.declared.findings.PredictedFindings.{PredictedFindings}
@@ -20,10 +21,11 @@ use Rattle.velo_json.specs.Tree.{array_of, count, object_of, string_or_null}
 abbrev pub schema : ℕ
 schema = 1
 
--- ---- a prediction. Its events are those of its trace as a log, which has no sites
+-- ---- a prediction. Its events are those of its trace as a log
 
-abbrev pub as_log : NameLists → List Event → Known
-as_log names trace = record { log = trace; names = names; sites = None }
+-- the trace as a log, by what is known of the log itself, and by where its events stand there
+abbrev pub as_log : Known → List Event → List (Option ℕ) → Known
+as_log known trace sources = record { log = trace; names = known.names; sites = sites_seen_from known.sites sources }
 
 -- a read that has another value than in the log, and which one it had there
 unfoldable pub differing_json : Known → Differing → Json
@@ -33,11 +35,12 @@ differing_json trace d = object_of (
     ∷ [])
 
 -- what a thread of a circle waits to do: no event of the trace, so it has no position
-unfoldable pub waiting_json : NameLists → Event → Json
-waiting_json names e = object_of (
-    (codes "thread", named_json names kind.Thread e.thread.0)
-    ∷ (codes "text", string (event_text e))
-    ∷ (codes "name", string_or_null (name_about names e.kind))
+unfoldable pub waiting_json : Known → Awaited → Json
+waiting_json known awaited = object_of (
+    (codes "thread", named_json known.names kind.Thread awaited.event.thread.0)
+    ∷ (codes "text", string (event_text awaited.event))
+    ∷ (codes "name", string_or_null (name_about known.names awaited.event.kind))
+    ∷ (codes "site", string_or_null (place_in known.sites awaited.position))
     ∷ [])
 
 -- how long the trace is, the reads that differ, and the alarm that an audit of the trace tells first
@@ -50,26 +53,26 @@ cycle_json trace found = object_of (
     ∷ [])
 
 -- how long the trace is, the reads that differ, and what each thread of the circle waits to do
-unfoldable pub stuck_json : Known → Deadlock → Json
-stuck_json trace deadlock = object_of (
+unfoldable pub stuck_json : Known → Known → Deadlock → Json
+stuck_json known trace deadlock = object_of (
     (codes "kind", string (codes "deadlock"))
     ∷ (codes "events", count (length trace.log))
     ∷ (codes "differing", array_of (differing_json trace) deadlock.differing.items)
-    ∷ (codes "circle", array_of (waiting_json trace.names) deadlock.waiting.items)
+    ∷ (codes "circle", array_of (waiting_json known) deadlock.waiting.items)
     ∷ [])
 
-abbrev pub found_json : NameLists → PredictedCycle → Json
-found_json names found = cycle_json (as_log names found.trace.events) found
+abbrev pub found_json : Known → PredictedCycle → Json
+found_json known found = cycle_json (as_log known found.trace.events found.sources.items) found
 
-abbrev pub deadlock_json : NameLists → Deadlock → Json
-deadlock_json names deadlock = stuck_json (as_log names deadlock.trace.events) deadlock
+abbrev pub deadlock_json : Known → Deadlock → Json
+deadlock_json known deadlock = stuck_json known (as_log known deadlock.trace.events deadlock.sources.items) deadlock
 
 -- ---- the whole
 
 -- the labels that may not be atomic, then the deadlocks
-abbrev pub predictions_of : NameLists → List PredictedCycle → List Deadlock → List Json
-predictions_of names cycles deadlocks =
-    map (found_json names) cycles ++ map (deadlock_json names) deadlocks
+abbrev pub predictions_of : Known → List PredictedCycle → List Deadlock → List Json
+predictions_of known cycles deadlocks =
+    map (found_json known) cycles ++ map (deadlock_json known) deadlocks
 
 -- whether anything is told; what was to be left out, and the rounds of the log itself, both as an audit
 -- tells them; the predictions; and how many delays were tried
@@ -82,7 +85,7 @@ predictions_json known path asked findings = object_of (
     ∷ (codes "alarms", array_of (alarm_json known) findings.rounds.items)
     ∷ (
       codes "predictions",
-      array_of (λ json. json) (predictions_of known.names
+      array_of (λ json. json) (predictions_of known
           findings.cycles.items findings.deadlocks.items),
     )
     ∷ (codes "tries", count findings.tries)

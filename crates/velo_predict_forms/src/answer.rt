@@ -51,19 +51,13 @@ fn add_answer(
     let json = add_whether_found(json, findings)?.key("left_out")?;
     let json = add_asked(json, log, asked)?;
     let json = add_alarms(json, log, &findings.rounds)?;
-    let json = add_predictions(
-        json,
-        log.alloc,
-        log.names,
-        &findings.cycles,
-        &findings.deadlocks,
-    )?;
+    let json = add_predictions(json, log, &findings.cycles, &findings.deadlocks)?;
     json.key("tries")?.number(findings.tries)?.end_object()
 }
 
 /// What a log at a path shows and foretells, as one JSON object on a line: what was to be left out,
 /// the rounds of the log's own audit, the predictions, each by the events of its own trace, and how
-/// many delays were tried. Only the events of the log itself have places.
+/// many delays were tried. An event has its place, if the sites of the log give it.
 ///
 /// # Errors
 /// `Memory` if an allocation failed.

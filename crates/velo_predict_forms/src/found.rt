@@ -11,13 +11,12 @@ ghost use Rattle.velo_predict_text.specs.Text.{CanBeTold, CanTellDeadlock};
 ghost use Rattle.velo_predict_forms.specs.Answer.{cycle_json, deadlock_json, found_json, predictions_of, stuck_json};
 
 use crate::parts::{add_circle, add_differences, add_kind, add_size};
-use std::alloc::Global;
 use velo_audit_forms::add_alarm;
 use velo_audit_text::Background;
 use velo_delays::{Deadlock, PredictedCycle};
 use velo_events::Memory;
 use velo_json::JsonWriter;
-use velo_names::Names;
+use velo_sites::seen_from;
 
 /// Adds labels that may not be atomic, by what describes their trace.
 #[tactic(auto, unfolding(crate::specs::Answer::cycle_json))]
@@ -40,75 +39,75 @@ fn add_cycle(
 /// Adds labels that may not be atomic.
 fn add_found(
     json: JsonWriter,
-    alloc: Global,
-    names: &Names,
+    log: &Background,
     found: &PredictedCycle,
 ) -> Result<JsonWriter, Memory>
     requires { CanBeTold found.now }
     ensures { IfOk result (λ written. written ≡ json ++ json_tokens
-        (found_json names.now found.now)) }
+        (found_json (known_of log.now) found.now)) }
 {
+    let sites = seen_from(log.alloc, log.sites, &found.sources)?;
     let trace = Background {
-        alloc,
-        names,
-        sites: &None,
+        alloc: log.alloc,
+        names: log.names,
+        sites: &sites,
         events: found.trace.as_slice(),
     };
     add_cycle(json, &trace, found)
 }
 
-/// Adds a deadlock, by what describes its trace.
+/// Adds a deadlock, by what describes the log and its trace.
 #[tactic(auto, unfolding(crate::specs::Answer::stuck_json))]
 fn add_stuck(
     json: JsonWriter,
+    log: &Background,
     trace: &Background,
     deadlock: &Deadlock,
 ) -> Result<JsonWriter, Memory>
     requires { length trace.now.events.now ≤ MAX_EVENTS }
     ensures { IfOk result (λ written. written ≡ json ++ json_tokens
-        (stuck_json (known_of trace.now) deadlock.now)) }
+        (stuck_json (known_of log.now) (known_of trace.now) deadlock.now)) }
 {
     let json = add_kind(json.begin_object()?, "deadlock")?;
     let json = add_size(json, trace.events)?;
     let json = add_differences(json, trace, &deadlock.differing)?;
-    let json = add_circle(json, trace, &deadlock.waiting)?;
+    let json = add_circle(json, log, &deadlock.waiting)?;
     json.end_object()
 }
 
 /// Adds a deadlock.
 fn add_deadlock(
     json: JsonWriter,
-    alloc: Global,
-    names: &Names,
+    log: &Background,
     deadlock: &Deadlock,
 ) -> Result<JsonWriter, Memory>
     requires { CanTellDeadlock deadlock.now }
     ensures { IfOk result (λ written. written ≡ json ++ json_tokens
-        (deadlock_json names.now deadlock.now)) }
+        (deadlock_json (known_of log.now) deadlock.now)) }
 {
+    let sites = seen_from(log.alloc, log.sites, &deadlock.sources)?;
     let trace = Background {
-        alloc,
-        names,
-        sites: &None,
+        alloc: log.alloc,
+        names: log.names,
+        sites: &sites,
         events: deadlock.trace.as_slice(),
     };
-    add_stuck(json, &trace, deadlock)
+    add_stuck(json, log, &trace, deadlock)
 }
 
 /// Adds the labels that may not be atomic, one trace after another.
 fn add_each_cycle(
     json: JsonWriter,
-    alloc: Global,
-    names: &Names,
+    log: &Background,
     cycles: &[PredictedCycle],
 ) -> Result<JsonWriter, Memory>
     requires { All CanBeTold cycles.now }
     ensures { IfOk result (λ written. written ≡ json ++ flat_map (λ f. json_tokens
-        (found_json names.now f)) cycles.now) }
+        (found_json (known_of log.now) f)) cycles.now) }
 {
     let mut written = json;
     for found in cycles {
-        written = add_found(written, alloc, names, found)?;
+        written = add_found(written, log, found)?;
     }
     Ok(written)
 }
@@ -116,17 +115,16 @@ fn add_each_cycle(
 /// Adds the deadlocks, one after another.
 fn add_each_deadlock(
     json: JsonWriter,
-    alloc: Global,
-    names: &Names,
+    log: &Background,
     deadlocks: &[Deadlock],
 ) -> Result<JsonWriter, Memory>
     requires { All CanTellDeadlock deadlocks.now }
     ensures { IfOk result (λ written. written ≡ json ++ flat_map (λ d. json_tokens
-        (deadlock_json names.now d)) deadlocks.now) }
+        (deadlock_json (known_of log.now) d)) deadlocks.now) }
 {
     let mut written = json;
     for deadlock in deadlocks {
-        written = add_deadlock(written, alloc, names, deadlock)?;
+        written = add_deadlock(written, log, deadlock)?;
     }
     Ok(written)
 }
@@ -134,8 +132,7 @@ fn add_each_deadlock(
 /// Adds the member with all that was found of other runs.
 pub(crate) fn add_predictions(
     json: JsonWriter,
-    alloc: Global,
-    names: &Names,
+    log: &Background,
     cycles: &[PredictedCycle],
     deadlocks: &[Deadlock],
 ) -> Result<JsonWriter, Memory>
@@ -143,10 +140,10 @@ pub(crate) fn add_predictions(
     requires deadlocks { All CanTellDeadlock deadlocks.now }
     ensures { IfOk result (λ written. written ≡ json
         ++ key (codes "predictions") ∷ json_tokens
-        (array_of (λ json. json) (predictions_of names.now cycles.now deadlocks.now))) }
+        (array_of (λ json. json) (predictions_of (known_of log.now) cycles.now deadlocks.now))) }
 {
     let begun = json.key("predictions")?.begin_array()?;
-    let labels = add_each_cycle(begun, alloc, names, cycles)?;
-    let written = add_each_deadlock(labels, alloc, names, deadlocks)?.end_array()?;
+    let labels = add_each_cycle(begun, log, cycles)?;
+    let written = add_each_deadlock(labels, log, deadlocks)?.end_array()?;
     Ok(written)
 }

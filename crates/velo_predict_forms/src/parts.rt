@@ -8,9 +8,9 @@ ghost use Rattle.velo_events.specs.declared.limits.TheConstants.{MAX_EVENTS};
 ghost use Rattle.velo_audit_forms.specs.Events.{known_of};
 ghost use Rattle.velo_predict_forms.specs.Answer.{differing_json, waiting_json};
 
-use velo_audit_forms::{add_about, add_event_at, add_thread, add_words};
+use velo_audit_forms::{add_about, add_event_at, add_site, add_thread, add_words};
 use velo_audit_text::Background;
-use velo_delays::Differing;
+use velo_delays::{Awaited, Differing};
 use velo_events::{Event, Memory};
 use velo_json::JsonWriter;
 
@@ -81,28 +81,34 @@ pub(crate) fn add_differences(
 
 /// Adds what a thread waits to do.
 #[tactic(auto, unfolding(crate::specs::Answer::waiting_json))]
-fn add_waiting(json: JsonWriter, trace: &Background, event: Event) -> Result<JsonWriter, Memory>
+fn add_waiting(
+    json: JsonWriter,
+    log: &Background,
+    awaited: Awaited,
+) -> Result<JsonWriter, Memory>
     ensures { IfOk result (λ written. written ≡ json ++ json_tokens
-        (waiting_json trace.now.names.now event)) }
+        (waiting_json (known_of log.now) awaited)) }
 {
-    let json = add_thread(json.begin_object()?, trace.names, event.thread)?;
-    let json = add_words(json, trace.alloc, event)?;
-    let json = add_about(json, trace.names, event.kind)?;
+    let event = awaited.event;
+    let json = add_thread(json.begin_object()?, log.names, event.thread)?;
+    let json = add_words(json, log.alloc, event)?;
+    let json = add_about(json, log.names, event.kind)?;
+    let json = add_site(json, log.sites, awaited.position)?;
     json.end_object()
 }
 
 /// Adds what the threads of a circle wait to do, one after another.
 fn add_each_waiting(
     json: JsonWriter,
-    trace: &Background,
-    waiting: &[Event],
+    log: &Background,
+    waiting: &[Awaited],
 ) -> Result<JsonWriter, Memory>
-    ensures { IfOk result (λ written. written ≡ json ++ flat_map (λ e. json_tokens
-        (waiting_json trace.now.names.now e)) waiting.now) }
+    ensures { IfOk result (λ written. written ≡ json ++ flat_map (λ a. json_tokens
+        (waiting_json (known_of log.now) a)) waiting.now) }
 {
     let mut written = json;
-    for event in waiting {
-        written = add_waiting(written, trace, *event)?;
+    for awaited in waiting {
+        written = add_waiting(written, log, *awaited)?;
     }
     Ok(written)
 }
@@ -110,14 +116,14 @@ fn add_each_waiting(
 /// Adds the member with what the threads of a circle wait to do.
 pub(crate) fn add_circle(
     json: JsonWriter,
-    trace: &Background,
-    waiting: &[Event],
+    log: &Background,
+    waiting: &[Awaited],
 ) -> Result<JsonWriter, Memory>
     ensures { IfOk result (λ written. written ≡ json
         ++ key (codes "circle") ∷ json_tokens
-        (array_of (waiting_json trace.now.names.now) waiting.now)) }
+        (array_of (waiting_json (known_of log.now)) waiting.now)) }
 {
     let begun = json.key("circle")?.begin_array()?;
-    let written = add_each_waiting(begun, trace, waiting)?.end_array()?;
+    let written = add_each_waiting(begun, log, waiting)?.end_array()?;
     Ok(written)
 }

@@ -1,5 +1,5 @@
 -- What was found can be told.
-use Rattle.std.proofs.Common.{◌<◌, List, length}
+use Rattle.std.proofs.Common.{ℕ, ◌<◌, List, length}
 use Rattle.std.specs.Prelude.{All, Contains}
 use Rattle.std.proofs.lemmas.List.Elements.{All-same, All-map, All-weaker, All-contains_itself}
 use Rattle.std.proofs.lemmas.Option.{slice_get_within}
@@ -23,14 +23,14 @@ within_trace log trace differing are =
     (All-map (λ (d : Differing). d.position < length trace) (differing_of log) differences
     (All-weaker (Contains differences) (λ (d : Difference). d.position < length trace) (λ d there. let its = (are.are_they.each d).0 there in slice_get_within trace d.position its.read its.here) differences (All-contains_itself differences)))
 
-deadlock_told : (bounds : Bounds) (log : List Event) (deadlock : Deadlock) → IsDeadlock bounds log deadlock → CanTellDeadlock deadlock
-deadlock_told bounds log deadlock is = record { few = is.short; differing = within_trace _ deadlock.trace.events deadlock.differing.items is.differing }
+deadlock_told : (bounds : Bounds) (log : List Event) (place : ℕ → ℕ) (deadlock : Deadlock) → IsDeadlock bounds log place deadlock → CanTellDeadlock deadlock
+deadlock_told bounds log place deadlock is = record { few = is.short; differing = within_trace _ deadlock.trace.events deadlock.differing.items is.differing }
 
-pub CanTellDeadlock-from : (bounds : Bounds) (log : List Event) (deadlocks : List Deadlock) → AreDeadlocks bounds log deadlocks → All CanTellDeadlock deadlocks
-CanTellDeadlock-from bounds log deadlocks are = All-from_each CanTellDeadlock deadlocks (λ i deadlock there. deadlock_told bounds log deadlock (are.each i deadlock there).is_deadlock)
+pub CanTellDeadlock-from : (bounds : Bounds) (log : List Event) (place : ℕ → ℕ) (deadlocks : List Deadlock) → AreDeadlocks bounds log place deadlocks → All CanTellDeadlock deadlocks
+CanTellDeadlock-from bounds log place deadlocks are = All-from_each CanTellDeadlock deadlocks (λ i deadlock there. deadlock_told bounds log place deadlock (are.each i deadlock there).is_deadlock)
 
-cycle_told : (bounds : Bounds) (log : List Event) (found : PredictedCycle) → IsFound bounds log found → CanBeTold found
-cycle_told bounds log found is = record {
+cycle_told : (bounds : Bounds) (log : List Event) (place : ℕ → ℕ) (found : PredictedCycle) → IsFound bounds log place found → CanBeTold found
+cycle_told bounds log place found is = record {
   few = is.short;
   can_come_about = record { bounds = bounds; well_formed = is.foretold.prediction.well_formed };
   within = is.truly.2;
@@ -38,4 +38,4 @@ cycle_told bounds log found is = record {
 }
 
 pub CanBeTold-from : (bounds : Bounds) (log : List Event) (left : Omitted) (founds : List PredictedCycle) → AreFoundIn bounds log left founds → All CanBeTold founds
-CanBeTold-from bounds log left founds are = All-from_each CanBeTold founds (λ i found there. cycle_told bounds _ found (are.each i found there).is_found)
+CanBeTold-from bounds log left founds are = All-from_each CanBeTold founds (λ i found there. cycle_told bounds _ _ found (are.each i found there).is_found)

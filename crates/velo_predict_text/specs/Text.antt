@@ -1,5 +1,5 @@
 -- What a log shows and foretells, as text.
-use Rattle.std.specs.Prelude.{ℕ, ◌==◌, if◌then◌else◌, ◌<◌, ◌≤◌, ◌||◌, Bool, true, false, List, [], ◌∷◌, ◌++◌, length, codes, decimal, All, Option, None}
+use Rattle.std.specs.Prelude.{ℕ, ◌==◌, if◌then◌else◌, ◌<◌, ◌≤◌, ◌||◌, Bool, true, false, List, [], ◌∷◌, ◌++◌, length, codes, decimal, All, Option}
 use Rattle.std.specs.List.{flat_map}
 use Rattle.velo_events.specs.declared.limits.TheConstants.{MAX_EVENTS}
 use Rattle.velo_events.specs.declared.event.Event.{Event}
@@ -11,13 +11,15 @@ use Rattle.velo_filter.specs.Thinned.{CanComeAbout}
 use Rattle.velo_explain.specs.Pieces.{event_text, joined, name_about, name_text}
 use Rattle.velo_explain.specs.Text.{line_of}
 use Rattle.velo_audit.specs.Witness.{IsWitnessWithin}
-use Rattle.velo_sites.specs.Sites.{Table}
+use Rattle.velo_sites.specs.Sites.{Table, place_in, sites_seen_from}
 use Rattle.velo_audit_text.specs.Names.{named}
 use Rattle.velo_audit_text.specs.declared.words.Asked.{Asked}
+use Rattle.velo_audit_text.specs.Places.{begin_text, line_end, place_text}
 use Rattle.velo_audit_text.specs.Text.{optional_witness_text, told_text}
 use Rattle.velo_audit_text.specs.Words.{asked_text}
 use Rattle.velo_delays.specs.declared.judged.Differing.{Differing}
 use Rattle.velo_delays.specs.declared.judged.PredictedCycle.{PredictedCycle}
+use Rattle.velo_delays.specs.declared.stuck.Awaited.{Awaited}
 use Rattle.velo_delays.specs.declared.stuck.Deadlock.{Deadlock}
 use Rattle.velo_predict_text.specs.declared.findings.PredictedFindings.{PredictedFindings}
 
@@ -47,35 +49,47 @@ recorded_text false line =
     if line == 0 then joined (codes " read in the log the start value\n" ∷ [])
     else joined (codes " read in the log what line " ∷ decimal line ∷ codes " there wrote\n" ∷ [])
 
-abbrev pub difference_text : NameLists → Bool → List Event → Differing → List ℕ
-difference_text names values trace d = read_text names trace d.position ++ recorded_text values d.recorded
+-- the read, its place, if the sites of the trace say it, and what it read in the log
+abbrev pub difference_text : NameLists → Option Table → Bool → List Event → Differing → List ℕ
+difference_text names sites values trace d =
+    read_text names trace d.position ++ (place_text (place_in sites d.position) ++ recorded_text values d.recorded)
 
--- the blocks to blame, outermost first; how long the trace is; the reads that differ from the log; and the cycle, as an audit prints it.
--- The lines are those of the trace as a log, whose events have no sites
-abbrev pub found_text : NameLists → Bool → PredictedCycle → List ℕ
-found_text names values found =
+-- The blocks to blame, outermost first, and where they begin; how long the trace is; the reads that differ from the log; and the
+-- cycle, as an audit prints it. The lines are those of the trace as a log
+abbrev pub cycle_text : NameLists → Option Table → Bool → PredictedCycle → List ℕ
+cycle_text names sites values found =
     flat_map (maybe_text names) found.told.blocks.items
+    ++ (flat_map (begin_text names sites) found.told.blocks.items
     ++ (size_text values (length found.trace.events)
-    ++ (flat_map (difference_text names values found.trace.events) found.differing.items
-    ++ optional_witness_text names None found.trace.events found.told.closing found.told.witness))
+    ++ (flat_map (difference_text names sites values found.trace.events) found.differing.items
+    ++ optional_witness_text names sites found.trace.events found.told.closing found.told.witness)))
+
+-- the sites are those of the log
+abbrev pub found_text : NameLists → Option Table → Bool → PredictedCycle → List ℕ
+found_text names sites values found = cycle_text names (sites_seen_from sites found.sources.items) values found
 
 -- "  thread 0 main waits at `0 acq 1` n"
-unfoldable pub waiting_text : NameLists → Event → List ℕ
-waiting_text names e = joined (
+unfoldable pub waits_text : NameLists → Event → List ℕ
+waits_text names e = joined (
     codes "  thread " ∷ decimal e.thread.0 ∷ named names kind.Thread e.thread.0 ∷ codes " waits at `" ∷ event_text e ∷ codes "`"
-    ∷ name_text (name_about names e.kind) ∷ codes "\n" ∷ [])
+    ∷ name_text (name_about names e.kind) ∷ [])
+
+-- the same, and its place, by the sites of the log
+abbrev pub waiting_text : NameLists → Option Table → Awaited → List ℕ
+waiting_text names sites awaited = waits_text names awaited.event ++ line_end sites awaited.position
 
 -- "deadlock? 2 threads wait in a circle"
 unfoldable pub circle_text : ℕ → List ℕ
 circle_text n = joined (codes "deadlock? " ∷ decimal n ∷ codes " threads wait in a circle\n" ∷ [])
 
--- how many threads wait; how long the trace is; the reads that differ from the log; and what each thread waits to do
-abbrev pub deadlock_text : NameLists → Bool → Deadlock → List ℕ
-deadlock_text names values deadlock =
+-- how many threads wait; how long the trace is; the reads that differ from the log; and what each thread waits to do. The sites are
+-- those of the log
+abbrev pub deadlock_text : NameLists → Option Table → Bool → Deadlock → List ℕ
+deadlock_text names sites values deadlock =
     circle_text (length deadlock.waiting.items)
     ++ (size_text values (length deadlock.trace.events)
-    ++ (flat_map (difference_text names values deadlock.trace.events) deadlock.differing.items
-    ++ flat_map (waiting_text names) deadlock.waiting.items))
+    ++ (flat_map (difference_text names (sites_seen_from sites deadlock.sources.items) values deadlock.trace.events) deadlock.differing.items
+    ++ flat_map (waiting_text names sites) deadlock.waiting.items))
 
 abbrev is_there : {X : Type 0} → List X → Bool
 is_there [] = false
@@ -100,8 +114,8 @@ abbrev pub predictions_text : NameLists → Option Table → List Event → Aske
 predictions_text names sites log asked values findings =
     asked_text names asked
     ++ (flat_map (told_text names sites log) findings.rounds.items
-    ++ (flat_map (found_text names values) findings.cycles.items
-    ++ (flat_map (deadlock_text names values) findings.deadlocks.items
+    ++ (flat_map (found_text names sites values) findings.cycles.items
+    ++ (flat_map (deadlock_text names sites values) findings.deadlocks.items
     ++ end_text (is_something_told findings) findings.tries)))
 
 -- ---- what can be told. Private contracts cite these words

@@ -4,16 +4,18 @@ ghost use Rattle.std.specs.List.{flat_map};
 ghost use Rattle.velo_events.specs.declared.limits.TheConstants.{MAX_EVENTS};
 ghost use Rattle.velo_filter.specs.Thinned.{CanComeAbout};
 ghost use Rattle.velo_audit.specs.Audit.{TellsTruly};
-ghost use Rattle.velo_predict_text.specs.Text.{CanBeTold, CanTellDeadlock, maybe_text, events_text, size_text, read_text, recorded_text, difference_text, found_text, waiting_text, circle_text, deadlock_text, is_something_told, nothing_text, end_text, predictions_text};
+ghost use Rattle.velo_predict_text.specs.Text.{CanBeTold, CanTellDeadlock, maybe_text, events_text, size_text, read_text, recorded_text, difference_text, found_text, waits_text, waiting_text, circle_text, deadlock_text, is_something_told, nothing_text, end_text, predictions_text};
 
 use crate::findings::PredictedFindings;
 use std::alloc::Global;
-use velo_audit_text::{Asked, Background, add_asked, add_rounds, add_witness_if_any};
-use velo_delays::{Deadlock, Differing, PredictedCycle};
+use velo_audit_text::{
+    Asked, Background, add_asked, add_begins, add_place, add_rounds, add_witness_if_any, end_line,
+};
+use velo_delays::{Awaited, Deadlock, Differing, PredictedCycle};
 use velo_events::{Event, Memory};
 use velo_explain::{Page, Piece, line_of};
 use velo_names::{NameKind, Names};
-use velo_sites::Sites;
+use velo_sites::{Sites, seen_from};
 use velo_traces::{Block, Trace};
 
 /// Adds the label of a block that may not be atomic.
@@ -94,16 +96,17 @@ fn add_recorded(page: &mut Page, values: bool, recorded: u64) -> Result<(), Memo
 /// Adds a read that has another value than in the log.
 fn add_difference(
     page: &mut Page,
-    names: &Names,
+    trace: &Background,
     values: bool,
-    events: &[Event],
     differing: Differing,
 ) -> Result<(), Memory>
-    requires within { differing.position < length events.now }
-    requires few { length events.now ≤ MAX_EVENTS }
-    ensures { OnOk result (page.new ≡ page.old ++ difference_text names.now values events.now differing) }
+    requires within { differing.position < length trace.now.events.now }
+    requires few { length trace.now.events.now ≤ MAX_EVENTS }
+    ensures { OnOk result (page.new ≡ page.old
+        ++ difference_text trace.now.names.now trace.now.sites.now values trace.now.events.now differing) }
 {
-    add_read(page, names, events, differing.position)?;
+    add_read(page, trace.names, trace.events, differing.position)?;
+    add_place(page, trace.sites, differing.position)?;
     add_recorded(page, values, differing.recorded)
 }
 
@@ -120,49 +123,49 @@ fn add_labels(page: &mut Page, names: &Names, blocks: &[Block]) -> Result<(), Me
 /// Adds the reads that have another value than in the log.
 fn add_differences(
     page: &mut Page,
-    names: &Names,
+    trace: &Background,
     values: bool,
-    events: &[Event],
     differing: &[Differing],
 ) -> Result<(), Memory>
-    requires within { All (λ d. d.position < length events.now) differing.now }
-    requires few { length events.now ≤ MAX_EVENTS }
-    ensures { OnOk result (page.new ≡ page.old ++ flat_map (difference_text names.now values events.now) differing.now) }
+    requires within { All (λ d. d.position < length trace.now.events.now) differing.now }
+    requires few { length trace.now.events.now ≤ MAX_EVENTS }
+    ensures { OnOk result (page.new ≡ page.old
+        ++ flat_map (difference_text trace.now.names.now trace.now.sites.now values trace.now.events.now) differing.now) }
 {
     for one in differing {
-        add_difference(page, names, values, events, *one)?;
+        add_difference(page, trace, values, *one)?;
     }
     Ok(())
 }
 
-/// Adds what was found.
+/// Adds what was found of other runs of the log.
 fn add_found(
     page: &mut Page,
-    names: &Names,
-    alloc: Global,
+    log: &Background,
     values: bool,
     found: &PredictedCycle,
 ) -> Result<(), Memory>
     requires { CanBeTold found.now }
-    ensures { OnOk result (page.new ≡ page.old ++ found_text names.now values found.now) }
+    ensures { OnOk result (page.new ≡ page.old ++ found_text log.now.names.now log.now.sites.now values found.now) }
 {
-    let events = found.trace.as_slice();
-    add_labels(page, names, &found.told.blocks)?;
-    add_size(page, values, events.len())?;
-    add_differences(page, names, values, events, &found.differing)?;
+    let sites = seen_from(log.alloc, log.sites, &found.sources)?;
     let trace = Background {
-        alloc,
-        names,
-        sites: &None,
-        events,
+        alloc: log.alloc,
+        names: log.names,
+        sites: &sites,
+        events: found.trace.as_slice(),
     };
+    add_labels(page, trace.names, &found.told.blocks)?;
+    add_begins(page, trace.names, trace.sites, &found.told.blocks)?;
+    add_size(page, values, trace.events.len())?;
+    add_differences(page, &trace, values, &found.differing)?;
     add_witness_if_any(page, &trace, found.told.closing, &found.told.witness)
 }
 
-/// Adds what a thread waits to do.
-#[tactic(auto, unfolding(crate::specs::Text::waiting_text))]
-fn add_waiting(page: &mut Page, names: &Names, event: Event) -> Result<(), Memory>
-    ensures { OnOk result (page.new ≡ page.old ++ waiting_text names.now event) }
+/// Adds that a thread waits to do this.
+#[tactic(auto, unfolding(crate::specs::Text::waits_text))]
+fn add_waits(page: &mut Page, names: &Names, event: Event) -> Result<(), Memory>
+    ensures { OnOk result (page.new ≡ page.old ++ waits_text names.now event) }
 {
     page.add(&[
         Piece::Text("  thread "),
@@ -172,16 +175,27 @@ fn add_waiting(page: &mut Page, names: &Names, event: Event) -> Result<(), Memor
         Piece::Words(event),
         Piece::Text("`"),
         Piece::KindName(names, event.kind),
-        Piece::Text("\n"),
     ])
 }
 
-/// Adds what the threads wait to do.
-fn add_all_waiting(page: &mut Page, names: &Names, waiting: &[Event]) -> Result<(), Memory>
-    ensures { OnOk result (page.new ≡ page.old ++ flat_map (waiting_text names.now) waiting.now) }
+/// Adds what a thread waits to do, and its place, if it is known.
+fn add_waiting(page: &mut Page, log: &Background, awaited: Awaited) -> Result<(), Memory>
+    ensures { OnOk result (page.new ≡ page.old ++ waiting_text log.now.names.now log.now.sites.now awaited) }
 {
-    for event in waiting {
-        add_waiting(page, names, *event)?;
+    add_waits(page, log.names, awaited.event)?;
+    end_line(page, log.sites, awaited.position)
+}
+
+/// Adds what the threads wait to do.
+fn add_all_waiting(
+    page: &mut Page,
+    log: &Background,
+    waiting: &[Awaited],
+) -> Result<(), Memory>
+    ensures { OnOk result (page.new ≡ page.old ++ flat_map (waiting_text log.now.names.now log.now.sites.now) waiting.now) }
+{
+    for awaited in waiting {
+        add_waiting(page, log, *awaited)?;
     }
     Ok(())
 }
@@ -201,32 +215,39 @@ fn add_circle(page: &mut Page, count: usize) -> Result<(), Memory>
 /// Adds a deadlock.
 fn add_deadlock(
     page: &mut Page,
-    names: &Names,
+    log: &Background,
     values: bool,
     deadlock: &Deadlock,
 ) -> Result<(), Memory>
     requires { CanTellDeadlock deadlock.now }
-    ensures { OnOk result (page.new ≡ page.old ++ deadlock_text names.now values deadlock.now) }
+    ensures { OnOk result (page.new ≡ page.old ++ deadlock_text log.now.names.now log.now.sites.now values deadlock.now) }
 {
-    let events = deadlock.trace.as_slice();
+    let sites = seen_from(log.alloc, log.sites, &deadlock.sources)?;
+    let trace = Background {
+        alloc: log.alloc,
+        names: log.names,
+        sites: &sites,
+        events: deadlock.trace.as_slice(),
+    };
     add_circle(page, deadlock.waiting.len())?;
-    add_size(page, values, events.len())?;
-    add_differences(page, names, values, events, &deadlock.differing)?;
-    add_all_waiting(page, names, &deadlock.waiting)
+    add_size(page, values, trace.events.len())?;
+    add_differences(page, &trace, values, &deadlock.differing)?;
+    add_all_waiting(page, log, &deadlock.waiting)
 }
 
 /// Adds the deadlocks.
 fn add_deadlocks(
     page: &mut Page,
-    names: &Names,
+    log: &Background,
     values: bool,
     deadlocks: &[Deadlock],
 ) -> Result<(), Memory>
     requires { All CanTellDeadlock deadlocks.now }
-    ensures { OnOk result (page.new ≡ page.old ++ flat_map (deadlock_text names.now values) deadlocks.now) }
+    ensures { OnOk result (page.new ≡ page.old
+        ++ flat_map (deadlock_text log.now.names.now log.now.sites.now values) deadlocks.now) }
 {
     for deadlock in deadlocks {
-        add_deadlock(page, names, values, deadlock)?;
+        add_deadlock(page, log, values, deadlock)?;
     }
     Ok(())
 }
@@ -263,24 +284,24 @@ fn add_end(page: &mut Page, something: bool, tries: u64) -> Result<(), Memory>
 /// Adds the predictions with a cycle.
 fn add_cycles(
     page: &mut Page,
-    names: &Names,
-    alloc: Global,
+    log: &Background,
     values: bool,
     cycles: &[PredictedCycle],
 ) -> Result<(), Memory>
     requires { All CanBeTold cycles.now }
-    ensures { OnOk result (page.new ≡ page.old ++ flat_map (found_text names.now values) cycles.now) }
+    ensures { OnOk result (page.new ≡ page.old
+        ++ flat_map (found_text log.now.names.now log.now.sites.now values) cycles.now) }
 {
     for found in cycles {
-        add_found(page, names, alloc, values, found)?;
+        add_found(page, log, values, found)?;
     }
     Ok(())
 }
 
 /// What a log shows and foretells, as text: what was to be left out; the labels and the witness of each round of the log's own
 /// audit; for each prediction the labels to blame, or what each thread of a circle waits to do, how long its trace is, the reads
-/// that differ from the log, and the cycle; and how many delays were tried. A name comes after its number. In the rounds of the
-/// log itself the places come after their events that the sites give.
+/// that differ from the log, and the cycle; and how many delays were tried. A name comes after its number, and after an event its
+/// place, if the sites of the log give it.
 ///
 /// # Errors
 /// `Memory` where a growth was refused.
@@ -309,8 +330,8 @@ pub fn predictions_text(
         events: log.as_slice(),
     };
     add_rounds(&mut page, &background, &findings.rounds)?;
-    add_cycles(&mut page, names, alloc, values, &findings.cycles)?;
-    add_deadlocks(&mut page, names, values, &findings.deadlocks)?;
+    add_cycles(&mut page, &background, values, &findings.cycles)?;
+    add_deadlocks(&mut page, &background, values, &findings.deadlocks)?;
     add_end(&mut page, is_something_told(findings), findings.tries)?;
     Ok(page)
 }

@@ -10,4 +10,5 @@ returns c = record {
   truly = rw c.in-Some-round.is at c.in_ok-round.ensures.truly;
   witness = rw c.in-Some-round.is at c.in_ok-round.ensures.witness;
   differing = rw c.in-Some-reads.is at c.in_ok-reads.ensures;
+  sources = c.in_ok-sources.ensures;
 }

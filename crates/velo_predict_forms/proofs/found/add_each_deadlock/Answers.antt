@@ -2,6 +2,7 @@ use Rattle.std.proofs.Common.{◌≡◌, ◌+◌, ◌++◌, ◌∷◌, [], take,
 use Rattle.std.proofs.lemmas.List.{take_more}
 use Rattle.json.specs.Tree.{json_tokens}
 use Rattle.velo_json.proofs.OnLists.{flat_map-next}
+use Rattle.velo_audit_forms.specs.Events.{known_of}
 use Rattle.velo_predict_forms.specs.Answer.{deadlock_json}
 use Rattle.velo_predict_forms.proofs.found.add_each_deadlock.Goals as goal
 
@@ -9,4 +10,4 @@ pub loop-deadlock-preserved : goal.loop-deadlock-preserved
 loop-deadlock-preserved c =
     let xs = c.args.deadlocks.now in let i = c.loop-deadlock.deadlock-index in let x = c.deadlock-item.result in
     let more : take (i + 1) xs ≡ take i xs ++ x ∷ [] = take_more xs i x c.loop-deadlock-test.true ∙ ap (λ y. take i xs ++ y ∷ []) (sym c.deadlock-item.is) in
-    flat_map-next (λ x. json_tokens (deadlock_json c.args.names.now x)) xs i x c.args.json _ _ more c.loop-deadlock.invariant c.in_ok-written.ensures
+    flat_map-next (λ x. json_tokens (deadlock_json (known_of c.args.log.now) x)) xs i x c.args.json _ _ more c.loop-deadlock.invariant c.in_ok-written.ensures

@@ -11,4 +11,4 @@ none = record { position = 0; recorded = 0 }
 pub loop-one-preserved : goal.loop-one-preserved
 loop-one-preserved c =
     let xs = c.args.differing.now in let i = c.loop-one.one-index in
-    texts-next (difference_text c.args.names.now c.args.values c.args.events.now) xs i (get_or xs i none) c.args.page.now _ _ (take_more xs i none c.loop-one-test.true) c.loop-one.invariant c.in_ok-add_difference.ensures
+    texts-next (difference_text c.args.trace.now.names.now c.args.trace.now.sites.now c.args.values c.args.trace.now.events.now) xs i (get_or xs i none) c.args.page.now _ _ (take_more xs i none c.loop-one-test.true) c.loop-one.invariant c.in_ok-add_difference.ensures

@@ -4,4 +4,4 @@ use Rattle.velo_predict_text.specs.Text.{difference_text}
 use Rattle.velo_predict_text.proofs.text.add_differences.Given as goal
 
 abbrev pub invariant-loop-one : goal.invariant-loop-one
-invariant-loop-one l = l.page ≡ l.fn.page ++ flat_map (difference_text l.names l.values l.events) (take l.one-index l.differing)
+invariant-loop-one l = l.page ≡ l.fn.page ++ flat_map (difference_text l.trace.names.now l.trace.sites.now l.values l.trace.events.now) (take l.one-index l.differing)

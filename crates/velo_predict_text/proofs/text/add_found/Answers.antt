@@ -4,4 +4,4 @@ use Rattle.velo_audit_text.proofs.OnOpen.{FewAreOpen-from}
 use Rattle.velo_predict_text.proofs.text.add_found.Goals as goal
 
 pub add_witness_if_any-requires-clause-open : goal.add_witness_if_any-requires-clause-open
-add_witness_if_any-requires-clause-open c = subst FewAreOpen (sym c.as_slice-events.ensures) (FewAreOpen-from c.args.found.now.trace.events c.requires.can_come_about)
+add_witness_if_any-requires-clause-open c = subst FewAreOpen (sym c.as_slice.ensures) (FewAreOpen-from c.args.found.now.trace.events c.requires.can_come_about)
