@@ -49,8 +49,8 @@ PARTS = [
         "velo_audit_text": "Text",
         "velo_suppressions": "Line* Known* List"}),
     ("What one log says of other schedules", {
-        "velo_predict": "Predictions* Deadlocks* Feasible* Differences* Waits",
-        "velo_delays": "Anew* Differing* Found* Deadlock*",
+        "velo_predict": "Predictions* Deadlocks* Feasible* Differences* Sources* Waits",
+        "velo_delays": "Anew* Differing* Sources* Found* Deadlock*",
         "velo_predict_text": "Text"}),
     ("Laws of logs", {
         "velo_laws": "Cut* Restart* Renumber Ordered* Repeats*",

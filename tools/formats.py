@@ -166,21 +166,33 @@ def recorded(value, values):
     return f"read in the log what line {value} there wrote" if value else "read in the log the start value"
 
 
+def sited(event):
+    """What an event is, and its place."""
+    return about(event) + ("" if event["site"] is None else f" at {event['site']}")
+
+
+def begins(alarm):
+    """The lines that say where the blocks begin whose places are known."""
+    return [f"  block {named(block['label'])} begins at {block['begin']['site']}" for block in alarm["blocks"] if block["begin"]["site"] is not None]
+
+
 def told(prediction, values):
     """The lines of a prediction, up to the cycle."""
     if prediction["kind"] == "deadlock":
         first, last = [f"deadlock? {len(prediction['circle'])} threads wait in a circle"], [
-            f"  thread {named(one['thread'])} waits at {about(one)}" for one in prediction["circle"]]
+            f"  thread {named(one['thread'])} waits at {sited(one)}" for one in prediction["circle"]]
     else:
-        first, last = ["not atomic? " + named(block["label"]) for block in prediction["alarm"]["blocks"]], [cycle(prediction["alarm"])]
+        alarm = prediction["alarm"]
+        first, last = ["not atomic? " + named(block["label"]) for block in alarm["blocks"]] + begins(alarm), [cycle(alarm)]
     return [*first, f"  witness {prediction['events']} events", *([] if values else [NUMBERS]),
-            *(f"  line {one['event']['line']} {about(one['event'])} {recorded(one['recorded'], values)}" for one in prediction["differing"]), *last]
+            *(f"  line {one['event']['line']} {sited(one['event'])} {recorded(one['recorded'], values)}" for one in prediction["differing"]), *last]
 
 
 def prediction_faults(program, log, words, text, status, answer):
     lines = text.splitlines()
-    heads = [line for line in lines if line[0] != " " or line.startswith(("  witness ", "  lines ", "  line ", "  thread ", "  Line "))]
-    labels = [dict.fromkeys("not atomic " + named(block["label"]) for block in alarm["blocks"]) for alarm in answer["alarms"]]
+    heads = [line for line in lines if line[0] != " " or line.startswith(("  witness ", "  lines ", "  line ", "  thread ", "  Line "))
+             or re.match("  block .* begins at ", line)]
+    labels = [[*dict.fromkeys("not atomic " + named(block["label"]) for block in alarm["blocks"]), *begins(alarm)] for alarm in answer["alarms"]]
     expected = (left_out(answer["left_out"])
                 + [line for some, alarm in zip(labels, answer["alarms"]) for line in (*some, cycle(alarm))]
                 + [line for prediction in answer["predictions"] for line in told(prediction, "--values" in words)]

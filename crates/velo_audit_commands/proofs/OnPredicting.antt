@@ -6,7 +6,7 @@ use Rattle.velo_events.specs.declared.config.Bounds.{Bounds}
 use Rattle.velo_events.specs.declared.event.Event.{Event}
 use Rattle.velo_names.specs.Names.{NameLists}
 use Rattle.velo_sites.specs.Sites.{Table}
-use Rattle.velo_filter.specs.Left.{Omitted, rest_of}
+use Rattle.velo_filter.specs.Left.{Omitted, place_of, rest_of}
 use Rattle.velo_audit.specs.declared.told.Told.{Told}
 use Rattle.velo_audit_text.specs.declared.words.Asked.{Asked}
 use Rattle.velo_delays.specs.Deadlock.{AreDeadlocksIn}
@@ -40,7 +40,7 @@ module _ (values : Bool) (bounds : Bounds) (log : List Event) (left : Omitted) (
   can_be_told = CanBeTold-from bounds are.searched left findings.cycles.items are.cycles
 
   pub can_tell_deadlocks : All CanTellDeadlock findings.deadlocks.items
-  can_tell_deadlocks = CanTellDeadlock-from bounds (rest_of left are.searched) findings.deadlocks.items are.deadlocks
+  can_tell_deadlocks = CanTellDeadlock-from bounds (rest_of left are.searched) (place_of left are.searched) findings.deadlocks.items are.deadlocks
 
 -- predictions of a log without what the rounds told before leave out
 pub predictions_behind : (values : Bool) (bounds : Bounds) (log : List Event) (left first : Omitted) (rounds : List Told) (findings : PredictedFindings) → findings.rounds.items ≡ rounds → left ≡ left_out_at_last log first rounds

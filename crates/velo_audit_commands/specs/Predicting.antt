@@ -42,7 +42,8 @@ IsSearched false log searched = IsRenewed log searched
 
 -- What the search found are predictions of this log without what is left out. It predicts the trace of
 -- each (`PredictsCycle` of `velo_predict`), and the reads told are those that have another value than
--- in the log. That there are no others is not claimed.
+-- in the log. Each event of it that is one of the log is told with the position there
+-- (`AreSourcesAsRead` of `velo_delays`). That there are no other predictions is not claimed.
 pub record ArePredictionsOf (values : Bool) (bounds : Bounds) (log : List Event) (omitted : Omitted)
     (findings : PredictedFindings) : Type 0 where
   pub searched : List Event

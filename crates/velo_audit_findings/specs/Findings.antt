@@ -6,7 +6,8 @@ use Rattle.velo_names.specs.declared.kind.NameKind.TheVariants as kind
 use Rattle.velo_names.specs.Names.{NameLists, name_of}
 use Rattle.velo_explain.specs.Pieces.{joined, line_of, name_text}
 use Rattle.velo_audit.specs.declared.told.Told.{Told}
-use Rattle.velo_audit_text.specs.Places.{place_in, place_text}
+use Rattle.velo_sites.specs.Sites.{place_in}
+use Rattle.velo_audit_text.specs.Places.{place_text}
 use Rattle.velo_audit_forms.specs.Events.{Known}
 
 -- The line of a position of the log; that of the header where the log has no such event. An audit

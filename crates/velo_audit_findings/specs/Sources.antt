@@ -2,8 +2,7 @@
 use Rattle.std.specs.Prelude.{ℕ, ◌==◌, ◌&&◌, nat_lt, Bool, true, List, [], ◌∷◌, ◌++◌, Option, Some, None, option_map, if◌then◌else◌}
 use Rattle.std.specs.Option.{option_map_or}
 use Rattle.velo_bytes.specs.Parsing.{◌>>=◌, number_at}
-use Rattle.velo_sites.specs.Sites.{Table}
-use Rattle.velo_audit_text.specs.Places.{place_in}
+use Rattle.velo_sites.specs.Sites.{Table, place_in}
 use Rattle.velo_audit_findings.specs.declared.sources.Source.{Source as Found}
 use Rattle.velo_audit_findings.specs.declared.sources.TheConstants.{MAX_LINE}
 

@@ -1,17 +1,15 @@
 //! What is said of a block, in few words.
 ghost use Rattle.std.specs.Prelude.{◌≡◌, ◌≤◌, ◌++◌, length, IfOk, OnOk};
 ghost use Rattle.velo_events.specs.declared.limits.TheConstants.{MAX_EVENTS};
-ghost use Rattle.velo_audit_text.specs.Places.{place_in, place_text};
 ghost use Rattle.velo_audit_forms.specs.Events.{known_of};
 ghost use Rattle.velo_audit_findings.specs.Findings.{block_words, line_at, line_text, message};
 
 use std::alloc::Global;
 use velo_audit::Told;
-use velo_audit_text::Background;
+use velo_audit_text::{Background, add_place};
 use velo_events::{Event, Memory};
 use velo_explain::{Page, Piece, line_of};
 use velo_names::{NameKind, Names};
-use velo_sites::Sites;
 use velo_traces::Block;
 
 /// The line of a position of the log.
@@ -45,20 +43,6 @@ pub(crate) fn words_of(alloc: Global, names: &Names, block: Block) -> Result<Pag
     let mut page = Page::new(alloc);
     add_words(&mut page, names, block)?;
     Ok(page)
-}
-
-/// Adds where an event happened, if the place is known.
-fn add_place(page: &mut Page, sites: &Option<Sites>, position: usize) -> Result<(), Memory>
-    ensures { OnOk result (page.new ≡ page.old ++ place_text (place_in sites.now position)) }
-{
-    let Some(sites) = sites else {
-        return Ok(());
-    };
-    let Some(place) = sites.place_of(position) else {
-        return Ok(());
-    };
-    page.add_bytes(b" at ")?;
-    page.add_bytes(place)
 }
 
 /// Adds the line of a position, and where its event happened.

@@ -3,7 +3,7 @@ ghost use Rattle.std.specs.Prelude.{◌≡◌, option_map};
 ghost use Rattle.velo_audit_findings.specs.Sources.{is_end, line_behind, shown, source_at, source_in, source_of};
 
 use velo_bytes::number;
-use velo_sites::Sites;
+use velo_sites::{Sites, place_in};
 
 /// The greatest line. Tools count lines by integers of 32 bits.
 const MAX_LINE: u64 = 2_147_483_647;
@@ -66,11 +66,6 @@ fn source_of(place: &[u8]) -> Option<Source<'_>>
 pub(crate) fn source_in<'a>(sites: &Option<Sites<'a>>, position: usize) -> Option<Source<'a>>
     ensures { option_map shown result ≡ source_in sites.now position }
 {
-    match sites {
-        None => None,
-        Some(sites) => {
-            let place = sites.place_of(position)?;
-            source_of(place)
-        }
-    }
+    let place = place_in(sites, position)?;
+    source_of(place)
 }

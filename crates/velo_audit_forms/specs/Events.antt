@@ -8,7 +8,7 @@ use Rattle.velo_traces.specs.declared.block.Block.{Block}
 use Rattle.velo_names.specs.declared.kind.NameKind.{NameKind}
 use Rattle.velo_names.specs.declared.kind.NameKind.TheVariants as kind
 use Rattle.velo_names.specs.Names.{NameLists, name_of}
-use Rattle.velo_sites.specs.Sites.{Table, place_of}
+use Rattle.velo_sites.specs.Sites.{Table, place_in}
 use Rattle.velo_explain.specs.Pieces.{event_text, line_of, name_about}
 use Rattle.velo_audit_text.specs.declared.background.Background.{Background}
 use Rattle.velo_json.specs.Tree.{count, object_of, string_or_null}
@@ -24,11 +24,6 @@ pub record Known : Type 0 where
   pub log : List Event
   pub names : NameLists
   pub sites : Option Table
-
--- where in the source the event at position p happened, if the sites say it
-abbrev pub place_in : Option Table → ℕ → Option (List ℕ)
-place_in None p = None
-place_in (Some sites) p = place_of sites p
 
 -- An event at a position: its line in the log, its thread, its text, the name of what it is about, and
 -- where in the source it happened

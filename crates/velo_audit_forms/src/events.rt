@@ -5,9 +5,10 @@ ghost use Rattle.json.specs.Token.{key, string};
 ghost use Rattle.json.specs.Tree.{json_tokens};
 ghost use Rattle.velo_names.specs.declared.kind.NameKind.TheVariants as of_name;
 ghost use Rattle.velo_json.specs.Tree.{string_or_null};
+ghost use Rattle.velo_sites.specs.Sites.{place_in};
 ghost use Rattle.velo_events.specs.declared.limits.TheConstants.{MAX_EVENTS};
 ghost use Rattle.velo_explain.specs.Pieces.{event_text, name_about};
-ghost use Rattle.velo_audit_forms.specs.Events.{known_of, block_json, event_at_json, event_json, named_json, place_in, place_tokens};
+ghost use Rattle.velo_audit_forms.specs.Events.{known_of, block_json, event_at_json, event_json, named_json, place_tokens};
 
 use std::alloc::Global;
 use velo_audit_text::Background;
@@ -15,7 +16,7 @@ use velo_events::{Event, Kind, Memory, ThreadId};
 use velo_explain::{Page, Piece, line_of};
 use velo_json::JsonWriter;
 use velo_names::{NameKind, Names};
-use velo_sites::Sites;
+use velo_sites::{Sites, place_in};
 use velo_traces::Block;
 
 /// Adds a number with its name.
@@ -50,16 +51,6 @@ fn name_about<'a>(names: &Names<'a>, kind: Kind) -> Option<&'a [u8]>
         Kind::Begin(label) => names.name_of(NameKind::Label, label.0),
         Kind::Fork(u) | Kind::Join(u) => names.name_of(NameKind::Thread, u32::from(u.0)),
         Kind::End | Kind::Exit => None,
-    }
-}
-
-/// Where in the source the event at a position happened, if this is known.
-fn place_in<'a>(sites: &Option<Sites<'a>>, position: usize) -> Option<&'a [u8]>
-    ensures { option_copied result ≡ place_in sites.now position }
-{
-    match sites {
-        Some(sites) => sites.place_of(position),
-        None => None,
     }
 }
 
@@ -124,7 +115,14 @@ pub fn add_about(json: JsonWriter, names: &Names, kind: Kind) -> Result<JsonWrit
 }
 
 /// Adds the member with the place of an event in the source.
-fn add_site(json: JsonWriter, sites: &Option<Sites>, position: usize) -> Result<JsonWriter, Memory>
+///
+/// # Errors
+/// `Memory` if an allocation failed.
+pub fn add_site(
+    json: JsonWriter,
+    sites: &Option<Sites>,
+    position: usize,
+) -> Result<JsonWriter, Memory>
     ensures { IfOk result (λ written. written ≡ json
         ++ key (codes "site") ∷ json_tokens (string_or_null (place_in sites.now position))) }
 {

@@ -10,5 +10,5 @@ mod witness;
 
 pub use alarms::{add_alarm, add_alarms};
 pub use answer::{add_asked, add_log, audit_json, line_of};
-pub use events::{add_about, add_event_at, add_thread, add_words};
+pub use events::{add_about, add_event_at, add_site, add_thread, add_words};
 pub use witness::add_witness;

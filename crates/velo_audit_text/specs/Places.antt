@@ -4,16 +4,11 @@ use Rattle.velo_events.specs.declared.event.Event.{Event}
 use Rattle.velo_traces.specs.declared.block.Block.{Block}
 use Rattle.velo_names.specs.declared.kind.NameKind.TheVariants as kind
 use Rattle.velo_names.specs.Names.{NameLists}
-use Rattle.velo_sites.specs.Sites.{Table, place_of}
+use Rattle.velo_sites.specs.Sites.{Table, place_in}
 use Rattle.velo_explain.specs.Pieces.{joined}
 use Rattle.velo_explain.specs.Text.{line_of}
 use Rattle.velo_explain.specs.declared.evidence.Blame.{Blame}
 use Rattle.velo_audit_text.specs.Names.{named}
-
--- the place of the event at position p, if there are sites that say it
-abbrev pub place_in : Option Table → ℕ → Option (List ℕ)
-place_in None p = None
-place_in (Some sites) p = place_of sites p
 
 -- " at src/bank.c:12 deposit", or nothing where no place is known
 abbrev pub place_text : Option (List ℕ) → List ℕ

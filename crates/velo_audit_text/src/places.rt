@@ -3,22 +3,23 @@ ghost use Rattle.std.specs.Prelude.{◌≡◌, ◌≤◌, ◌<◌, ◌++◌, len
 ghost use Rattle.std.specs.List.{flat_map};
 ghost use Rattle.velo_events.specs.declared.limits.TheConstants.{MAX_EVENTS};
 ghost use Rattle.velo_explain.specs.Evidence.{AreBlamesWithin};
-ghost use Rattle.velo_audit_text.specs.Places.{begin_text, line_end, place_in, place_line, place_text, reason_place_text};
+ghost use Rattle.velo_sites.specs.Sites.{place_in};
+ghost use Rattle.velo_audit_text.specs.Places.{begin_text, line_end, place_line, place_text, reason_place_text};
 
 use velo_events::{Event, Memory};
 use velo_explain::{Blame, Page, Piece, line_of};
 use velo_names::{NameKind, Names};
-use velo_sites::Sites;
+use velo_sites::{Sites, place_in};
 use velo_traces::Block;
 
 /// Adds where an event happened, if the place is known.
-fn add_place(page: &mut Page, sites: &Option<Sites>, position: usize) -> Result<(), Memory>
+///
+/// # Errors
+/// `Memory` if an allocation failed.
+pub fn add_place(page: &mut Page, sites: &Option<Sites>, position: usize) -> Result<(), Memory>
     ensures { OnOk result (page.new ≡ page.old ++ place_text (place_in sites.now position)) }
 {
-    let Some(sites) = sites else {
-        return Ok(());
-    };
-    let Some(place) = sites.place_of(position) else {
+    let Some(place) = place_in(sites, position) else {
         return Ok(());
     };
     page.add_bytes(b" at ")?;
@@ -26,11 +27,10 @@ fn add_place(page: &mut Page, sites: &Option<Sites>, position: usize) -> Result<
 }
 
 /// Adds it and ends the line.
-pub(crate) fn end_line(
-    page: &mut Page,
-    sites: &Option<Sites>,
-    position: usize,
-) -> Result<(), Memory>
+///
+/// # Errors
+/// `Memory` if an allocation failed.
+pub fn end_line(page: &mut Page, sites: &Option<Sites>, position: usize) -> Result<(), Memory>
     ensures { OnOk result (page.new ≡ page.old ++ line_end sites.now position) }
 {
     add_place(page, sites, position)?;
@@ -46,10 +46,7 @@ fn add_begin(
 ) -> Result<(), Memory>
     ensures { OnOk result (page.new ≡ page.old ++ begin_text names.now sites.now block) }
 {
-    let Some(sites) = sites else {
-        return Ok(());
-    };
-    let Some(place) = sites.place_of(block.first) else {
+    let Some(place) = place_in(sites, block.first) else {
         return Ok(());
     };
     page.add(&[
@@ -63,7 +60,10 @@ fn add_begin(
 }
 
 /// Adds where the blocks begin, of those whose place is known.
-pub(crate) fn add_begins(
+///
+/// # Errors
+/// `Memory` if an allocation failed.
+pub fn add_begins(
     page: &mut Page,
     names: &Names,
     sites: &Option<Sites>,
@@ -83,10 +83,7 @@ fn add_place_line(page: &mut Page, sites: &Option<Sites>, position: usize) -> Re
     requires { position < MAX_EVENTS }
     ensures { OnOk result (page.new ≡ page.old ++ place_line position (place_in sites.now position)) }
 {
-    let Some(sites) = sites else {
-        return Ok(());
-    };
-    let Some(place) = sites.place_of(position) else {
+    let Some(place) = place_in(sites, position) else {
         return Ok(());
     };
     page.add(&[

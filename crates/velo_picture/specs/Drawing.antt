@@ -6,7 +6,7 @@ use Rattle.velo_events.specs.declared.event.Event.{Event}
 use Rattle.velo_certify.specs.declared.edges.EdgeEvents.{EdgeEvents}
 use Rattle.velo_certify.specs.Owners.{event_at}
 use Rattle.velo_names.specs.Names.{NameLists}
-use Rattle.velo_sites.specs.Sites.{Table, place_of}
+use Rattle.velo_sites.specs.Sites.{Table, place_in}
 use Rattle.velo_explain.specs.declared.spans.Span.{Span}
 use Rattle.velo_explain.specs.declared.evidence.Blame.{Blame}
 use Rattle.velo_explain.specs.declared.evidence.Evidence.{Evidence}
@@ -96,10 +96,6 @@ frame_text trace edges grid p =
 abbrev pub place_text : Option (List ℕ) → List ℕ
 place_text None = []
 place_text (Some place) = codes ", " ++ place
-
-abbrev pub place_in : Option Table → ℕ → Option (List ℕ)
-place_in None p = None
-place_in (Some table) p = place_of table p
 
 -- "line 8: 1 wr 0 1 counter", and the place: the whole text, which is shown at the pointer
 unfoldable pub hint_text : NameLists → Option Table → List Event → ℕ → List ℕ

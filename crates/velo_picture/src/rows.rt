@@ -4,7 +4,8 @@ ghost use Rattle.std.specs.List.{flat_map};
 ghost use Rattle.velo_events.specs.declared.limits.TheConstants.{MAX_EVENTS};
 ghost use Rattle.velo_explain.specs.Lanes.{AreBelow};
 ghost use Rattle.velo_explain.specs.Pieces.{numbered};
-ghost use Rattle.velo_picture.specs.Drawing.{titled, name_over_text, broken_text, gap_text, line_text, is_on_cycle, frame_text, place_text, place_in, hint_text, operation_row_text, row_text};
+ghost use Rattle.velo_sites.specs.Sites.{place_in};
+ghost use Rattle.velo_picture.specs.Drawing.{titled, name_over_text, broken_text, gap_text, line_text, is_on_cycle, frame_text, place_text, hint_text, operation_row_text, row_text};
 
 use crate::layout::Layout;
 use crate::rooms::{heading_of, operation_of};
@@ -16,7 +17,7 @@ use velo_certify::EdgeEvents;
 use velo_events::{Event, Memory, ThreadId};
 use velo_explain::{Page, Piece, add_shortened, line_of, lines_before};
 use velo_names::Names;
-use velo_sites::Sites;
+use velo_sites::{Sites, place_in};
 
 /// What an alarm is told by.
 #[derive(Clone, Copy)]
@@ -168,10 +169,7 @@ fn add_frame(
 fn add_place(hint: &mut Page, sites: &Option<Sites>, position: usize) -> Result<(), Memory>
     ensures { OnOk result (hint.new ≡ hint.old ++ place_text (place_in sites.now position)) }
 {
-    let Some(sites) = sites else {
-        return Ok(());
-    };
-    let Some(place) = sites.place_of(position) else {
+    let Some(place) = place_in(sites, position) else {
         return Ok(());
     };
     hint.add_bytes(b", ")?;

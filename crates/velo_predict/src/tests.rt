@@ -1,6 +1,7 @@
 //! Which traces small logs foretell.
 use crate::{
     Difference, Waiting, differing_reads, is_prediction, predicts_cycle, predicts_deadlock,
+    sources_of,
 };
 use std::alloc::Global;
 use std::process::Abort;
@@ -141,6 +142,26 @@ fn differing_read_is_listed(rt: HostRuntime) {
     assert!(rt; listed.as_slice() == expected.as_slice());
     let same = differing(&rt, rt.alloc(), &added(), &added());
     assert!(rt; same.len() == 0);
+}
+
+/// What a thread does after it read another value is no event of the log.
+#[test]
+fn events_are_of_the_log(rt: HostRuntime) {
+    let early = trace_of(
+        &rt,
+        rt.alloc(),
+        &[
+            fork(2),
+            fork(1),
+            by(1, Kind::Acquire(M)),
+            by(1, Kind::Read(X, 0)),
+            by(1, Kind::Release(M)),
+        ],
+    );
+    let log = trace_of(&rt, rt.alloc(), &added());
+    let sources = sources_of(rt.alloc(), &log, &early).expect(&rt, "memory");
+    let expected = [None, None, Some(5), Some(6), None];
+    assert!(rt; sources.as_slice() == expected.as_slice());
 }
 
 /// The position of the first event that closes a cycle of a trace that is foretold.

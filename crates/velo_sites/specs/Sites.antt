@@ -1,5 +1,5 @@
 -- The table of sites that the bytes of a file give.
-use Rattle.std.specs.Prelude.{◌≡◌, ℕ, ◌+◌, ◌-◌, ◌<◌, ◌≤◌, ◌==◌, nat_lt, List, [], ◌∷◌, ◌++◌, length, Option, Some, None, Result, Ok, Err, if◌then◌else◌, slice_get}
+use Rattle.std.specs.Prelude.{◌≡◌, ℕ, ◌+◌, ◌-◌, ◌<◌, ◌≤◌, ◌==◌, nat_lt, List, [], ◌∷◌, ◌++◌, length, map, Option, Some, None, option_map, Result, Ok, Err, if◌then◌else◌, slice_get, slice_index}
 use Rattle.std.specs.Option.{option_map_or}
 use Rattle.std.specs.Str.{IsUtf8}
 use Rattle.velo_bytes.specs.Parsing.{◌>>=◌}
@@ -23,6 +23,25 @@ abbrev pub place_of : Table → ℕ → Option (List ℕ)
 place_of table i =
     slice_get table.events i >>= λ site.
     if site == 0 then None else slice_get table.places (site - 1)
+
+-- the same, where there is a table
+abbrev pub place_in : Option Table → ℕ → Option (List ℕ)
+place_in None i = None
+place_in (Some table) i = place_of table i
+
+-- ---- the sites of another trace, by which of its events are events of the log
+
+-- the site of an event that is the one at this position of the log, or is none of them; 0 where it is unknown
+abbrev pub site_seen : Table → Option ℕ → ℕ
+site_seen table None = 0
+site_seen table (Some i) = slice_index table.events i
+
+-- the table of the trace whose events are these of the log
+abbrev pub table_seen_from : Table → List (Option ℕ) → Table
+table_seen_from table sources = record { places = table.places; events = map (site_seen table) sources }
+
+abbrev pub sites_seen_from : Option Table → List (Option ℕ) → Option Table
+sites_seen_from sites sources = option_map (λ (table : Table). table_seen_from table sources) sites
 
 -- ---- by its lines
 

@@ -1,5 +1,5 @@
-//! Sites: where in the source of a program each event of its log happened. The text of a file of sites, and the table that
-//! it gives.
+//! Sites: where in the source of a program each event of its log happened. The text of a file of sites, the table that it gives,
+//! and that of another trace of the program.
 #![tactic(auto)]
 
 mod fault;
@@ -9,7 +9,7 @@ mod sites;
 
 pub use fault::SitesFault;
 pub use limits::{MAX_PLACE_BYTES, MAX_SITES, MAX_SITES_BYTES};
-pub use sites::Sites;
+pub use sites::{Sites, place_in, seen_from};
 
 #[cfg(test)]
 mod tests;

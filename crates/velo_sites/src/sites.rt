@@ -1,15 +1,17 @@
 //! The sites of a file.
-ghost use Rattle.std.specs.Prelude.{◌≡◌, ◌+◌, false, Some, IfOk, IsTrue, length, option_map, slice_get};
+ghost use Rattle.std.specs.Prelude.{◌≡◌, ◌+◌, false, Some, IfOk, IsTrue, length, map, option_map, slice_get};
+ghost use Rattle.std.specs.Option.{option_copied};
 ghost use Rattle.velo_names.specs.Line.{lines};
 ghost use Rattle.velo_sites.specs.Answers.{AnswersAs, header};
-ghost use Rattle.velo_sites.specs.Sites.{IsWhole, ReadsAs, no_sites, place_of, table_after, table_from};
+ghost use Rattle.velo_sites.specs.Sites.{IsWhole, ReadsAs, no_sites, place_in, place_of, site_seen, sites_seen_from, table_after, table_from, table_seen_from};
 
 use crate::fault::SitesFault;
 use crate::limits::MAX_SITES_BYTES;
 use crate::line::{Header, header_of, is_place, site_of};
 use std::alloc::Global;
 use std::marker::Model;
-use velo_events::growth::reserve;
+use velo_events::Memory;
+use velo_events::growth::{reserve, with_capacity};
 use velo_names::split_line;
 
 /// Where in the source each event of a log happened, as bytes of a file that are UTF-8.
@@ -143,5 +145,73 @@ impl<'a> Sites<'a> {
         ensures { result ≡ length self.now.events }
     {
         self.events.len()
+    }
+
+    /// The site of an event that is the one at this position, or is none of these; 0 where it is unknown.
+    fn site_seen(&self, source: Option<usize>) -> u32
+        ensures { result ≡ site_seen self.now source }
+    {
+        let Some(position) = source else {
+            return 0;
+        };
+        self.events.get(position).copied().unwrap_or(0)
+    }
+
+    /// The sites of these events.
+    fn sites_seen(&self, alloc: Global, sources: &[Option<usize>]) -> Result<Vec<u32>, Memory>
+        ensures { IfOk result (λ seen. seen.items ≡ map (site_seen self.now) sources.now) }
+    {
+        let mut seen = with_capacity(alloc, sources.len())?;
+        for source in sources {
+            seen.push_reserved(self.site_seen(*source));
+        }
+        Ok(seen)
+    }
+
+    /// The sites of another trace, each of whose events is one of these or none.
+    fn seen_from(&self, alloc: Global, sources: &[Option<usize>]) -> Result<Sites<'a>, Memory>
+        ensures { IfOk result (λ seen. seen ≡ table_seen_from self.now sources.now) }
+    {
+        let events = self.sites_seen(alloc, sources)?;
+        let places = copied(alloc, &self.places)?;
+        Ok(Sites { places, events })
+    }
+}
+
+/// The same places.
+fn copied<'a>(alloc: Global, places: &[&'a [u8]]) -> Result<Vec<&'a [u8]>, Memory>
+    ensures { IfOk result (λ copies. copies.items ≡ places.now) }
+{
+    let mut copies = with_capacity(alloc, places.len())?;
+    for place in places {
+        copies.push_reserved(*place);
+    }
+    Ok(copies)
+}
+
+/// Where the event at this position happened, if there are sites that say it.
+pub fn place_in<'a>(sites: &Option<Sites<'a>>, position: usize) -> Option<&'a [u8]>
+    ensures { option_copied result ≡ place_in sites.now position }
+{
+    match sites {
+        Some(sites) => sites.place_of(position),
+        None => None,
+    }
+}
+
+/// The sites of another trace, each of whose events is one of the log or none, if there are sites of the log.
+///
+/// # Errors
+/// `Memory` where a growth was refused.
+pub fn seen_from<'a>(
+    alloc: Global,
+    sites: &Option<Sites<'a>>,
+    sources: &[Option<usize>],
+) -> Result<Option<Sites<'a>>, Memory>
+    ensures { IfOk result (λ seen. seen ≡ sites_seen_from sites.now sources.now) }
+{
+    match sites {
+        Some(sites) => Ok(Some(sites.seen_from(alloc, sources)?)),
+        None => Ok(None),
     }
 }

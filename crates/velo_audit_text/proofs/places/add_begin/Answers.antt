@@ -8,7 +8,7 @@ use Rattle.velo_audit_text.proofs.places.add_begin.Goals as goal
 pub returns : goal.returns
 returns c =
     let l = c.args.block.label.0 in
-    let place = c.in-Some-place_of.place.now in
+    let place = c.in-Some.place.now in
     let texts = codes "  block " ∷ decimal l ∷ named c.args.names.now kind.Label l ∷ codes " begins at " ∷ [] in
     let line = longer texts place _ _ _ (rw (c.from.ensures, c.name_of.ensures) at c.in_ok-add.ensures) c.in_ok-add_bytes.ensures in
-    rw (c.in-Some.is, ← c.in-Some-place_of.ensures) (ended c.add_bytes-2.result (codes "  block " ∷ decimal l ∷ named c.args.names.now kind.Label l ∷ codes " begins at " ∷ place ∷ []) _ _ _ _ line c.add_bytes-2.ensures)
+    rw (← c.in-Some.ensures) (ended c.add_bytes-2.result (codes "  block " ∷ decimal l ∷ named c.args.names.now kind.Label l ∷ codes " begins at " ∷ place ∷ []) _ _ _ _ line c.add_bytes-2.ensures)
