@@ -81,11 +81,7 @@ pub(crate) fn add_differences(
 
 /// Adds what a thread waits to do.
 #[tactic(auto, unfolding(crate::specs::Answer::waiting_json))]
-fn add_waiting(
-    json: JsonWriter,
-    log: &Background,
-    awaited: Awaited,
-) -> Result<JsonWriter, Memory>
+fn add_waiting(json: JsonWriter, log: &Background, awaited: Awaited) -> Result<JsonWriter, Memory>
     ensures { IfOk result (λ written. written ≡ json ++ json_tokens
         (waiting_json (known_of log.now) awaited)) }
 {

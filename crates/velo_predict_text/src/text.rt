@@ -187,11 +187,7 @@ fn add_waiting(page: &mut Page, log: &Background, awaited: Awaited) -> Result<()
 }
 
 /// Adds what the threads wait to do.
-fn add_all_waiting(
-    page: &mut Page,
-    log: &Background,
-    waiting: &[Awaited],
-) -> Result<(), Memory>
+fn add_all_waiting(page: &mut Page, log: &Background, waiting: &[Awaited]) -> Result<(), Memory>
     ensures { OnOk result (page.new ≡ page.old ++ flat_map (waiting_text log.now.names.now log.now.sites.now) waiting.now) }
 {
     for awaited in waiting {
