@@ -9,6 +9,7 @@ ghost use Rattle.velo_predict_text.specs.Text.{CanBeTold, CanTellDeadlock, maybe
 use crate::findings::PredictedFindings;
 use std::alloc::Global;
 use velo_audit_text::{Asked, Background, add_asked, add_rounds, add_witness_if_any};
+use velo_certify::owners_of;
 use velo_delays::{Deadlock, Differing, PredictedCycle};
 use velo_events::{Event, Memory};
 use velo_explain::{Page, Piece, line_of};
@@ -150,11 +151,13 @@ fn add_found(
     add_labels(page, names, &found.told.blocks)?;
     add_size(page, values, events.len())?;
     add_differences(page, names, values, events, &found.differing)?;
+    let owners = owners_of(alloc, events)?;
     let trace = Background {
         alloc,
         names,
         sites: &None,
         events,
+        owners: &owners,
     };
     add_witness_if_any(page, &trace, found.told.closing, &found.told.witness)
 }
@@ -302,11 +305,14 @@ pub fn predictions_text(
 {
     let mut page = Page::new(alloc);
     add_asked(&mut page, names, asked)?;
+    let events = log.as_slice();
+    let owners = owners_of(alloc, events)?;
     let background = Background {
         alloc,
         names,
         sites,
-        events: log.as_slice(),
+        events,
+        owners: &owners,
     };
     add_rounds(&mut page, &background, &findings.rounds)?;
     add_cycles(&mut page, names, alloc, values, &findings.cycles)?;
