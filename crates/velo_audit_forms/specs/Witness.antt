@@ -1,16 +1,14 @@
 -- The witness of a round as JSON.
-use Rattle.std.specs.Prelude.{ℕ, List, [], ◌∷◌, codes, map, slice_get, take, Option}
+use Rattle.std.specs.Prelude.{ℕ, [], ◌∷◌, codes, slice_get}
 use Rattle.std.specs.Option.{option_map_or}
 use Rattle.json.specs.Json.{Json, null}
 use Rattle.velo_events.specs.declared.event.Event.{Event}
-use Rattle.velo_events.specs.Block.{open_blocks}
-use Rattle.velo_traces.specs.declared.block.Block.{Block}
-use Rattle.velo_traces.specs.Blocks.{block_at}
 use Rattle.velo_certify.specs.declared.edges.EdgeEvents.{EdgeEvents}
 use Rattle.velo_explain.specs.declared.spans.Span.{Span}
 use Rattle.velo_explain.specs.declared.evidence.Blame.{Blame}
 use Rattle.velo_explain.specs.declared.evidence.Evidence.{Evidence}
 use Rattle.velo_json.specs.Tree.{array_of, object_of}
+use Rattle.velo_audit_text.specs.Witness.{stack_at}
 use Rattle.velo_audit_forms.specs.Events.{Known, block_json, event_at_json, event_json}
 
 -- a transaction, by its first and its last event
@@ -20,15 +18,11 @@ span_json known span = object_of (
     ∷ (codes "last", event_at_json known span.last)
     ∷ [])
 
--- the blocks that the event's thread has open before it, outermost first
-abbrev pub stack_before : List Event → ℕ → Event → List Block
-stack_before log p event = map (block_at (take p log)) (open_blocks (take p log) event.thread.0)
-
--- an event, and these blocks
+-- an event, and the blocks that its thread has open before it, outermost first
 unfoldable pub placed_json : Known → ℕ → Event → Json
 placed_json known p event = object_of (
     (codes "event", event_json known p event)
-    ∷ (codes "inside", array_of (block_json known) (stack_before known.log p event))
+    ∷ (codes "inside", array_of (block_json known) (stack_at known.log p))
     ∷ [])
 
 unfoldable pub placed_at_json : Known → ℕ → Json

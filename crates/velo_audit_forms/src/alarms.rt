@@ -4,7 +4,7 @@ ghost use Rattle.json.specs.Token.{key};
 ghost use Rattle.json.specs.Tree.{json_tokens};
 ghost use Rattle.velo_json.specs.Tree.{array_of};
 ghost use Rattle.velo_events.specs.declared.limits.TheConstants.{MAX_EVENTS};
-ghost use Rattle.velo_audit_text.specs.Witness.{FewAreOpen};
+ghost use Rattle.velo_audit_text.specs.Witness.{CanListBlocks};
 ghost use Rattle.velo_audit_forms.specs.Events.{block_json, known_of};
 ghost use Rattle.velo_audit_forms.specs.Alarms.{alarm_json, counts_json, entry_json, witness_or_null};
 
@@ -25,7 +25,7 @@ fn add_witness_or_null(
     witness: &Option<Evidence>,
 ) -> Result<JsonWriter, Memory>
     requires few { length background.now.events.now ≤ MAX_EVENTS }
-    requires open { FewAreOpen background.now.events.now }
+    requires open { CanListBlocks background.now.events.now background.now.owners.now }
     ensures { IfOk result (λ written. written ≡ json ++ json_tokens
         (witness_or_null (known_of background.now) witness.now)) }
 {
@@ -38,7 +38,7 @@ fn add_witness_or_null(
 /// Adds the blocks that a round reports.
 fn add_blocks(json: JsonWriter, background: &Background, told: &Told) -> Result<JsonWriter, Memory>
     requires few { length background.now.events.now ≤ MAX_EVENTS }
-    requires open { FewAreOpen background.now.events.now }
+    requires open { CanListBlocks background.now.events.now background.now.owners.now }
     ensures { IfOk result (λ written. written ≡ json
         ++ key (codes "blocks") ∷ json_tokens
         (array_of (block_json (known_of background.now)) told.now.blocks.items)) }
@@ -58,7 +58,7 @@ pub fn add_alarm(
     told: &Told,
 ) -> Result<JsonWriter, Memory>
     requires few { length background.now.events.now ≤ MAX_EVENTS }
-    requires open { FewAreOpen background.now.events.now }
+    requires open { CanListBlocks background.now.events.now background.now.owners.now }
     ensures { IfOk result (λ written. written ≡ json ++ json_tokens
         (alarm_json (known_of background.now) told.now)) }
 {
@@ -86,7 +86,7 @@ pub fn add_alarms(
     rounds: &[Told],
 ) -> Result<JsonWriter, Memory>
     requires few { length background.now.events.now ≤ MAX_EVENTS }
-    requires open { FewAreOpen background.now.events.now }
+    requires open { CanListBlocks background.now.events.now background.now.owners.now }
     ensures { IfOk result (λ written. written ≡ json
         ++ key (codes "alarms") ∷ json_tokens
         (array_of (alarm_json (known_of background.now)) rounds.now)) }
@@ -116,7 +116,7 @@ fn add_labels(
     listed: &Listed,
 ) -> Result<JsonWriter, Memory>
     requires few { length background.now.events.now ≤ MAX_EVENTS }
-    requires open { FewAreOpen background.now.events.now }
+    requires open { CanListBlocks background.now.events.now background.now.owners.now }
     ensures { IfOk result (λ written. written ≡ json
         ++ key (codes "labels") ∷ json_tokens
         (array_of (entry_json background.now.names.now) listed.now.entries.items)) }
@@ -132,7 +132,7 @@ pub(crate) fn add_counts(
     listed: &Listed,
 ) -> Result<JsonWriter, Memory>
     requires few { length background.now.events.now ≤ MAX_EVENTS }
-    requires open { FewAreOpen background.now.events.now }
+    requires open { CanListBlocks background.now.events.now background.now.owners.now }
     ensures { IfOk result (λ written. written ≡ json ++ json_tokens
         (counts_json background.now.names.now listed.now.entries.items listed.now.others)) }
 {

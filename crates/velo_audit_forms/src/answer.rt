@@ -6,8 +6,9 @@ ghost use Rattle.json.specs.Token.{key, string};
 ghost use Rattle.json.specs.Tree.{json_tokens};
 ghost use Rattle.velo_json.specs.Tree.{count};
 ghost use Rattle.velo_events.specs.declared.limits.TheConstants.{MAX_EVENTS};
+ghost use Rattle.velo_certify.specs.Owners.{AreOwners};
 ghost use Rattle.velo_filter.specs.Thinned.{CanComeAbout};
-ghost use Rattle.velo_audit_text.specs.Witness.{FewAreOpen};
+ghost use Rattle.velo_audit_text.specs.Witness.{CanListBlocks};
 ghost use Rattle.velo_audit_forms.specs.Events.{known_of};
 ghost use Rattle.velo_audit_forms.specs.Answer.{asked_json, audit_json, counts_or_null, label_json, line_text, lock_json, variable_json, verdict};
 
@@ -58,7 +59,7 @@ pub fn add_asked(
     asked: &Asked,
 ) -> Result<JsonWriter, Memory>
     requires few { length background.now.events.now ≤ MAX_EVENTS }
-    requires open { FewAreOpen background.now.events.now }
+    requires open { CanListBlocks background.now.events.now background.now.owners.now }
     ensures { IfOk result (λ written. written ≡ json ++ json_tokens
         (asked_json background.now.names.now asked.now)) }
 {
@@ -87,7 +88,7 @@ fn add_counts_or_null(
     listed: Option<&Listed>,
 ) -> Result<JsonWriter, Memory>
     requires few { length background.now.events.now ≤ MAX_EVENTS }
-    requires open { FewAreOpen background.now.events.now }
+    requires open { CanListBlocks background.now.events.now background.now.owners.now }
     ensures { IfOk result (λ written. written ≡ json ++ json_tokens
         (counts_or_null background.now.names.now (option_copied listed.entry))) }
 {
@@ -136,7 +137,7 @@ fn add_audit(
     atomic: usize,
 ) -> Result<JsonWriter, Memory>
     requires few { length background.now.events.now ≤ MAX_EVENTS }
-    requires open { FewAreOpen background.now.events.now }
+    requires open { CanListBlocks background.now.events.now background.now.owners.now }
     ensures { IfOk result (λ written. written ≡ json ++ json_tokens (audit_json
         (known_of background.now) path.now asked.now rounds.now
         (option_copied listed.entry) atomic)) }
@@ -180,6 +181,7 @@ pub fn audit_json(
 ) -> Result<Page, Memory>
     requires few { length background.now.events.now ≤ MAX_EVENTS }
     requires can_come_about { CanComeAbout background.now.events.now }
+    requires owners { AreOwners background.now.owners.now background.now.events.now }
     ensures { IfOk result (λ page. page ≡ line_text (audit_json
         (known_of background.now) path.now asked.now rounds.now (option_copied listed.entry) atomic)) }
 {

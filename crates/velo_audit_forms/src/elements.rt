@@ -4,7 +4,7 @@ ghost use Rattle.std.specs.List.{flat_map};
 ghost use Rattle.json.specs.Json.{Json};
 ghost use Rattle.json.specs.Tree.{json_tokens};
 ghost use Rattle.velo_events.specs.declared.limits.TheConstants.{MAX_EVENTS};
-ghost use Rattle.velo_audit_text.specs.Witness.{FewAreOpen};
+ghost use Rattle.velo_audit_text.specs.Witness.{CanListBlocks};
 ghost use Rattle.velo_audit_forms.specs.Events.{Known, known_of};
 ghost use Rattle.velo_json.specs.Tree.{array_of};
 
@@ -20,7 +20,7 @@ pub(crate) trait Element {
     /// Adds it.
     fn add(&self, json: JsonWriter, background: &Background) -> Result<JsonWriter, Memory>
         requires few { length background.now.events.now ≤ MAX_EVENTS }
-        requires open { FewAreOpen background.now.events.now }
+        requires open { CanListBlocks background.now.events.now background.now.owners.now }
         ensures { IfOk result (λ written. written ≡ json ++ json_tokens
             (value (known_of background.now) self.now)) };
 }
@@ -32,7 +32,7 @@ fn add_elements<T: Element>(
     elements: &[T],
 ) -> Result<JsonWriter, Memory>
     requires few { length background.now.events.now ≤ MAX_EVENTS }
-    requires open { FewAreOpen background.now.events.now }
+    requires open { CanListBlocks background.now.events.now background.now.owners.now }
     ensures { IfOk result (λ written. written ≡ json ++ flat_map (λ (x : T). json_tokens
         (T.value (known_of background.now) x)) elements.now) }
 {
@@ -50,7 +50,7 @@ pub(crate) fn add_array<T: Element>(
     elements: &[T],
 ) -> Result<JsonWriter, Memory>
     requires few { length background.now.events.now ≤ MAX_EVENTS }
-    requires open { FewAreOpen background.now.events.now }
+    requires open { CanListBlocks background.now.events.now background.now.owners.now }
     ensures { IfOk result (λ written. written ≡ json ++ json_tokens
         (array_of (T.value (known_of background.now)) elements.now)) }
 {

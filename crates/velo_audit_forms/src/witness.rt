@@ -4,18 +4,18 @@ ghost use Rattle.json.specs.Token.{key};
 ghost use Rattle.json.specs.Tree.{json_tokens};
 ghost use Rattle.velo_json.specs.Tree.{array_of};
 ghost use Rattle.velo_events.specs.declared.limits.TheConstants.{MAX_EVENTS};
-ghost use Rattle.velo_audit_text.specs.Witness.{FewAreOpen};
+ghost use Rattle.velo_audit_text.specs.Witness.{CanListBlocks, stack_at};
 ghost use Rattle.velo_audit_forms.specs.Events.{known_of, block_json};
-ghost use Rattle.velo_audit_forms.specs.Witness.{edge_json, placed_at_json, placed_json, reason_json, span_json, stack_before, witness_json};
+ghost use Rattle.velo_audit_forms.specs.Witness.{edge_json, placed_at_json, placed_json, reason_json, span_json, witness_json};
 
 use crate::elements::{Element, add_array};
 use crate::events::{add_block, add_event, add_event_at};
-use velo_audit_text::Background;
+use velo_audit_text::{Background, blocks_around};
 use velo_certify::EdgeEvents;
 use velo_events::{Event, Memory};
 use velo_explain::{Blame, Evidence, Span};
 use velo_json::JsonWriter;
-use velo_traces::{Block, open_blocks_in};
+use velo_traces::Block;
 
 impl Element for Block {
     ghost value = { block_json };
@@ -41,17 +41,15 @@ fn add_inside(
     json: JsonWriter,
     background: &Background,
     position: usize,
-    event: Event,
 ) -> Result<JsonWriter, Memory>
     requires within { position < length background.now.events.now }
     requires few { length background.now.events.now ≤ MAX_EVENTS }
-    requires open { FewAreOpen background.now.events.now }
+    requires open { CanListBlocks background.now.events.now background.now.owners.now }
     ensures { IfOk result (λ written. written ≡ json
         ++ key (codes "inside") ∷ json_tokens (array_of (block_json (known_of background.now))
-        (stack_before background.now.events.now position event))) }
+        (stack_at background.now.events.now position))) }
 {
-    let before = &background.events[..position];
-    let blocks = open_blocks_in(before, event.thread, background.alloc);
+    let blocks = blocks_around(background, position);
     add_array(json.key("inside")?, background, blocks.as_slice())
 }
 
@@ -65,13 +63,13 @@ fn add_placed(
 ) -> Result<JsonWriter, Memory>
     requires within { position < length background.now.events.now }
     requires few { length background.now.events.now ≤ MAX_EVENTS }
-    requires open { FewAreOpen background.now.events.now }
+    requires open { CanListBlocks background.now.events.now background.now.owners.now }
     ensures { IfOk result (λ written. written ≡ json ++ json_tokens
         (placed_json (known_of background.now) position event)) }
 {
     let json = json.begin_object()?.key("event")?;
     let json = add_event(json, background, position, event)?;
-    let json = add_inside(json, background, position, event)?;
+    let json = add_inside(json, background, position)?;
     json.end_object()
 }
 
@@ -83,7 +81,7 @@ fn add_placed_at(
     position: usize,
 ) -> Result<JsonWriter, Memory>
     requires few { length background.now.events.now ≤ MAX_EVENTS }
-    requires open { FewAreOpen background.now.events.now }
+    requires open { CanListBlocks background.now.events.now background.now.owners.now }
     ensures { IfOk result (λ written. written ≡ json ++ json_tokens
         (placed_at_json (known_of background.now) position)) }
 {
@@ -122,7 +120,7 @@ fn add_transactions(
     evidence: &Evidence,
 ) -> Result<JsonWriter, Memory>
     requires few { length background.now.events.now ≤ MAX_EVENTS }
-    requires open { FewAreOpen background.now.events.now }
+    requires open { CanListBlocks background.now.events.now background.now.owners.now }
     ensures { IfOk result (λ written. written ≡ json
         ++ key (codes "transactions") ∷ json_tokens
         (array_of (span_json (known_of background.now)) evidence.now.spans.items)) }
@@ -137,7 +135,7 @@ fn add_edges(
     evidence: &Evidence,
 ) -> Result<JsonWriter, Memory>
     requires few { length background.now.events.now ≤ MAX_EVENTS }
-    requires open { FewAreOpen background.now.events.now }
+    requires open { CanListBlocks background.now.events.now background.now.owners.now }
     ensures { IfOk result (λ written. written ≡ json
         ++ key (codes "edges") ∷ json_tokens
         (array_of (edge_json (known_of background.now)) evidence.now.edges.items)) }
@@ -152,7 +150,7 @@ fn add_reasons(
     evidence: &Evidence,
 ) -> Result<JsonWriter, Memory>
     requires few { length background.now.events.now ≤ MAX_EVENTS }
-    requires open { FewAreOpen background.now.events.now }
+    requires open { CanListBlocks background.now.events.now background.now.owners.now }
     ensures { IfOk result (λ written. written ≡ json
         ++ key (codes "reasons") ∷ json_tokens
         (array_of (reason_json (known_of background.now)) evidence.now.blames.items)) }
@@ -172,7 +170,7 @@ pub fn add_witness(
     evidence: &Evidence,
 ) -> Result<JsonWriter, Memory>
     requires few { length background.now.events.now ≤ MAX_EVENTS }
-    requires open { FewAreOpen background.now.events.now }
+    requires open { CanListBlocks background.now.events.now background.now.owners.now }
     ensures { IfOk result (λ written. written ≡ json ++ json_tokens
         (witness_json (known_of background.now) evidence.now)) }
 {

@@ -9,7 +9,7 @@ use Rattle.velo_traces.specs.Blocks.{block_at}
 use Rattle.velo_names.specs.declared.kind.NameKind.TheVariants as kind
 use Rattle.velo_names.specs.Names.{NameLists}
 use Rattle.velo_certify.specs.declared.edges.EdgeEvents.{EdgeEvents}
-use Rattle.velo_certify.specs.Owners.{event_at}
+use Rattle.velo_certify.specs.Owners.{AreOwners, event_at}
 use Rattle.velo_explain.specs.declared.evidence.Evidence.{Evidence}
 use Rattle.velo_explain.specs.Pieces.{event_text, joined, name_about, name_text}
 use Rattle.velo_explain.specs.Text.{line_of, numbered, next_number, heading_text, member_text, blame_text}
@@ -64,7 +64,8 @@ witness_text names sites log p evidence =
     ++ (flat_map (blame_text names log p) evidence.blames.items
     ++ flat_map (reason_place_text sites) evidence.blames.items)))
 
--- so few blocks are open before each position that they can be listed. Private contracts cite this
--- word
-pub record FewAreOpen (log : List Event) : Type 0 where
-  pub each : (p t : ℕ) → p ≤ length log → length (open_blocks (take p log) t) ≤ MAX_OPEN_BLOCKS
+-- So few blocks are open before each position that they can be listed, and it is known where the transaction of each event begins.
+-- Private contracts cite this word
+pub record CanListBlocks (log : List Event) (owners : List ℕ) : Type 0 where
+  pub few : (p t : ℕ) → p ≤ length log → length (open_blocks (take p log) t) ≤ MAX_OPEN_BLOCKS
+  pub are_owners : AreOwners owners log

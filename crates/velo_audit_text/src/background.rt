@@ -16,4 +16,6 @@ pub struct Background<'b> {
     pub sites: &'b Option<Sites<'b>>,
     /// The events of the log.
     pub events: &'b [Event],
+    /// For each of them the first position of its transaction.
+    pub owners: &'b [usize],
 }

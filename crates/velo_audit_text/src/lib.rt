@@ -15,5 +15,5 @@ pub use entries::{Entry, Listed, Listing, listed_of};
 pub use listing::listing_text;
 pub use places::{add_begins, add_place, end_line};
 pub use whole::{add_rounds, add_witness_if_any, audit_text};
-pub use witness::add_stacks;
+pub use witness::{add_stacks, blocks_around};
 pub use words::{Asked, add_asked};

@@ -2,11 +2,12 @@
 ghost use Rattle.std.specs.Prelude.{◌≡◌, ◌≤◌, ◌<◌, ◌+◌, ◌++◌, length, slice_get, All, IfOk, OnOk};
 ghost use Rattle.velo_events.specs.declared.limits.TheConstants.{MAX_EVENTS};
 ghost use Rattle.velo_explain.specs.Text.{numbered};
+ghost use Rattle.velo_certify.specs.Owners.{AreOwners};
 ghost use Rattle.velo_filter.specs.Thinned.{CanComeAbout};
 ghost use Rattle.velo_audit.specs.Audit.{TellsTruly};
 ghost use Rattle.velo_tally.specs.Marks.{AreMarks};
 ghost use Rattle.velo_audit_text.specs.Listing.{IsListingText, end_text, entry_text, entry_text_by, is_followed, outer_text, outer_text_if, round_text, tally_text, tally_text_if};
-ghost use Rattle.velo_audit_text.specs.Witness.{FewAreOpen};
+ghost use Rattle.velo_audit_text.specs.Witness.{CanListBlocks};
 
 use crate::background::Background;
 use crate::entries::{Entry, Listing, listed_of};
@@ -51,7 +52,7 @@ fn add_round(
 ) -> Result<(), Memory>
     requires truly { All (TellsTruly background.now.events.now) rounds.now }
     requires few { length background.now.events.now ≤ MAX_EVENTS }
-    requires open { FewAreOpen background.now.events.now }
+    requires open { CanListBlocks background.now.events.now background.now.owners.now }
     ensures { OnOk result (page.new ≡ page.old
         ++ round_text background.now.names.now background.now.sites.now
         background.now.events.now (slice_get rounds.now round)) }
@@ -82,7 +83,7 @@ fn add_end(
 ) -> Result<(), Memory>
     requires truly { All (TellsTruly background.now.events.now) rounds.now }
     requires few { length background.now.events.now ≤ MAX_EVENTS }
-    requires open { FewAreOpen background.now.events.now }
+    requires open { CanListBlocks background.now.events.now background.now.owners.now }
     ensures { OnOk result (page.new ≡ page.old
         ++ end_text background.now.names.now background.now.sites.now
         background.now.events.now rounds.now entry next) }
@@ -104,7 +105,7 @@ fn add_entry(
 ) -> Result<(), Memory>
     requires truly { All (TellsTruly background.now.events.now) rounds.now }
     requires few { length background.now.events.now ≤ MAX_EVENTS }
-    requires open { FewAreOpen background.now.events.now }
+    requires open { CanListBlocks background.now.events.now background.now.owners.now }
     ensures { OnOk result (page.new ≡ page.old
         ++ entry_text_by background.now.names.now background.now.sites.now
         background.now.events.now rounds.now counts entry next) }
@@ -136,7 +137,7 @@ fn add_entries(
 ) -> Result<(), Memory>
     requires truly { All (TellsTruly background.now.events.now) rounds.now }
     requires few { length background.now.events.now ≤ MAX_EVENTS }
-    requires open { FewAreOpen background.now.events.now }
+    requires open { CanListBlocks background.now.events.now background.now.owners.now }
     ensures { OnOk result (page.new ≡ page.old
         ++ numbered (entry_text background.now.names.now background.now.sites.now
         background.now.events.now rounds.now counts entries.now) 0 entries.now) }
@@ -186,6 +187,7 @@ pub fn listing_text(
 ) -> Result<Page, Memory>
     requires few { length background.now.events.now ≤ MAX_EVENTS }
     requires can_come_about { CanComeAbout background.now.events.now }
+    requires owners { AreOwners background.now.owners.now background.now.events.now }
     requires truly { All (TellsTruly background.now.events.now) rounds.now }
     requires marks { AreMarks first.now.events marks.now }
     ensures { IfOk result (λ page. IsListingText background.now.names.now

@@ -3,12 +3,13 @@ ghost use Rattle.std.specs.Prelude.{◌≡◌, ◌≤◌, ◌++◌, length, map,
 ghost use Rattle.std.specs.List.{flat_map};
 ghost use Rattle.velo_events.specs.declared.limits.TheConstants.{MAX_EVENTS};
 ghost use Rattle.velo_filter.specs.Left.{is_listed};
+ghost use Rattle.velo_certify.specs.Owners.{AreOwners};
 ghost use Rattle.velo_filter.specs.Thinned.{CanComeAbout};
 ghost use Rattle.velo_audit.specs.Audit.{TellsTruly};
 ghost use Rattle.velo_audit.specs.Rounds.{each_once};
 ghost use Rattle.velo_audit.specs.Witness.{IsWitnessWithin};
 ghost use Rattle.velo_audit_text.specs.Text.{audit_text, behind_labels_text, optional_witness_text, told_text};
-ghost use Rattle.velo_audit_text.specs.Witness.{FewAreOpen};
+ghost use Rattle.velo_audit_text.specs.Witness.{CanListBlocks};
 ghost use Rattle.velo_audit_text.specs.Words.{not_atomic_text};
 
 use crate::background::Background;
@@ -54,7 +55,7 @@ pub fn add_witness_if_any(
 ) -> Result<(), Memory>
     requires within { IsWitnessWithin (length background.now.events.now) closing witness.now }
     requires few { length background.now.events.now ≤ MAX_EVENTS }
-    requires open { FewAreOpen background.now.events.now }
+    requires open { CanListBlocks background.now.events.now background.now.owners.now }
     ensures { OnOk result (page.new ≡ page.old
         ++ optional_witness_text background.now.names.now background.now.sites.now
         background.now.events.now closing witness.now) }
@@ -74,7 +75,7 @@ pub(crate) fn add_behind_labels(
     requires within { IsWitnessWithin (length background.now.events.now)
         told.now.closing told.now.witness }
     requires few { length background.now.events.now ≤ MAX_EVENTS }
-    requires open { FewAreOpen background.now.events.now }
+    requires open { CanListBlocks background.now.events.now background.now.owners.now }
     ensures { OnOk result (page.new
         ≡ page.old ++ behind_labels_text background.now.names.now background.now.sites.now
         background.now.events.now told.now) }
@@ -89,7 +90,7 @@ fn add_told(page: &mut Page, background: &Background, told: &Told) -> Result<(),
     requires within { IsWitnessWithin (length background.now.events.now)
         told.now.closing told.now.witness }
     requires few { length background.now.events.now ≤ MAX_EVENTS }
-    requires open { FewAreOpen background.now.events.now }
+    requires open { CanListBlocks background.now.events.now background.now.owners.now }
     ensures { OnOk result (page.new ≡ page.old
         ++ told_text background.now.names.now background.now.sites.now
         background.now.events.now told.now) }
@@ -105,7 +106,7 @@ fn add_told(page: &mut Page, background: &Background, told: &Told) -> Result<(),
 pub fn add_rounds(page: &mut Page, background: &Background, rounds: &[Told]) -> Result<(), Memory>
     requires truly { All (TellsTruly background.now.events.now) rounds.now }
     requires few { length background.now.events.now ≤ MAX_EVENTS }
-    requires open { FewAreOpen background.now.events.now }
+    requires open { CanListBlocks background.now.events.now background.now.owners.now }
     ensures { OnOk result (page.new ≡ page.old
         ++ flat_map (told_text background.now.names.now background.now.sites.now
         background.now.events.now) rounds.now) }
@@ -131,6 +132,7 @@ pub fn audit_text(
 ) -> Result<Page, Memory>
     requires few { length background.now.events.now ≤ MAX_EVENTS }
     requires can_come_about { CanComeAbout background.now.events.now }
+    requires owners { AreOwners background.now.owners.now background.now.events.now }
     requires truly { All (TellsTruly background.now.events.now) rounds.now }
     ensures { IfOk result (λ page. page ≡ audit_text background.now.names.now
         background.now.sites.now background.now.events.now asked.now rounds.now atomic) }

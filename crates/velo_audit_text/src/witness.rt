@@ -4,19 +4,21 @@ ghost use Rattle.std.specs.List.{flat_map};
 ghost use Rattle.velo_events.specs.declared.limits.TheConstants.{MAX_EVENTS};
 ghost use Rattle.velo_explain.specs.Evidence.{AreEdgesWithin, IsWithin};
 ghost use Rattle.velo_explain.specs.Text.{line_of, numbered, next_number};
+ghost use Rattle.velo_certify.specs.Owners.{AreOwners};
 ghost use Rattle.velo_filter.specs.Thinned.{CanComeAbout};
-ghost use Rattle.velo_audit_text.specs.Witness.{closing_text, stack_at, in_block_text, event_line_text, event_in_blocks_text, order_text, edge_text, edges_text, witness_text, FewAreOpen};
+ghost use Rattle.velo_audit_text.specs.Witness.{closing_text, stack_at, in_block_text, event_line_text, event_in_blocks_text, order_text, edge_text, edges_text, witness_text, CanListBlocks};
 
 use crate::background::Background;
 use crate::places::{add_reason_places, end_line};
+use smallvec::SmallVec;
 use velo_certify::EdgeEvents;
-use velo_events::{Event, MAX_EVENTS, Memory};
+use velo_events::{Event, MAX_EVENTS, MAX_OPEN_BLOCKS, Memory};
 use velo_explain::{
     Evidence, Page, Piece, add_heading, add_members, add_reasons, line_of, next_number,
 };
 use velo_names::{NameKind, Names};
 use velo_sites::Sites;
-use velo_traces::{Block, open_blocks_in};
+use velo_traces::{Block, open_blocks_since};
 
 /// Adds the closing event.
 fn add_closing(
@@ -68,17 +70,28 @@ fn add_in_blocks(
     Ok(())
 }
 
+/// The blocks that the event's thread has open before it, outermost first. None begins before its transaction, so no event
+/// before this is looked at.
+pub fn blocks_around(background: &Background, position: usize) -> SmallVec<Block, MAX_OPEN_BLOCKS>
+    requires within { position < length background.now.events.now }
+    requires open { CanListBlocks background.now.events.now background.now.owners.now }
+    ensures { result.items ≡ stack_at background.now.events.now position }
+{
+    let events = background.events;
+    let thread = events[position].thread;
+    let first = background.owners[position];
+    open_blocks_since(&events[..position], thread, first, background.alloc)
+}
+
 /// Adds the blocks that the event's thread has open before it.
 fn add_stack(page: &mut Page, background: &Background, position: usize) -> Result<(), Memory>
     requires within { position < length background.now.events.now }
-    requires open { FewAreOpen background.now.events.now }
+    requires open { CanListBlocks background.now.events.now background.now.owners.now }
     ensures { OnOk result (page.new ≡ page.old
         ++ flat_map (in_block_text background.now.names.now background.now.sites.now)
         (stack_at background.now.events.now position)) }
 {
-    let events = background.events;
-    let thread = events[position].thread;
-    let blocks = open_blocks_in(&events[..position], thread, background.alloc);
+    let blocks = blocks_around(background, position);
     add_in_blocks(page, background.names, background.sites, blocks.as_slice())
 }
 
@@ -107,7 +120,7 @@ fn add_event_line(page: &mut Page, background: &Background, position: usize) -> 
 fn add_event(page: &mut Page, background: &Background, position: usize) -> Result<(), Memory>
     requires within { position < length background.now.events.now }
     requires few { length background.now.events.now ≤ MAX_EVENTS }
-    requires open { FewAreOpen background.now.events.now }
+    requires open { CanListBlocks background.now.events.now background.now.owners.now }
     ensures { OnOk result (page.new ≡ page.old
         ++ event_in_blocks_text background.now.names.now background.now.sites.now
         background.now.events.now position) }
@@ -142,7 +155,7 @@ fn add_edge(
     requires from { edge.from < length background.now.events.now }
     requires to { edge.to < length background.now.events.now }
     requires few { length background.now.events.now ≤ MAX_EVENTS }
-    requires open { FewAreOpen background.now.events.now }
+    requires open { CanListBlocks background.now.events.now background.now.owners.now }
     requires place { k < count }
     ensures { OnOk result (page.new ≡ page.old
         ++ edge_text background.now.names.now background.now.sites.now
@@ -157,7 +170,7 @@ fn add_edge(
 fn add_edges(page: &mut Page, background: &Background, edges: &[EdgeEvents]) -> Result<(), Memory>
     requires within { AreEdgesWithin (length background.now.events.now) edges.now }
     requires few { length background.now.events.now ≤ MAX_EVENTS }
-    requires open { FewAreOpen background.now.events.now }
+    requires open { CanListBlocks background.now.events.now background.now.owners.now }
     ensures { OnOk result (page.new ≡ page.old
         ++ edges_text background.now.names.now background.now.sites.now
         background.now.events.now edges.now) }
@@ -180,6 +193,7 @@ pub fn add_stacks(
     requires within { AreEdgesWithin (length background.now.events.now) edges.now }
     requires few { length background.now.events.now ≤ MAX_EVENTS }
     requires can_come_about { CanComeAbout background.now.events.now }
+    requires owners { AreOwners background.now.owners.now background.now.events.now }
     ensures { OnOk result (page.new ≡ page.old
         ++ edges_text background.now.names.now background.now.sites.now
         background.now.events.now edges.now) }
@@ -196,7 +210,7 @@ pub(crate) fn add_witness(
 ) -> Result<(), Memory>
     requires within { IsWithin (length background.now.events.now) position evidence.now }
     requires few { length background.now.events.now ≤ MAX_EVENTS }
-    requires open { FewAreOpen background.now.events.now }
+    requires open { CanListBlocks background.now.events.now background.now.owners.now }
     ensures { OnOk result (page.new ≡ page.old
         ++ witness_text background.now.names.now background.now.sites.now
         background.now.events.now position evidence.now) }

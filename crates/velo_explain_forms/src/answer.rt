@@ -3,7 +3,7 @@ ghost use Rattle.std.specs.Prelude.{◌≡◌, ◌≤◌, ◌++◌, length, IfOk
 ghost use Rattle.json.specs.Tree.{json_tokens};
 ghost use Rattle.velo_events.specs.declared.limits.TheConstants.{MAX_EVENTS};
 ghost use Rattle.velo_filter.specs.Thinned.{CanComeAbout};
-ghost use Rattle.velo_audit_text.specs.Witness.{FewAreOpen};
+ghost use Rattle.velo_audit_text.specs.Witness.{CanListBlocks};
 ghost use Rattle.velo_audit_forms.specs.Answer.{line_text};
 ghost use Rattle.velo_audit_forms.specs.Events.{known_of};
 ghost use Rattle.velo_explain_forms.specs.Answer.{explanation_json, verdict_of};
@@ -13,6 +13,7 @@ use crate::shown::Shown;
 use std::alloc::Global;
 use velo_audit_forms::{add_asked, add_log, line_of};
 use velo_audit_text::{Asked, Background};
+use velo_certify::owners_of;
 use velo_events::Memory;
 use velo_explain::Page;
 use velo_json::JsonWriter;
@@ -30,7 +31,7 @@ fn add_answer(
     shown: &Shown,
 ) -> Result<JsonWriter, Memory>
     requires few { length background.now.events.now ≤ MAX_EVENTS }
-    requires open { FewAreOpen background.now.events.now }
+    requires open { CanListBlocks background.now.events.now background.now.owners.now }
     ensures { IfOk result (λ written. written ≡ json ++ json_tokens (explanation_json
         (known_of background.now) path.now asked.now (verdict_of shown.now))) }
 {
@@ -64,11 +65,14 @@ pub fn explanation_json(
         (record { log = log.now.events; names = names.now; sites = sites.now })
         path.now asked.now (verdict_of shown.now))) }
 {
+    let events = log.as_slice();
+    let owners = owners_of(alloc, events)?;
     let background = Background {
         alloc,
         names,
         sites,
-        events: log.as_slice(),
+        events,
+        owners: &owners,
     };
     let json = JsonWriter::new(alloc);
     let json = add_answer(json, &background, path, asked, shown)?;

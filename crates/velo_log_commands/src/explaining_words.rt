@@ -12,6 +12,7 @@ ghost use Rattle.velo_log_commands.specs.Steps.{manner_of};
 
 use std::alloc::Global;
 use velo_audit_text::{Asked, Background, add_stacks};
+use velo_certify::owners_of;
 use velo_events::Memory;
 use velo_explain::{Evidence, Page, explain_clean, explain_named, explain_sited};
 use velo_explain_forms::{Shown, explanation_json};
@@ -130,11 +131,14 @@ fn add_edges_in_blocks(
         ++ stacks_text legend.now.inquiry.now.names.now legend.now.sites.now
         alarm.now.log.now.events alarm.now.evidence.now) }
 {
+    let events = alarm.log.as_slice();
+    let owners = owners_of(alloc, events)?;
     let background = Background {
         alloc,
         names: legend.inquiry.names,
         sites: legend.sites,
-        events: alarm.log.as_slice(),
+        events,
+        owners: &owners,
     };
     add_stacks_heading(page)?;
     add_stacks(page, &background, &alarm.evidence.edges)

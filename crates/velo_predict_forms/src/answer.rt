@@ -4,7 +4,7 @@ ghost use Rattle.json.specs.Token.{boolean, key};
 ghost use Rattle.json.specs.Tree.{json_tokens};
 ghost use Rattle.velo_events.specs.declared.limits.TheConstants.{MAX_EVENTS};
 ghost use Rattle.velo_filter.specs.Thinned.{CanComeAbout};
-ghost use Rattle.velo_audit_text.specs.Witness.{FewAreOpen};
+ghost use Rattle.velo_audit_text.specs.Witness.{CanListBlocks};
 ghost use Rattle.velo_audit_forms.specs.Answer.{line_text};
 ghost use Rattle.velo_audit_forms.specs.Events.{known_of};
 ghost use Rattle.velo_predict_text.specs.Text.{CanBeTold, CanTellDeadlock, is_something_told};
@@ -14,6 +14,7 @@ use crate::found::add_predictions;
 use std::alloc::Global;
 use velo_audit_forms::{add_alarms, add_asked, add_log, line_of};
 use velo_audit_text::{Asked, Background};
+use velo_certify::owners_of;
 use velo_events::Memory;
 use velo_explain::Page;
 use velo_json::JsonWriter;
@@ -40,7 +41,7 @@ fn add_answer(
     findings: &PredictedFindings,
 ) -> Result<JsonWriter, Memory>
     requires few { length log.now.events.now ≤ MAX_EVENTS }
-    requires open { FewAreOpen log.now.events.now }
+    requires open { CanListBlocks log.now.events.now log.now.owners.now }
     requires cycles { All CanBeTold findings.now.cycles.items }
     requires deadlocks { All CanTellDeadlock findings.now.deadlocks.items }
     ensures { IfOk result (λ written. written ≡ json ++ json_tokens (predictions_json
@@ -78,11 +79,14 @@ pub fn predictions_json(
         (record { log = log.now.events; names = names.now; sites = sites.now })
         path.now asked.now findings.now)) }
 {
+    let events = log.as_slice();
+    let owners = owners_of(alloc, events)?;
     let background = Background {
         alloc,
         names,
         sites,
-        events: log.as_slice(),
+        events,
+        owners: &owners,
     };
     let json = JsonWriter::new(alloc);
     let json = add_answer(json, &background, path, asked, findings)?;

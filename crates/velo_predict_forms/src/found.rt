@@ -5,7 +5,7 @@ ghost use Rattle.json.specs.Token.{key};
 ghost use Rattle.json.specs.Tree.{json_tokens};
 ghost use Rattle.velo_json.specs.Tree.{array_of};
 ghost use Rattle.velo_events.specs.declared.limits.TheConstants.{MAX_EVENTS};
-ghost use Rattle.velo_audit_text.specs.Witness.{FewAreOpen};
+ghost use Rattle.velo_audit_text.specs.Witness.{CanListBlocks};
 ghost use Rattle.velo_audit_forms.specs.Events.{known_of};
 ghost use Rattle.velo_predict_text.specs.Text.{CanBeTold, CanTellDeadlock};
 ghost use Rattle.velo_predict_forms.specs.Answer.{cycle_json, deadlock_json, found_json, predictions_of, stuck_json};
@@ -13,6 +13,7 @@ ghost use Rattle.velo_predict_forms.specs.Answer.{cycle_json, deadlock_json, fou
 use crate::parts::{add_circle, add_differences, add_kind, add_size};
 use velo_audit_forms::add_alarm;
 use velo_audit_text::Background;
+use velo_certify::owners_of;
 use velo_delays::{Deadlock, PredictedCycle};
 use velo_events::Memory;
 use velo_json::JsonWriter;
@@ -26,7 +27,7 @@ fn add_cycle(
     found: &PredictedCycle,
 ) -> Result<JsonWriter, Memory>
     requires few { length trace.now.events.now ≤ MAX_EVENTS }
-    requires open { FewAreOpen trace.now.events.now }
+    requires open { CanListBlocks trace.now.events.now trace.now.owners.now }
     ensures { IfOk result (λ written. written ≡ json ++ json_tokens
         (cycle_json (known_of trace.now) found.now)) }
 {
@@ -47,11 +48,14 @@ fn add_found(
         (found_json (known_of log.now) found.now)) }
 {
     let sites = seen_from(log.alloc, log.sites, &found.sources)?;
+    let events = found.trace.as_slice();
+    let owners = owners_of(log.alloc, events)?;
     let trace = Background {
         alloc: log.alloc,
         names: log.names,
         sites: &sites,
-        events: found.trace.as_slice(),
+        events,
+        owners: &owners,
     };
     add_cycle(json, &trace, found)
 }
@@ -86,11 +90,14 @@ fn add_deadlock(
         (deadlock_json (known_of log.now) deadlock.now)) }
 {
     let sites = seen_from(log.alloc, log.sites, &deadlock.sources)?;
+    let events = deadlock.trace.as_slice();
+    let owners = owners_of(log.alloc, events)?;
     let trace = Background {
         alloc: log.alloc,
         names: log.names,
         sites: &sites,
-        events: deadlock.trace.as_slice(),
+        events,
+        owners: &owners,
     };
     add_stuck(json, log, &trace, deadlock)
 }

@@ -11,6 +11,7 @@ use std::alloc::Global;
 use velo_audit_text::{
     Asked, Background, add_asked, add_begins, add_place, add_rounds, add_witness_if_any, end_line,
 };
+use velo_certify::owners_of;
 use velo_delays::{Awaited, Deadlock, Differing, PredictedCycle};
 use velo_events::{Event, Memory};
 use velo_explain::{Page, Piece, line_of};
@@ -149,11 +150,14 @@ fn add_found(
     ensures { OnOk result (page.new ≡ page.old ++ found_text log.now.names.now log.now.sites.now values found.now) }
 {
     let sites = seen_from(log.alloc, log.sites, &found.sources)?;
+    let events = found.trace.as_slice();
+    let owners = owners_of(log.alloc, events)?;
     let trace = Background {
         alloc: log.alloc,
         names: log.names,
         sites: &sites,
-        events: found.trace.as_slice(),
+        events,
+        owners: &owners,
     };
     add_labels(page, trace.names, &found.told.blocks)?;
     add_begins(page, trace.names, trace.sites, &found.told.blocks)?;
@@ -219,11 +223,14 @@ fn add_deadlock(
     ensures { OnOk result (page.new ≡ page.old ++ deadlock_text log.now.names.now log.now.sites.now values deadlock.now) }
 {
     let sites = seen_from(log.alloc, log.sites, &deadlock.sources)?;
+    let events = deadlock.trace.as_slice();
+    let owners = owners_of(log.alloc, events)?;
     let trace = Background {
         alloc: log.alloc,
         names: log.names,
         sites: &sites,
-        events: deadlock.trace.as_slice(),
+        events,
+        owners: &owners,
     };
     add_circle(page, deadlock.waiting.len())?;
     add_size(page, values, trace.events.len())?;
@@ -319,11 +326,14 @@ pub fn predictions_text(
 {
     let mut page = Page::new(alloc);
     add_asked(&mut page, names, asked)?;
+    let events = log.as_slice();
+    let owners = owners_of(alloc, events)?;
     let background = Background {
         alloc,
         names,
         sites,
-        events: log.as_slice(),
+        events,
+        owners: &owners,
     };
     add_rounds(&mut page, &background, &findings.rounds)?;
     add_cycles(&mut page, &background, values, &findings.cycles)?;

@@ -4,11 +4,11 @@ use Rattle.velo_audit_text.specs.declared.entries.Entry.{Entry}
 use Rattle.velo_audit_text.specs.Words.{asked_text}
 use Rattle.velo_audit_text.specs.Listing.{entry_text}
 use Rattle.velo_audit_text.proofs.OnPieces.{four_parts}
-use Rattle.velo_audit_text.proofs.OnOpen.{FewAreOpen-from}
+use Rattle.velo_audit_text.proofs.OnOpen.{CanListBlocks-from}
 use Rattle.velo_audit_text.proofs.listing.listing_text.Goals as goal
 
 pub add_entries-requires-clause-open : goal.add_entries-requires-clause-open
-add_entries-requires-clause-open c = FewAreOpen-from c.args.background.now.events.now c.requires.can_come_about
+add_entries-requires-clause-open c = CanListBlocks-from c.args.background.now.events.now c.args.background.now.owners.now c.requires.can_come_about c.requires.owners
 
 pub returns : goal.returns
 returns c = record {

@@ -1,7 +1,10 @@
-use Rattle.std.proofs.Common.{sym, subst}
-use Rattle.velo_audit_text.specs.Witness.{FewAreOpen}
-use Rattle.velo_audit_text.proofs.OnOpen.{FewAreOpen-from}
+use Rattle.std.proofs.Common.{ℕ, List, sym, subst}
+use Rattle.velo_certify.specs.Owners.{AreOwners}
+use Rattle.velo_filter.specs.Thinned.{CanComeAbout}
+use Rattle.velo_audit_text.proofs.OnOpen.{CanListBlocks-from}
 use Rattle.velo_predict_forms.proofs.answer.predictions_json.Goals as goal
 
 pub add_answer-requires-clause-open : goal.add_answer-requires-clause-open
-add_answer-requires-clause-open c = subst FewAreOpen (sym c.as_slice.ensures) (FewAreOpen-from c.args.log.now.events c.requires.can_come_about)
+add_answer-requires-clause-open c = CanListBlocks-from c.as_slice-events.result.now c.deref.result.now
+    (subst CanComeAbout (sym c.as_slice-events.ensures) c.requires.can_come_about)
+    (subst (λ (owners : List ℕ). AreOwners owners c.as_slice-events.result.now) (sym c.deref.ensures.value) c.in_ok-owners.ensures)
