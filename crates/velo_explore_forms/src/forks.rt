@@ -22,24 +22,19 @@ fn forks(thread: ThreadId, statement: Statement) -> bool
 fn has_fork(thread: ThreadId, body: &[Statement]) -> bool
     ensures { result ≡ list_any (forks thread) body.now }
 {
-    for statement in body {
-        if forks(thread, *statement) {
-            return true;
-        }
-    }
-    false
+    body.iter().any(|statement| forks(thread, *statement))
 }
 
 /// Whether some body forks the thread.
+#[tactic(auto, unfolding(crate::specs::Forks::is_forked))]
 fn is_forked(workload: &Workload, thread: ThreadId) -> bool
     ensures { result ≡ is_forked workload.now thread }
 {
+    let mut forked = false;
     for other in 0..workload.bounds().threads {
-        if has_fork(thread, workload.body(ThreadId(other))) {
-            return true;
-        }
+        forked = forked || has_fork(thread, workload.body(ThreadId(other)));
     }
-    false
+    forked
 }
 
 /// Adds the thread, if no body forks it.
@@ -63,6 +58,7 @@ fn add_unless_forked(
 ///
 /// # Errors
 /// `Memory` if an allocation failed.
+#[tactic(auto, unfolding(crate::specs::Forks::never_forked))]
 pub fn never_forked(alloc: Global, workload: &Workload) -> Result<Vec<ThreadId>, Memory>
     ensures { IfOk result (λ threads. threads.items ≡ never_forked workload.now) }
 {
