@@ -11,6 +11,7 @@ use Rattle.velo_explore.specs.declared.finding.Finding.TheVariants.{Never, Open,
 use Rattle.velo_explore.specs.declared.finding.Findings.{Findings}
 use Rattle.velo_explore.specs.declared.goal.Goal.{Goal}
 use Rattle.velo_explore.specs.declared.goal.Goal.TheVariants.{Refused}
+use Rattle.velo_explore_forms.specs.Forks.{never_forked}
 use Rattle.velo_explore_forms.specs.declared.survey.Survey.{Survey}
 use Rattle.velo_explore_forms.specs.declared.survey.ToBlame.{ToBlame}
 use Rattle.velo_explore_forms.specs.declared.survey.Tried.{Tried}
@@ -131,7 +132,7 @@ blame_json program blame = object_of (
 -- ---- the whole
 
 -- of the workload at a path: how its schedules were tried, whether all is decided, what is known of
--- alarms, deadlocks and refusals, and whom the alarms blame
+-- alarms, deadlocks and refusals, whom the alarms blame, and which threads no thread forks
 unfoldable pub exploration_json : Program → List ℕ → Survey → Json
 exploration_json program path survey = object_of (
     (codes "schema", count schema)
@@ -142,6 +143,7 @@ exploration_json program path survey = object_of (
     ∷ (codes "stuck", finding_json survey.shrunk.findings.stuck)
     ∷ (codes "refused", refused_json program survey.shrunk.findings.refused)
     ∷ (codes "blame", blame_json program survey.blame)
+    ∷ (codes "never_forked", array_of (thread_json program) (never_forked program))
     ∷ [])
 
 -- a value on a line

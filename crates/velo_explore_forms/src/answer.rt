@@ -3,10 +3,14 @@ ghost use Rattle.std.specs.Prelude.{◌≡◌, ◌++◌, ◌∷◌, [], codes, I
 ghost use Rattle.json.specs.Print.{print};
 ghost use Rattle.json.specs.Token.{boolean, key, string};
 ghost use Rattle.json.specs.Tree.{json_tokens};
-ghost use Rattle.velo_explore_forms.specs.Answer.{all_json, are_decided, exploration_json, line_text, random_json, tried_json};
+ghost use Rattle.velo_json.specs.Tree.{array_of};
+ghost use Rattle.velo_explore_forms.specs.Answer.{all_json, are_decided, exploration_json, line_text, random_json, thread_json, tried_json};
+ghost use Rattle.velo_explore_forms.specs.Forks.{never_forked};
 
 use crate::blame::add_blame;
+use crate::forks::never_forked;
 use crate::found::{add_finding, add_refused, are_decided};
+use crate::named::add_threads;
 use crate::survey::{Survey, Tried};
 use std::alloc::Global;
 use velo_bytes::append;
@@ -71,6 +75,19 @@ fn add_decided(json: JsonWriter, found: &Findings) -> Result<JsonWriter, Memory>
     json.key("decided")?.boolean(are_decided(found))
 }
 
+/// Adds the threads that no thread forks.
+fn add_never_forked(
+    json: JsonWriter,
+    alloc: Global,
+    workload: &Workload,
+) -> Result<JsonWriter, Memory>
+    ensures { IfOk result (λ written. written ≡ json
+        ++ json_tokens (array_of (thread_json workload.now) (never_forked workload.now))) }
+{
+    let threads = never_forked(alloc, workload)?;
+    add_threads(json, workload, &threads)
+}
+
 /// Adds the answer.
 #[tactic(auto, unfolding(crate::specs::Answer::exploration_json))]
 fn add_answer(
@@ -91,7 +108,8 @@ fn add_answer(
     let json = add_finding(json, alloc, &found.alarm)?.key("stuck")?;
     let json = add_finding(json, alloc, &found.stuck)?.key("refused")?;
     let json = add_refused(json, alloc, workload, &found.refused)?.key("blame")?;
-    add_blame(json, workload, &survey.blame)?.end_object()
+    let json = add_blame(json, workload, &survey.blame)?.key("never_forked")?;
+    add_never_forked(json, alloc, workload)?.end_object()
 }
 
 /// What was written, as a line.
@@ -104,7 +122,8 @@ fn line_of(json: JsonWriter) -> Result<Vec<u8>, Memory>
 }
 
 /// What is reported of the schedules of the workload at a path, as one JSON object on a line: how they
-/// were tried, what is known of each fault, with a schedule that shows it, and whom the alarms blame.
+/// were tried, what is known of each fault, with a schedule that shows it, whom the alarms blame, and which
+/// threads no thread forks.
 ///
 /// # Errors
 /// `Memory` if an allocation failed.

@@ -3,9 +3,11 @@
 
 mod answer;
 mod blame;
+mod forks;
 mod found;
 mod named;
 mod survey;
 
 pub use answer::exploration_json;
+pub use forks::never_forked;
 pub use survey::{Survey, ToBlame, Tried};

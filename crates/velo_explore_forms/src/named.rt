@@ -1,8 +1,10 @@
 //! Threads and labels.
 ghost use Rattle.std.specs.Prelude.{◌≡◌, ◌++◌, ◌∷◌, codes, map, slice_get, string_bytes, IfOk};
+ghost use Rattle.std.specs.List.{flat_map};
 ghost use Rattle.std.specs.Option.{option_copied};
 ghost use Rattle.json.specs.Token.{key};
 ghost use Rattle.json.specs.Tree.{json_tokens};
+ghost use Rattle.velo_json.specs.Tree.{array_of};
 ghost use Rattle.velo_explore_forms.specs.Answer.{label_json, named_json, thread_json};
 
 use velo_events::{Label, Memory, ThreadId};
@@ -33,6 +35,19 @@ fn name_at(names: &[String], number: usize) -> Option<&[u8]>
     }
 }
 
+/// Adds a thread.
+fn add_thread_object(
+    json: JsonWriter,
+    workload: &Workload,
+    thread: ThreadId,
+) -> Result<JsonWriter, Memory>
+    ensures { IfOk result (λ written. written
+        ≡ json ++ json_tokens (thread_json workload.now thread)) }
+{
+    let name = name_at(workload.thread_names(), usize::from(thread.0));
+    add_named(json, name, u32::from(thread.0))
+}
+
 /// Adds the member with a thread.
 pub(crate) fn add_thread(
     json: JsonWriter,
@@ -42,8 +57,36 @@ pub(crate) fn add_thread(
     ensures { IfOk result (λ written. written ≡ json
         ++ key (codes "thread") ∷ json_tokens (thread_json workload.now thread)) }
 {
-    let name = name_at(workload.thread_names(), usize::from(thread.0));
-    add_named(json.key("thread")?, name, u32::from(thread.0))
+    add_thread_object(json.key("thread")?, workload, thread)
+}
+
+/// Adds threads, one after another.
+fn add_each_thread(
+    json: JsonWriter,
+    workload: &Workload,
+    threads: &[ThreadId],
+) -> Result<JsonWriter, Memory>
+    ensures { IfOk result (λ written. written ≡ json
+        ++ flat_map (λ t. json_tokens (thread_json workload.now t)) threads.now) }
+{
+    let mut written = json;
+    for thread in threads {
+        written = add_thread_object(written, workload, *thread)?;
+    }
+    Ok(written)
+}
+
+/// Adds the array of threads.
+pub(crate) fn add_threads(
+    json: JsonWriter,
+    workload: &Workload,
+    threads: &[ThreadId],
+) -> Result<JsonWriter, Memory>
+    ensures { IfOk result (λ written. written
+        ≡ json ++ json_tokens (array_of (thread_json workload.now) threads.now)) }
+{
+    let written = add_each_thread(json.begin_array()?, workload, threads)?.end_array()?;
+    Ok(written)
 }
 
 /// Adds the member with a label.

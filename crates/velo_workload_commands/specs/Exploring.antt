@@ -16,6 +16,7 @@ use Rattle.velo_explore.specs.declared.goal.Goal.TheVariants.{Alarm, Refused}
 use Rattle.velo_explore.specs.declared.goal.Goal.TheVariants as goals
 use Rattle.velo_explore.specs.Goals.{finding_of, first_of}
 use Rattle.velo_explore_forms.specs.Answer.{exploration_json, line_text}
+use Rattle.velo_explore_forms.specs.Forks.{never_forked}
 use Rattle.velo_explore.specs.Told.{AreAlarms, FollowsRun, IfShown, IsLeftOpen, IsTold, IsUntried, OnOpen}
 use Rattle.velo_shrink.specs.declared.findings.Replay.{Replay}
 use Rattle.velo_shrink.specs.Simple.{IsShrunkFrom}
@@ -142,10 +143,18 @@ blamed_text program alarms blamed =
 abbrev pub blame_text : Program → ToBlame → List ℕ
 blame_text program blame = flat_map (blamed_text program blame.alarms) blame.labels.items
 
+-- "never forked b\n"
+abbrev pub unforked_text : Program → ThreadId → List ℕ
+unforked_text program t =
+    codes "never forked" ++ name_text (slice_get program.thread_names t.0) ++ codes "\n"
+
+abbrev pub unforked_texts : Program → List ℕ
+unforked_texts program = flat_map (unforked_text program) (never_forked program)
+
 abbrev pub survey_text : Program → Survey → List ℕ
 survey_text program survey =
     tried_text survey.tried ++ found_text program survey.shrunk.findings
-    ++ blame_text program survey.blame
+    ++ blame_text program survey.blame ++ unforked_texts program
 
 -- in the form that was asked for: the text, or one JSON object, which has the path of the workload
 abbrev pub survey_page : TextOrJson → Program → List ℕ → Survey → List ℕ

@@ -1,12 +1,12 @@
 //! The text of what is reported of the schedules of a workload.
 ghost use Rattle.std.specs.Prelude.{◌≡◌, ◌++◌, slice_get, IfOk, OnOk};
-ghost use Rattle.velo_workload_commands.specs.Exploring.{blame_text, blamed_text, finding_text, found_text, goal_text, label_text, name_text, survey_page, survey_text, tried_text};
+ghost use Rattle.velo_workload_commands.specs.Exploring.{blame_text, blamed_text, finding_text, found_text, goal_text, label_text, name_text, survey_page, survey_text, tried_text, unforked_text, unforked_texts};
 
 use std::alloc::Global;
 use velo_bytes::{append, append_number};
 use velo_events::{Label, Memory, ThreadId};
 use velo_explore::{Finding, Findings, Goal};
-use velo_explore_forms::{Survey, ToBlame, Tried, exploration_json};
+use velo_explore_forms::{Survey, ToBlame, Tried, exploration_json, never_forked};
 use velo_fate::number_of;
 use velo_random::BlamedLabel;
 use velo_request::TextOrJson;
@@ -135,6 +135,27 @@ fn add_blame(text: &mut Vec<u8>, workload: &Workload, blame: &ToBlame) -> Result
     Ok(())
 }
 
+/// Adds the line of a thread that no thread forks.
+fn add_unforked(text: &mut Vec<u8>, workload: &Workload, thread: ThreadId) -> Result<(), Memory>
+    ensures { OnOk result (text.new.items
+        ≡ text.old.items ++ unforked_text workload.now thread) }
+{
+    append(text, b"never forked")?;
+    add_name(text, workload, thread)?;
+    append(text, b"\n")
+}
+
+/// Adds the lines of the threads that no thread forks.
+fn add_all_unforked(alloc: Global, text: &mut Vec<u8>, workload: &Workload) -> Result<(), Memory>
+    ensures { OnOk result (text.new.items ≡ text.old.items ++ unforked_texts workload.now) }
+{
+    let threads = never_forked(alloc, workload)?;
+    for place in 0..threads.len() {
+        add_unforked(text, workload, threads[place])?;
+    }
+    Ok(())
+}
+
 /// The text of what is reported of the schedules of a workload.
 fn text_of_survey(alloc: Global, workload: &Workload, survey: &Survey) -> Result<Vec<u8>, Memory>
     ensures { IfOk result (λ text. text.items ≡ survey_text workload.now survey.now) }
@@ -143,6 +164,7 @@ fn text_of_survey(alloc: Global, workload: &Workload, survey: &Survey) -> Result
     add_tried(&mut text, survey.tried)?;
     add_found(&mut text, workload, &survey.shrunk.findings)?;
     add_blame(&mut text, workload, &survey.blame)?;
+    add_all_unforked(alloc, &mut text, workload)?;
     Ok(text)
 }
 

@@ -40,6 +40,9 @@ const JOINED: &str =
 const SHARED: &str =
     "lock m\nlock n\nthread main\nfork a\nfork b\nacquire n\nacquire m\nrelease m\nrelease n\nthread a\nshare m\nacquire n\nrelease n\nunshare m\nthread b\nshare m\nacquire n\nrelease n\nunshare m\n";
 
+/// A thread that no thread forks, between two that run.
+const UNFORKED: &str = "var x\nthread main\nfork b\nthread a\nwrite x\nthread b\nread x\n";
+
 /// How a workload is explored, and the outcome. Without a log nothing was opened.
 struct Row {
     workload: &'static str,
@@ -278,11 +281,23 @@ static ROWS: [Row; 30] = [
         status: 4,
         ..ASKED
     },
+    // a thread that does nothing
+    Row {
+        workload: UNFORKED,
+        out: "events 6\nstates 1\nalarm none\nstuck none\nrefused none\nnever forked a\n",
+        ..ASKED
+    },
+    Row {
+        workload: UNFORKED,
+        format: TextOrJson::Json,
+        out: "{\"schema\":1,\"workload\":\"w\",\"search\":{\"kind\":\"exhaustive\",\"events\":6,\"states\":1},\"decided\":true,\"alarm\":{\"finding\":\"never\",\"turns\":null},\"stuck\":{\"finding\":\"never\",\"turns\":null},\"refused\":{\"finding\":\"never\",\"turns\":null,\"refusal\":null},\"blame\":{\"alarms\":0,\"labels\":[]},\"never_forked\":[{\"number\":1,\"name\":\"a\"}]}\n",
+        ..ASKED
+    },
     // for other programs
     Row {
         format: TextOrJson::Json,
         target: Some("o"),
-        out: "{\"schema\":1,\"workload\":\"w\",\"search\":{\"kind\":\"exhaustive\",\"events\":9,\"states\":8},\"decided\":true,\"alarm\":{\"finding\":\"shown\",\"turns\":\"0*3 1 0\"},\"stuck\":{\"finding\":\"never\",\"turns\":null},\"refused\":{\"finding\":\"never\",\"turns\":null,\"refusal\":null},\"blame\":{\"alarms\":1,\"labels\":[{\"label\":{\"number\":0,\"name\":\"inc\"},\"alarms\":1}]}}\n",
+        out: "{\"schema\":1,\"workload\":\"w\",\"search\":{\"kind\":\"exhaustive\",\"events\":9,\"states\":8},\"decided\":true,\"alarm\":{\"finding\":\"shown\",\"turns\":\"0*3 1 0\"},\"stuck\":{\"finding\":\"never\",\"turns\":null},\"refused\":{\"finding\":\"never\",\"turns\":null,\"refusal\":null},\"blame\":{\"alarms\":1,\"labels\":[{\"label\":{\"number\":0,\"name\":\"inc\"},\"alarms\":1}]},\"never_forked\":[]}\n",
         log: Some(
             "vlog 2 2 1 0\n0 fork 1\n0 begin 0\n0 rd 0 0\n1 wr 0 5\n0 wr 0 1\n0 end\n1 exit\n0 join 1\n0 exit\n",
         ),
@@ -293,7 +308,7 @@ static ROWS: [Row; 30] = [
         workload: UNHELD,
         random: Some((1, 1)),
         format: TextOrJson::Json,
-        out: "{\"schema\":1,\"workload\":\"w\",\"search\":{\"kind\":\"random\",\"seed\":1,\"runs\":1},\"decided\":true,\"alarm\":{\"finding\":\"never\",\"turns\":null},\"stuck\":{\"finding\":\"never\",\"turns\":null},\"refused\":{\"finding\":\"shown\",\"turns\":\"0 1\",\"refusal\":{\"number\":8,\"thread\":{\"number\":1,\"name\":\"a\"}}},\"blame\":{\"alarms\":0,\"labels\":[]}}\n",
+        out: "{\"schema\":1,\"workload\":\"w\",\"search\":{\"kind\":\"random\",\"seed\":1,\"runs\":1},\"decided\":true,\"alarm\":{\"finding\":\"never\",\"turns\":null},\"stuck\":{\"finding\":\"never\",\"turns\":null},\"refused\":{\"finding\":\"shown\",\"turns\":\"0 1\",\"refusal\":{\"number\":8,\"thread\":{\"number\":1,\"name\":\"a\"}}},\"blame\":{\"alarms\":0,\"labels\":[]},\"never_forked\":[]}\n",
         err: "refused 8 thread 1\n",
         status: 4,
         ..ASKED
@@ -303,7 +318,7 @@ static ROWS: [Row; 30] = [
         states: 3,
         target: Some("o"),
         format: TextOrJson::Json,
-        out: "{\"schema\":1,\"workload\":\"w\",\"search\":{\"kind\":\"exhaustive\",\"events\":13,\"states\":3},\"decided\":false,\"alarm\":{\"finding\":\"open\",\"turns\":null},\"stuck\":{\"finding\":\"open\",\"turns\":null},\"refused\":{\"finding\":\"open\",\"turns\":null,\"refusal\":null},\"blame\":{\"alarms\":0,\"labels\":[]}}\n",
+        out: "{\"schema\":1,\"workload\":\"w\",\"search\":{\"kind\":\"exhaustive\",\"events\":13,\"states\":3},\"decided\":false,\"alarm\":{\"finding\":\"open\",\"turns\":null},\"stuck\":{\"finding\":\"open\",\"turns\":null},\"refused\":{\"finding\":\"open\",\"turns\":null,\"refusal\":null},\"blame\":{\"alarms\":0,\"labels\":[]},\"never_forked\":[]}\n",
         err: "open\n",
         status: 4,
         ..ASKED
