@@ -284,13 +284,13 @@ static ROWS: [Row; 30] = [
     // a thread that does nothing
     Row {
         workload: UNFORKED,
-        out: "events 6\nstates 1\nalarm none\nstuck none\nrefused none\nnever forked a\n",
+        out: "events 6\nstates 2\nalarm none\nstuck none\nrefused none\nnever forked a\n",
         ..ASKED
     },
     Row {
         workload: UNFORKED,
         format: TextOrJson::Json,
-        out: "{\"schema\":1,\"workload\":\"w\",\"search\":{\"kind\":\"exhaustive\",\"events\":6,\"states\":1},\"decided\":true,\"alarm\":{\"finding\":\"never\",\"turns\":null},\"stuck\":{\"finding\":\"never\",\"turns\":null},\"refused\":{\"finding\":\"never\",\"turns\":null,\"refusal\":null},\"blame\":{\"alarms\":0,\"labels\":[]},\"never_forked\":[{\"number\":1,\"name\":\"a\"}]}\n",
+        out: "{\"schema\":1,\"workload\":\"w\",\"search\":{\"kind\":\"exhaustive\",\"events\":6,\"states\":2},\"decided\":true,\"alarm\":{\"finding\":\"never\",\"turns\":null},\"stuck\":{\"finding\":\"never\",\"turns\":null},\"refused\":{\"finding\":\"never\",\"turns\":null,\"refusal\":null},\"blame\":{\"alarms\":0,\"labels\":[]},\"never_forked\":[{\"number\":1,\"name\":\"a\"}]}\n",
         ..ASKED
     },
     // for other programs
