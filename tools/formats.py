@@ -217,7 +217,8 @@ def exploration_faults(program, workload, words, text, status, answer):
     states = {word: finding["finding"] for word, finding in findings_of.items()}
     expected = ([f"{word} {search[word]}" for word in (("events", "states") if search["kind"] == "exhaustive" else ("seed", "runs"))]
                 + [finding_line(word, finding) for word, finding in findings_of.items()]
-                + [f"to blame {one['label']['name']} ({one['alarms']} of {blame['alarms']} alarms)" for one in blame["labels"]])
+                + [f"to blame {one['label']['name']} ({one['alarms']} of {blame['alarms']} alarms)" for one in blame["labels"]]
+                + [f"never forked {one['name']}" for one in answer["never_forked"]])
     return [what for what, right in (
         ("lines", lines[:len(expected)] == expected),
         ("report", (len(lines) > len(expected)) == ("shown" in states.values())),
