@@ -78,13 +78,28 @@ const AS_JSON: &str = "\
 const TWO_ORDERS: &str = "vlog 2 3 1 2\n0 fork 1\n0 fork 2\n\
 1 acq 0\n1 acq 1\n1 rel 1\n1 rel 0\n2 acq 1\n2 acq 0\n2 rel 0\n2 rel 1\n";
 
+/// Where each of them acquires its second lock.
+const SITES: &str =
+    "vsites 1 2 10\nbank.c:12 move\nbank.c:30 audit\n0\n0\n0\n1\n0\n0\n0\n2\n0\n0\n";
+
 /// Each of them waits for the other.
 const STUCK: &str = "\
 {\"schema\":1,\"log\":\"a\",\"found\":true,\"left_out\":{\"labels\":[],\"all_locks\":false,\
 \"locks\":[],\"variables\":[{\"number\":0,\"name\":null}]},\"alarms\":[],\
 \"predictions\":[{\"kind\":\"deadlock\",\"events\":4,\"differing\":[],\
-\"circle\":[{\"thread\":{\"number\":1,\"name\":null},\"text\":\"1 acq 1\",\"name\":null},\
-{\"thread\":{\"number\":2,\"name\":null},\"text\":\"2 acq 0\",\"name\":null}]}],\"tries\":1}\n";
+\"circle\":[{\"thread\":{\"number\":1,\"name\":null},\"text\":\"1 acq 1\",\"name\":null,\
+\"site\":\"bank.c:12 move\"},\
+{\"thread\":{\"number\":2,\"name\":null},\"text\":\"2 acq 0\",\"name\":null,\
+\"site\":\"bank.c:30 audit\"}]}],\"tries\":1}\n";
+
+/// The same in words.
+const STUCK_IN_WORDS: &str = "\
+deadlock? 2 threads wait in a circle\n  \
+witness 4 events\n  \
+lines below are its own; its values are the lines of the log that wrote them (0: none)\n  \
+thread 1 waits at `1 acq 1` at bank.c:12 move\n  \
+thread 2 waits at `2 acq 0` at bank.c:30 audit\n\
+nothing else found in 1 tries\n";
 
 /// What the program prints of a log, and what the file takes.
 struct Told {
@@ -96,7 +111,7 @@ struct Told {
     status: u8,
 }
 
-static TOLD: [Told; 6] = [
+static TOLD: [Told; 7] = [
     Told {
         words: &["velodrome", "predict", "a", "--log", "o", "--names", "n"],
         log: CLEAN,
@@ -129,11 +144,21 @@ static TOLD: [Told; 6] = [
             "a",
             "--ignore-variable",
             "0",
+            "--sites",
+            "s",
             "--format=json",
         ],
         log: TWO_ORDERS,
         file: None,
         out: STUCK,
+        err: "",
+        status: 3,
+    },
+    Told {
+        words: &["velodrome", "predict", "a", "--sites", "s"],
+        log: TWO_ORDERS,
+        file: None,
+        out: STUCK_IN_WORDS,
         err: "",
         status: 3,
     },
@@ -175,7 +200,12 @@ static TOLD: [Told; 6] = [
 
 /// Compares what the program shows of a log with what it is to show.
 fn try_told<R: Threads + Wait + Sync + Abort>(rt: &R, alloc: Global, told: &Told) {
-    let files = [("a", told.log), ("n", "label 7 flush\n"), ("l", "7\n")];
+    let files = [
+        ("a", told.log),
+        ("n", "label 7 flush\n"),
+        ("l", "7\n"),
+        ("s", SITES),
+    ];
     let mut folder = Folder::new(alloc, &files, 7);
     let shown = show(rt, told.words, &mut folder);
     compare(rt, &shown, told.out, told.err, told.status, told.log);
