@@ -150,8 +150,9 @@ fn add_all_unforked(alloc: Global, text: &mut Vec<u8>, workload: &Workload) -> R
     ensures { OnOk result (text.new.items ≡ text.old.items ++ unforked_texts workload.now) }
 {
     let threads = never_forked(alloc, workload)?;
-    for place in 0..threads.len() {
-        add_unforked(text, workload, threads[place])?;
+    let unforked = threads.as_slice();
+    for place in 0..unforked.len() {
+        add_unforked(text, workload, unforked[place])?;
     }
     Ok(())
 }

@@ -10,10 +10,10 @@ use Rattle.velo_predict_text.proofs.text.predictions_text.Goals as goal
 
 pub add_rounds-requires-clause-truly : goal.add_rounds-requires-clause-truly
 add_rounds-requires-clause-truly c =
-    subst (λ (rs : List Told). All (TellsTruly c.as_slice-events.result.now) rs) (sym c.deref.ensures.value)
+    subst (λ (rs : List Told). All (TellsTruly c.as_slice-events.result.now) rs) (sym c.deref-2.ensures.value)
     (subst (λ (es : List Event). All (TellsTruly es) c.args.findings.now.rounds.items) (sym c.as_slice-events.ensures) c.requires.truly)
 
 pub add_rounds-requires-clause-open : goal.add_rounds-requires-clause-open
-add_rounds-requires-clause-open c = CanListBlocks-from c.as_slice-events.result.now c.deref-owners.result.now
+add_rounds-requires-clause-open c = CanListBlocks-from c.as_slice-events.result.now c.deref.result.now
     (subst CanComeAbout (sym c.as_slice-events.ensures) c.requires.can_come_about)
-    (subst (λ (owners : List ℕ). AreOwners owners c.as_slice-events.result.now) (sym c.deref-owners.ensures.value) c.in_ok-owners.ensures)
+    (subst (λ (owners : List ℕ). AreOwners owners c.as_slice-events.result.now) (sym c.deref.ensures.value) c.in_ok-owners.ensures)
