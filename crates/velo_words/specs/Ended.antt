@@ -1,6 +1,6 @@
 -- What is said of a run of a workload: of turns of threads that it does not have, and of why it
 -- could not go on.
-use Rattle.std.specs.Prelude.{◌≡◌, ◌-◌, ℕ, IsUtf8, nat_le, find, List, [], ◌∷◌, ◌++◌, codes, decimal, IsTrue, Option, Some, None, Ok}
+use Rattle.std.specs.Prelude.{◌≡◌, ℕ, IsUtf8, nat_le, find, List, [], ◌∷◌, ◌++◌, codes, decimal, IsTrue, Option, Some, None, Ok}
 use Rattle.velo_deadlock.specs.Waits.{name_or_number, waits_text}
 use Rattle.velo_delivery.specs.Disk.{Disk}
 use Rattle.velo_events.specs.declared.config.Config.{Config}
@@ -35,8 +35,8 @@ foreign_in threads schedule = find (λ t. nat_le threads t.0) schedule
 -- "velodrome: --turns: thread 9 is none of the workload, ..", by where the schedule is
 unfoldable pub none_of_words : List ℕ → ℕ → ℕ → List ℕ
 none_of_words place threads t = joined (
-    of_file place ∷ codes "thread " ∷ decimal t ∷ codes " is none of the workload, whose last one is thread "
-    ∷ decimal (threads - 1) ∷ codes ": its turns are passed over\n" ∷ [])
+    of_file place ∷ codes "thread " ∷ decimal t ∷ codes " is none of the workload, which has "
+    ∷ decimal threads ∷ codes " threads: its turns are passed over\n" ∷ [])
 
 abbrev pub foreign_words : List ℕ → ℕ → Option ThreadId → List ℕ
 foreign_words place threads None = []

@@ -36,9 +36,9 @@ fn add_none_of(page: &mut Page, place: &str, threads: u64, thread: u64) -> Resul
     page.add(&[
         Piece::Text("thread "),
         Piece::Number(thread),
-        Piece::Text(" is none of the workload, whose last one is thread "),
-        Piece::Number(threads.saturating_sub(1)),
-        Piece::Text(": its turns are passed over\n"),
+        Piece::Text(" is none of the workload, which has "),
+        Piece::Number(threads),
+        Piece::Text(" threads: its turns are passed over\n"),
     ])
 }
 
