@@ -2,7 +2,6 @@
 ghost use Rattle.std.specs.Prelude.{◌≡◌, ◌≤◌, All, length, IfOk};
 ghost use Rattle.velo_events.specs.declared.limits.TheConstants.{MAX_EVENTS};
 ghost use Rattle.velo_events.specs.WellFormed.{IsWellFormed};
-ghost use Rattle.velo_certify.specs.Owners.{AreOwners};
 ghost use Rattle.velo_filter.specs.Left.{rest_of};
 ghost use Rattle.velo_filter.specs.Thinned.{CanComeAbout};
 ghost use Rattle.velo_audit.specs.Audit.{TellsTruly};
@@ -47,26 +46,20 @@ fn listing_of(options: &AuditOptions) -> Option<Listing>
     })
 }
 
-/// What the events of a log are described by, whose transactions begin at these positions.
-fn background_of<'b>(
-    inquiry: &Inquiry<'b, AuditOptions>,
-    log: &'b Trace,
-    owners: &'b [usize],
-) -> Background<'b>
-    requires { AreOwners owners.now log.now.events }
-    ensures known { known_of result ≡ record {
+/// What the events of a log are described by, where nothing is said of the blocks around them.
+fn background_of<'b>(inquiry: &Inquiry<'b, AuditOptions>, log: &'b Trace) -> Background<'b>
+    ensures { known_of result ≡ record {
       log = log.now.events;
       names = inquiry.now.names.now;
       sites = inquiry.now.sites.now;
     } }
-    ensures owners { AreOwners result.owners.now result.events.now }
 {
     Background {
         alloc: inquiry.alloc,
         names: inquiry.names,
         sites: inquiry.sites,
         events: log.as_slice(),
-        owners,
+        owners: &[],
     }
 }
 
@@ -89,8 +82,15 @@ fn listed(
     let left = left_out(inquiry.alloc, inquiry.asked)?;
     let first = thin(inquiry.alloc, log, &left)?;
     let marks = marks_of(inquiry.alloc, bounds, &first.trace)?;
-    let owners = owners_of(inquiry.alloc, log.as_slice())?;
-    let background = background_of(inquiry, log, &owners);
+    let events = log.as_slice();
+    let owners = owners_of(inquiry.alloc, events)?;
+    let background = Background {
+        alloc: inquiry.alloc,
+        names: inquiry.names,
+        sites: inquiry.sites,
+        events,
+        owners: &owners,
+    };
     listing_text(
         &background,
         inquiry.asked,
@@ -119,8 +119,15 @@ fn text_of(
 {
     match listing {
         None => {
-            let owners = owners_of(inquiry.alloc, log.as_slice())?;
-            let background = background_of(inquiry, log, &owners);
+            let events = log.as_slice();
+            let owners = owners_of(inquiry.alloc, events)?;
+            let background = Background {
+                alloc: inquiry.alloc,
+                names: inquiry.names,
+                sites: inquiry.sites,
+                events,
+                owners: &owners,
+            };
             audit_text(&background, inquiry.asked, rounds, atomic)
         }
         Some(listing) => listed(inquiry, bounds, log, listing, rounds, atomic),
@@ -163,8 +170,15 @@ fn json_of(
         inquiry.now.options.now.input.now inquiry.now.asked.now listing
         (rest_of (left_out_at_first inquiry.now.asked.now) log.now.events) rounds.now atomic page) }
 {
-    let owners = owners_of(inquiry.alloc, log.as_slice())?;
-    let background = background_of(inquiry, log, &owners);
+    let events = log.as_slice();
+    let owners = owners_of(inquiry.alloc, events)?;
+    let background = Background {
+        alloc: inquiry.alloc,
+        names: inquiry.names,
+        sites: inquiry.sites,
+        events,
+        owners: &owners,
+    };
     let asked = inquiry.asked;
     let path = inquiry.options.input;
     let Some(listing) = listing else {
@@ -183,8 +197,7 @@ fn sarif_of(inquiry: &Inquiry<AuditOptions>, log: &Trace, rounds: &[Told]) -> Re
         (record { log = log.now.events; names = inquiry.now.names.now; sites = inquiry.now.sites.now })
         inquiry.now.options.now.input.now rounds.now) }
 {
-    let owners = owners_of(inquiry.alloc, log.as_slice())?;
-    let background = background_of(inquiry, log, &owners);
+    let background = background_of(inquiry, log);
     audit_sarif(&background, inquiry.options.input, rounds)
 }
 
@@ -195,8 +208,7 @@ fn junit_of(inquiry: &Inquiry<AuditOptions>, log: &Trace, rounds: &[Told]) -> Re
         (record { log = log.now.events; names = inquiry.now.names.now; sites = inquiry.now.sites.now })
         inquiry.now.options.now.input.now rounds.now) }
 {
-    let owners = owners_of(inquiry.alloc, log.as_slice())?;
-    let background = background_of(inquiry, log, &owners);
+    let background = background_of(inquiry, log);
     audit_junit(&background, inquiry.options.input, rounds)
 }
 
