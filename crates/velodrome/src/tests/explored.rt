@@ -78,7 +78,7 @@ const ASKED: Row = Row {
     status: 0,
 };
 
-static ROWS: [Row; 30] = [
+static ROWS: [Row; 32] = [
     Row {
         target: Some("o"),
         out: "events 9\nstates 8\nalarm 0*3 1 0\nstuck none\nrefused none\nto blame inc (1 of 1 alarms)\nevents 9\nthread 0 main 7\nthread 1 a 2\nverdict alarm 4\ntransaction 1\nblame 1 inc\n",
