@@ -137,7 +137,8 @@ fn find_by(
     want: Want,
 ) -> Result<Option<Deadlock>, Memory>
     requires { Stands base.now.heap }
-    ensures { IfOk result (λ found. IfSome found (λ found. IsDeadlock config.now.bounds rest.now.trace.events (slice_index rest.now.places.items) found)) }
+    ensures { IfOk result (λ found. IfSome found (λ found. IsDeadlock config.now.bounds
+        rest.now.trace.events (slice_index rest.now.places.items) found)) }
 {
     match try_one(alloc, base, &rest.trace, lookup, want)? {
         Some(trace) => judge_deadlock(alloc, config, rest, trace),
@@ -178,7 +179,8 @@ fn take_in(
     done: &mut LeftOut,
     found: Option<Deadlock>,
 ) -> Result<(), Memory>
-    ensures { OnOk result (TakesIn (left_of done.old).locks (left_of done.new).locks deadlocks.old.found.items deadlocks.new.found.items found) }
+    ensures { OnOk result (TakesIn (left_of done.old).locks (left_of done.new).locks
+        deadlocks.old.found.items deadlocks.new.found.items found) }
 {
     let Some(found) = found else {
         return Ok(());
@@ -202,7 +204,8 @@ fn try_all(
     deadlocks: &mut Deadlocks,
 ) -> Result<(), Memory>
     requires none { deadlocks.old.found.items ≡ [] }
-    ensures { OnOk result (AreDeadlocks config.now.bounds rest.now.trace.events (slice_index rest.now.places.items) deadlocks.new.found.items) }
+    ensures { OnOk result (AreDeadlocks config.now.bounds rest.now.trace.events
+        (slice_index rest.now.places.items) deadlocks.new.found.items) }
 {
     let mut base = Run::new(alloc, config, lookup, false)?;
     let mut done = LeftOut::new(alloc);

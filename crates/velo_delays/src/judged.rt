@@ -118,7 +118,8 @@ pub(crate) fn judge(
     trace: Trace,
 ) -> Result<Option<PredictedCycle>, Memory>
     requires goes_on { config.now.stop ≡ false }
-    ensures { IfOk result (λ found. IfSome found (λ found. IsFound config.now.bounds rest.now.trace.events (slice_index rest.now.places.items) found)) }
+    ensures { IfOk result (λ found. IfSome found (λ found. IsFound config.now.bounds
+        rest.now.trace.events (slice_index rest.now.places.items) found)) }
 {
     if trace.len() > config.events as usize {
         return Ok(None);

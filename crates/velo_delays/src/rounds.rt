@@ -108,7 +108,8 @@ fn find_by(
 ) -> Result<Option<PredictedCycle>, Memory>
     requires goes_on { config.now.stop ≡ false }
     requires stands { Stands base.now.heap }
-    ensures { IfOk result (λ found. IfSome found (λ found. IsFound config.now.bounds rest.now.trace.events (slice_index rest.now.places.items) found)) }
+    ensures { IfOk result (λ found. IfSome found (λ found. IsFound config.now.bounds
+        rest.now.trace.events (slice_index rest.now.places.items) found)) }
 {
     match try_one(alloc, base, &rest.trace, lookup, delay)? {
         Some(trace) => judge(alloc, config, rest, trace),
@@ -125,7 +126,8 @@ fn take_in(
     label: Label,
     found: Option<PredictedCycle>,
 ) -> Result<(), Memory>
-    ensures { OnOk result (TakesIn (left_of left.old) (left_of left.new) searched.old.found.items searched.new.found.items found) }
+    ensures { OnOk result (TakesIn (left_of left.old) (left_of left.new)
+        searched.old.found.items searched.new.found.items found) }
 {
     let Some(found) = found else {
         return Ok(());
@@ -151,7 +153,9 @@ fn try_all(
     searched: &mut PredictedCycles,
 ) -> Result<(), Memory>
     requires goes_on { config.now.stop ≡ false }
-    ensures { OnOk result (GoesOn config.now.bounds rest.now.trace.events (slice_index rest.now.places.items) (left_of left.old) (left_of left.new) searched.old.found.items searched.new.found.items) }
+    ensures { OnOk result (GoesOn config.now.bounds rest.now.trace.events
+        (slice_index rest.now.places.items) (left_of left.old) (left_of left.new)
+        searched.old.found.items searched.new.found.items) }
 {
     let mut base = Run::new(alloc, config, lookup, true)?;
     let mut done = LabelSet::new(alloc);
@@ -183,7 +187,8 @@ fn search_once(
     requires goes_on { config.now.stop ≡ false }
     requires few { length log.now.events ≤ MAX_EVENTS }
     requires well_formed { IsWellFormed config.now.bounds log.now.events }
-    ensures { OnOk result (GoesOnIn config.now.bounds log.now.events (left_of left.old) (left_of left.new) searched.old.found.items searched.new.found.items) }
+    ensures { OnOk result (GoesOnIn config.now.bounds log.now.events (left_of left.old)
+        (left_of left.new) searched.old.found.items searched.new.found.items) }
 {
     let rest = thin(alloc, log, left)?;
     let lookup = Lookup::new(alloc, rest.trace.as_slice())?;

@@ -50,7 +50,8 @@ pub(crate) fn sources_as_read(
     rest: &Thinned,
     trace: &Trace,
 ) -> Result<Vec<Option<usize>>, Memory>
-    ensures { IfOk result (λ sources. AreSourcesAsRead rest.now.trace.events (slice_index rest.now.places.items) trace.now.events sources.items) }
+    ensures { IfOk result (λ sources. AreSourcesAsRead rest.now.trace.events
+        (slice_index rest.now.places.items) trace.now.events sources.items) }
 {
     let sources = sources_of(alloc, &rest.trace, trace)?;
     places_of_sources(alloc, &rest.places, &sources)

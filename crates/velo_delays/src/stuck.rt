@@ -63,7 +63,8 @@ pub(crate) fn judge_deadlock(
     rest: &Thinned,
     trace: Trace,
 ) -> Result<Option<Deadlock>, Memory>
-    ensures { IfOk result (λ found. IfSome found (λ deadlock. IsDeadlock config.now.bounds rest.now.trace.events (slice_index rest.now.places.items) deadlock)) }
+    ensures { IfOk result (λ found. IfSome found (λ deadlock. IsDeadlock config.now.bounds
+        rest.now.trace.events (slice_index rest.now.places.items) deadlock)) }
 {
     if trace.len() > config.events as usize {
         return Ok(None);

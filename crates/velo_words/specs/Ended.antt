@@ -35,8 +35,8 @@ foreign_in threads schedule = find (λ t. nat_le threads t.0) schedule
 -- "velodrome: --turns: thread 9 is none of the workload, ..", by where the schedule is
 unfoldable pub none_of_words : List ℕ → ℕ → ℕ → List ℕ
 none_of_words place threads t = joined (
-    of_file place ∷ codes "thread " ∷ decimal t ∷ codes " is none of the workload, which has "
-    ∷ decimal threads ∷ codes " threads: its turns are passed over\n" ∷ [])
+    of_file place ∷ codes "thread " ∷ decimal t ∷ codes " is none of the workload (threads: "
+    ∷ decimal threads ∷ codes "): its turns are passed over\n" ∷ [])
 
 abbrev pub foreign_words : List ℕ → ℕ → Option ThreadId → List ℕ
 foreign_words place threads None = []

@@ -36,9 +36,9 @@ fn add_none_of(page: &mut Page, place: &str, threads: u64, thread: u64) -> Resul
     page.add(&[
         Piece::Text("thread "),
         Piece::Number(thread),
-        Piece::Text(" is none of the workload, which has "),
+        Piece::Text(" is none of the workload (threads: "),
         Piece::Number(threads),
-        Piece::Text(" threads: its turns are passed over\n"),
+        Piece::Text("): its turns are passed over\n"),
     ])
 }
 

@@ -7,6 +7,7 @@ mod events;
 mod failing;
 mod given;
 mod ignoring;
+mod reasons;
 mod refused;
 mod roles;
 mod saying;

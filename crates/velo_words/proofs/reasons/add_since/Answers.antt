@@ -1,5 +1,5 @@
 use Rattle.velo_words.specs.Refused.{since_words}
-use Rattle.velo_words.proofs.refused.add_since.Goals as goal
+use Rattle.velo_words.proofs.reasons.add_since.Goals as goal
 
 pub returns : goal.returns
 unfolding since_words
