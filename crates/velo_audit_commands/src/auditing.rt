@@ -1,7 +1,8 @@
 //! `velodrome audit`.
-ghost use Rattle.std.specs.Prelude.{◌≡◌, ◌≤◌, All, false, length, IfErr, IfOk, IsTrue};
+ghost use Rattle.std.specs.Prelude.{◌≡◌, ◌≤◌, All, false, length, IfErr, IfOk, IsFalse, IsTrue};
 ghost use Rattle.velo_events.specs.declared.limits.TheConstants.{MAX_EVENTS};
 ghost use Rattle.velo_events.specs.Graph.{HasCycle};
+ghost use Rattle.velo_events.specs.Reordering.{IsSerializable};
 ghost use Rattle.velo_events.specs.WellFormed.{IsWellFormed};
 ghost use Rattle.velo_filter.specs.Tables.{left_of};
 ghost use Rattle.velo_audit.specs.Audit.{TellsTruly};
@@ -34,7 +35,8 @@ use velo_world::Closed;
 
 /// Whether the log has no cycle.
 pub fn is_clean(closed: &Closed) -> bool
-    ensures { IsTrue result → ¬ HasCycle closed.now.log }
+    ensures clean { IsTrue result → ¬ HasCycle closed.now.log }
+    ensures alarm { IsFalse result → ¬ IsSerializable closed.now.log }
 {
     match closed.alarm() {
         None => true,

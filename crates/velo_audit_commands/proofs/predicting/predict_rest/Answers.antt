@@ -23,4 +23,4 @@ returns-in-Err g c =
     (lacks_same inquiry.asked.now _ _ _ _ _ _ c.in-Err.fate c.log-log.ensures.events config.ensures.bounds config.ensures.nodes c.in-Err.ensures.fault)
 
 pub rounds_of-requires-clause-clean : goal.rounds_of-requires-clause-clean
-rounds_of-requires-clause-clean g c h = subst (λ (l : List Event). ¬ HasCycle l) (sym c.log-log.ensures.events) (c.is_clean.ensures h)
+rounds_of-requires-clause-clean g c h = subst (λ (l : List Event). ¬ HasCycle l) (sym c.log-log.ensures.events) (c.is_clean.ensures.clean h)
