@@ -1,15 +1,18 @@
 -- What the getters of `clap` give, by the rows of the matches.
-use Rattle.std.proofs.Common.{◌≡◌, ◌∙◌, ◌≤◌, ap, sym, refl, subst, ℕ, Bool, true, false, not, List, map, Option, Some, None, Result, Ok, Err, codes, inl, inr, Bor}
-use Rattle.std.specs.Prelude.{[], IfNone, IfSome, option_map, unwrap_or}
+use Rattle.std.proofs.Common.{◌≡◌, ◌∙◌, ◌≤◌, ⊎_elim, arith, true≢false, ap, sym, refl, subst, ℕ, Bool, true, false, not, List, map, Option, Some, None, Result, Ok, Err, codes, inl, inr, Bor}
+use Rattle.std.specs.Prelude.{[], ◌∷◌, ◌==◌, ◌||◌, IfNone, IfSome, is_some, length, option_map, unwrap_or}
+use Rattle.std.specs.Option.{option_or}
+use Rattle.std.proofs.lemmas.Bool.Decides.{eqb_tells}
 use Rattle.std.specs.Str.Parse.{ParsesUnsigned}
 use Rattle.clap.specs.Words.{ReadsOne, Row, Text, all_of, first_of, first_value, matched_of, one_of, one_text, raw_values, rows_of}
 use Rattle.clap.specs.declared.parser.matches.Found.{Found}
 use Rattle.clap.proofs.WalkLemmas.{first_value-rows, one_text-rows, raw_values-rows}
+use Rattle.velo_request.specs.declared.request.Ignored.{Ignored}
 use Rattle.velo_request.specs.declared.request.OutputFormat.{OutputFormat}
 use Rattle.velo_request.specs.declared.request.TextOrJson.{TextOrJson}
 use Rattle.velo_request.specs.declared.request.RandomRuns.{RandomRuns}
 use Rattle.velo_request.specs.declared.request.TheConstants.{MAX_SECONDS}
-use Rattle.velo_arguments.specs.Asked.{AreRandomRuns, AreSeconds, IsFlag, IsSeed, WritesNumber, form_of, text_or_json_of}
+use Rattle.velo_arguments.specs.Asked.{AreLeftOut, AreRandomRuns, AreSeconds, IsFlag, IsList, IsSeed, LeaveNothingOut, WritesNumber, leaves_out, form_of, text_or_json_of}
 
 pub option_read : (f : Found) (id : Text) (r : Option (Bor Text)) → option_map (λ s. s.now) r ≡ first_value f id
     → first_of id (rows_of f) ≡ option_map (λ s. s.now) r
@@ -80,6 +83,49 @@ words_read f id r none words read is empty =
 -- a word that is not given
 pub no_word_read : (f : Found) (id : Text) (r : Option (Bor Text)) → option_map (λ s. s.now) r ≡ first_value f id → r ≡ None → first_of id (rows_of f) ≡ None
 no_word_read f id r read none = option_read f id r read ∙ ap (option_map (λ s. s.now)) none
+
+-- ---- what is left out
+
+-- the list, of the two options that name one
+pub list_read : (f : Found) (wide labels path : Option (Bor Text)) (is_wide : Bool) → option_map (λ s. s.now) wide ≡ first_value f (codes "ignore")
+    → option_map (λ s. s.now) labels ≡ first_value f (codes "not-atomic") → path ≡ option_or wide labels → is_wide ≡ is_some wide
+    → IsList (first_of (codes "ignore") (rows_of f)) (first_of (codes "not-atomic") (rows_of f)) path is_wide
+list_read f wide labels path is_wide read_wide read_labels is has =
+    subst (λ text. IsList text (first_of (codes "not-atomic") (rows_of f)) path is_wide) (sym (option_read f (codes "ignore") wide read_wide)) (go wide is has)
+  where
+    go : (w : Option (Bor Text)) → path ≡ option_or w labels → is_wide ≡ is_some w
+        → IsList (option_map (λ s. s.now) w) (first_of (codes "not-atomic") (rows_of f)) path is_wide
+    go None is has = (option_read f (codes "not-atomic") labels read_labels ∙ ap (option_map (λ s. s.now)) (sym is), has)
+    go (Some w) is has = (ap (option_map (λ s. s.now)) (sym is), has)
+
+no_list : (wide labels : Option Text) (path : Option (Bor Text)) (is_wide : Bool) → IsList wide labels path is_wide → is_some path ≡ false
+    → (wide ≡ None) × (labels ≡ None)
+no_list None labels None is_wide is none = (refl, is.0)
+no_list None labels (Some path) is_wide is none = absurd (true≢false none)
+no_list (Some wide) labels None is_wide is none =
+    let bad : Some wide ≡ None = is.0 in
+    cc
+no_list (Some wide) labels (Some path) is_wide is none = absurd (true≢false none)
+
+no_words : (texts : List Text) (words : List (Bor Text)) → texts ≡ map (λ w. w.now) words → not (length words == 0) ≡ false → texts ≡ []
+no_words texts [] is none = is
+no_words texts (word ∷ words) is none =
+    ⊎_elim (λ same. absurd (omega (arith, same.1))) (λ other. absurd (true≢false (sym (ap not other.0) ∙ none)))
+    (eqb_tells (length (word ∷ words)) 0)
+
+neither : (a b : Bool) → (a || b) ≡ false → (a ≡ false) × (b ≡ false)
+neither false b none = (refl, none)
+neither true b none = absurd (true≢false none)
+
+-- where nothing is left out, no option is given that leaves something out
+pub nothing_left : (rows : List Row) (ignored : Ignored) → AreLeftOut rows ignored → leaves_out ignored ≡ false → LeaveNothingOut rows
+nothing_left rows ignored left none =
+    let list = neither _ _ none in
+    let labels = neither _ _ list.1 in
+    let locks = neither _ _ labels.1 in
+    let variables = neither _ _ locks.1 in
+    let options = no_list _ _ _ _ left.0 list.0 in
+    (options.0, options.1, no_words _ _ left.1 labels.0, no_words _ _ left.2 locks.0, no_words _ _ left.3 variables.0, subst (IsFlag (one_of (codes "ignore-locks") rows)) variables.1 left.4)
 
 -- a form, by its word
 pub form_read : (f : Found) (id : Text) (r : Option (Bor Text)) (form : OutputFormat) → option_map (λ s. s.now) r ≡ first_value f id

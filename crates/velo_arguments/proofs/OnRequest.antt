@@ -29,9 +29,10 @@ use Rattle.velo_request.specs.declared.request.TheConstants.{DEFAULT_SEED, MAX_R
 use Rattle.velo_request.specs.declared.request.ThinOptions.{ThinOptions}
 use Rattle.velo_request.specs.declared.request.VerifyOptions.{VerifyOptions}
 use Rattle.velo_request.specs.declared.request.Request.{Request}
-use Rattle.velo_request.specs.declared.request.Request.TheVariants.{Audit, Carry, Check, Explain, Explore, Predict, Replay, Run, Thin, Verify, Watch, WatchEndless}
-use Rattle.velo_arguments.specs.Asked.{AreLeftOut, AreLimits, AreRandomRuns, AreSeconds, AreTurns, AsksFor, AsksForNothing, AsksAudit, AsksCarry, AsksCheck, AsksExplain, AsksExplore, IsFlag, AsksPredict, AsksReplay, AsksRun, IsScheduleSource, IsSeed, AsksThin, AsksVerify, WritesNumber, form_of, text_or_json_of}
+use Rattle.velo_request.specs.declared.request.Request.TheVariants.{Audit, Carry, Check, CheckRest, Explain, Explore, Predict, Replay, Run, Thin, Verify, Watch, WatchEndless}
+use Rattle.velo_arguments.specs.Asked.{AreLeftOut, AreLimits, AreRandomRuns, AreSeconds, AreTurns, AsksFor, AsksForNothing, AsksAudit, AsksCarry, AsksCheck, AsksExplain, AsksExplore, IsFlag, IsList, AsksPredict, AsksReplay, AsksRun, IsScheduleSource, IsSeed, AsksThin, AsksVerify, WritesNumber, form_of, leaves_out, text_or_json_of}
 use Rattle.velo_arguments.specs.CommandLine.{asked_by, audit, carry, check, command_line, explain, explore, faults_of, predict, replay, run, thin, verify, watch}
+use Rattle.velo_arguments.proofs.OnAsked.{nothing_left}
 use Rattle.velo_arguments.proofs.OnLimits.{HasLimit, HasWide, HasWord, MayHave}
 use Rattle.velo_arguments.proofs.OnWalk.{Each, found_has}
 use Rattle.velo_arguments.proofs.OnRight.{AreFaultless, HasDelays, HasLimits, HasSearch, audit_right, carry_right, check_right, explain_right, explore_right, faultless_enters, predict_right, replay_right, rows_of_leaf, run_right, thin_right, verify_right, watch_right}
@@ -92,23 +93,31 @@ a_limits rows has =
 abbrev the_words : Text → List Row → Bor (List (Bor Text))
 the_words option rows = a_list (unwrap_or (all_of option rows) [])
 
+-- the list of the two options that name one
+a_list_of : (wide labels : Option Text) → (path : Option (Bor Text)) × (is_wide : Bool) × IsList wide labels path is_wide
+unfolding a_path a_path_if
+a_list_of (Some wide) labels = (Some (a_path wide), true, (refl, refl))
+a_list_of None labels = (a_path_if labels, false, (path_of labels, refl))
+
 left_out : (rows : List Row) → (ignored : Ignored) × AreLeftOut rows ignored
-left_out rows = (
-  record {
-    known = a_path_if (first_of (codes "not-atomic") rows);
-    labels = the_words (codes "ignore-label") rows;
-    locks = the_words (codes "ignore-lock") rows;
-    variables = the_words (codes "ignore-variable") rows;
-    all_locks = is_true (one_of (codes "ignore-locks") rows);
-  },
-  (
-    path_of (first_of (codes "not-atomic") rows),
-    words_of (unwrap_or (all_of (codes "ignore-label") rows) []),
-    words_of (unwrap_or (all_of (codes "ignore-lock") rows) []),
-    words_of (unwrap_or (all_of (codes "ignore-variable") rows) []),
-    is_flag (one_of (codes "ignore-locks") rows),
-  ),
-)
+left_out rows =
+    let list = a_list_of (first_of (codes "ignore") rows) (first_of (codes "not-atomic") rows) in (
+      record {
+        known = list.0;
+        is_wide = list.1;
+        labels = the_words (codes "ignore-label") rows;
+        locks = the_words (codes "ignore-lock") rows;
+        variables = the_words (codes "ignore-variable") rows;
+        all_locks = is_true (one_of (codes "ignore-locks") rows);
+      },
+      (
+        list.2,
+        words_of (unwrap_or (all_of (codes "ignore-label") rows) []),
+        words_of (unwrap_or (all_of (codes "ignore-lock") rows) []),
+        words_of (unwrap_or (all_of (codes "ignore-variable") rows) []),
+        is_flag (one_of (codes "ignore-locks") rows),
+      ),
+    )
 
 -- ---- the request
 
@@ -131,6 +140,20 @@ a_check rows word has =
         is_flag (one_of (codes "why") rows),
       ),
     )
+
+-- what the word `check` asks for: the whole log, or what is left of it
+asks_check : (rows : List Row) → HasWord (codes "LOG") rows → HasLimits rows → (request : Request) × AsksFor (Some (codes "check", rows)) request
+asks_check rows word has = go (leaves_out left.0) refl
+  where
+    check : (options : CheckOptions) × AsksCheck rows options
+    check = a_check rows word has
+
+    left : (ignored : Ignored) × AreLeftOut rows ignored
+    left = left_out rows
+
+    go : (b : Bool) → leaves_out left.0 ≡ b → (request : Request) × AsksFor (Some (codes "check", rows)) request
+    go true is = (CheckRest (record { check = check.0; ignored = left.0 }), (refl, (check.1, left.1, is)))
+    go false is = (Check check.0, (refl, check.1, nothing_left rows left.0 left.1 is))
 
 a_run : (rows : List Row) → HasWord (codes "FILE") rows → HasLimits rows → (options : RunOptions) × AsksRun rows options
 unfolding a_path
@@ -187,6 +210,7 @@ an_explanation rows word =
         format = text_or_json_of (first_of (codes "format") rows);
         names = a_path_if (first_of (codes "names") rows);
         sites = a_path_if (first_of (codes "sites") rows);
+        source = a_path_if (first_of (codes "source") rows);
         ignored = left.0;
       },
       (
@@ -197,6 +221,7 @@ an_explanation rows word =
         refl,
         path_of (first_of (codes "names") rows),
         path_of (first_of (codes "sites") rows),
+        path_of (first_of (codes "source") rows),
         left.1,
       ),
     )
@@ -295,6 +320,7 @@ an_audit rows word has =
         input = a_path word.0;
         names = a_path_if (first_of (codes "names") rows);
         sites = a_path_if (first_of (codes "sites") rows);
+        source = a_path_if (first_of (codes "source") rows);
         ignored = left.0;
         witness = not (is_true (one_of (codes "no-witness") rows));
         counts = is_true (one_of (codes "counts") rows);
@@ -307,6 +333,7 @@ an_audit rows word has =
         word.1,
         path_of (first_of (codes "names") rows),
         path_of (first_of (codes "sites") rows),
+        path_of (first_of (codes "source") rows),
         left.1,
         is_flag_turned (one_of (codes "no-witness") rows),
         record { counts = is_flag (one_of (codes "counts") rows); by_count = is_flag (one_of (codes "by-count") rows); innermost = is_flag (one_of (codes "innermost") rows) },
@@ -346,6 +373,7 @@ a_predicting rows word has =
         input = a_path word.0;
         names = a_path_if (first_of (codes "names") rows);
         sites = a_path_if (first_of (codes "sites") rows);
+        source = a_path_if (first_of (codes "source") rows);
         ignored = left.0;
         values = is_true (one_of (codes "values") rows);
         tries = tries.0;
@@ -360,6 +388,7 @@ a_predicting rows word has =
         word.1,
         path_of (first_of (codes "names") rows),
         path_of (first_of (codes "sites") rows),
+        path_of (first_of (codes "source") rows),
         left.1,
         is_flag (one_of (codes "values") rows),
         tries.3,
@@ -400,7 +429,7 @@ asks s words request Is named right e =
     (request found.0, named found.0 found.1)
 
 check_asks : (words : List Text) → AsksBy check words
-check_asks words = asks check words Check AsksCheck (λ o is. (refl, is)) (λ e. a_check (rows_of_leaf check words) (check_right words e).0 (check_right words e).1)
+check_asks words e = asks_check (rows_of_leaf check words) (check_right words e).0 (check_right words e).1
 
 replay_asks : (words : List Text) → AsksBy replay words
 replay_asks words = asks replay words Replay AsksReplay (λ o is. (refl, is)) (λ e. a_replay (rows_of_leaf replay words) (replay_right words e).0 (replay_right words e).1)

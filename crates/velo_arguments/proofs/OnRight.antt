@@ -211,10 +211,13 @@ run_made : Each (MakesRows (Passes limits)) (map filled run_options ++ filled he
 run_made = (makes_flag (codes "stop") refl, (makes_flag (codes "why") refl, saved_made))
 
 left_out_made : Each (MakesRows (Passes limits)) (map filled left_out_options ++ filled help_rule ∷ [])
-left_out_made = (makes_valued (codes "not-atomic") refl, (makes_repeated (codes "ignore-label") refl, (makes_repeated (codes "ignore-lock") refl, (makes_flag (codes "ignore-locks") refl, (makes_repeated (codes "ignore-variable") refl, (makes_help, tt))))))
+left_out_made = (makes_valued (codes "not-atomic") refl, (makes_valued (codes "ignore") refl, (makes_repeated (codes "ignore-label") refl, (makes_repeated (codes "ignore-lock") refl, (makes_flag (codes "ignore-locks") refl, (makes_repeated (codes "ignore-variable") refl, (makes_help, tt)))))))
+
+left_out_before_graph : Each (MakesRows (Passes limits)) (map filled (left_out_options ++ graph_options) ++ filled help_rule ∷ [])
+left_out_before_graph = (makes_valued (codes "not-atomic") refl, (makes_valued (codes "ignore") refl, (makes_repeated (codes "ignore-label") refl, (makes_repeated (codes "ignore-lock") refl, (makes_flag (codes "ignore-locks") refl, (makes_repeated (codes "ignore-variable") refl, graph_made))))))
 
 labels_made : Each (MakesRows (Passes limits)) (map filled label_options ++ filled help_rule ∷ [])
-labels_made = (makes_valued (codes "names") refl, (makes_valued (codes "sites") refl, (makes_valued (codes "not-atomic") refl, (makes_repeated (codes "ignore-label") refl, (makes_repeated (codes "ignore-lock") refl, (makes_flag (codes "ignore-locks") refl, (makes_repeated (codes "ignore-variable") refl, (makes_events (codes "16777216"), (makes_nodes (codes "4096"), (makes_help, tt))))))))))
+labels_made = (makes_valued (codes "names") refl, (makes_valued (codes "sites") refl, (makes_valued (codes "source") refl, (makes_valued (codes "not-atomic") refl, (makes_valued (codes "ignore") refl, (makes_repeated (codes "ignore-label") refl, (makes_repeated (codes "ignore-lock") refl, (makes_flag (codes "ignore-locks") refl, (makes_repeated (codes "ignore-variable") refl, (makes_events (codes "16777216"), (makes_nodes (codes "4096"), (makes_help, tt))))))))))))
 
 -- the subcommand as it is built
 abbrev pub leaf : Shape → Shape
@@ -230,8 +233,8 @@ AreFaultless s words = level_fault (leaf s) [] nothing_held words false [] ≡ [
 pub check_right : (words : List Text) → AreFaultless check words
     → HasWord (codes "LOG") (rows_of_leaf check words) × HasLimits (rows_of_leaf check words)
 check_right words e =
-    let level = level_has limits (leaf check) words refl (makes_word (codes "LOG") refl, (makes_valued (codes "names") refl, (makes_flag (codes "why") refl, graph_made))) e in
-    (word_there (codes "LOG") (rows_of_leaf check words) level.passes (level.given.0 refl), limits_there (rows_of_leaf check words) level.passes (level.defaults.1.1.1.0 tt) (level.defaults.1.1.1.1.0 tt))
+    let level = level_has limits (leaf check) words refl (makes_word (codes "LOG") refl, (makes_valued (codes "names") refl, (makes_flag (codes "why") refl, left_out_before_graph))) e in
+    (word_there (codes "LOG") (rows_of_leaf check words) level.passes (level.given.0 refl), limits_there (rows_of_leaf check words) level.passes (level.defaults.1.1.1.1.1.1.1.1.1.0 tt) (level.defaults.1.1.1.1.1.1.1.1.1.1.0 tt))
 
 pub run_right : (words : List Text) → AreFaultless run words
     → HasWord (codes "FILE") (rows_of_leaf run words) × HasLimits (rows_of_leaf run words)
@@ -247,7 +250,7 @@ replay_right words e =
 
 pub explain_right : (words : List Text) → AreFaultless explain words → HasWord (codes "LOG") (rows_of_leaf explain words)
 explain_right words e =
-    let level = level_has limits (leaf explain) words refl (makes_word (codes "LOG") refl, (makes_valued (codes "dot") refl, (makes_valued (codes "svg") refl, (makes_flag (codes "stacks") refl, (makes_valued (codes "format") refl, (makes_valued (codes "names") refl, (makes_valued (codes "sites") refl, left_out_made))))))) e in
+    let level = level_has limits (leaf explain) words refl (makes_word (codes "LOG") refl, (makes_valued (codes "dot") refl, (makes_valued (codes "svg") refl, (makes_flag (codes "stacks") refl, (makes_valued (codes "format") refl, (makes_valued (codes "names") refl, (makes_valued (codes "sites") refl, (makes_valued (codes "source") refl, left_out_made)))))))) e in
     word_there (codes "LOG") (rows_of_leaf explain words) level.passes (level.given.0 refl)
 
 pub carry_right : (words : List Text) → AreFaultless carry words
@@ -285,7 +288,7 @@ pub audit_right : (words : List Text) → AreFaultless audit words
     → HasWord (codes "LOG") (rows_of_leaf audit words) × HasLimits (rows_of_leaf audit words)
 audit_right words e =
     let level = level_has limits (leaf audit) words refl (makes_word (codes "LOG") refl, (makes_flag (codes "no-witness") refl, (makes_flag (codes "counts") refl, (makes_flag (codes "by-count") refl, (makes_flag (codes "innermost") refl, (makes_valued (codes "format") refl, labels_made)))))) e in
-    (word_there (codes "LOG") (rows_of_leaf audit words) level.passes (level.given.0 refl), limits_there (rows_of_leaf audit words) level.passes (level.defaults.1.1.1.1.1.1.1.1.1.1.1.1.1.0 tt) (level.defaults.1.1.1.1.1.1.1.1.1.1.1.1.1.1.0 tt))
+    (word_there (codes "LOG") (rows_of_leaf audit words) level.passes (level.given.0 refl), limits_there (rows_of_leaf audit words) level.passes (level.defaults.1.1.1.1.1.1.1.1.1.1.1.1.1.1.1.0 tt) (level.defaults.1.1.1.1.1.1.1.1.1.1.1.1.1.1.1.1.0 tt))
 
 pub thin_right : (words : List Text) → AreFaultless thin words
     → HasWord (codes "LOG") (rows_of_leaf thin words) × HasWord (codes "log") (rows_of_leaf thin words)
@@ -302,4 +305,4 @@ pub predict_right : (words : List Text) → AreFaultless predict words
 predict_right words e =
     let rows = rows_of_leaf predict words in
     let level = level_has limits (leaf predict) words refl (makes_word (codes "LOG") refl, (makes_valued (codes "log") refl, (makes_flag (codes "values") refl, (makes_tries, (makes_seed, (makes_valued (codes "format") refl, labels_made)))))) e in
-    (word_there (codes "LOG") rows level.passes (level.given.0 refl), (tries_there rows level.passes (level.defaults.1.1.1.0 tt), seed_there rows level.passes, limits_there rows level.passes (level.defaults.1.1.1.1.1.1.1.1.1.1.1.1.1.0 tt) (level.defaults.1.1.1.1.1.1.1.1.1.1.1.1.1.1.0 tt)))
+    (word_there (codes "LOG") rows level.passes (level.given.0 refl), (tries_there rows level.passes (level.defaults.1.1.1.0 tt), seed_there rows level.passes, limits_there rows level.passes (level.defaults.1.1.1.1.1.1.1.1.1.1.1.1.1.1.1.0 tt) (level.defaults.1.1.1.1.1.1.1.1.1.1.1.1.1.1.1.1.0 tt)))

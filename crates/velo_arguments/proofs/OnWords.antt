@@ -1,6 +1,6 @@
 -- What some command lines ask for, and why others ask for nothing: by computing.
 use Rattle.std.proofs.Common.{◌≡◌, ◌^◌, ◌∷◌, [], ℕ, Bool, arith, inl, refl, subst, sym, ap, codes, true, false, List, get_or, map, nat_lt, rules, Bor}
-use Rattle.std.specs.Prelude.{Some, None, option_map}
+use Rattle.std.specs.Prelude.{Some, None, IsTrue, option_map}
 use Rattle.std.specs.Str.Parse.{digits_value, without_leading_plus}
 use Rattle.std.proofs.lemmas.Bool.{ltb-true}
 use Rattle.clap.specs.Faults.{defaults_fault, walk_fault}
@@ -13,6 +13,7 @@ use Rattle.clap.specs.declared.error.kind.ErrorKind.TheVariants.{ArgumentConflic
 use Rattle.velo_request.specs.declared.request.AuditOptions.{AuditOptions}
 use Rattle.velo_request.specs.declared.request.CarryOptions.{CarryOptions}
 use Rattle.velo_request.specs.declared.request.CheckOptions.{CheckOptions}
+use Rattle.velo_request.specs.declared.request.CheckRestOptions.{CheckRestOptions}
 use Rattle.velo_request.specs.declared.request.EndlessOptions.{EndlessOptions}
 use Rattle.velo_request.specs.declared.request.ExplainOptions.{ExplainOptions}
 use Rattle.velo_request.specs.declared.request.OutputFormat.TheVariants as form
@@ -26,8 +27,8 @@ use Rattle.velo_request.specs.declared.request.TheConstants.{DEFAULT_SEED, DEFAU
 use Rattle.velo_request.specs.declared.request.ThinOptions.{ThinOptions}
 use Rattle.velo_request.specs.declared.request.VerifyOptions.{VerifyOptions}
 use Rattle.velo_request.specs.declared.request.WatchOptions.{WatchOptions}
-use Rattle.velo_request.specs.declared.request.Request.TheVariants.{Audit, Carry, Check, Explain, Explore, Predict, Replay, Run, Thin, Verify, Watch, WatchEndless}
-use Rattle.velo_arguments.specs.Asked.{AreTurns, AsksFor, IsFlag, IsScheduleSource, WritesNumber}
+use Rattle.velo_request.specs.declared.request.Request.TheVariants.{Audit, Carry, Check, CheckRest, Explain, Explore, Predict, Replay, Run, Thin, Verify, Watch, WatchEndless}
+use Rattle.velo_arguments.specs.Asked.{AreTurns, AsksFor, IsFlag, IsScheduleSource, WritesNumber, leaves_out}
 use Rattle.velo_arguments.specs.CommandLine.{asked_by, faults_of}
 use Rattle.velo_arguments.specs.Together.{given_by}
 
@@ -49,7 +50,23 @@ check_asks : (options : CheckOptions) → options.input.now ≡ codes "a" → op
     → options.names ≡ None → options.why ≡ false → AsksFor (asked_by check_words) (Check options)
 unfolding asked_by walked
 check_asks options log events nodes certificate names why =
-    (refl, (ap Some (sym log), search rules, search rules, ap (option_map (λ path. path.now)) (sym names), search rules))
+    (refl, (ap Some (sym log), search rules, search rules, ap (option_map (λ path. path.now)) (sym names), search rules), (refl, refl, refl, refl, refl, is_unset false refl))
+
+-- a log without its locks, and without what a list names
+abbrev check_rest_words : List Text
+check_rest_words = codes "velodrome" ∷ codes "check" ∷ codes "a" ∷ codes "--ignore-locks" ∷ codes "--ignore" ∷ codes "l" ∷ []
+
+check_rest_is_right : faults_of check_rest_words ≡ []
+unfolding faults_of walk_fault walked defaults_fault
+check_rest_is_right = refl
+
+check_rest_asks : (options : CheckRestOptions) → options.check.input.now ≡ codes "a" → options.check.limits.events ≡ 1048576 → options.check.limits.nodes ≡ 1024
+    → options.check.certificate ≡ false → options.check.names ≡ None → options.check.why ≡ false → option_map (λ path. path.now) options.ignored.known ≡ Some (codes "l")
+    → options.ignored.is_wide ≡ true → map (λ w. w.now) options.ignored.labels.now ≡ [] → map (λ w. w.now) options.ignored.locks.now ≡ []
+    → map (λ w. w.now) options.ignored.variables.now ≡ [] → options.ignored.all_locks ≡ true → IsTrue (leaves_out options.ignored) → AsksFor (asked_by check_rest_words) (CheckRest options)
+unfolding asked_by walked
+check_rest_asks options log events nodes certificate names why known wide labels locks variables all leaves =
+    (refl, ((ap Some (sym log), search rules, search rules, ap (option_map (λ path. path.now)) (sym names), search rules), ((sym known, wide), sym labels, sym locks, sym variables, search rules), leaves))
 
 -- a workload with all options
 abbrev run_words : List Text
@@ -86,7 +103,7 @@ replay_asks options text schedule says file stop log names events nodes certific
   ),
 )
 
-replay_gives : given_by (asked_by replay_words) ≡ record { states = false; seed = false; schedule = true; certificate = false; other_form = false; neither_text_nor_json = false }
+replay_gives : given_by (asked_by replay_words) ≡ record { states = false; seed = false; schedule = true; certificate = false; not_atomic = false; other_form = false; neither_text_nor_json = false }
 unfolding asked_by walked
 replay_gives = refl
 
@@ -163,11 +180,11 @@ explain_is_right = refl
 
 explain_asks : (options : ExplainOptions) → options.input.now ≡ codes "a" → option_map (λ path. path.now) options.target ≡ Some (codes "p")
     → option_map (λ path. path.now) options.drawing ≡ Some (codes "d") → options.stacks ≡ true → options.format ≡ text_or_json.Json → option_map (λ path. path.now) options.names ≡ Some (codes "n") → option_map (λ path. path.now) options.sites ≡ Some (codes "s")
-    → options.ignored.known ≡ None → map (λ w. w.now) options.ignored.labels.now ≡ codes "7" ∷ [] → map (λ w. w.now) options.ignored.locks.now ≡ codes "m" ∷ [] → map (λ w. w.now) options.ignored.variables.now ≡ []
+    → options.source ≡ None → options.ignored.known ≡ None → options.ignored.is_wide ≡ false → map (λ w. w.now) options.ignored.labels.now ≡ codes "7" ∷ [] → map (λ w. w.now) options.ignored.locks.now ≡ codes "m" ∷ [] → map (λ w. w.now) options.ignored.variables.now ≡ []
     → options.ignored.all_locks ≡ false → AsksFor (asked_by explain_words) (Explain options)
 unfolding asked_by walked
-explain_asks options log dot svg stacks format names sites known labels locks variables all =
-    (refl, (ap Some (sym log), sym dot, sym svg, search rules, format, sym names, sym sites, (ap (option_map (λ path. path.now)) (sym known), sym labels, sym locks, sym variables, search rules)))
+explain_asks options log dot svg stacks format names sites source known wide labels locks variables all =
+    (refl, (ap Some (sym log), sym dot, sym svg, search rules, format, sym names, sym sites, ap (option_map (λ path. path.now)) (sym source), ((ap (option_map (λ path. path.now)) (sym known), wide), sym labels, sym locks, sym variables, search rules)))
 
 -- a log, and the file for it
 abbrev carry_words : List Text
@@ -214,7 +231,7 @@ explore_asks options file states seconds first progress random format log names 
   ),
 )
 
-explore_gives : given_by (asked_by explore_words) ≡ record { states = false; seed = false; schedule = false; certificate = false; other_form = false; neither_text_nor_json = false }
+explore_gives : given_by (asked_by explore_words) ≡ record { states = false; seed = false; schedule = false; certificate = false; not_atomic = false; other_form = false; neither_text_nor_json = false }
 unfolding asked_by walked
 explore_gives = refl
 
@@ -226,7 +243,7 @@ chance_is_right : faults_of chance_words ≡ []
 unfolding faults_of walk_fault walked defaults_fault
 chance_is_right = refl
 
-chance_gives : given_by (asked_by chance_words) ≡ record { states = false; seed = true; schedule = false; certificate = false; other_form = false; neither_text_nor_json = false }
+chance_gives : given_by (asked_by chance_words) ≡ record { states = false; seed = true; schedule = false; certificate = false; not_atomic = false; other_form = false; neither_text_nor_json = false }
 unfolding asked_by walked
 chance_gives = refl
 
@@ -258,7 +275,7 @@ unfolding asked_by walked
 endless_asks options log stop events nodes names =
     (refl, (search rules, (ap Some (sym log), search rules, search rules, ap (option_map (λ path. path.now)) (sym names))))
 
-endless_gives : given_by (asked_by endless_words) ≡ record { states = false; seed = false; schedule = false; certificate = true; other_form = false; neither_text_nor_json = false }
+endless_gives : given_by (asked_by endless_words) ≡ record { states = false; seed = false; schedule = false; certificate = true; not_atomic = false; other_form = false; neither_text_nor_json = false }
 unfolding asked_by walked
 endless_gives = refl
 
@@ -271,11 +288,11 @@ unfolding faults_of walk_fault walked defaults_fault
 thin_is_right = refl
 
 thin_asks : (options : ThinOptions) → options.input.now ≡ codes "a" → option_map (λ path. path.now) options.names ≡ Some (codes "n") → option_map (λ path. path.now) options.ignored.known ≡ Some (codes "l")
-    → map (λ w. w.now) options.ignored.labels.now ≡ [] → map (λ w. w.now) options.ignored.locks.now ≡ [] → map (λ w. w.now) options.ignored.variables.now ≡ codes "x" ∷ [] → options.ignored.all_locks ≡ true
+    → options.ignored.is_wide ≡ false → map (λ w. w.now) options.ignored.labels.now ≡ [] → map (λ w. w.now) options.ignored.locks.now ≡ [] → map (λ w. w.now) options.ignored.variables.now ≡ codes "x" ∷ [] → options.ignored.all_locks ≡ true
     → options.target.now ≡ codes "b" → option_map (λ path. path.now) options.map ≡ Some (codes "p") → AsksFor (asked_by thin_words) (Thin options)
 unfolding asked_by walked
-thin_asks options log names known labels locks variables all out positions =
-    (refl, (ap Some (sym log), sym names, (sym known, sym labels, sym locks, sym variables, search rules), ap Some (sym out), sym positions))
+thin_asks options log names known wide labels locks variables all out positions =
+    (refl, (ap Some (sym log), sym names, ((sym known, wide), sym labels, sym locks, sym variables, search rules), ap Some (sym out), sym positions))
 
 -- a report beside its log
 abbrev verify_words : List Text
@@ -297,19 +314,20 @@ predict_is_right : faults_of predict_words ≡ []
 unfolding faults_of walk_fault walked defaults_fault
 predict_is_right = refl
 
-predict_asks : (options : PredictOptions) → options.input.now ≡ codes "a" → options.names ≡ None → options.sites ≡ None → options.ignored.known ≡ None
-    → map (λ w. w.now) options.ignored.labels.now ≡ [] → map (λ w. w.now) options.ignored.locks.now ≡ [] → map (λ w. w.now) options.ignored.variables.now ≡ []
+predict_asks : (options : PredictOptions) → options.input.now ≡ codes "a" → options.names ≡ None → options.sites ≡ None → options.source ≡ None → options.ignored.known ≡ None
+    → options.ignored.is_wide ≡ false → map (λ w. w.now) options.ignored.labels.now ≡ [] → map (λ w. w.now) options.ignored.locks.now ≡ [] → map (λ w. w.now) options.ignored.variables.now ≡ []
     → options.ignored.all_locks ≡ false → options.values ≡ true
     → options.tries ≡ DEFAULT_TRIES → options.seed ≡ DEFAULT_SEED → option_map (λ path. path.now) options.target ≡ Some (codes "o")
     → options.format ≡ text_or_json.Json → options.limits.events ≡ 16777216 → options.limits.nodes ≡ 4096 → AsksFor (asked_by predict_words) (Predict options)
 unfolding asked_by walked
-predict_asks options log names sites known labels locks variables all values tries seed out format events nodes = (
+predict_asks options log names sites source known wide labels locks variables all values tries seed out format events nodes = (
   refl,
   (
     ap Some (sym log),
     ap (option_map (λ path. path.now)) (sym names),
     ap (option_map (λ path. path.now)) (sym sites),
-    (ap (option_map (λ path. path.now)) (sym known), sym labels, sym locks, sym variables, search rules),
+    ap (option_map (λ path. path.now)) (sym source),
+    ((ap (option_map (λ path. path.now)) (sym known), wide), sym labels, sym locks, sym variables, search rules),
     search rules,
     writes (codes "200") 32 options.tries refl refl tries,
     inl (refl, seed),
@@ -327,30 +345,32 @@ sarif_is_right : faults_of sarif_words ≡ []
 unfolding faults_of walk_fault walked defaults_fault
 sarif_is_right = refl
 
-sarif_gives : given_by (asked_by sarif_words) ≡ record { states = false; seed = false; schedule = false; certificate = false; other_form = false; neither_text_nor_json = true }
+sarif_gives : given_by (asked_by sarif_words) ≡ record { states = false; seed = false; schedule = false; certificate = false; not_atomic = false; other_form = false; neither_text_nor_json = true }
 unfolding asked_by walked
 sarif_gives = refl
 
 -- a log that is audited, without two locks and a label; the limits are the greatest ones by default
 abbrev audit_words : List Text
-audit_words = codes "velodrome" ∷ codes "audit" ∷ codes "a" ∷ codes "--ignore-lock" ∷ codes "3" ∷ codes "--no-witness" ∷ codes "--ignore-lock=m" ∷ codes "--innermost" ∷ codes "--not-atomic" ∷ codes "l" ∷ codes "--ignore-label=5" ∷ codes "--format" ∷ codes "json" ∷ codes "--sites=s" ∷ []
+audit_words = codes "velodrome" ∷ codes "audit" ∷ codes "a" ∷ codes "--ignore-lock" ∷ codes "3" ∷ codes "--no-witness" ∷ codes "--ignore-lock=m" ∷ codes "--innermost" ∷ codes "--not-atomic" ∷ codes "l" ∷ codes "--ignore-label=5" ∷ codes "--format" ∷ codes "json" ∷ codes "--sites=s" ∷ codes "--source" ∷ codes "f" ∷ []
 
 audit_is_right : faults_of audit_words ≡ []
 unfolding faults_of walk_fault walked defaults_fault
 audit_is_right = refl
 
 audit_asks : (options : AuditOptions) → options.input.now ≡ codes "a" → options.names ≡ None → option_map (λ path. path.now) options.sites ≡ Some (codes "s")
-    → option_map (λ path. path.now) options.ignored.known ≡ Some (codes "l") → map (λ w. w.now) options.ignored.labels.now ≡ codes "5" ∷ []
+    → option_map (λ path. path.now) options.source ≡ Some (codes "f")
+    → option_map (λ path. path.now) options.ignored.known ≡ Some (codes "l") → options.ignored.is_wide ≡ false → map (λ w. w.now) options.ignored.labels.now ≡ codes "5" ∷ []
     → map (λ w. w.now) options.ignored.locks.now ≡ codes "3" ∷ codes "m" ∷ [] → map (λ w. w.now) options.ignored.variables.now ≡ [] → options.ignored.all_locks ≡ false
     → options.witness ≡ false → options.counts ≡ false → options.by_count ≡ false → options.innermost ≡ true → options.format ≡ form.Json → options.limits.events ≡ 16777216 → options.limits.nodes ≡ 4096 → AsksFor (asked_by audit_words) (Audit options)
 unfolding asked_by walked
-audit_asks options log names sites known labels locks variables all witness counts by_count innermost format events nodes = (
+audit_asks options log names sites source known wide labels locks variables all witness counts by_count innermost format events nodes = (
   refl,
   (
     ap Some (sym log),
     ap (option_map (λ path. path.now)) (sym names),
     sym sites,
-    (sym known, sym labels, sym locks, sym variables, search rules),
+    sym source,
+    ((sym known, wide), sym labels, sym locks, sym variables, search rules),
     search rules,
     record { counts = search rules; by_count = search rules; innermost = search rules },
     format,
@@ -366,7 +386,7 @@ no_locks_is_right : faults_of no_locks_words ≡ []
 unfolding faults_of walk_fault walked defaults_fault
 no_locks_is_right = refl
 
-no_locks_gives : given_by (asked_by no_locks_words) ≡ record { states = false; seed = false; schedule = false; certificate = false; other_form = true; neither_text_nor_json = true }
+no_locks_gives : given_by (asked_by no_locks_words) ≡ record { states = false; seed = false; schedule = false; certificate = false; not_atomic = false; other_form = true; neither_text_nor_json = true }
 unfolding asked_by walked
 no_locks_gives = refl
 

@@ -1,6 +1,6 @@
 -- What the matches of the command line ask for: the values of a subcommand, by the names of its
 -- arguments.
-use Rattle.std.specs.Prelude.{◌≡◌, ◌≢◌, ◌⊎◌, ◌<◌, ◌≤◌, ◌^◌, ◌++◌, ℕ, Bool, true, false, not, List, [], map, Option, Some, None, codes, option_and_then, option_map, unwrap_or, if◌then◌else◌}
+use Rattle.std.specs.Prelude.{◌≡◌, ◌≢◌, ◌⊎◌, ◌<◌, ◌≤◌, ◌^◌, ◌++◌, ◌==◌, ◌||◌, ℕ, Bool, true, false, not, List, [], length, map, Option, Some, None, IsTrue, codes, is_some, option_and_then, option_map, unwrap_or, if◌then◌else◌}
 use Rattle.std.specs.Borrow.{Bor}
 use Rattle.std.specs.Str.{bytes_eq}
 use Rattle.std.specs.Str.Parse.{IsNumeral, digits_value, without_leading_plus}
@@ -12,6 +12,7 @@ use Rattle.velo_request.specs.declared.request.OutputFormat.TheVariants as form
 use Rattle.velo_request.specs.declared.request.AuditOptions.{AuditOptions}
 use Rattle.velo_request.specs.declared.request.CarryOptions.{CarryOptions}
 use Rattle.velo_request.specs.declared.request.CheckOptions.{CheckOptions}
+use Rattle.velo_request.specs.declared.request.CheckRestOptions.{CheckRestOptions}
 use Rattle.velo_request.specs.declared.request.EndlessOptions.{EndlessOptions}
 use Rattle.velo_request.specs.declared.request.ExploreOptions.{ExploreOptions}
 use Rattle.velo_request.specs.declared.request.TextOrJson.{TextOrJson}
@@ -28,7 +29,7 @@ use Rattle.velo_request.specs.declared.request.ThinOptions.{ThinOptions}
 use Rattle.velo_request.specs.declared.request.VerifyOptions.{VerifyOptions}
 use Rattle.velo_request.specs.declared.request.WatchOptions.{WatchOptions}
 use Rattle.velo_request.specs.declared.request.Request.{Request}
-use Rattle.velo_request.specs.declared.request.Request.TheVariants.{Audit, Carry, Check, Explain, Explore, Predict, Replay, Run, Thin, Verify, Watch, WatchEndless}
+use Rattle.velo_request.specs.declared.request.Request.TheVariants.{Audit, Carry, Check, CheckRest, Explain, Explore, Predict, Replay, Run, Thin, Verify, Watch, WatchEndless}
 
 -- the text writes this number, which an unsigned type of `bits` bits holds; a plus may come before
 -- it
@@ -92,14 +93,44 @@ AsksReplay rows options =
     IsScheduleSource (first_of (codes "turns") rows) (first_of (codes "schedule") rows) options.schedule
     × AsksRun rows options.run
 
+-- the path of the list and whether it is a wide one: that of `--ignore`, where it is given, and else
+-- that of `--not-atomic`
+abbrev pub IsList : Option Text → Option Text → Option (Bor Text) → Bool → Type 0
+IsList (Some wide) labels path is_wide =
+    (Some wide ≡ option_map (λ p. p.now) path) × (is_wide ≡ true)
+IsList None labels path is_wide = (labels ≡ option_map (λ p. p.now) path) × (is_wide ≡ false)
+
 -- this is left out
 abbrev pub AreLeftOut : List Row → Ignored → Type 0
 AreLeftOut rows ignored =
-    IsPath (codes "not-atomic") rows ignored.known
+    IsList (first_of (codes "ignore") rows) (first_of (codes "not-atomic") rows) ignored.known
+    ignored.is_wide
     × AreWords (codes "ignore-label") rows ignored.labels.now
     × AreWords (codes "ignore-lock") rows ignored.locks.now
     × AreWords (codes "ignore-variable") rows ignored.variables.now
     × IsFlag (one_of (codes "ignore-locks") rows) ignored.all_locks
+
+-- something is left out
+abbrev pub leaves_out : Ignored → Bool
+leaves_out ignored =
+    is_some ignored.known
+    || (not (length ignored.labels.now == 0)
+    || (not (length ignored.locks.now == 0)
+    || (not (length ignored.variables.now == 0) || ignored.all_locks)))
+
+-- no option is given that leaves something out
+abbrev pub LeaveNothingOut : List Row → Type 0
+LeaveNothingOut rows =
+    (first_of (codes "ignore") rows ≡ None) × (first_of (codes "not-atomic") rows ≡ None)
+    × (unwrap_or (all_of (codes "ignore-label") rows) [] ≡ [])
+    × (unwrap_or (all_of (codes "ignore-lock") rows) [] ≡ [])
+    × (unwrap_or (all_of (codes "ignore-variable") rows) [] ≡ [])
+    × IsFlag (one_of (codes "ignore-locks") rows) false
+
+abbrev pub AsksCheckRest : List Row → CheckRestOptions → Type 0
+AsksCheckRest rows options =
+    AsksCheck rows options.check × AreLeftOut rows options.ignored
+    × IsTrue (leaves_out options.ignored)
 
 -- the one of the two forms that a word names, if it names one
 abbrev pub text_or_json_named : Text → Option TextOrJson
@@ -120,6 +151,7 @@ AsksExplain rows options =
     × (options.format ≡ text_or_json_of (first_of (codes "format") rows))
     × IsPath (codes "names") rows options.names
     × IsPath (codes "sites") rows options.sites
+    × IsPath (codes "source") rows options.source
     × AreLeftOut rows options.ignored
 
 abbrev pub AsksCarry : List Row → CarryOptions → Type 0
@@ -201,6 +233,7 @@ AsksAudit rows options =
     (first_of (codes "LOG") rows ≡ Some options.input.now)
     × IsPath (codes "names") rows options.names
     × IsPath (codes "sites") rows options.sites
+    × IsPath (codes "source") rows options.source
     × AreLeftOut rows options.ignored
     × IsFlag (one_of (codes "no-witness") rows) (not options.witness)
     × IsListing rows options
@@ -220,6 +253,7 @@ AsksPredict rows options =
     (first_of (codes "LOG") rows ≡ Some options.input.now)
     × IsPath (codes "names") rows options.names
     × IsPath (codes "sites") rows options.sites
+    × IsPath (codes "source") rows options.source
     × AreLeftOut rows options.ignored
     × IsFlag (one_of (codes "values") rows) options.values
     × WritesNumber 32 (one_of (codes "tries") rows) options.tries
@@ -240,7 +274,10 @@ Matches = Option (Text × List Row)
 -- the subcommand of this name, with these values, asks for the request
 abbrev pub AsksFor : Matches → Request → Type 0
 AsksFor None request = ⊥
-AsksFor (Some found) (Check options) = (found.0 ≡ codes "check") × AsksCheck found.1 options
+AsksFor (Some found) (Check options) =
+    (found.0 ≡ codes "check") × AsksCheck found.1 options × LeaveNothingOut found.1
+AsksFor (Some found) (CheckRest options) =
+    (found.0 ≡ codes "check") × AsksCheckRest found.1 options
 AsksFor (Some found) (Replay options) = (found.0 ≡ codes "replay") × AsksReplay found.1 options
 AsksFor (Some found) (Run options) = (found.0 ≡ codes "run") × AsksRun found.1 options
 AsksFor (Some found) (Explain options) = (found.0 ≡ codes "explain") × AsksExplain found.1 options

@@ -93,14 +93,15 @@ search_options =
 -- what is left out of a log
 abbrev pub left_out_options : List Rule
 left_out_options =
-    valued (codes "not-atomic") ∷ repeated (codes "ignore-label") ∷ repeated (codes "ignore-lock")
-    ∷ flag (codes "ignore-locks") ∷ repeated (codes "ignore-variable") ∷ []
+    valued (codes "not-atomic") ∷ valued (codes "ignore") ∷ repeated (codes "ignore-label")
+    ∷ repeated (codes "ignore-lock") ∷ flag (codes "ignore-locks")
+    ∷ repeated (codes "ignore-variable") ∷ []
 
--- the options of each command that goes by labels: names and sites, what is left out, and the
--- greatest limits by default
+-- the options of each command that goes by labels: names, sites and sources, what is left out, and
+-- the greatest limits by default
 abbrev pub label_options : List Rule
 label_options =
-    valued (codes "names") ∷ valued (codes "sites") ∷ left_out_options
+    valued (codes "names") ∷ valued (codes "sites") ∷ valued (codes "source") ∷ left_out_options
     ++ events (codes "16777216") ∷ nodes (codes "4096") ∷ []
 
 -- ---- the subcommands
@@ -110,7 +111,8 @@ subcommand name rules = record (new_shape name) { rules = rules }
 
 abbrev pub check : Shape
 check = subcommand (codes "check")
-    (word (codes "LOG") ∷ valued (codes "names") ∷ flag (codes "why") ∷ graph_options)
+    (word (codes "LOG") ∷ valued (codes "names") ∷ flag (codes "why") ∷ left_out_options
+    ++ graph_options)
 
 abbrev pub replay : Shape
 replay = subcommand (codes "replay")
@@ -122,7 +124,8 @@ run = subcommand (codes "run") (word (codes "FILE") ∷ run_options)
 abbrev pub explain : Shape
 explain = subcommand (codes "explain")
     (word (codes "LOG") ∷ valued (codes "dot") ∷ valued (codes "svg") ∷ flag (codes "stacks")
-    ∷ valued (codes "format") ∷ valued (codes "names") ∷ valued (codes "sites") ∷ left_out_options)
+    ∷ valued (codes "format") ∷ valued (codes "names") ∷ valued (codes "sites")
+    ∷ valued (codes "source") ∷ left_out_options)
 
 abbrev pub carry : Shape
 carry = subcommand (codes "carry")

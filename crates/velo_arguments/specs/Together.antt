@@ -1,19 +1,21 @@
 -- Which options of a request do not go together, and the line that says so.
-use Rattle.std.specs.Prelude.{◌≡◌, ◌||◌, List, [], ◌∷◌, ◌++◌, ℕ, Bool, false, Option, Some, None, codes, count_by, is_some, nat_lt, not, if◌then◌else◌}
+use Rattle.std.specs.Prelude.{◌≡◌, ◌||◌, ◌&&◌, List, [], ◌∷◌, ◌++◌, ℕ, Bool, false, Option, Some, None, codes, count_by, is_some, nat_lt, not, if◌then◌else◌}
 use Rattle.std.specs.Borrow.{Bor}
 use Rattle.std.specs.Option.{option_or}
 use Rattle.std.specs.Str.{bytes_eq}
 use Rattle.clap.specs.Takes.{is_given}
 use Rattle.clap.specs.Words.{Row, first_of}
 use Rattle.velo_request.specs.declared.request.AuditOptions.{AuditOptions}
+use Rattle.velo_request.specs.declared.request.CheckRestOptions.{CheckRestOptions}
 use Rattle.velo_request.specs.declared.request.EndlessOptions.{EndlessOptions}
 use Rattle.velo_request.specs.declared.request.ExplainOptions.{ExplainOptions}
 use Rattle.velo_request.specs.declared.request.ExploreOptions.{ExploreOptions}
+use Rattle.velo_request.specs.declared.request.Ignored.{Ignored}
 use Rattle.velo_request.specs.declared.request.PredictOptions.{PredictOptions}
 use Rattle.velo_request.specs.declared.request.RandomRuns.{RandomRuns}
 use Rattle.velo_request.specs.declared.request.ReplayOptions.{ReplayOptions}
 use Rattle.velo_request.specs.declared.request.Request.{Request}
-use Rattle.velo_request.specs.declared.request.Request.TheVariants.{Audit, Carry, Check, Explain, Explore, Predict, Replay, Run, Thin, Verify, Watch, WatchEndless}
+use Rattle.velo_request.specs.declared.request.Request.TheVariants.{Audit, Carry, Check, CheckRest, Explain, Explore, Predict, Replay, Run, Thin, Verify, Watch, WatchEndless}
 use Rattle.velo_request.specs.declared.request.ScheduleSource.{ScheduleSource}
 use Rattle.velo_request.specs.declared.request.ScheduleSource.TheVariants as schedule
 use Rattle.velo_request.specs.declared.request.TextOrJson.{TextOrJson}
@@ -21,7 +23,7 @@ use Rattle.velo_request.specs.declared.request.TextOrJson.TheVariants.{Json, Tex
 use Rattle.velo_request.specs.declared.request.ThinOptions.{ThinOptions}
 use Rattle.velo_arguments.specs.Asked.{Matches, AsksFor, form_named, text_or_json_named}
 use Rattle.velo_arguments.specs.declared.together.Clash.{Clash}
-use Rattle.velo_arguments.specs.declared.together.Clash.TheVariants.{DrawingIsPicture, EndlessCertificate, InputTwice, JsonCertificate, MapIsLog, NamesWithoutLog, NeitherTextNorJson, NoSuchForm, OnePath, SearchByChance, SeedAlone, TwoSchedules}
+use Rattle.velo_arguments.specs.declared.together.Clash.TheVariants.{DrawingIsPicture, EndlessCertificate, InputTwice, JsonCertificate, MapIsLog, NamesWithoutLog, NeitherTextNorJson, NoSuchForm, OnePath, RestCertificate, SearchByChance, SeedAlone, SourceWithoutSites, TwoLists, TwoSchedules}
 use Rattle.velo_arguments.specs.declared.together.Given.{Given}
 
 -- ---- paths
@@ -80,6 +82,7 @@ given_in rows = record {
   seed = is_given (codes "seed") rows;
   schedule = is_given (codes "schedule") rows;
   certificate = is_given (codes "certificate") rows;
+  not_atomic = is_given (codes "not-atomic") rows;
   other_form = is_other_form (first_of (codes "format") rows);
   neither_text_nor_json = is_neither_text_nor_json (first_of (codes "format") rows);
 }
@@ -90,6 +93,7 @@ given_by None = record {
   seed = false;
   schedule = false;
   certificate = false;
+  not_atomic = false;
   other_form = false;
   neither_text_nor_json = false;
 }
@@ -139,48 +143,88 @@ clash_of_explore options given =
     (clash_of_search options given))
     (clash_of_targets options.target options.names_target)
 
+-- ---- beside a log
+
+-- a folder of sources is given without sites
+abbrev pub clash_of_source : Option (Bor (List ℕ)) → Option (Bor (List ℕ)) → Option Clash
+clash_of_source None (Some source) = Some SourceWithoutSites
+clash_of_source sites source = None
+
+-- the list is a wide one, and `--not-atomic` is given beside it
+abbrev pub clash_of_lists : Ignored → Bool → Option Clash
+clash_of_lists ignored has_known =
+    if ignored.is_wide && has_known then Some TwoLists else None
+
+-- ---- a check of what is left
+
+-- it has a certificate; or standard input is read twice, or there are two lists
+abbrev pub clash_of_check_rest : CheckRestOptions → Bool → Option Clash
+clash_of_check_rest options has_known =
+    if options.check.certificate
+    then Some RestCertificate
+    else option_or
+    (clash_of_inputs
+    (options.check.input.now ∷ path_if options.check.names ++ path_if options.ignored.known))
+    (clash_of_lists options.ignored has_known)
+
 -- ---- an explanation
 
--- it is asked for in a form that does not exist; or standard input is read twice, or one path is written twice
-abbrev pub clash_of_explain : ExplainOptions → Bool → Option Clash
-clash_of_explain options neither =
-    if neither
+-- it is asked for in a form that does not exist; or standard input is read twice, there are no sites
+-- for sources, there are two lists, or one path is written twice
+abbrev pub clash_of_explain : ExplainOptions → Given → Option Clash
+clash_of_explain options given =
+    if given.neither_text_nor_json
     then Some NeitherTextNorJson
     else option_or
+    (option_or
+    (option_or
     (clash_of_inputs
     (options.input.now ∷ path_if options.names ++ path_if options.sites
     ++ path_if options.ignored.known))
+    (clash_of_source options.sites options.source))
+    (clash_of_lists options.ignored given.not_atomic))
     (clash_of_drawing options.target options.drawing)
 
 -- ---- an audit
 
--- its answer is asked for in a form that does not exist; or standard input is read twice
-abbrev pub clash_of_audit : AuditOptions → Bool → Option Clash
-clash_of_audit options other_form =
-    if other_form
+-- its answer is asked for in a form that does not exist; or standard input is read twice, there are
+-- no sites for sources, or two lists
+abbrev pub clash_of_audit : AuditOptions → Given → Option Clash
+clash_of_audit options given =
+    if given.other_form
     then Some NoSuchForm
-    else clash_of_inputs
+    else option_or
+    (option_or
+    (clash_of_inputs
     (options.input.now ∷ path_if options.names ++ path_if options.sites
-    ++ path_if options.ignored.known)
+    ++ path_if options.ignored.known))
+    (clash_of_source options.sites options.source))
+    (clash_of_lists options.ignored given.not_atomic)
 
 -- ---- a search for predictions
 
 -- the same, with two forms
-abbrev pub clash_of_predict : PredictOptions → Bool → Option Clash
-clash_of_predict options neither =
-    if neither
+abbrev pub clash_of_predict : PredictOptions → Given → Option Clash
+clash_of_predict options given =
+    if given.neither_text_nor_json
     then Some NeitherTextNorJson
-    else clash_of_inputs
+    else option_or
+    (option_or
+    (clash_of_inputs
     (options.input.now ∷ path_if options.names ++ path_if options.sites
-    ++ path_if options.ignored.known)
+    ++ path_if options.ignored.known))
+    (clash_of_source options.sites options.source))
+    (clash_of_lists options.ignored given.not_atomic)
 
 -- ---- a thinning
 
--- standard input is read twice, or one path is written twice
-abbrev pub clash_of_thin : ThinOptions → Option Clash
-clash_of_thin options =
+-- standard input is read twice, there are two lists, or one path is written twice
+abbrev pub clash_of_thin : ThinOptions → Bool → Option Clash
+clash_of_thin options has_known =
     option_or
+    (option_or
     (clash_of_inputs (options.input.now ∷ path_if options.names ++ path_if options.ignored.known))
+    (clash_of_lists options.ignored has_known))
     (clash_of_map options.target.now options.map)
 
 -- ---- an endless watch
@@ -197,16 +241,17 @@ clash_of_endless options has_certificate =
 -- why the options of a request do not go together, if they do not, where the words give these
 abbrev pub clash_of : Request → Given → Option Clash
 clash_of (Check options) given = clash_of_inputs (options.input.now ∷ path_if options.names)
+clash_of (CheckRest options) given = clash_of_check_rest options given.not_atomic
 clash_of (Replay options) given = clash_of_replay options given.schedule
 clash_of (Run options) given = clash_of_targets options.target options.names_target
-clash_of (Explain options) given = clash_of_explain options given.neither_text_nor_json
+clash_of (Explain options) given = clash_of_explain options given
 clash_of (Carry options) given = None
 clash_of (Explore options) given = clash_of_explore options given
 clash_of (Watch options) given = clash_of_inputs (options.input.now ∷ path_if options.names)
 clash_of (WatchEndless options) given = clash_of_endless options given.certificate
-clash_of (Audit options) given = clash_of_audit options given.other_form
-clash_of (Thin options) given = clash_of_thin options
-clash_of (Predict options) given = clash_of_predict options given.neither_text_nor_json
+clash_of (Audit options) given = clash_of_audit options given
+clash_of (Thin options) given = clash_of_thin options given.not_atomic
+clash_of (Predict options) given = clash_of_predict options given
 clash_of (Verify options) given = clash_of_inputs (options.input.now ∷ options.report.now ∷ [])
 
 -- the request that is asked for, whose options go together
@@ -227,6 +272,10 @@ line_of_clash NamesWithoutLog = codes "error: --names-out goes only with --log\n
 line_of_clash NeitherTextNorJson = codes "error: --format takes text or json\n"
 line_of_clash NoSuchForm = codes "error: --format takes text, json, sarif or junit\n"
 line_of_clash OnePath = codes "error: OUT and NAMES are one file\n"
+line_of_clash RestCertificate =
+    codes "error: --certificate does not go with what leaves events out of the log\n"
+line_of_clash SourceWithoutSites = codes "error: --source goes only with --sites\n"
+line_of_clash TwoLists = codes "error: --ignore does not go with --not-atomic\n"
 line_of_clash SearchByChance =
     codes "error: --random goes with neither --states nor --seconds nor --first nor --progress\n"
 line_of_clash TwoSchedules = codes "error: --schedule does not go with --turns\n"

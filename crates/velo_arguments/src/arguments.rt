@@ -8,11 +8,11 @@ use crate::growth::{with_argument, with_subcommand};
 use crate::help;
 use crate::options::{
     ALL_EVENTS, ALL_NODES, Argument, BY_COUNT, CARRIED_LOG, CERTIFICATE, COUNTS, DELAY_SEED, DOT,
-    ENDLESS, EVENTS, FILE, FIRST, FORMAT, FOUND_LOG, IGNORE_LABEL, IGNORE_LOCK, IGNORE_LOCKS,
-    IGNORE_VARIABLE, INNERMOST, LOG, MAP, NAMES, NAMES_OUT, NO_WITNESS, NODES, NOT_ATOMIC,
-    PREDICTED_LOG, PROGRESS, RANDOM, REPORT, RUN_LOG, RUN_SEED, SCHEDULE, SECONDS, SITES, STACKS,
-    STATES, STOP, STOP_WATCH, SVG, TEXT_OR_JSON, THINNED_LOG, TRIES, TURNS, VALUES, WHY,
-    argument_of,
+    ENDLESS, EVENTS, FILE, FIRST, FORMAT, FOUND_LOG, IGNORE, IGNORE_LABEL, IGNORE_LOCK,
+    IGNORE_LOCKS, IGNORE_VARIABLE, INNERMOST, LOG, MAP, NAMES, NAMES_OUT, NO_WITNESS, NODES,
+    NOT_ATOMIC, PREDICTED_LOG, PROGRESS, RANDOM, REPORT, RUN_LOG, RUN_SEED, SCHEDULE, SECONDS,
+    SITES, SOURCE, STACKS, STATES, STOP, STOP_WATCH, SVG, TEXT_OR_JSON, THINNED_LOG, TRIES, TURNS,
+    VALUES, WHY, argument_of,
 };
 use clap::Command;
 use std::alloc::Global;
@@ -62,7 +62,20 @@ fn check<'a>(alloc: Global) -> Result<Command<'a>, Memory>
     ensures { IfOk result (IsSubcommand check) }
 {
     let about = "Reads a recorded log and reports the verdict";
-    let arguments = [LOG, NAMES, WHY, EVENTS, NODES, CERTIFICATE];
+    let arguments = [
+        LOG,
+        NAMES,
+        WHY,
+        NOT_ATOMIC,
+        IGNORE,
+        IGNORE_LABEL,
+        IGNORE_LOCK,
+        IGNORE_LOCKS,
+        IGNORE_VARIABLE,
+        EVENTS,
+        NODES,
+        CERTIFICATE,
+    ];
     subcommand(alloc, "check", about, help::OF_CHECK, &arguments)
 }
 
@@ -114,7 +127,9 @@ fn explain<'a>(alloc: Global) -> Result<Command<'a>, Memory>
         TEXT_OR_JSON,
         NAMES,
         SITES,
+        SOURCE,
         NOT_ATOMIC,
+        IGNORE,
         IGNORE_LABEL,
         IGNORE_LOCK,
         IGNORE_LOCKS,
@@ -174,7 +189,9 @@ fn audit<'a>(alloc: Global) -> Result<Command<'a>, Memory>
         FORMAT,
         NAMES,
         SITES,
+        SOURCE,
         NOT_ATOMIC,
+        IGNORE,
         IGNORE_LABEL,
         IGNORE_LOCK,
         IGNORE_LOCKS,
@@ -195,6 +212,7 @@ fn thin<'a>(alloc: Global) -> Result<Command<'a>, Memory>
         MAP,
         NAMES,
         NOT_ATOMIC,
+        IGNORE,
         IGNORE_LABEL,
         IGNORE_LOCK,
         IGNORE_LOCKS,
@@ -216,7 +234,9 @@ fn predict<'a>(alloc: Global) -> Result<Command<'a>, Memory>
         TEXT_OR_JSON,
         NAMES,
         SITES,
+        SOURCE,
         NOT_ATOMIC,
+        IGNORE,
         IGNORE_LABEL,
         IGNORE_LOCK,
         IGNORE_LOCKS,

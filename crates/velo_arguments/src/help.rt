@@ -39,15 +39,22 @@ The names: each line is 'thread N NAME', 'variable N NAME', 'lock N NAME' or 'la
 or a comment that begins with '#'. With --names they are read before the log, and the report has the
 names of threads and labels after their numbers. Only one of LOG and FILE can be -.
 
+--not-atomic, --ignore, --ignore-label, --ignore-lock, --ignore-locks and --ignore-variable are those of
+'velodrome audit'. The whole log is read and judged first. The report is that of what is left, with the
+positions of the whole log. It has no certificate: for one, check what 'velodrome thin' leaves.
+
 With --why, or where standard error is a terminal, words come before the line on standard error: the
 path, the line and its text, and what is wrong with it.
 
 Statuses, each with the lines on standard error:
   0  no alarm, or help
-  2  usage; 'error: standard input can be read once'; the text is no log: 'log fault K',
-     'log fault K line N'; an event cannot happen: 'refused K at P', 'wrong value at P'; the text of
-     --names is no file of names: 'names fault K line N'
-  3  an alarm: no serial reordering of the log exists
+  2  usage; 'error: standard input can be read once'; 'error: --ignore does not go with --not-atomic';
+     'error: --certificate does not go with what leaves events out of the log'; the text is no log:
+     'log fault K', 'log fault K line N'; an event cannot happen: 'refused K at P', 'wrong value at P';
+     the text of --names is no file of names: 'names fault K line N'; the text of --not-atomic or
+     --ignore is no list: 'list fault K line N'; a word of --ignore-label, --ignore-lock or
+     --ignore-variable means nothing: 'ignored fault K'
+  3  an alarm: no serial reordering of the log, or of what is left of it, exists
   4  a limit was met: 'refused 17 at P', 'refused 18 at P'
   5  memory or a device failed: 'out of memory', 'read failed', 'write failed', 'cannot open'
 
@@ -62,6 +69,8 @@ Names faults, line 0 for the whole text:
    2  number named twice
    3  too many
    4  not UTF-8
+
+Lists, ignored words: see 'velodrome audit --help'.
 
 Refusals:
    2  thread not live
@@ -185,10 +194,11 @@ the drawing have names after the numbers. A text that is too long for its lane e
 
 The sites: a file that a recorder writes beside the log, 'vsites 1 SITES EVENTS', then a line
 'FILE:LINE FUNCTION' for each site, then for each event a line with the number of its site, or 0.
-With --sites the words end with the place of each event that they mention. Only one of LOG and the
-files of --names, --sites and --not-atomic can be -.
+With --sites the words end with the place of each event that they mention. With --source its line of
+source stands behind it, ' | LINE', if FOLDER/FILE can be read: a change of the source since the run is
+not noticed. Only one of LOG and the files of --names, --sites, --not-atomic and --ignore can be -.
 
---not-atomic, --ignore-label, --ignore-lock, --ignore-locks and --ignore-variable are those of
+--not-atomic, --ignore, --ignore-label, --ignore-lock, --ignore-locks and --ignore-variable are those of
 'velodrome audit'. What they name is left out, and the first alarm of what is left is explained, with
 the lines of the whole log. What was left out is printed first, as 'velodrome audit' prints it, and then
 'What is left of the log:'.
@@ -201,10 +211,11 @@ is not compared with OUT and SVG.
 Statuses, each with the lines on standard error:
   0  no alarm, or help
   2  usage; 'error: standard input can be read once'; 'error: --format takes text or json';
+     'error: --source goes only with --sites'; 'error: --ignore does not go with --not-atomic';
      'error: LOG and OUT are one file', the same of LOG and SVG, and of OUT and SVG; the text is no log:
      'log fault K', 'log fault K line N'; an event cannot happen: 'refused K at P', 'wrong value at P';
      the text of --names is no file of names: 'names fault K line N'; the text of --sites is no file of
-     sites, or of another log: 'sites fault K line N'; the text of --not-atomic is no list:
+     sites, or of another log: 'sites fault K line N'; the text of --not-atomic or --ignore is no list:
      'list fault K line N'; a word of --ignore-label, --ignore-lock or --ignore-variable means nothing:
      'ignored fault K'
   3  an alarm: no serial reordering of the log, or of what is left of it, exists
@@ -341,7 +352,7 @@ Example, a variable that one thread uses:
 It prints 'events 4 to 2' and 'variables 1 to 0', and writes what is left to small.log: the begin and
 the end.
 
---not-atomic, --ignore-label, --ignore-lock, --ignore-locks and --ignore-variable are those of
+--not-atomic, --ignore, --ignore-label, --ignore-lock, --ignore-locks and --ignore-variable are those of
 'velodrome audit', with the names of --names. What they name goes first, so that other commands, too, can
 judge a log without it:
   velodrome thin --ignore-locks --log left.log app.log
@@ -360,16 +371,17 @@ in LOG, from 0. Do not give OUT to 'velodrome predict', which needs all reads.
 
 LOG, OUT and MAP must be different files; otherwise the command stops before it writes. Standard input
 is not compared with OUT and MAP. If LOG has a fault, or an event that cannot happen, OUT and MAP are
-not opened. LOG may have up to 16777216 events. Only one of LOG and the files of --names and
---not-atomic can be -.
+not opened. LOG may have up to 16777216 events. Only one of LOG and the files of --names, --not-atomic
+and --ignore can be -.
 
 Statuses, each with the lines on standard error:
   0  done, whatever the verdict, or help
-  2  usage; 'error: standard input can be read once'; 'error: LOG and OUT are one file', the same of
-     LOG and MAP, and of OUT and MAP; the text is no log: 'log fault K', 'log fault K line N'; an event
-     cannot happen: 'refused K at P', 'wrong value at P'; the text of --names is no file of names:
-     'names fault K line N'; the text of --not-atomic is no list: 'list fault K line N'; a word of
-     --ignore-label, --ignore-lock or --ignore-variable means nothing: 'ignored fault K'
+  2  usage; 'error: standard input can be read once'; 'error: --ignore does not go with --not-atomic';
+     'error: LOG and OUT are one file', the same of LOG and MAP, and of OUT and MAP; the text is no log:
+     'log fault K', 'log fault K line N'; an event cannot happen: 'refused K at P', 'wrong value at P';
+     the text of --names is no file of names: 'names fault K line N'; the text of --not-atomic or
+     --ignore is no list: 'list fault K line N'; a word of --ignore-label, --ignore-lock or
+     --ignore-variable means nothing: 'ignored fault K'
   5  memory or a device failed: 'out of memory', 'read failed', 'write failed', 'cannot open'
 
 Lists, ignored words: see 'velodrome audit --help'. Log, names, faults and refusals: see

@@ -105,6 +105,12 @@ pub const SITES: Argument<'static> = Argument {
     help: "Read where in the source each event happened; - is standard input",
 };
 
+pub const SOURCE: Argument<'static> = Argument {
+    name: "source",
+    takes: Takes::Value("FOLDER"),
+    help: "Print the lines of source at these places, from the files below FOLDER",
+};
+
 pub const STACKS: Argument<'static> = Argument {
     name: "stacks",
     takes: Takes::Nothing,
@@ -229,6 +235,12 @@ pub const NOT_ATOMIC: Argument<'static> = Argument {
     name: "not-atomic",
     takes: Takes::Value("FILE"),
     help: "Read known labels, and leave out their begins and ends; - is standard input",
+};
+
+pub const IGNORE: Argument<'static> = Argument {
+    name: "ignore",
+    takes: Takes::Value("FILE"),
+    help: "The same, where lines 'lock N' and 'variable N' leave out those; - is standard input",
 };
 
 pub const IGNORE_LABEL: Argument<'static> = Argument {

@@ -15,15 +15,15 @@ ghost use Rattle.velo_request.specs.declared.request.RunOptions.{RunOptions};
 ghost use Rattle.velo_request.specs.declared.request.ThinOptions.{ThinOptions};
 ghost use Rattle.velo_request.specs.declared.request.VerifyOptions.{VerifyOptions};
 ghost use Rattle.velo_request.specs.declared.request.WatchOptions.{WatchOptions};
-ghost use Rattle.velo_arguments.specs.Asked.{AreLeftOut, AreLimits, AreRandomRuns, AreSeconds, AreTurns, AsksFor, AsksForNothing, AsksAudit, AsksCarry, AsksCheck, AsksEndless, AsksExplain, AsksExplore, AsksPredict, AsksReplay, AsksRun, IsScheduleSource, IsSeed, AsksThin, AsksVerify, AsksWatch, WritesNumber, form_named, form_of, text_or_json_named, text_or_json_of};
+ghost use Rattle.velo_arguments.specs.Asked.{AreLeftOut, AreLimits, AreRandomRuns, AreSeconds, AreTurns, AsksFor, AsksForNothing, AsksAudit, AsksCarry, AsksCheck, AsksEndless, AsksExplain, AsksExplore, AsksPredict, AsksReplay, AsksRun, IsScheduleSource, IsSeed, AsksThin, AsksVerify, AsksWatch, WritesNumber, form_named, form_of, leaves_out, text_or_json_named, text_or_json_of};
 
 use clap::ArgMatches;
 use velo_events::{MAX_EVENTS, MAX_NODES};
 use velo_request::{
-    AuditOptions, CarryOptions, CheckOptions, DEFAULT_SEED, EndlessOptions, ExplainOptions,
-    ExploreOptions, Ignored, Limits, MAX_RUNS, MAX_SECONDS, MAX_STATES, MAX_TRIES, OutputFormat,
-    PredictOptions, RandomRuns, ReplayOptions, Request, RunOptions, ScheduleSource, TextOrJson,
-    ThinOptions, VerifyOptions, WatchOptions,
+    AuditOptions, CarryOptions, CheckOptions, CheckRestOptions, DEFAULT_SEED, EndlessOptions,
+    ExplainOptions, ExploreOptions, Ignored, Limits, MAX_RUNS, MAX_SECONDS, MAX_STATES, MAX_TRIES,
+    OutputFormat, PredictOptions, RandomRuns, ReplayOptions, Request, RunOptions, ScheduleSource,
+    TextOrJson, ThinOptions, VerifyOptions, WatchOptions,
 };
 
 /// Reads a number from 1 to `most`; none where it is missing or out of this range.
@@ -66,6 +66,32 @@ fn check_options<'a>(found: &ArgMatches<'a>) -> Option<CheckOptions<'a>>
         names: found.get_str("names"),
         why: found.get_flag("why"),
     })
+}
+
+/// Whether something is left out.
+fn leaves_out(ignored: &Ignored) -> bool
+    ensures { result ≡ leaves_out ignored.now }
+{
+    ignored.known.is_some()
+        || !ignored.labels.is_empty()
+        || !ignored.locks.is_empty()
+        || !ignored.variables.is_empty()
+        || ignored.all_locks
+}
+
+/// What a check is asked for, of the whole log or of what is left of it; none where its word is
+/// missing or a limit is out of its range.
+fn check_request<'a>(found: &'a ArgMatches) -> Option<Request<'a>>
+    ensures some { IfSome result (AsksFor (Some (codes "check", rows_of (found_of found.now)))) }
+    ensures none { IfNone result ((options : CheckOptions)
+        → ¬ AsksCheck (rows_of (found_of found.now)) options) }
+{
+    let check = check_options(found)?;
+    let ignored = left_out(found);
+    if leaves_out(&ignored) {
+        return Some(Request::CheckRest(CheckRestOptions { check, ignored }));
+    }
+    Some(Request::Check(check))
 }
 
 /// Where the turns of this word are: what follows an `@` is a path.
@@ -148,6 +174,7 @@ fn explain_options<'a>(found: &'a ArgMatches) -> Option<ExplainOptions<'a>>
         format: text_or_json_of(found.get_str("format")),
         names: found.get_str("names"),
         sites: found.get_str("sites"),
+        source: found.get_str("source"),
         ignored: left_out(found),
     })
 }
@@ -267,8 +294,11 @@ fn watch_request<'a>(found: &ArgMatches<'a>) -> Option<Request<'a>>
 fn left_out<'a>(found: &'a ArgMatches) -> Ignored<'a>
     ensures { AreLeftOut (rows_of (found_of found.now)) result }
 {
+    let wide = found.get_str("ignore");
+    let labels = found.get_str("not-atomic");
     Ignored {
-        known: found.get_str("not-atomic"),
+        known: wide.or(labels),
+        is_wide: wide.is_some(),
         labels: found.get_strs("ignore-label").unwrap_or(&[]),
         locks: found.get_strs("ignore-lock").unwrap_or(&[]),
         variables: found.get_strs("ignore-variable").unwrap_or(&[]),
@@ -305,6 +335,7 @@ fn audit_options<'a>(found: &'a ArgMatches) -> Option<AuditOptions<'a>>
         input: found.get_str("LOG")?,
         names: found.get_str("names"),
         sites: found.get_str("sites"),
+        source: found.get_str("source"),
         ignored: left_out(found),
         witness: !found.get_flag("no-witness"),
         counts: found.get_flag("counts"),
@@ -350,6 +381,7 @@ fn predict_options<'a>(found: &'a ArgMatches) -> Option<PredictOptions<'a>>
         input: found.get_str("LOG")?,
         names: found.get_str("names"),
         sites: found.get_str("sites"),
+        source: found.get_str("source"),
         ignored: left_out(found),
         values: found.get_flag("values"),
         tries: number_of(found, "tries", MAX_TRIES)?,
@@ -368,7 +400,7 @@ pub fn request_of<'a>(matches: &'a ArgMatches) -> Option<Request<'a>>
 {
     let (name, found) = matches.subcommand()?;
     match name {
-        "check" => Some(Request::Check(check_options(found)?)),
+        "check" => check_request(found),
         "replay" => Some(Request::Replay(replay_options(found)?)),
         "run" => Some(Request::Run(run_options(found)?)),
         "explain" => Some(Request::Explain(explain_options(found)?)),

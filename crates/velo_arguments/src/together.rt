@@ -5,14 +5,14 @@ ghost use Rattle.std.specs.Str.{bytes_eq};
 ghost use Rattle.clap.specs.Takes.{is_given};
 ghost use Rattle.clap.specs.Words.{found_of, rows_of, subcommand_rows_of};
 ghost use Rattle.velo_arguments.specs.Asked.{AsksForNothing};
-ghost use Rattle.velo_arguments.specs.Together.{IsApart, IsTogether, clash_of, clash_of_audit, clash_of_certificate, clash_of_chance, clash_of_drawing, clash_of_endless, clash_of_explain, clash_of_explore, clash_of_inputs, clash_of_map, clash_of_predict, clash_of_replay, clash_of_schedule, clash_of_search, clash_of_targets, clash_of_thin, given_by, given_in, is_other_form, is_neither_text_nor_json, line_of_clash, path_if, schedule_path_if};
+ghost use Rattle.velo_arguments.specs.Together.{IsApart, IsTogether, clash_of, clash_of_audit, clash_of_certificate, clash_of_chance, clash_of_check_rest, clash_of_drawing, clash_of_endless, clash_of_explain, clash_of_explore, clash_of_inputs, clash_of_lists, clash_of_map, clash_of_predict, clash_of_replay, clash_of_schedule, clash_of_search, clash_of_source, clash_of_targets, clash_of_thin, given_by, given_in, is_other_form, is_neither_text_nor_json, line_of_clash, path_if, schedule_path_if};
 
 use crate::requests::{form_named, request_of, text_or_json_named};
 use clap::ArgMatches;
 use clap::parser::ValueSource;
 use velo_request::{
-    AuditOptions, EndlessOptions, ExplainOptions, ExploreOptions, PredictOptions, RandomRuns,
-    ReplayOptions, Request, ScheduleSource, TextOrJson, ThinOptions,
+    AuditOptions, CheckRestOptions, EndlessOptions, ExplainOptions, ExploreOptions, Ignored,
+    PredictOptions, RandomRuns, ReplayOptions, Request, ScheduleSource, TextOrJson, ThinOptions,
 };
 
 /// Why the options of a request do not go together.
@@ -36,10 +36,16 @@ pub enum Clash {
     NoSuchForm,
     /// The log and the names of a run are to be saved at one path.
     OnePath,
+    /// What is left of a log is to have a certificate.
+    RestCertificate,
     /// Random runs are asked for, and what a search alone has.
     SearchByChance,
     /// A seed is given, and no random runs are asked for.
     SeedAlone,
+    /// A folder of sources is given, and no sites.
+    SourceWithoutSites,
+    /// Two lists of what is known are given.
+    TwoLists,
     /// A schedule is given as text and as turns.
     TwoSchedules,
 }
@@ -55,6 +61,8 @@ pub struct Given {
     pub schedule: bool,
     /// `--certificate`.
     pub certificate: bool,
+    /// `--not-atomic`.
+    pub not_atomic: bool,
     /// `--format`, with a word that names no form.
     pub other_form: bool,
     /// `--format`, with a word that names neither of two forms.
@@ -101,6 +109,7 @@ fn given_in(found: &ArgMatches) -> Given
         seed: is_given(found, "seed"),
         schedule: is_given(found, "schedule"),
         certificate: is_given(found, "certificate"),
+        not_atomic: is_given(found, "not-atomic"),
         other_form: is_other_form(found.get_str("format")),
         neither_text_nor_json: is_neither_text_nor_json(found.get_str("format")),
     }
@@ -117,6 +126,7 @@ fn given_by(matches: &ArgMatches) -> Given
             seed: false,
             schedule: false,
             certificate: false,
+            not_atomic: false,
             other_form: false,
             neither_text_nor_json: false,
         },
@@ -129,16 +139,17 @@ fn clash_of(request: &Request, given: Given) -> Option<Clash>
 {
     match request {
         Request::Check(options) => clash_of_inputs(options.input, options.names),
+        Request::CheckRest(options) => clash_of_check_rest(options, given.not_atomic),
         Request::Replay(options) => clash_of_replay(options, given.schedule),
         Request::Run(options) => clash_of_targets(options.target, options.names_target),
-        Request::Explain(options) => clash_of_explain(options, given.neither_text_nor_json),
+        Request::Explain(options) => clash_of_explain(options, given),
         Request::Carry(_) => None,
         Request::Explore(options) => clash_of_explore(options, given),
         Request::Watch(options) => clash_of_inputs(options.input, options.names),
         Request::WatchEndless(options) => clash_of_endless(options, given.certificate),
-        Request::Audit(options) => clash_of_audit(options, given.other_form),
-        Request::Thin(options) => clash_of_thin(options),
-        Request::Predict(options) => clash_of_predict(options, given.neither_text_nor_json),
+        Request::Audit(options) => clash_of_audit(options, given),
+        Request::Thin(options) => clash_of_thin(options, given.not_atomic),
+        Request::Predict(options) => clash_of_predict(options, given),
         Request::Verify(options) => clash_of_inputs(options.input, Some(options.report)),
     }
 }
@@ -203,10 +214,10 @@ fn clash_of_files(
 }
 
 /// An explanation has one of two forms, and no clash of its paths.
-fn clash_of_explain(options: &ExplainOptions, other_form: bool) -> Option<Clash>
-    ensures { result ≡ clash_of_explain options.now other_form }
+fn clash_of_explain(options: &ExplainOptions, given: Given) -> Option<Clash>
+    ensures { result ≡ clash_of_explain options.now given }
 {
-    if other_form {
+    if given.neither_text_nor_json {
         return Some(Clash::NeitherTextNorJson);
     }
     clash_of_files(
@@ -215,14 +226,16 @@ fn clash_of_explain(options: &ExplainOptions, other_form: bool) -> Option<Clash>
         options.sites,
         options.ignored.known,
     )
+    .or(clash_of_source(options.sites, options.source))
+    .or(clash_of_lists(&options.ignored, given.not_atomic))
     .or(clash_of_drawing(options.target, options.drawing))
 }
 
 /// An audit has a form that there is, and no clash of its paths.
-fn clash_of_audit(options: &AuditOptions, other_form: bool) -> Option<Clash>
-    ensures { result ≡ clash_of_audit options.now other_form }
+fn clash_of_audit(options: &AuditOptions, given: Given) -> Option<Clash>
+    ensures { result ≡ clash_of_audit options.now given }
 {
-    if other_form {
+    if given.other_form {
         return Some(Clash::NoSuchForm);
     }
     clash_of_files(
@@ -231,13 +244,15 @@ fn clash_of_audit(options: &AuditOptions, other_form: bool) -> Option<Clash>
         options.sites,
         options.ignored.known,
     )
+    .or(clash_of_source(options.sites, options.source))
+    .or(clash_of_lists(&options.ignored, given.not_atomic))
 }
 
 /// Predictions have one of two forms, and no clash of their paths.
-fn clash_of_predict(options: &PredictOptions, other_form: bool) -> Option<Clash>
-    ensures { result ≡ clash_of_predict options.now other_form }
+fn clash_of_predict(options: &PredictOptions, given: Given) -> Option<Clash>
+    ensures { result ≡ clash_of_predict options.now given }
 {
-    if other_form {
+    if given.neither_text_nor_json {
         return Some(Clash::NeitherTextNorJson);
     }
     clash_of_files(
@@ -246,14 +261,51 @@ fn clash_of_predict(options: &PredictOptions, other_form: bool) -> Option<Clash>
         options.sites,
         options.ignored.known,
     )
+    .or(clash_of_source(options.sites, options.source))
+    .or(clash_of_lists(&options.ignored, given.not_atomic))
 }
 
 /// A log is thinned without a clash of its paths.
-fn clash_of_thin(options: &ThinOptions) -> Option<Clash>
-    ensures { result ≡ clash_of_thin options.now }
+fn clash_of_thin(options: &ThinOptions, has_known: bool) -> Option<Clash>
+    ensures { result ≡ clash_of_thin options.now has_known }
 {
-    let inputs = clash_of_files(options.input, options.names, None, options.ignored.known);
-    inputs.or(clash_of_map(options.target, options.map))
+    clash_of_files(options.input, options.names, None, options.ignored.known)
+        .or(clash_of_lists(&options.ignored, has_known))
+        .or(clash_of_map(options.target, options.map))
+}
+
+/// What is left of a log is checked without a certificate, and without a clash of its paths.
+fn clash_of_check_rest(options: &CheckRestOptions, has_known: bool) -> Option<Clash>
+    ensures { result ≡ clash_of_check_rest options.now has_known }
+{
+    let (check, ignored) = (&options.check, &options.ignored);
+    if check.certificate {
+        return Some(Clash::RestCertificate);
+    }
+    clash_of_files(check.input, check.names, None, ignored.known).or(clash_of_lists(
+        ignored, has_known,
+    ))
+}
+
+/// Lines of source are printed at sites.
+fn clash_of_source(sites: Option<&str>, source: Option<&str>) -> Option<Clash>
+    ensures { result ≡ clash_of_source sites.entry source.entry }
+{
+    match (sites, source) {
+        (None, Some(_)) => Some(Clash::SourceWithoutSites),
+        _ => None,
+    }
+}
+
+/// One list is read: a wide one, or that of `--not-atomic`.
+fn clash_of_lists(ignored: &Ignored, has_known: bool) -> Option<Clash>
+    ensures { result ≡ clash_of_lists ignored.now has_known }
+{
+    if ignored.is_wide && has_known {
+        Some(Clash::TwoLists)
+    } else {
+        None
+    }
 }
 
 /// Whether this is the path of standard input.
@@ -380,10 +432,15 @@ pub fn line_of_clash(clash: Clash) -> &'static [u8]
         Clash::NeitherTextNorJson => b"error: --format takes text or json\n",
         Clash::NoSuchForm => b"error: --format takes text, json, sarif or junit\n",
         Clash::OnePath => b"error: OUT and NAMES are one file\n",
+        Clash::RestCertificate => {
+            b"error: --certificate does not go with what leaves events out of the log\n"
+        }
         Clash::SearchByChance => {
             b"error: --random goes with neither --states nor --seconds nor --first nor --progress\n"
         }
         Clash::SeedAlone => b"error: --seed goes only with --random\n",
+        Clash::SourceWithoutSites => b"error: --source goes only with --sites\n",
+        Clash::TwoLists => b"error: --ignore does not go with --not-atomic\n",
         Clash::TwoSchedules => b"error: --schedule does not go with --turns\n",
     }
 }

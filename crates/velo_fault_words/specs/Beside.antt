@@ -1,5 +1,6 @@
 -- What is said of a file beside a log: of names, of sites, of known labels, and of a report.
-use Rattle.std.specs.Prelude.{ℕ, ◌==◌, nat_lt, List, [], ◌∷◌, codes, length, Option, Some, None, if◌then◌else◌}
+use Rattle.std.specs.Option.{option_map_or}
+use Rattle.std.specs.Prelude.{ℕ, ◌==◌, ◌||◌, Bool, false, nat_lt, List, [], ◌∷◌, codes, length, Option, Some, None, if◌then◌else◌}
 use Rattle.velo_bytes.specs.Parsing.{Taken, after_word, number_at}
 use Rattle.velo_claims.specs.declared.fault.ReportFault.{ReportFault}
 use Rattle.velo_claims.specs.declared.fault.ReportFault.TheVariants as report
@@ -104,12 +105,18 @@ abbrev pub list_line : ListFault → ℕ
 list_line (known.BadLine n) = n
 list_line _ = 0
 
+-- a number follows this word
+abbrev pub is_numbered : List ℕ → List ℕ → Bool
+is_numbered word line = option_map_or is_number (after_word word line) false
+
 abbrev pub entry_reason : List ℕ → List ℕ
 entry_reason line =
     if ends_in_return line then returned_reason
     else (if is_number line then codes "a label has a number from 0 to 4294967295, without leading zeros"
+    else (if is_numbered (codes "lock ") line || is_numbered (codes "variable ") line
+    then codes "a lock or a variable has a number from 0 to 65535, without leading zeros"
     else (if nat_lt MAX_NAME_BYTES (length line) then codes "a name has at most 200 bytes"
-    else codes "this is not a label's number or name, nor a line that audit or predict prints"))
+    else codes "this is not a label's number or name, nor a line that audit or predict prints")))
 
 abbrev pub list_reason : ListFault → List ℕ → List ℕ
 list_reason (known.BadLine n) line = entry_reason line

@@ -1,6 +1,6 @@
 //! What is said of a file beside a log: of names, of sites, of known labels, and of a report.
 ghost use Rattle.std.specs.Prelude.{◌≡◌, IfOk};
-ghost use Rattle.velo_fault_words.specs.Beside.{entry_reason, kind_reason, list_line, list_reason, list_words, name_reason, names_help, names_line, names_reason, names_words, naming_reason, number_reason, other_sites_words, report_help, report_line, report_line_reason, report_reason, report_words, site_reason, sites_help, sites_line, sites_reason, sites_words, unnamed_reason};
+ghost use Rattle.velo_fault_words.specs.Beside.{entry_reason, is_numbered, kind_reason, list_line, list_reason, list_words, name_reason, names_help, names_line, names_reason, names_words, naming_reason, number_reason, other_sites_words, report_help, report_line, report_line_reason, report_reason, report_words, site_reason, sites_help, sites_line, sites_reason, sites_words, unnamed_reason};
 
 use crate::lines::{ends_in_return, line_at};
 use crate::place::{Complaint, place_words};
@@ -157,6 +157,16 @@ fn list_line(fault: ListFault) -> usize
     }
 }
 
+/// Whether a number follows this word.
+fn is_numbered(word: &[u8], line: &[u8]) -> bool
+    ensures { result ≡ is_numbered word.now line.now }
+{
+    match after(line, word) {
+        Some(rest) => is_number(rest),
+        None => false,
+    }
+}
+
 /// What is wrong with a line that is no entry.
 fn entry_reason(line: &[u8]) -> &'static str
     ensures { result.now ≡ entry_reason line.now }
@@ -166,6 +176,9 @@ fn entry_reason(line: &[u8]) -> &'static str
     }
     if is_number(line) {
         return "a label has a number from 0 to 4294967295, without leading zeros";
+    }
+    if is_numbered(b"lock ", line) || is_numbered(b"variable ", line) {
+        return "a lock or a variable has a number from 0 to 65535, without leading zeros";
     }
     if line.len() > MAX_NAME_BYTES {
         return "a name has at most 200 bytes";

@@ -32,6 +32,15 @@ pub struct CheckOptions<'a> {
     pub why: bool,
 }
 
+/// What `velodrome check` was asked for, if something is left out of the log.
+#[derive(Clone, Copy, Debug)]
+pub struct CheckRestOptions<'a> {
+    /// The rest, which is as for the whole log; without a certificate.
+    pub check: CheckOptions<'a>,
+    /// What is left out.
+    pub ignored: Ignored<'a>,
+}
+
 /// What a run of a workload was asked for; `velodrome run` is asked for nothing else.
 #[derive(Clone, Copy, Debug)]
 pub struct RunOptions<'a> {
@@ -74,8 +83,10 @@ pub struct ReplayOptions<'a> {
 /// What is left out of a log before it is looked at.
 #[derive(Clone, Copy, Debug)]
 pub struct Ignored<'a> {
-    /// The path of the list of labels that are known already, or `-`.
+    /// The path of the list of what is known already, or `-`.
     pub known: Option<&'a str>,
+    /// Whether the list may have lines of locks and variables too.
+    pub is_wide: bool,
     /// The labels, each a number, a name or a pattern.
     pub labels: &'a [&'a str],
     /// The locks, each a number, a name or a pattern.
@@ -112,6 +123,8 @@ pub struct ExplainOptions<'a> {
     pub names: Option<&'a str>,
     /// The path of the sites of the log's events, or `-`.
     pub sites: Option<&'a str>,
+    /// The folder of the sources, whose lines are printed behind the sites.
+    pub source: Option<&'a str>,
     /// What is left out.
     pub ignored: Ignored<'a>,
 }
@@ -246,6 +259,8 @@ pub struct PredictOptions<'a> {
     pub names: Option<&'a str>,
     /// The path of the sites of the log's events, or `-`.
     pub sites: Option<&'a str>,
+    /// The folder of the sources, whose lines are printed behind the sites.
+    pub source: Option<&'a str>,
     /// What is left out.
     pub ignored: Ignored<'a>,
     /// Whether the values in the log are those of the program. If not, two reads have the same value
@@ -287,6 +302,8 @@ pub struct AuditOptions<'a> {
     pub names: Option<&'a str>,
     /// The path of the sites of the log's events, or `-`.
     pub sites: Option<&'a str>,
+    /// The folder of the sources, whose lines are printed behind the sites.
+    pub source: Option<&'a str>,
     /// What is left out.
     pub ignored: Ignored<'a>,
     /// Whether the witness of each round is printed.
@@ -319,6 +336,8 @@ pub enum Ignorable {
 pub enum Request<'a> {
     /// To check a recorded log.
     Check(CheckOptions<'a>),
+    /// To check what is left of a recorded log.
+    CheckRest(CheckRestOptions<'a>),
     /// To run a workload by a schedule.
     Replay(ReplayOptions<'a>),
     /// To run a workload by threads of its own.

@@ -10,21 +10,13 @@ use Rattle.velo_request.specs.declared.request.Ignorable.{Ignorable}
 use Rattle.velo_request.specs.declared.request.Ignorable.TheVariants.{Label, Lock, Variable}
 use Rattle.velo_request.specs.declared.request.Ignored.{Ignored}
 use Rattle.velo_request.specs.declared.request.Request.{Request}
-use Rattle.velo_request.specs.declared.request.Request.TheVariants.{Audit, Explain, Predict, Thin}
 use Rattle.velo_words.specs.Again.{ReadsAgain}
 use Rattle.velo_words.specs.Given.{names_explained_of}
+use Rattle.velo_words.specs.Roles.{ignored_of}
 use Rattle.velo_fault_words.specs.Lines.{shown_line}
 use Rattle.velo_fault_words.specs.Place.{whole_words}
 
 -- ---- what was asked for
-
--- what is left out, if the request leaves something out
-abbrev pub ignored_of : Request → Option Ignored
-ignored_of (Audit options) = Some options.ignored
-ignored_of (Predict options) = Some options.ignored
-ignored_of (Explain options) = Some options.ignored
-ignored_of (Thin options) = Some options.ignored
-ignored_of _ = None
 
 abbrev pub option_of : Ignorable → List ℕ
 option_of Lock = codes "--ignore-lock"

@@ -1,8 +1,9 @@
 -- The files of a request, by what each is for.
-use Rattle.std.specs.Prelude.{ℕ, Bool, true, List, Option, Some, None, codes, option_map}
+use Rattle.std.specs.Prelude.{ℕ, Bool, true, List, Option, Some, None, codes, option_and_then, option_map, if◌then◌else◌}
 use Rattle.std.specs.Borrow.{Bor}
+use Rattle.velo_request.specs.declared.request.Ignored.{Ignored}
 use Rattle.velo_request.specs.declared.request.Request.{Request}
-use Rattle.velo_request.specs.declared.request.Request.TheVariants.{Audit, Carry, Check, Explain, Explore, Predict, Replay, Run, Thin, Verify, Watch, WatchEndless}
+use Rattle.velo_request.specs.declared.request.Request.TheVariants.{Audit, Carry, Check, CheckRest, Explain, Explore, Predict, Replay, Run, Thin, Verify, Watch, WatchEndless}
 use Rattle.velo_request.specs.declared.request.ScheduleSource.{ScheduleSource}
 use Rattle.velo_request.specs.declared.request.ScheduleSource.TheVariants.{File}
 use Rattle.velo_words.specs.declared.roles.Role.{Role}
@@ -13,6 +14,7 @@ abbrev pub word_of : Role → List ℕ
 word_of role.Turns = codes "--turns"
 word_of role.Names = codes "--names"
 word_of role.Known = codes "--not-atomic"
+word_of role.Ignored = codes "--ignore"
 word_of role.Sites = codes "--sites"
 word_of role.Log = codes "LOG"
 word_of role.Report = codes "REPORT"
@@ -26,6 +28,7 @@ word_of role.Map = codes "--map"
 -- what is wrong with a file is said in words: always, or with --why
 abbrev pub asks_for_words : Request → Bool
 asks_for_words (Check options) = options.why
+asks_for_words (CheckRest options) = options.check.why
 asks_for_words (Carry options) = options.why
 asks_for_words (Run options) = options.why
 asks_for_words (Replay options) = options.run.why
@@ -47,6 +50,7 @@ turns_of _ = None
 
 abbrev pub names_of : Request → Option (List ℕ)
 names_of (Check options) = given options.names
+names_of (CheckRest options) = given options.check.names
 names_of (Explain options) = given options.names
 names_of (Watch options) = given options.names
 names_of (WatchEndless options) = given options.names
@@ -55,12 +59,28 @@ names_of (Thin options) = given options.names
 names_of (Predict options) = given options.names
 names_of _ = None
 
+-- what is left out, if the request leaves something out
+abbrev pub ignored_of : Request → Option Ignored
+ignored_of (CheckRest options) = Some options.ignored
+ignored_of (Explain options) = Some options.ignored
+ignored_of (Audit options) = Some options.ignored
+ignored_of (Thin options) = Some options.ignored
+ignored_of (Predict options) = Some options.ignored
+ignored_of _ = None
+
+-- the list of what is left out: of labels alone, or a wide one
+abbrev pub list_of : Request → Option (List ℕ)
+list_of request = option_and_then (λ ignored. given ignored.known) (ignored_of request)
+
 abbrev pub known_of : Request → Option (List ℕ)
-known_of (Explain options) = given options.ignored.known
-known_of (Audit options) = given options.ignored.known
-known_of (Thin options) = given options.ignored.known
-known_of (Predict options) = given options.ignored.known
-known_of _ = None
+known_of request =
+    option_and_then (λ ignored. if ignored.is_wide then None else given ignored.known)
+    (ignored_of request)
+
+abbrev pub wide_list_of : Request → Option (List ℕ)
+wide_list_of request =
+    option_and_then (λ ignored. if ignored.is_wide then given ignored.known else None)
+    (ignored_of request)
 
 abbrev pub sites_of : Request → Option (List ℕ)
 sites_of (Explain options) = given options.sites
@@ -70,6 +90,7 @@ sites_of _ = None
 
 abbrev pub log_path_of : Request → Option (List ℕ)
 log_path_of (Check options) = Some options.input.now
+log_path_of (CheckRest options) = Some options.check.input.now
 log_path_of (Explain options) = Some options.input.now
 log_path_of (Carry options) = Some options.input.now
 log_path_of (Watch options) = Some options.input.now
@@ -122,6 +143,7 @@ abbrev pub path_of : Role → Request → Option (List ℕ)
 path_of role.Turns request = turns_of request
 path_of role.Names request = names_of request
 path_of role.Known request = known_of request
+path_of role.Ignored request = wide_list_of request
 path_of role.Sites request = sites_of request
 path_of role.Log request = log_path_of request
 path_of role.Report request = report_of request

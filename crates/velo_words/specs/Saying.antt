@@ -13,7 +13,7 @@ use Rattle.velo_fate.specs.declared.fate.Fate.TheVariants as fate
 use Rattle.velo_fate.specs.declared.fault.CheckFault.TheVariants as check_fault
 use Rattle.velo_names.specs.declared.fault.NamesFault.TheVariants as names_fault
 use Rattle.velo_request.specs.declared.request.Request.{Request}
-use Rattle.velo_request.specs.declared.request.Request.TheVariants.{Audit, Carry, Check, Explain, Explore, Predict, Replay, Run, Thin, Verify, Watch}
+use Rattle.velo_request.specs.declared.request.Request.TheVariants.{Audit, Carry, Check, CheckRest, Explain, Explore, Predict, Replay, Run, Thin, Verify, Watch}
 use Rattle.velo_request.specs.declared.request.ScheduleSource.{ScheduleSource}
 use Rattle.velo_request.specs.declared.request.ScheduleSource.TheVariants as source
 use Rattle.velo_schedule_text.specs.declared.limits.TheConstants.{MAX_SCHEDULE_BYTES}
@@ -30,7 +30,7 @@ use Rattle.velo_fault_words.specs.Faults.{fault_words, most_bytes_for, most_up_t
 use Rattle.velo_fault_words.specs.Beside.{other_sites_words}
 use Rattle.velo_words.specs.Given.{names_explained_of, schedule_of}
 use Rattle.velo_words.specs.Ignoring.{SaysVain}
-use Rattle.velo_words.specs.Roles.{known_of, report_of, sites_of}
+use Rattle.velo_words.specs.Roles.{list_of, report_of, sites_of}
 use Rattle.velo_fault_words.specs.Schedule.{numbers_words, schedule_words, turns_words}
 use Rattle.velo_fault_words.specs.declared.faults.FileFault.{FileFault}
 use Rattle.velo_fault_words.specs.declared.faults.FileFault.TheVariants as file
@@ -46,6 +46,8 @@ log_of (Thin options) = Some options.input.now
 log_of (Predict options) = Some options.input.now
 log_of (Verify options) = Some options.input.now
 log_of (Check options) = if options.why then Some options.input.now else None
+log_of (CheckRest options) =
+    if options.check.why then Some options.check.input.now else None
 log_of (Carry options) = if options.why then Some options.input.now else None
 log_of _ = None
 
@@ -123,7 +125,7 @@ IsSaid disk request (fate.Ignored what) words = SaysVain disk request what words
 IsSaid disk request fate.Open words = SaysOpen request words
 IsSaid disk request (fate.List list_fault.Memory) words = ⊥
 IsSaid disk request (fate.List fault) words =
-    IsSomeAnd (known_of request) (λ path. SaysFault disk path (file.List fault) words)
+    IsSomeAnd (list_of request) (λ path. SaysFault disk path (file.List fault) words)
 IsSaid disk request f words = ⊥
 
 -- The program ends by its fate: with its line and its status; or what is said of the fate, or of the

@@ -1,10 +1,11 @@
 //! What is said of a word that was to be ignored and means nothing.
 ghost use Rattle.std.specs.Prelude.{◌≡◌, ◌==◌, IfOk, IfSome, Some, false, length};
 ghost use Rattle.velo_names.specs.Names.{meant_by, no_names};
-ghost use Rattle.velo_words.specs.Ignoring.{SaysVain, SaysVainAt, SaysVainBy, SaysVainOf, first_in_vain, ignored_of, kind_of, option_of, vain_help, vain_reason, vain_words, words_of};
+ghost use Rattle.velo_words.specs.Ignoring.{SaysVain, SaysVainAt, SaysVainBy, SaysVainOf, first_in_vain, kind_of, option_of, vain_help, vain_reason, vain_words, words_of};
 
 use crate::again::read_again;
 use crate::given::names_explained_of;
+use crate::roles::ignored_of;
 use std::alloc::Global;
 use velo_delivery::Files;
 use velo_events::Memory;
@@ -12,19 +13,6 @@ use velo_explain::Page;
 use velo_fault_words::{Complaint, add_shown, add_text, place_words};
 use velo_names::{MAX_NAMES_BYTES, NameKind, Names};
 use velo_request::{Ignorable, Ignored, Request};
-
-/// What is left out, if the request leaves something out.
-fn ignored_of<'a>(request: &Request<'a>) -> Option<Ignored<'a>>
-    ensures { result ≡ ignored_of request.now }
-{
-    match request {
-        Request::Audit(options) => Some(options.ignored),
-        Request::Predict(options) => Some(options.ignored),
-        Request::Explain(options) => Some(options.ignored),
-        Request::Thin(options) => Some(options.ignored),
-        _ => None,
-    }
-}
 
 /// The option that takes these.
 fn option_of(what: Ignorable) -> &'static str

@@ -1,8 +1,8 @@
 //! The files of a request, by what each is for.
 ghost use Rattle.std.specs.Prelude.{◌≡◌, option_map};
-ghost use Rattle.velo_words.specs.Roles.{asks_for_words, drawing_of, known_of, log_path_of, map_of, names_of, path_of, picture_of, report_of, saved_log_of, saved_names_of, sites_of, turns_of, word_of, work_path_of};
+ghost use Rattle.velo_words.specs.Roles.{asks_for_words, drawing_of, ignored_of, known_of, list_of, log_path_of, map_of, names_of, path_of, picture_of, report_of, saved_log_of, saved_names_of, sites_of, turns_of, wide_list_of, word_of, work_path_of};
 
-use velo_request::{Request, ScheduleSource};
+use velo_request::{Ignored, Request, ScheduleSource};
 
 /// What a file is for.
 #[derive(Clone, Copy, Debug, PartialEq, Eq)]
@@ -13,6 +13,8 @@ pub enum Role {
     Names,
     /// It has the labels that are known already.
     Known,
+    /// It has what is left out: labels, locks and variables.
+    Ignored,
     /// It has sites.
     Sites,
     /// It is a recorded log.
@@ -34,10 +36,11 @@ pub enum Role {
 }
 
 /// The roles, in the order in which a command opens its files; but `verify` opens its report first.
-pub const ROLES: [Role; 12] = [
+pub const ROLES: [Role; 13] = [
     Role::Turns,
     Role::Names,
     Role::Known,
+    Role::Ignored,
     Role::Sites,
     Role::Log,
     Role::Report,
@@ -57,6 +60,7 @@ pub fn word_of(role: Role) -> &'static str
         Role::Turns => "--turns",
         Role::Names => "--names",
         Role::Known => "--not-atomic",
+        Role::Ignored => "--ignore",
         Role::Sites => "--sites",
         Role::Log => "LOG",
         Role::Report => "REPORT",
@@ -75,6 +79,7 @@ pub fn asks_for_words(request: &Request) -> bool
 {
     match request {
         Request::Check(options) => options.why,
+        Request::CheckRest(options) => options.check.why,
         Request::Carry(options) => options.why,
         Request::Run(options) => options.why,
         Request::Replay(options) => options.run.why,
@@ -100,6 +105,7 @@ pub fn names_of<'a>(request: &Request<'a>) -> Option<&'a str>
 {
     match request {
         Request::Check(options) => options.names,
+        Request::CheckRest(options) => options.check.names,
         Request::Explain(options) => options.names,
         Request::Watch(options) => options.names,
         Request::WatchEndless(options) => options.names,
@@ -110,17 +116,47 @@ pub fn names_of<'a>(request: &Request<'a>) -> Option<&'a str>
     }
 }
 
-/// The path of the list of known labels, if the request has one.
-pub fn known_of<'a>(request: &Request<'a>) -> Option<&'a str>
-    ensures { option_map (λ path. path.now) result ≡ known_of request.now }
+/// What is left out, if the request leaves something out.
+pub fn ignored_of<'a>(request: &Request<'a>) -> Option<Ignored<'a>>
+    ensures { result ≡ ignored_of request.now }
 {
     match request {
-        Request::Explain(options) => options.ignored.known,
-        Request::Audit(options) => options.ignored.known,
-        Request::Thin(options) => options.ignored.known,
-        Request::Predict(options) => options.ignored.known,
+        Request::CheckRest(options) => Some(options.ignored),
+        Request::Explain(options) => Some(options.ignored),
+        Request::Audit(options) => Some(options.ignored),
+        Request::Thin(options) => Some(options.ignored),
+        Request::Predict(options) => Some(options.ignored),
         _ => None,
     }
+}
+
+/// The path of the list of what is left out, if the request has one.
+pub fn list_of<'a>(request: &Request<'a>) -> Option<&'a str>
+    ensures { option_map (λ path. path.now) result ≡ list_of request.now }
+{
+    ignored_of(request)?.known
+}
+
+/// The path of the list of known labels, if the request has one.
+fn known_of<'a>(request: &Request<'a>) -> Option<&'a str>
+    ensures { option_map (λ path. path.now) result ≡ known_of request.now }
+{
+    let ignored = ignored_of(request)?;
+    if ignored.is_wide {
+        return None;
+    }
+    ignored.known
+}
+
+/// The path of the list of labels, locks and variables, if the request has one.
+fn wide_list_of<'a>(request: &Request<'a>) -> Option<&'a str>
+    ensures { option_map (λ path. path.now) result ≡ wide_list_of request.now }
+{
+    let ignored = ignored_of(request)?;
+    if !ignored.is_wide {
+        return None;
+    }
+    ignored.known
 }
 
 /// The path of the sites, if the request has one.
@@ -140,6 +176,7 @@ fn log_path_of<'a>(request: &Request<'a>) -> Option<&'a str>
 {
     match request {
         Request::Check(options) => Some(options.input),
+        Request::CheckRest(options) => Some(options.check.input),
         Request::Explain(options) => Some(options.input),
         Request::Carry(options) => Some(options.input),
         Request::Watch(options) => Some(options.input),
@@ -233,6 +270,7 @@ pub fn path_of<'a>(role: Role, request: &Request<'a>) -> Option<&'a str>
         Role::Turns => turns_of(request),
         Role::Names => names_of(request),
         Role::Known => known_of(request),
+        Role::Ignored => wide_list_of(request),
         Role::Sites => sites_of(request),
         Role::Log => log_path_of(request),
         Role::Report => report_of(request),

@@ -15,7 +15,7 @@ use crate::failing::{Recall, words_of_failure};
 use crate::given::{names_explained_of, schedule_of};
 use crate::ignoring::words_in_vain;
 use crate::refused::{refused_words, wrong_value_words};
-use crate::roles::{known_of, report_of, sites_of};
+use crate::roles::{list_of, report_of, sites_of};
 use std::alloc::Global;
 use velo_bytes::{Bytes, Sink, WriteFault, write_all};
 use velo_claims::ReportFault;
@@ -54,6 +54,7 @@ fn log_of<'a>(request: &Request<'a>) -> Option<&'a str>
         Request::Predict(options) => Some(options.input),
         Request::Verify(options) => Some(options.input),
         Request::Check(options) => if_asked(options.why, options.input),
+        Request::CheckRest(options) => if_asked(options.check.why, options.check.input),
         Request::Carry(options) => if_asked(options.why, options.input),
         Request::Replay(_) | Request::Run(_) | Request::Explore(_) | Request::WatchEndless(_) =>
             None,
@@ -200,7 +201,7 @@ fn words_of<F: Files>(alloc: Global, request: &Request, fate: Fate, files: &F) -
         Fate::Open => words_of_open(alloc, request),
         Fate::List(ListFault::Memory) => None,
         Fate::List(fault) => {
-            words_of_file(alloc, known_of(request)?, FileFault::List(fault), files)
+            words_of_file(alloc, list_of(request)?, FileFault::List(fault), files)
         }
         _ => None,
     }

@@ -15,7 +15,8 @@ round has no alarm. All positions and lines are those of the log as it was read.
 It prints 'left out label L', 'left out lock N' or 'left out all locks', 'left out variable N' for what
 the options leave out; 'not atomic L' for each label found, and after the labels of a round its witness,
 unless --no-witness is given; then 'atomic N labels' and 'rounds R'. With --names each number has its
-name after it. With --sites a witness has the place in the source of each event that it mentions.
+name after it. With --sites a witness has the place in the source of each event that it mentions, and
+with --source its line of source.
 
 --format prints the same for other programs: json as one JSON object, sarif as a SARIF log, junit as a
 JUnit report. docs/FORMATS.md describes them.
@@ -31,6 +32,9 @@ are next to one another, and may come again.
 the output of one audit can be the list of the next. If number and name of such a line no longer belong
 together, it means the labels of the name. Other lines of an audit, empty lines, and comments that
 begin with '#' are ignored. A name that no label has is allowed.
+
+--ignore reads such a list, too, and leaves out locks and variables besides: 'lock N' and 'variable N',
+each a number or a name as of --ignore-lock, 'all locks', and what an audit printed that it left out.
 
 --ignore-label, --ignore-lock and --ignore-variable take a number, or a name in which '*' stands for any
 characters, and may be repeated. The events inside a block stay where its label is left out.
@@ -50,11 +54,12 @@ Ignored faults, where a word of these options is no name, and no number up to 65
 Statuses, each with the lines on standard error:
   0  no label was found, or help
   2  usage; 'error: standard input can be read once'; 'error: --format takes text, json, sarif or
-     junit'; the text is no log: 'log fault K', 'log fault K line N'; an event cannot happen:
-     'refused K at P', 'wrong value at P'; the text of --names is no file of names:
-     'names fault K line N'; the text of --sites is no file of sites, or of another log:
-     'sites fault K line N'; the text of --not-atomic is no list: 'list fault K line N'; a word of
-     --ignore-label, --ignore-lock or --ignore-variable means nothing: 'ignored fault K'
+     junit'; 'error: --source goes only with --sites'; 'error: --ignore does not go with --not-atomic';
+     the text is no log: 'log fault K', 'log fault K line N'; an event cannot happen: 'refused K at P',
+     'wrong value at P'; the text of --names is no file of names: 'names fault K line N'; the text of
+     --sites is no file of sites, or of another log: 'sites fault K line N'; the text of --not-atomic or
+     --ignore is no list: 'list fault K line N'; a word of --ignore-label, --ignore-lock or
+     --ignore-variable means nothing: 'ignored fault K'
   3  a label was found whose blocks are not atomic
   4  a limit was met: 'refused 17 at P', 'refused 18 at P'
   5  memory or a device failed: 'out of memory', 'read failed', 'write failed', 'cannot open'
@@ -91,8 +96,8 @@ sections end, and of which the log has every read. So do not thin the log. Witho
 have the same value where they read from the same write, and values in the witness are lines of the log.
 Give --values if the values in the log are those of the program.
 
---names, --sites, --not-atomic, --ignore-label, --ignore-lock, --ignore-locks and --ignore-variable are
-those of 'velodrome audit'. Only one of LOG and the FILEs can be -. The same seed tries the same delays.
+--names, --sites, --source, --not-atomic, --ignore and the options that begin with --ignore- are those
+of 'velodrome audit'. Only one of LOG and the FILEs can be -. The same seed tries the same delays.
 
 LOG and OUT must be different files; otherwise the command stops before it writes. Standard input is
 not compared with OUT. If nothing is predicted, OUT is not opened.
@@ -100,11 +105,12 @@ not compared with OUT. If nothing is predicted, OUT is not opened.
 Statuses, each with the lines on standard error:
   0  nothing was found, or help
   2  usage; 'error: standard input can be read once'; 'error: LOG and OUT are one file';
-     'error: --format takes text or json'; the text is no log: 'log fault K', 'log fault K line N'; an
-     event cannot happen: 'refused K at P', 'wrong value at P'; the text of --names is no file of names:
+     'error: --format takes text or json'; 'error: --source goes only with --sites'; 'error: --ignore
+     does not go with --not-atomic'; the text is no log: 'log fault K', 'log fault K line N'; an event
+     cannot happen: 'refused K at P', 'wrong value at P'; the text of --names is no file of names:
      'names fault K line N'; the text of --sites is no file of sites, or of another log:
-     'sites fault K line N'; the text of --not-atomic is no list: 'list fault K line N'; a word of
-     --ignore-label, --ignore-lock or --ignore-variable means nothing: 'ignored fault K'
+     'sites fault K line N'; the text of --not-atomic or --ignore is no list: 'list fault K line N'; a
+     word of --ignore-label, --ignore-lock or --ignore-variable means nothing: 'ignored fault K'
   3  a label was found whose blocks are not atomic, in this run or in another, or a deadlock in another
   4  a limit was met: 'refused 17 at P', 'refused 18 at P'
   5  memory or a device failed: 'out of memory', 'read failed', 'write failed', 'cannot open'

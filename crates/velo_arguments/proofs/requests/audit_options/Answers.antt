@@ -10,6 +10,7 @@ returns-clause-some c =
       word_read f (codes "LOG") c.get_str.result c.in_ok-get_str.field-0 c.get_str.ensures c.in_ok-get_str.was,
       option_read f (codes "names") c.get_str-2.result c.get_str-2.ensures,
       option_read f (codes "sites") c.get_str-3.result c.get_str-3.ensures,
+      option_read f (codes "source") c.get_str-4.result c.get_str-4.ensures,
       c.left_out.ensures,
       flag_turned f (codes "no-witness") c.get_flag.result c.get_flag.ensures.none c.get_flag.ensures.value c.get_flag.ensures.other,
       record {
@@ -17,7 +18,7 @@ returns-clause-some c =
         by_count = flag_read f (codes "by-count") c.get_flag-3.result c.get_flag-3.ensures.none c.get_flag-3.ensures.value c.get_flag-3.ensures.other;
         innermost = flag_read f (codes "innermost") c.get_flag-4.result c.get_flag-4.ensures.none c.get_flag-4.ensures.value c.get_flag-4.ensures.other;
       },
-      form_read f (codes "format") c.get_str-4.result c.form_of.result c.get_str-4.ensures c.form_of.ensures,
+      form_read f (codes "format") c.get_str-5.result c.form_of.result c.get_str-5.ensures c.form_of.ensures,
       c.in_ok-limits_of.ensures.some,
     )
 
@@ -26,4 +27,4 @@ returns-in_err-get_str-clause-none c = on_none _ (AsksAudit (rows_of (found_of c
     no_word (found_of c.args.found.now) (codes "LOG") c.get_str.result options.input.now c.get_str.ensures c.in_err-get_str.was asks.0)
 
 pub returns-in_err-limits_of-clause-none : goal.returns-in_err-limits_of-clause-none
-returns-in_err-limits_of-clause-none c = on_none _ (AsksAudit (rows_of (found_of c.args.found.now))) (λ options asks. c.in_err-limits_of.ensures.none options.limits asks.7)
+returns-in_err-limits_of-clause-none c = on_none _ (AsksAudit (rows_of (found_of c.args.found.now))) (λ options asks. c.in_err-limits_of.ensures.none options.limits asks.8)

@@ -14,6 +14,7 @@ returns-clause-some c =
       text_or_json_read f (codes "format") c.get_str-4.result c.text_or_json_of.result c.get_str-4.ensures c.text_or_json_of.ensures,
       option_read f (codes "names") c.get_str-5.result c.get_str-5.ensures,
       option_read f (codes "sites") c.get_str-6.result c.get_str-6.ensures,
+      option_read f (codes "source") c.get_str-7.result c.get_str-7.ensures,
       c.left_out.ensures,
     )
 
