@@ -1,29 +1,32 @@
--- What the steps of the reader return. Private contracts cite these words, and `entry`, `entries`
--- and `numbers`.
+-- What the steps of the reader return. Private contracts cite these words, and `entry` and `entries`.
 use Rattle.std.specs.Prelude.{◌≡◌, ℕ, Bool, List, map, Result, Ok, Err}
 use Rattle.velo_events.specs.Refusals.{GrowthRefused}
-use Rattle.velo_events.specs.declared.event.Label.{Label}
 use Rattle.velo_filter.specs.Left.{is_listed}
 use Rattle.velo_suppressions.specs.declared.fault.ListFault.{ListFault}
-use Rattle.velo_suppressions.specs.declared.fault.ListFault.TheVariants.{BadLine, TooManyLines, TooManyBytes, NotText, Memory}
+use Rattle.velo_suppressions.specs.declared.fault.ListFault.TheVariants.{TooManyBytes, NotText, Memory}
 use Rattle.velo_suppressions.specs.declared.line.Entry.{Entry as Found}
 use Rattle.velo_suppressions.specs.declared.line.Entry.TheVariants as found
-use Rattle.velo_suppressions.specs.Line.{Entry}
-use Rattle.velo_suppressions.specs.Line.Entry.{Nothing, Number, Name, Told}
+use Rattle.velo_suppressions.specs.declared.line.Mention.{Mention as Mentioned}
+use Rattle.velo_suppressions.specs.declared.line.Mention.TheVariants as mentioned
+use Rattle.velo_suppressions.specs.Line.{Entry, Mention}
+use Rattle.velo_suppressions.specs.Line.Entry.{Nothing, Of, AllLocks}
+use Rattle.velo_suppressions.specs.Line.Mention.{Number, Name, Word, Told}
+
+-- a mention by its bytes
+abbrev pub mention : Mentioned → Mention
+mention (mentioned.Number n) = Number n
+mention (mentioned.Name name) = Name name.now
+mention (mentioned.Word word) = Word word.now
+mention (mentioned.Told n name) = Told n name.now
 
 -- an entry by its bytes
 abbrev pub entry : Found → Entry
 entry found.Nothing = Nothing
-entry (found.Number n) = Number n
-entry (found.Name name) = Name name.now
-entry (found.Told n name) = Told n name.now
+entry (found.Of kind m) = Of kind (mention m)
+entry found.AllLocks = AllLocks
 
 abbrev pub entries : List Found → List Entry
 entries found = map entry found
-
--- labels by their numbers
-abbrev pub numbers : List Label → List ℕ
-numbers labels = map (λ (l : Label). l.0) labels
 
 -- the result is the expected one, with what is there then, unless an allocation failed
 abbrev pub AnswersAs : {X : Type 0} → Result X ListFault → X → Result (Unit {0}) ListFault → Type 0
@@ -33,6 +36,6 @@ AnswersAs meaning after (Err TooManyBytes) = ⊥
 AnswersAs meaning after (Err NotText) = ⊥
 AnswersAs meaning after (Err fault) = meaning ≡ Err fault
 
--- the labels of the list are those that pass the test
-pub record AreSeen (seen : ℕ → Bool) (labels : List ℕ) : Type 0 where
-  pub each : (n : ℕ) → seen n ≡ is_listed labels n
+-- the numbers of the list are those that pass the test
+pub record AreSeen (seen : ℕ → Bool) (numbers : List ℕ) : Type 0 where
+  pub each : (n : ℕ) → seen n ≡ is_listed numbers n

@@ -1,4 +1,4 @@
-//! Why a file is no list of labels.
+//! Why a file is no list.
 ghost use Rattle.std.specs.Prelude.{◌≡◌};
 ghost use Rattle.velo_suppressions.specs.Fault.{fault_line, fault_number};
 
@@ -6,7 +6,7 @@ use thiserror::Error;
 use velo_events::Memory;
 use velo_names::MAX_NAME_LINES;
 
-/// Why a file is no list of labels. Lines are counted from 1.
+/// Why a file is no list. Lines are counted from 1.
 #[derive(Clone, Copy, Debug, PartialEq, Eq, Error)]
 pub enum ListFault {
     /// This line is no entry.

@@ -1,5 +1,4 @@
-//! Lists of labels that are known already: the text of such a list, and the labels that it means by
-//! names.
+//! Lists of what is known already: the text of such a list, and what it means by names.
 #![tactic(auto)]
 
 mod fault;
@@ -8,6 +7,9 @@ mod list;
 mod meaning;
 
 pub use fault::ListFault;
-pub use line::Entry;
+pub use line::{Entry, Mention, Scope};
 pub use list::parse_list;
-pub use meaning::{add_labels, known_labels};
+pub use meaning::{add_numbers, has_all_locks, numbers_known};
+
+#[cfg(test)]
+mod tests;

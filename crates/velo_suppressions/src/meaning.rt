@@ -1,10 +1,10 @@
-//! The labels that a list means.
+//! What a list means.
 ghost use Rattle.std.specs.Prelude.{◌≡◌, ◌∷◌, [], IfOk, OnOk, fold};
 ghost use Rattle.velo_filter.specs.Tables.{members};
-ghost use Rattle.velo_suppressions.specs.Answers.{AreSeen, entries, entry, numbers};
-ghost use Rattle.velo_suppressions.specs.Known.{labels_by, labels_known, labels_meant, labels_told, with_number};
+ghost use Rattle.velo_suppressions.specs.Answers.{AreSeen, entries, entry, mention};
+ghost use Rattle.velo_suppressions.specs.Known.{has_all_locks, is_all_locks, is_same, numbers_by, numbers_in, numbers_known, numbers_meant, numbers_told, with_number};
 
-use crate::line::Entry;
+use crate::line::{Entry, Mention};
 use std::alloc::Global;
 use velo_events::growth::{reserve, with_capacity};
 use velo_events::{Label, Memory};
@@ -20,107 +20,168 @@ fn one(alloc: Global, number: u32) -> Result<Vec<u32>, Memory>
     Ok(numbers)
 }
 
-/// The labels of a name; but where it is nobody's, this number.
-fn labels_by(alloc: Global, names: &Names, number: u32, name: &[u8]) -> Result<Vec<u32>, Memory>
-    ensures { IfOk result (λ labels. labels.items ≡ labels_by names.now number name.now) }
+/// The numbers of a name; but where it is nobody's, this number.
+fn numbers_by(
+    alloc: Global,
+    names: &Names,
+    kind: NameKind,
+    number: u32,
+    name: &[u8],
+) -> Result<Vec<u32>, Memory>
+    ensures { IfOk result (λ numbers. numbers.items ≡ numbers_by names.now kind number name.now) }
 {
-    let labels = names.numbers_of(alloc, NameKind::Label, name)?;
-    if labels.is_empty() {
+    let numbers = names.numbers_of(alloc, kind, name)?;
+    if numbers.is_empty() {
         return one(alloc, number);
     }
-    Ok(labels)
+    Ok(numbers)
 }
 
-/// The labels that a line of an audit with this number and this name means.
-fn labels_told(alloc: Global, names: &Names, number: u32, name: &[u8]) -> Result<Vec<u32>, Memory>
-    ensures { IfOk result (λ labels. labels.items ≡ labels_told names.now number name.now) }
+/// The numbers that a line of an audit with this number and this name means.
+fn numbers_told(
+    alloc: Global,
+    names: &Names,
+    kind: NameKind,
+    number: u32,
+    name: &[u8],
+) -> Result<Vec<u32>, Memory>
+    ensures { IfOk result (λ numbers. numbers.items ≡ numbers_told names.now kind number name.now) }
 {
-    let Some(its_name) = names.name_of(NameKind::Label, number) else {
-        return labels_by(alloc, names, number, name);
+    let Some(its_name) = names.name_of(kind, number) else {
+        return numbers_by(alloc, names, kind, number, name);
     };
     if name == its_name {
         return one(alloc, number);
     }
-    names.numbers_of(alloc, NameKind::Label, name)
+    names.numbers_of(alloc, kind, name)
 }
 
-/// The labels that an entry means.
-fn labels_meant(alloc: Global, names: &Names, found: Entry) -> Result<Vec<u32>, Memory>
-    ensures { IfOk result (λ labels. labels.items ≡ labels_meant names.now (entry found.entry)) }
+/// The numbers that a mention means.
+fn numbers_meant(
+    alloc: Global,
+    names: &Names,
+    kind: NameKind,
+    found: Mention,
+) -> Result<Vec<u32>, Memory>
+    ensures { IfOk result (λ numbers. numbers.items
+        ≡ numbers_meant names.now kind (mention found.entry)) }
 {
     match found {
-        Entry::Nothing => Ok(Vec::new(alloc)),
-        Entry::Number(number) => one(alloc, number),
-        Entry::Name(name) => names.numbers_of(alloc, NameKind::Label, name),
-        Entry::Told(number, name) => labels_told(alloc, names, number, name),
+        Mention::Number(number) => one(alloc, number),
+        Mention::Name(name) => names.numbers_of(alloc, kind, name),
+        Mention::Word(word) => names.meant_by(alloc, kind, word),
+        Mention::Told(number, name) => numbers_told(alloc, names, kind, number, name),
     }
 }
 
-/// Adds a label, unless it is there.
-fn add_once(labels: &mut Vec<Label>, seen: &mut LabelSet, number: u32) -> Result<(), Memory>
-    requires seen { AreSeen (members seen.old) (numbers labels.old.items) }
-    ensures ok { OnOk result (numbers labels.new.items ≡ with_number (numbers labels.old.items) number) }
-    ensures seen { OnOk result (AreSeen (members seen.new) (numbers labels.new.items)) }
+/// Whether the kinds are the same.
+fn is_same(kind: NameKind, other: NameKind) -> bool
+    ensures { result ≡ is_same kind other }
+{
+    kind == other
+}
+
+/// The numbers of a kind that an entry means.
+fn numbers_in(
+    alloc: Global,
+    names: &Names,
+    kind: NameKind,
+    found: Entry,
+) -> Result<Vec<u32>, Memory>
+    ensures { IfOk result (λ numbers. numbers.items
+        ≡ numbers_in names.now kind (entry found.entry)) }
+{
+    let Entry::Of(its_kind, mention) = found else {
+        return Ok(Vec::new(alloc));
+    };
+    if !is_same(its_kind, kind) {
+        return Ok(Vec::new(alloc));
+    }
+    numbers_meant(alloc, names, kind, mention)
+}
+
+/// Adds a number, unless it is there. Those that are there were seen, each as a label.
+fn add_once(numbers: &mut Vec<u32>, seen: &mut LabelSet, number: u32) -> Result<(), Memory>
+    requires seen { AreSeen (members seen.old) numbers.old.items }
+    ensures ok { OnOk result (numbers.new.items ≡ with_number numbers.old.items number) }
+    ensures seen { OnOk result (AreSeen (members seen.new) numbers.new.items) }
 {
     let label = Label(number);
     if seen.contains(label) {
         return Ok(());
     }
-    reserve(labels, 1)?;
+    reserve(numbers, 1)?;
     seen.insert(label)?;
-    labels.push_reserved(label);
+    numbers.push_reserved(number);
     Ok(())
 }
 
-/// Adds the labels of these numbers, each once.
-fn add_all(labels: &mut Vec<Label>, seen: &mut LabelSet, found: &[u32]) -> Result<(), Memory>
-    requires seen { AreSeen (members seen.old) (numbers labels.old.items) }
-    ensures ok { OnOk result (numbers labels.new.items
-        ≡ fold with_number (numbers labels.old.items) found.now) }
-    ensures seen { OnOk result (AreSeen (members seen.new) (numbers labels.new.items)) }
+/// Adds these numbers, each once.
+fn add_all(numbers: &mut Vec<u32>, seen: &mut LabelSet, found: &[u32]) -> Result<(), Memory>
+    requires seen { AreSeen (members seen.old) numbers.old.items }
+    ensures ok { OnOk result (numbers.new.items ≡ fold with_number numbers.old.items found.now) }
+    ensures seen { OnOk result (AreSeen (members seen.new) numbers.new.items) }
 {
     for number in found {
-        add_once(labels, seen, *number)?;
+        add_once(numbers, seen, *number)?;
     }
     Ok(())
 }
 
-/// The labels, as those that were seen.
-fn seen_of(alloc: Global, labels: &[Label]) -> Result<LabelSet, Memory>
-    ensures { IfOk result (λ seen. AreSeen (members seen) (numbers labels.now)) }
+/// The numbers, as those that were seen.
+fn seen_of(alloc: Global, numbers: &[u32]) -> Result<LabelSet, Memory>
+    ensures { IfOk result (λ seen. AreSeen (members seen) numbers.now) }
 {
     let mut seen = LabelSet::new(alloc);
-    for label in labels {
-        seen.insert(*label)?;
+    for number in numbers {
+        seen.insert(Label(*number))?;
     }
     Ok(seen)
 }
 
-/// Adds the labels of these numbers, each unless it is there.
+/// Adds these numbers, each unless it is there.
 ///
 /// # Errors
 /// `Memory` if an allocation failed.
-pub fn add_labels(alloc: Global, labels: &mut Vec<Label>, found: &[u32]) -> Result<(), Memory>
-    ensures { OnOk result (numbers labels.new.items
-        ≡ fold with_number (numbers labels.old.items) found.now) }
+pub fn add_numbers(alloc: Global, numbers: &mut Vec<u32>, found: &[u32]) -> Result<(), Memory>
+    ensures { OnOk result (numbers.new.items ≡ fold with_number numbers.old.items found.now) }
 {
-    let mut seen = seen_of(alloc, labels)?;
-    add_all(labels, &mut seen, found)
+    let mut seen = seen_of(alloc, numbers)?;
+    add_all(numbers, &mut seen, found)
 }
 
-/// The labels that the entries mean by these names, each once.
+/// The numbers of a kind that the entries mean by these names, each once, in the order of the lines.
 ///
 /// # Errors
 /// `Memory` if an allocation failed.
-pub fn known_labels(alloc: Global, names: &Names, found: &[Entry]) -> Result<Vec<Label>, Memory>
-    ensures { IfOk result (λ labels. numbers labels.items
-        ≡ labels_known names.now (entries found.now)) }
+pub fn numbers_known(
+    alloc: Global,
+    names: &Names,
+    kind: NameKind,
+    found: &[Entry],
+) -> Result<Vec<u32>, Memory>
+    ensures { IfOk result (λ numbers. numbers.items
+        ≡ numbers_known names.now kind (entries found.now)) }
 {
-    let mut labels = Vec::new(alloc);
+    let mut numbers = Vec::new(alloc);
     let mut seen = LabelSet::new(alloc);
     for entry in found {
-        let meant = labels_meant(alloc, names, *entry)?;
-        add_all(&mut labels, &mut seen, &meant)?;
+        let these = numbers_in(alloc, names, kind, *entry)?;
+        add_all(&mut numbers, &mut seen, &these)?;
     }
-    Ok(labels)
+    Ok(numbers)
+}
+
+/// Whether the entry says that all locks are left out.
+fn is_all_locks(found: &Entry) -> bool
+    ensures { result ≡ is_all_locks (entry found.now) }
+{
+    matches!(found, Entry::AllLocks)
+}
+
+/// Whether one of the entries says that all locks are left out.
+pub fn has_all_locks(found: &[Entry]) -> bool
+    ensures { result ≡ has_all_locks (entries found.now) }
+{
+    found.iter().any(|entry| is_all_locks(entry))
 }

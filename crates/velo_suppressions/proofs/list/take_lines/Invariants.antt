@@ -7,7 +7,7 @@ use Rattle.velo_suppressions.proofs.list.take_lines.Given as goal
 abbrev pub invariant-loop-rest : goal.invariant-loop-rest
 invariant-loop-rest l =
     record {
-      same : entries_from (entries l.found.items) l.line (lines l.rest) ≡ entries_from (entries l.fn.found.items) 0 (lines l.fn.text);
+      same : entries_from l.scope (entries l.found.items) l.line (lines l.rest) ≡ entries_from l.scope (entries l.fn.found.items) 0 (lines l.fn.text);
       numbered : l.line + length l.rest ≤ length l.fn.text;
     }
 
