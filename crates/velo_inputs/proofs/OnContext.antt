@@ -12,11 +12,11 @@ use Rattle.velo_names.specs.Names.{NameLists}
 use Rattle.velo_sites.specs.Sites.{Table}
 
 pub in_context : (does : NameLists → Asked → Option Table → Store → Writing → Fate → Type 0) (names : NameLists) (options : ContextOptions) (store : Store) (stdout : Writing) (f : Fate) → AreNamesOf store.disk options.names names
-    → ReadsListThen (λ asked. ReadsSitesThen (does names asked) options.sites) names options.ignored store stdout f
+    → ReadsListThen (λ asked. ReadsSitesThen (does names asked) options) names options.ignored store stdout f
     → KnowsNoContext store options stdout f
     ⊎ ((names : NameLists) × (asked : Asked) × (sites : Option Table) × IsContext store.disk options names asked sites × does names asked sites store stdout f)
 in_context does names options store stdout f are (inl (lacks, nowhere)) = inl (inr (names, are, inl lacks), nowhere)
 in_context does names options store stdout f are (inr (known, list, inl (vain, nowhere))) = inl (inr (names, are, inr (known, list, inl vain)), nowhere)
 in_context does names options store stdout f are (inr (known, list, inr (asked, is, inl (lacks, nowhere)))) = inl (inr (names, are, inr (known, list, inr (asked, is, lacks))), nowhere)
 in_context does names options store stdout f are (inr (known, list, inr (asked, is, inr (sites, read, h)))) =
-    inr (names, asked, sites, record { are_names = are; known = known; are_known = list; is_asked = is; are_sites = read }, h)
+    inr (names, asked, sites, record { are_names = are; known = known; is_known = list; is_asked = is; are_sites = read }, h)

@@ -1,15 +1,15 @@
 -- The labels, the locks and the variables that a command is asked to leave out, each by a number, a
 -- name or a pattern of names.
-use Rattle.std.specs.Prelude.{◌≡◌, ◌⊎◌, ℕ, List, [], ◌∷◌, ◌++◌, filter, fold, map, nat_le, option_map, Option, Some, None, is_some, IsTrue}
+use Rattle.std.specs.Prelude.{◌≡◌, ◌⊎◌, ℕ, List, [], ◌∷◌, ◌++◌, ◌||◌, filter, fold, map, nat_le, option_map, Option, Some, None, is_some, IsTrue}
 use Rattle.std.specs.Borrow.{Bor}
 use Rattle.velo_events.specs.Refusals.{GrowthRefused}
+use Rattle.velo_events.specs.declared.event.Label.{Label as LabelOf}
 use Rattle.velo_events.specs.declared.event.LockId.{LockId}
 use Rattle.velo_events.specs.declared.event.VarId.{VarId}
 use Rattle.velo_names.specs.declared.kind.NameKind.{NameKind}
 use Rattle.velo_names.specs.declared.kind.NameKind.TheVariants as kind
 use Rattle.velo_names.specs.Line.{greatest}
 use Rattle.velo_names.specs.Names.{NameLists, meant_by}
-use Rattle.velo_suppressions.specs.Answers.{numbers}
 use Rattle.velo_suppressions.specs.Known.{with_number}
 use Rattle.velo_audit_text.specs.declared.words.Asked.{Asked}
 use Rattle.velo_fate.specs.declared.fate.Fate.{Fate}
@@ -17,6 +17,7 @@ use Rattle.velo_fate.specs.declared.fate.Fate.TheVariants as fate
 use Rattle.velo_request.specs.declared.request.Ignorable.{Ignorable}
 use Rattle.velo_request.specs.declared.request.Ignorable.TheVariants.{Label, Lock, Variable}
 use Rattle.velo_request.specs.declared.request.Ignored.{Ignored}
+use Rattle.velo_inputs.specs.Listing.{Known}
 
 -- ---- what a word means
 
@@ -58,16 +59,21 @@ MeanNothing names what words f = ⊥
 abbrev pub labels_asked : NameLists → List ℕ → List (Bor (List ℕ)) → Option (List ℕ)
 labels_asked names known words = option_map (fold with_number known) (ids_by names Label words)
 
--- these labels, and the locks and the variables that its words mean, in their order; and all locks,
--- if it says so
-pub record IsAsked (names : NameLists) (known : List ℕ) (ignored : Ignored) (asked : Asked)
+-- the ids among the numbers that are known, and then those that the words mean, in their order
+abbrev pub ids_asked : NameLists → Ignorable → List ℕ → List (Bor (List ℕ)) → Option (List ℕ)
+ids_asked names what known words =
+    option_map (λ ids. ids_among (kind_of what) known ++ ids) (ids_by names what words)
+
+-- these labels, locks and variables; and all locks, if the list or the option says so
+pub record IsAsked (names : NameLists) (known : Known) (ignored : Ignored) (asked : Asked)
     : Type 0 where
-  pub labels : labels_asked names known ignored.labels.now ≡ Some (numbers asked.labels.now)
-  pub locks : ids_by names Lock ignored.locks.now
+  pub labels : labels_asked names known.labels ignored.labels.now
+      ≡ Some (map (λ (l : LabelOf). l.0) asked.labels.now)
+  pub locks : ids_asked names Lock known.locks ignored.locks.now
       ≡ Some (map (λ (m : LockId). m.0) asked.locks.now)
-  pub variables : ids_by names Variable ignored.variables.now
+  pub variables : ids_asked names Variable known.variables ignored.variables.now
       ≡ Some (map (λ (x : VarId). x.0) asked.variables.now)
-  pub all_locks : asked.all_locks ≡ ignored.all_locks
+  pub all_locks : asked.all_locks ≡ (known.all_locks || ignored.all_locks)
 
 -- Why nothing can be left out as asked: the first word that means nothing, among the labels, then
 -- the locks, then the variables; or an allocation failed.

@@ -5,23 +5,25 @@ ghost use Rattle.velo_delivery.specs.Disk.{Store, store};
 ghost use Rattle.velo_delivery.specs.Writing.{Writing, writing};
 ghost use Rattle.velo_fate.specs.declared.fate.Fate.{Fate as FateOf};
 ghost use Rattle.velo_inputs.specs.Context.{ReadsListThen, ReadsSitesThen, JudgesWordsThen, IsContext, KnowsNoContext};
+ghost use Rattle.velo_inputs.specs.Listing.{known_of};
+ghost use Rattle.velo_inputs.specs.Siting.{ParsesThen, ReadsSourcesThen};
 ghost use Rattle.velo_names.specs.Names.{NameLists};
 ghost use Rattle.velo_sites.specs.Sites.{Table};
-ghost use Rattle.velo_suppressions.specs.Answers.{numbers};
 
-use crate::ignoring::{add_ignored_labels, ignored_locks, ignored_variables};
-use crate::listing::labels_of;
+use crate::ignoring::{ignored_labels, ignored_locks, ignored_variables};
+use crate::listing::{Listed, listed_of};
 use crate::naming::{names_in, read_given};
 use crate::siting::sites_in;
 use std::alloc::Global;
 use velo_audit_text::Asked;
 use velo_bytes::Sink;
 use velo_delivery::Files;
-use velo_events::Label;
+use velo_events::Memory;
 use velo_fate::Fate;
 use velo_names::{MAX_NAMES_BYTES, Names};
 use velo_request::Ignored;
-use velo_sites::{MAX_SITES_BYTES, Sites};
+use velo_sites::{MAX_SITES_BYTES, Sites, SitesFault};
+use velo_sources::with_sources;
 
 /// What was asked for of all that a command knows before it opens its log.
 #[derive(Clone, Copy)]
@@ -32,6 +34,8 @@ pub struct ContextOptions<'a> {
     pub ignored: Ignored<'a>,
     /// The path of the sites, or `-`.
     pub sites: Option<&'a str>,
+    /// The folder of the sources, whose lines stand behind the sites.
+    pub source: Option<&'a str>,
 }
 
 /// What is done by names, without what is left out of the log, and with sites.
@@ -53,26 +57,95 @@ pub trait InContext {
             (writing O.contents O.failures out.old out.new) result };
 }
 
-/// Does a command with the sites of the file at a path, if one is given. The sites are read first.
+/// Does a command with the sites of a text; or with others, where the text gives none.
+fn do_by_text<C: InContext, F: Files, O: Sink>(
+    alloc: Global,
+    command: &C,
+    names: &Names,
+    asked: &Asked,
+    text: &[u8],
+    others: &Option<Sites>,
+    files: &mut F,
+    out: &mut O,
+) -> Fate
+    ensures { ParsesThen (C.does command.now names.now asked.now) text.now others.now
+        (store F.disk files.old files.new) (writing O.contents O.failures out.old out.new) result }
+{
+    match Sites::parse(alloc, text) {
+        Ok(sites) => {
+            let sites = Some(sites);
+            let fate = command.do_in(alloc, names, asked, &sites, files, out);
+            drop(sites);
+            fate
+        }
+        Err(SitesFault::Memory) => Fate::Memory,
+        Err(_) => command.do_in(alloc, names, asked, others, files, out),
+    }
+}
+
+/// Does a command with the sites that bytes give, each with its source, if there are sites and a
+/// folder of sources is given. Where the text with sources is too long they stand without.
+fn do_by_sources<C: InContext, F: Files, O: Sink>(
+    alloc: Global,
+    command: &C,
+    names: &Names,
+    asked: &Asked,
+    folder: Option<&str>,
+    bytes: &[u8],
+    sites: &Option<Sites>,
+    files: &mut F,
+    out: &mut O,
+) -> Fate
+    ensures { ReadsSourcesThen (C.does command.now names.now asked.now) folder.entry bytes.now sites.now
+        (store F.disk files.old files.new) (writing O.contents O.failures out.old out.new) result }
+{
+    let Some(folder) = folder else {
+        return command.do_in(alloc, names, asked, sites, files, out);
+    };
+    if sites.is_none() {
+        return command.do_in(alloc, names, asked, sites, files, out);
+    }
+    let text = match with_sources(alloc, bytes, folder, files) {
+        Ok(text) => text,
+        Err(Memory) => return Fate::Memory,
+    };
+    let fate = do_by_text(alloc, command, names, asked, &text, sites, files, out);
+    drop(text);
+    fate
+}
+
+/// Does a command with the sites of the file at a path, if one is given, and with their sources, if a
+/// folder is given. The sites are read first.
 fn do_by_sites<C: InContext, F: Files, O: Sink>(
     alloc: Global,
     command: &C,
     names: &Names,
     asked: &Asked,
-    path: Option<&str>,
+    options: &ContextOptions,
     files: &mut F,
     out: &mut O,
 ) -> Fate
-    ensures { ReadsSitesThen (C.does command.now names.now asked.now) path.entry
+    ensures { ReadsSitesThen (C.does command.now names.now asked.now) options.now
         (store F.disk files.old files.new) (writing O.contents O.failures out.old out.new) result }
 {
+    let path = options.sites;
     let bytes = match read_given(alloc, path, MAX_SITES_BYTES, files) {
         Ok(bytes) => bytes,
         Err(fate) => return fate,
     };
     let fate = match sites_in(alloc, path, &bytes) {
         Ok(sites) => {
-            let fate = command.do_in(alloc, names, asked, &sites, files, out);
+            let fate = do_by_sources(
+                alloc,
+                command,
+                names,
+                asked,
+                options.source,
+                &bytes,
+                &sites,
+                files,
+                out,
+            );
             drop(sites);
             fate
         }
@@ -82,44 +155,44 @@ fn do_by_sites<C: InContext, F: Files, O: Sink>(
     fate
 }
 
-/// Does a command without the labels that are known, and without what is to be ignored by the names.
+/// Does a command without what is known, and without what is to be ignored by the names.
 fn do_known<C: InContext, F: Files, O: Sink>(
     alloc: Global,
     command: &C,
     names: &Names,
     options: &ContextOptions,
-    labels: &mut Vec<Label>,
+    listed: &mut Listed,
     files: &mut F,
     out: &mut O,
 ) -> Fate
-    ensures { JudgesWordsThen (λ asked. ReadsSitesThen (C.does command.now names.now asked) options.now.sites)
-        names.now options.now.ignored (numbers labels.old.items)
+    ensures { JudgesWordsThen (λ asked. ReadsSitesThen (C.does command.now names.now asked) options.now)
+        names.now options.now.ignored (known_of listed.old)
         (store F.disk files.old files.new) (writing O.contents O.failures out.old out.new) result }
 {
     let ignored = &options.ignored;
-    match add_ignored_labels(alloc, names, labels, ignored.labels) {
-        Ok(()) => (),
+    let labels = match ignored_labels(alloc, names, &mut listed.labels, ignored.labels) {
+        Ok(labels) => labels,
         Err(fate) => return fate,
-    }
-    let locks = match ignored_locks(alloc, names, ignored.locks) {
+    };
+    let locks = match ignored_locks(alloc, names, &listed.locks, ignored.locks) {
         Ok(locks) => locks,
         Err(fate) => return fate,
     };
-    let variables = match ignored_variables(alloc, names, ignored.variables) {
+    let variables = match ignored_variables(alloc, names, &listed.variables, ignored.variables) {
         Ok(variables) => variables,
         Err(fate) => return fate,
     };
     let asked = Asked {
-        labels: labels.as_slice(),
+        labels: &labels,
         locks: &locks,
         variables: &variables,
-        all_locks: ignored.all_locks,
+        all_locks: listed.all_locks || ignored.all_locks,
     };
-    do_by_sites(alloc, command, names, &asked, options.sites, files, out)
+    do_by_sites(alloc, command, names, &asked, options, files, out)
 }
 
-/// Does a command without what is to be ignored by the names. The list of the labels that are known
-/// is read first.
+/// Does a command without what is to be ignored by the names. The list of what is known is read
+/// first.
 fn do_by_asked<C: InContext, F: Files, O: Sink>(
     alloc: Global,
     command: &C,
@@ -128,14 +201,14 @@ fn do_by_asked<C: InContext, F: Files, O: Sink>(
     files: &mut F,
     out: &mut O,
 ) -> Fate
-    ensures { ReadsListThen (λ asked. ReadsSitesThen (C.does command.now names.now asked) options.now.sites)
+    ensures { ReadsListThen (λ asked. ReadsSitesThen (C.does command.now names.now asked) options.now)
         names.now options.now.ignored (store F.disk files.old files.new)
         (writing O.contents O.failures out.old out.new) result }
 {
-    match labels_of(alloc, names, options.ignored.known, files) {
-        Ok(mut labels) => {
-            let fate = do_known(alloc, command, names, options, &mut labels, files, out);
-            drop(labels);
+    match listed_of(alloc, names, &options.ignored, files) {
+        Ok(mut listed) => {
+            let fate = do_known(alloc, command, names, options, &mut listed, files, out);
+            drop(listed);
             fate
         }
         Err(fate) => fate,

@@ -1,10 +1,12 @@
-//! The labels, the locks and the variables that a command is asked to leave out.
-ghost use Rattle.std.specs.Prelude.{◌≡◌, ◌≢◌, ◌≤◌, ◌++◌, ◌∷◌, [], All, map, Some, IfErr, IfOk, OnOk};
+//! The labels, the locks and the variables that a command is asked to leave out: of a list, and then
+//! of words.
+ghost use Rattle.std.specs.Prelude.{◌≡◌, ◌≢◌, ◌≤◌, ◌++◌, ◌∷◌, [], All, fold, map, Some, IfErr, IfOk, OnOk};
+ghost use Rattle.velo_events.specs.declared.event.Label.{Label as LabelOf};
 ghost use Rattle.velo_events.specs.declared.event.LockId.{LockId as LockOf};
 ghost use Rattle.velo_events.specs.declared.event.VarId.{VarId as VariableOf};
-ghost use Rattle.velo_inputs.specs.Ignoring.{MeanNothing, MeansNone, ids_among, ids_by, ids_meant, kind_of, labels_asked};
+ghost use Rattle.velo_inputs.specs.Ignoring.{MeanNothing, MeansNone, ids_among, ids_asked, ids_meant, kind_of, labels_asked};
 ghost use Rattle.velo_request.specs.declared.request.Ignorable.TheVariants.{Label as OfLabel, Lock as OfLock, Variable as OfVariable};
-ghost use Rattle.velo_suppressions.specs.Answers.{numbers};
+ghost use Rattle.velo_suppressions.specs.Known.{with_number};
 
 use std::alloc::Global;
 use velo_events::growth::reserve;
@@ -12,7 +14,7 @@ use velo_events::{Label, LockId, Memory, VarId};
 use velo_fate::Fate;
 use velo_names::{NameKind, Names};
 use velo_request::Ignorable;
-use velo_suppressions::add_labels;
+use velo_suppressions::add_numbers;
 
 fn kind_of(what: Ignorable) -> NameKind
     ensures { result ≡ kind_of what }
@@ -84,12 +86,30 @@ fn add_word(
     Ok(())
 }
 
-/// The ids that the words mean, one after another.
-fn ids_by(alloc: Global, names: &Names, what: Ignorable, words: &[&str]) -> Result<Vec<u32>, Fate>
-    ensures ids { IfOk result (λ ids. ids_by names.now what words.now ≡ Some ids.items) }
-    ensures fault { IfErr result (MeanNothing names.now what words.now) }
+/// The ids among these numbers.
+fn ids_listed(alloc: Global, what: Ignorable, listed: &[u32]) -> Result<Vec<u32>, Memory>
+    ensures { IfOk result (λ ids. ids.items ≡ ids_among (kind_of what) listed.now) }
 {
     let mut ids = Vec::new(alloc);
+    add_ids(&mut ids, kind_of(what), listed)?;
+    Ok(ids)
+}
+
+/// The ids among the numbers of a list, and then those that the words mean, one after another.
+fn ids_asked(
+    alloc: Global,
+    names: &Names,
+    what: Ignorable,
+    listed: &[u32],
+    words: &[&str],
+) -> Result<Vec<u32>, Fate>
+    ensures ids { IfOk result (λ ids. ids_asked names.now what listed.now words.now ≡ Some ids.items) }
+    ensures fault { IfErr result (MeanNothing names.now what words.now) }
+{
+    let mut ids = match ids_listed(alloc, what, listed) {
+        Ok(ids) => ids,
+        Err(Memory) => return Err(Fate::Memory),
+    };
     for word in words {
         match add_word(alloc, &mut ids, names, what, word) {
             Ok(()) => (),
@@ -97,6 +117,27 @@ fn ids_by(alloc: Global, names: &Names, what: Ignorable, words: &[&str]) -> Resu
         }
     }
     Ok(ids)
+}
+
+/// The labels of these numbers.
+fn labels_of(alloc: Global, numbers: &[u32]) -> Result<Vec<Label>, Memory>
+    ensures { IfOk result (λ labels. map (λ (l : LabelOf). l.0) labels.items ≡ numbers.now) }
+{
+    let mut labels = Vec::new(alloc);
+    for number in numbers {
+        reserve(&mut labels, 1)?;
+        labels.push_reserved(Label(*number));
+    }
+    Ok(labels)
+}
+
+/// The labels of the numbers of a list, and then those of these, each once.
+fn labels_with(alloc: Global, listed: &mut Vec<u32>, ids: &[u32]) -> Result<Vec<Label>, Memory>
+    ensures { IfOk result (λ labels. map (λ (l : LabelOf). l.0) labels.items
+        ≡ fold with_number listed.old.items ids.now) }
+{
+    add_numbers(alloc, listed, ids)?;
+    labels_of(alloc, listed)
 }
 
 /// The locks of these ids.
@@ -126,53 +167,65 @@ fn variables_of(alloc: Global, ids: &[u32]) -> Result<Vec<VarId>, Memory>
     Ok(variables)
 }
 
-/// Adds the labels that the words mean, each a number, a name or a pattern of names, unless it is there.
+/// The labels of a list, and then those that the words mean, each a number, a name or a pattern of
+/// names; each label once. They are gathered in `listed`.
 ///
 /// # Errors
 /// `Ignored` where a word means none, `Memory` if an allocation failed.
-pub fn add_ignored_labels(
+pub fn ignored_labels(
     alloc: Global,
     names: &Names,
-    labels: &mut Vec<Label>,
+    listed: &mut Vec<u32>,
     words: &[&str],
-) -> Result<(), Fate>
-    ensures labels { OnOk result (labels_asked names.now (numbers labels.old.items) words.now
-        ≡ Some (numbers labels.new.items)) }
+) -> Result<Vec<Label>, Fate>
+    ensures labels { IfOk result (λ labels. labels_asked names.now listed.old.items words.now
+        ≡ Some (map (λ (l : LabelOf). l.0) labels.items)) }
     ensures fault { IfErr result (MeanNothing names.now OfLabel words.now) }
 {
-    let ids = ids_by(alloc, names, Ignorable::Label, words)?;
-    match add_labels(alloc, labels, &ids) {
-        Ok(()) => Ok(()),
+    let ids = ids_asked(alloc, names, Ignorable::Label, &[], words)?;
+    match labels_with(alloc, listed, &ids) {
+        Ok(labels) => Ok(labels),
         Err(Memory) => Err(Fate::Memory),
     }
 }
 
-/// The locks that the words mean, as `add_ignored_labels`.
+/// The locks of a list, and then those that the words mean, as `ignored_labels`, but each as often
+/// as it is meant.
 ///
 /// # Errors
-/// As `add_ignored_labels`.
-pub fn ignored_locks(alloc: Global, names: &Names, words: &[&str]) -> Result<Vec<LockId>, Fate>
-    ensures locks { IfOk result (λ locks. ids_by names.now OfLock words.now
+/// As `ignored_labels`.
+pub fn ignored_locks(
+    alloc: Global,
+    names: &Names,
+    listed: &[u32],
+    words: &[&str],
+) -> Result<Vec<LockId>, Fate>
+    ensures locks { IfOk result (λ locks. ids_asked names.now OfLock listed.now words.now
         ≡ Some (map (λ (m : LockOf). m.0) locks.items)) }
     ensures fault { IfErr result (MeanNothing names.now OfLock words.now) }
 {
-    let ids = ids_by(alloc, names, Ignorable::Lock, words)?;
+    let ids = ids_asked(alloc, names, Ignorable::Lock, listed, words)?;
     match locks_of(alloc, &ids) {
         Ok(locks) => Ok(locks),
         Err(Memory) => Err(Fate::Memory),
     }
 }
 
-/// The variables that the words mean, as `add_ignored_labels`.
+/// The variables of a list, and then those that the words mean, as `ignored_locks`.
 ///
 /// # Errors
-/// As `add_ignored_labels`.
-pub fn ignored_variables(alloc: Global, names: &Names, words: &[&str]) -> Result<Vec<VarId>, Fate>
-    ensures variables { IfOk result (λ variables. ids_by names.now OfVariable words.now
+/// As `ignored_labels`.
+pub fn ignored_variables(
+    alloc: Global,
+    names: &Names,
+    listed: &[u32],
+    words: &[&str],
+) -> Result<Vec<VarId>, Fate>
+    ensures variables { IfOk result (λ variables. ids_asked names.now OfVariable listed.now words.now
         ≡ Some (map (λ (x : VariableOf). x.0) variables.items)) }
     ensures fault { IfErr result (MeanNothing names.now OfVariable words.now) }
 {
-    let ids = ids_by(alloc, names, Ignorable::Variable, words)?;
+    let ids = ids_asked(alloc, names, Ignorable::Variable, listed, words)?;
     match variables_of(alloc, &ids) {
         Ok(variables) => Ok(variables),
         Err(Memory) => Err(Fate::Memory),

@@ -1,69 +1,124 @@
-//! The labels that are known already, of a list.
-ghost use Rattle.std.specs.Prelude.{IfErr, IfOk};
-ghost use Rattle.velo_suppressions.specs.Answers.{numbers};
+//! What is known already, of a list.
+ghost use Rattle.std.specs.Prelude.{◌≡◌, IfErr, IfOk};
+ghost use Rattle.velo_suppressions.specs.Answers.{entries};
 ghost use Rattle.velo_fate.specs.Format.{LacksAt, Reads};
-ghost use Rattle.velo_inputs.specs.Listing.{AreLabelsOf, AreNoList, LacksLabels, MeansLabels, list_file};
+ghost use Rattle.velo_inputs.specs.Listing.{AreNoList, IsKnownOf, LacksKnown, MeansKnown, known_by, known_of, list_file, nothing_known, scope_of};
 
 use std::alloc::Global;
 use velo_delivery::Files;
-use velo_events::{Label, Memory};
+use velo_events::Memory;
 use velo_fate::{Fate, read_file};
-use velo_names::{MAX_NAMES_BYTES, Names};
-use velo_suppressions::{known_labels, parse_list};
+use velo_names::{MAX_NAMES_BYTES, NameKind, Names};
+use velo_request::Ignored;
+use velo_suppressions::{Entry, Scope, has_all_locks, numbers_known, parse_list};
 
-/// The labels that the bytes of a list mean by these names.
+/// What a list means by the names of a file: numbers of labels, of locks and of variables, each
+/// once.
+#[derive(Drop)]
+pub struct Listed {
+    /// The labels.
+    pub labels: Vec<u32>,
+    /// The locks.
+    pub locks: Vec<u32>,
+    /// The variables.
+    pub variables: Vec<u32>,
+    /// Whether all locks are left out.
+    pub all_locks: bool,
+}
+
+/// Nothing is known.
+fn nothing_listed(alloc: Global) -> Listed
+    ensures { known_of result ≡ nothing_known }
+{
+    Listed {
+        labels: Vec::new(alloc),
+        locks: Vec::new(alloc),
+        variables: Vec::new(alloc),
+        all_locks: false,
+    }
+}
+
+/// What the entries of a list mean by these names.
+fn listed_by(alloc: Global, names: &Names, found: &[Entry]) -> Result<Listed, Memory>
+    ensures { IfOk result (λ listed. known_of listed ≡ known_by names.now (entries found.now)) }
+{
+    let labels = numbers_known(alloc, names, NameKind::Label, found)?;
+    let locks = numbers_known(alloc, names, NameKind::Lock, found)?;
+    let variables = numbers_known(alloc, names, NameKind::Variable, found)?;
+    Ok(Listed {
+        labels,
+        locks,
+        variables,
+        all_locks: has_all_locks(found),
+    })
+}
+
+/// What the bytes of a list mean by these names.
 ///
 /// # Errors
-/// `List` with the fault by which they are none, `Memory` if an allocation failed.
-fn labels_in(alloc: Global, names: &Names, bytes: &[u8]) -> Result<Vec<Label>, Fate>
-    ensures labels { IfOk result (λ labels. MeansLabels names.now bytes.now (numbers labels.items)) }
-    ensures fault { IfErr result (AreNoList bytes.now) }
+/// `List` with the fault by which they mean nothing, `Memory` if an allocation failed.
+fn listed_in(alloc: Global, scope: Scope, names: &Names, bytes: &[u8]) -> Result<Listed, Fate>
+    ensures listed { IfOk result (λ listed. MeansKnown scope names.now bytes.now (known_of listed)) }
+    ensures fault { IfErr result (AreNoList scope bytes.now) }
 {
-    let entries = match parse_list(alloc, bytes) {
+    let entries = match parse_list(alloc, scope, bytes) {
         Ok(entries) => entries,
         Err(fault) => return Err(Fate::List(fault)),
     };
-    match known_labels(alloc, names, &entries) {
-        Ok(labels) => Ok(labels),
+    match listed_by(alloc, names, &entries) {
+        Ok(listed) => Ok(listed),
         Err(Memory) => Err(Fate::Memory),
     }
 }
 
-/// The labels of the list at a path, by these names.
-fn labels_at<F: Files>(
+/// What the list at a path means by these names.
+fn listed_at<F: Files>(
     alloc: Global,
+    scope: Scope,
     names: &Names,
     path: &str,
     files: &F,
-) -> Result<Vec<Label>, Fate>
-    ensures labels { IfOk result (λ labels. Reads (list_file names.now) (F.disk files.now) path.now
-        (numbers labels.items)) }
-    ensures none { IfErr result (LacksAt (list_file names.now) (F.disk files.now) path.now) }
+) -> Result<Listed, Fate>
+    ensures listed { IfOk result (λ listed. Reads (list_file scope names.now) (F.disk files.now)
+        path.now (known_of listed)) }
+    ensures none { IfErr result (LacksAt (list_file scope names.now) (F.disk files.now) path.now) }
 {
     let bytes = match read_file(alloc, path, MAX_NAMES_BYTES, files) {
         Ok(bytes) => bytes,
         Err(fate) => return Err(fate),
     };
-    labels_in(alloc, names, &bytes)
+    listed_in(alloc, scope, names, &bytes)
 }
 
-/// The labels of the list, if one was given, and else none.
+/// What the lines of a list may speak of.
+fn scope_of(is_wide: bool) -> Scope
+    ensures { result ≡ scope_of is_wide }
+{
+    if is_wide {
+        Scope::Everything
+    } else {
+        Scope::Labels
+    }
+}
+
+/// What the list means, if one was given, and else nothing.
 ///
 /// # Errors
 /// `CannotOpen` where it does not open, `ReadFailed` where it failed, `List` with its fault,
 /// `Memory` if an allocation failed.
-pub fn labels_of<F: Files>(
+pub fn listed_of<F: Files>(
     alloc: Global,
     names: &Names,
-    path: Option<&str>,
+    ignored: &Ignored,
     files: &F,
-) -> Result<Vec<Label>, Fate>
-    ensures labels { IfOk result (λ labels. AreLabelsOf names.now (F.disk files.now) path.entry
-        (numbers labels.items)) }
-    ensures none { IfErr result (LacksLabels names.now (F.disk files.now) path.entry) }
+) -> Result<Listed, Fate>
+    ensures listed { IfOk result (λ listed. IsKnownOf (scope_of ignored.now.is_wide) names.now
+        (F.disk files.now) ignored.now.known (known_of listed)) }
+    ensures none { IfErr result (LacksKnown (scope_of ignored.now.is_wide) names.now
+        (F.disk files.now) ignored.now.known) }
 {
-    match path {
-        None => Ok(Vec::new(alloc)),
-        Some(path) => labels_at(alloc, names, path, files),
+    match ignored.known {
+        None => Ok(nothing_listed(alloc)),
+        Some(path) => listed_at(alloc, scope_of(ignored.is_wide), names, path, files),
     }
 }

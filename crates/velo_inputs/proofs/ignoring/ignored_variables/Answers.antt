@@ -9,5 +9,5 @@ variables_of-requires c =
     record {
       small =
           subst (λ (ids : List ℕ). All (λ id. id ≤ 65535) ids) (sym c.deref.ensures.value)
-          (small_ids c.args.names.now Variable c.args.words.now c.in_ok-ids.ids.items c.in_ok-ids.ensures.ids);
+          (small_ids c.args.names.now Variable c.args.listed.now c.args.words.now c.in_ok-ids.ids.items c.in_ok-ids.ensures.ids);
     }
