@@ -23,7 +23,8 @@ use Rattle.velo_delivery.specs.Writing.{Writing}
 use Rattle.velo_inputs.specs.Context.{IsContext, KnowsNoContext}
 use Rattle.velo_inputs.specs.declared.context.ContextOptions.{ContextOptions}
 
--- ---- velodrome audit LOG [--names FILE] [--sites FILE] [--not-atomic FILE] [--ignore-label WORD]..
+-- ---- velodrome audit LOG [--names FILE] [--sites FILE] [--source FOLDER] [--not-atomic FILE]
+-- ---- [--ignore-label WORD]..
 -- ---- [--ignore-lock WORD].. [--ignore-locks] [--ignore-variable WORD].. [--format FORM] [--no-witness]
 -- ---- [--counts] [--by-count] [--innermost] [--events N] [--nodes N]
 
@@ -41,7 +42,12 @@ AuditsLog names sites asked options store stdout f =
 -- what it knows before is in `Context` of `velo_inputs`
 abbrev pub context_of_audit : AuditOptions → ContextOptions
 context_of_audit options =
-    record { names = options.names; ignored = options.ignored; sites = options.sites }
+    record {
+      names = options.names;
+      ignored = options.ignored;
+      sites = options.sites;
+      source = options.source;
+    }
 
 abbrev pub DoesAudit : AuditOptions → Store → Writing → Fate → Type 0
 DoesAudit options store stdout f =
@@ -50,7 +56,8 @@ DoesAudit options store stdout f =
     × IsContext store.disk (context_of_audit options) names asked sites
     × AuditsLog names sites asked options store stdout f)
 
--- ---- velodrome predict LOG [--names FILE] [--sites FILE] [--not-atomic FILE] [--ignore-label WORD]..
+-- ---- velodrome predict LOG [--names FILE] [--sites FILE] [--source FOLDER] [--not-atomic FILE]
+-- ---- [--ignore-label WORD]..
 -- ---- [--ignore-lock WORD].. [--ignore-locks] [--ignore-variable WORD].. [--values] [--tries N] [--seed S]
 -- ---- [--log OUT] [--format FORM] [--events N] [--nodes N]
 
@@ -69,7 +76,12 @@ PredictsLog names sites asked options store stdout f =
 -- what it knows before is in `Context` of `velo_inputs`
 abbrev pub context_of_predict : PredictOptions → ContextOptions
 context_of_predict options =
-    record { names = options.names; ignored = options.ignored; sites = options.sites }
+    record {
+      names = options.names;
+      ignored = options.ignored;
+      sites = options.sites;
+      source = options.source;
+    }
 
 abbrev pub DoesPredict : PredictOptions → Store → Writing → Fate → Type 0
 DoesPredict options store stdout f =

@@ -251,6 +251,7 @@ pub fn audit_file<F: Files, O: Sink>(
         names: options.names,
         ignored: options.ignored,
         sites: options.sites,
+        source: options.source,
     };
     do_in_context(alloc, &Command { options }, &context, files, out)
 }

@@ -5,6 +5,7 @@ use Rattle.std.specs.Borrow.{Bor}
 use Rattle.velo_events.specs.declared.config.Bounds.{Bounds}
 use Rattle.velo_events.specs.declared.event.Event.{Event}
 use Rattle.velo_events.specs.declared.refusal.Refusal.{Refusal}
+use Rattle.velo_suppressions.specs.declared.line.Scope.{Scope}
 use Rattle.velo_suppressions.specs.declared.fault.ListFault.{ListFault}
 use Rattle.velo_suppressions.specs.declared.fault.ListFault.TheVariants as list_fault
 use Rattle.velo_names.specs.declared.fault.NamesFault.{NamesFault}
@@ -14,12 +15,14 @@ use Rattle.velo_sites.specs.declared.fault.SitesFault.{SitesFault}
 use Rattle.velo_sites.specs.declared.fault.SitesFault.TheVariants as sites_fault
 use Rattle.velo_sites.specs.Sites.{Table}
 use Rattle.velo_audit_text.specs.declared.words.Asked.{Asked}
+use Rattle.velo_inputs.specs.Leaving.{left_out_at_first}
 use Rattle.velo_report.specs.declared.names.Names.{Names}
 use Rattle.velo_fate.specs.declared.fault.CheckFault.{CheckFault}
 use Rattle.velo_fate.specs.declared.fault.CheckFault.TheVariants as check_fault
 use Rattle.velo_fate.specs.declared.fate.Fate.{Fate}
 use Rattle.velo_fate.specs.declared.fate.Fate.TheVariants as fate
 use Rattle.velo_request.specs.declared.request.AuditOptions.{AuditOptions}
+use Rattle.velo_request.specs.declared.request.CheckRestOptions.{CheckRestOptions}
 use Rattle.velo_request.specs.declared.request.ExplainOptions.{ExplainOptions}
 use Rattle.velo_request.specs.declared.request.ExploreOptions.{ExploreOptions}
 use Rattle.velo_request.specs.declared.request.Ignorable.{Ignorable}
@@ -48,6 +51,7 @@ use Rattle.velo_fate.specs.Causes.{CheckByGrowth, ComesByRefusal, EndsByRefusal,
 use Rattle.velo_audit_commands.specs.Auditing.{IsAuditAnswer}
 use Rattle.velo_log_commands.specs.Carrying.{IsCarryAnswer, IsPut}
 use Rattle.velo_log_commands.specs.Check.{IsCheckAnswer}
+use Rattle.velo_log_commands.specs.CheckingRest.{IsCheckRestAnswer}
 use Rattle.velo_inputs.specs.Input.{IsFaultOfInput}
 use Rattle.velo_fate.specs.Delivery.{CommandAnswer, DeliversBy, FailsSaving, IsDelivered, IsDeliveredInTurn, IsPrinted, LacksMemory, silent}
 use Rattle.velo_delivery.specs.Disk.{Disk, Store, behind}
@@ -60,7 +64,7 @@ use Rattle.velo_inputs.specs.Context.{LacksContext}
 use Rattle.velo_inputs.specs.declared.context.ContextOptions.{ContextOptions}
 use Rattle.velo_inputs.specs.Ignoring.{AsksInVain, MeanNothing}
 use Rattle.velo_fate.specs.Format.{SaysNone}
-use Rattle.velo_inputs.specs.Listing.{HaveFaultOfList, LacksLabels, list_file}
+use Rattle.velo_inputs.specs.Listing.{HaveFaultOfList, LacksKnown, list_file, scope_of}
 use Rattle.velo_audit_commands.specs.Predicting.{IsPredictAnswer}
 use Rattle.velo_inputs.specs.Naming.{HaveFaultOfNames, LacksNames, names_file}
 use Rattle.velo_inputs.specs.Siting.{HaveFaultOfSites, LacksSites, sites_file}
@@ -71,7 +75,7 @@ use Rattle.velo_schedule_text.specs.Schedule.{IsFaultOfSchedule, IsFaultOfTurns}
 use Rattle.velo_workload_commands.specs.Scheduling.{HaveFaultOfSchedule, LacksSchedule, turns_file}
 use Rattle.velo_log_commands.specs.Watching.{EndsAfter, IsFaultOfHeader, IsFaultWithin, IsWatchAnswer, Terms, Watches, terms_of_watch}
 use Rattle.velo_log_commands.specs.Endless.{IsFaultOfWhole, terms_of_endless}
-use Rattle.velo_log_commands.specs.Commands.{DoesWatchBy, ExplainsLog, ThinsAsked, context_of_explain, context_of_thin, drawing_of}
+use Rattle.velo_log_commands.specs.Commands.{ChecksRestBy, DoesWatchBy, ExplainsLog, ThinsAsked, context_of_check, context_of_explain, context_of_thin, drawing_of}
 use Rattle.velo_world.specs.declared.log_replay.LogReplayFault.TheVariants as replay
 use Rattle.velo_delivery.specs.Writing.{Writing}
 use Rattle.velo_log_commands.specs.Thinning.{map_of}
@@ -102,6 +106,11 @@ module _ (needs : Needs) where
   of_check : (names : Names) (limit nodes : ℕ) (certificate : Bool) (read : Option (List ℕ)) (answer : CommandAnswer) → EndsByRefusal needs ending.Done → IsCheckAnswer names limit nodes certificate read answer → HasCause answer
   of_check names limit nodes certificate read answer done (inl c) = said answer _ c.said done
   of_check names limit nodes certificate read answer done (inr f) = said answer (silent (fate.Check f.0)) f.2 (of_fault limit nodes read f.0 f.1)
+
+  of_check_rest : (names : Names) (asked : Asked) (limit nodes : ℕ) (read : Option (List ℕ)) (answer : CommandAnswer) → EndsByRefusal needs ending.Done → IsCheckRestAnswer names (left_out_at_first asked) limit nodes read answer → HasCause answer
+  of_check_rest names asked limit nodes read answer done (inl is) = ⊎_elim (λ tells. said answer _ tells.said done) (λ full. said answer _ full.said tt) is.verdict
+  of_check_rest names asked limit nodes read answer done (inr (inl f)) = said answer (silent (fate.Check f.0)) f.2 (of_fault limit nodes read f.0 f.1)
+  of_check_rest names asked limit nodes read answer done (inr (inr lacks)) = of_lack answer lacks
 
   of_explanation : (names : NameLists) (sites : Option Table) (asked : Asked) (options : ExplainOptions) (read : Option (List ℕ)) (answer : CommandAnswer) (drawing : List ℕ) → EndsByRefusal needs ending.Done → IsExplainAnswer names sites asked options read answer drawing
       → HasCause answer
@@ -264,23 +273,23 @@ unsited needs disk (Some path) f (inl closed) = subst (ComesByRefusal needs) (sy
 unsited needs disk (Some path) f (inr broken) = ungiven needs broken.read.bytes f broken.unsaid
 
 -- nor a list
-of_list : (read : Option (List ℕ)) (f : ListFault) → HaveFaultOfList read f → ListByGrowth f
-of_list read list_fault.Memory is = is
-of_list read (list_fault.BadLine n) is = tt
-of_list read list_fault.TooManyLines is = tt
-of_list read list_fault.TooManyBytes is = tt
-of_list read list_fault.NotText is = tt
+of_list : (scope : Scope) (read : Option (List ℕ)) (f : ListFault) → HaveFaultOfList scope read f → ListByGrowth f
+of_list scope read list_fault.Memory is = is
+of_list scope read (list_fault.BadLine n) is = tt
+of_list scope read list_fault.TooManyLines is = tt
+of_list scope read list_fault.TooManyBytes is = tt
+of_list scope read list_fault.NotText is = tt
 
-unlisted_by : (names : NameLists) (needs : Needs) (read : Option (List ℕ)) (f : Fate) → SaysNone (list_file names) read f → ComesByRefusal needs f
-unlisted_by names needs read (fate.List fault) is = of_list read fault is
-unlisted_by names needs read fate.ReadFailed is = tt
-unlisted_by names needs read fate.Memory is = is
-unlisted_by names needs read f is = absurd is
+unlisted_by : (scope : Scope) (names : NameLists) (needs : Needs) (read : Option (List ℕ)) (f : Fate) → SaysNone (list_file scope names) read f → ComesByRefusal needs f
+unlisted_by scope names needs read (fate.List fault) is = of_list scope read fault is
+unlisted_by scope names needs read fate.ReadFailed is = tt
+unlisted_by scope names needs read fate.Memory is = is
+unlisted_by scope names needs read f is = absurd is
 
-unlisted : (names : NameLists) (needs : Needs) (disk : Disk) (path : Option (Bor (List ℕ))) (f : Fate) → LacksLabels names disk path f → ComesByRefusal needs f
-unlisted names needs disk None f lacks = absurd lacks
-unlisted names needs disk (Some path) f (inl closed) = subst (ComesByRefusal needs) (sym closed.0) tt
-unlisted names needs disk (Some path) f (inr broken) = unlisted_by names needs broken.read.bytes f broken.unsaid
+unlisted : (scope : Scope) (names : NameLists) (needs : Needs) (disk : Disk) (path : Option (Bor (List ℕ))) (f : Fate) → LacksKnown scope names disk path f → ComesByRefusal needs f
+unlisted scope names needs disk None f lacks = absurd lacks
+unlisted scope names needs disk (Some path) f (inl closed) = subst (ComesByRefusal needs) (sym closed.0) tt
+unlisted scope names needs disk (Some path) f (inr broken) = unlisted_by scope names needs broken.read.bytes f broken.unsaid
 
 -- nor what is to be ignored
 of_words : (needs : Needs) (names : NameLists) (what : Ignorable) (words : List (Bor (List ℕ))) (f : Fate) → MeanNothing names what words f → ComesByRefusal needs f
@@ -296,13 +305,18 @@ unmeant needs names ignored f (inr (labels, inr variables)) = of_words needs nam
 -- nor a context
 of_no_context : (needs : Needs) (disk : Disk) (options : ContextOptions) (f : Fate) → LacksContext disk options f → ComesByRefusal needs f
 of_no_context needs disk options f (inl lacks) = unnamed needs disk options.names f lacks
-of_no_context needs disk options f (inr (names, are, inl lacks)) = unlisted names needs disk options.ignored.known f lacks
+of_no_context needs disk options f (inr (names, are, inl lacks)) = unlisted (scope_of options.ignored.is_wide) names needs disk options.ignored.known f lacks
 of_no_context needs disk options f (inr (names, are, inr (known, list, inl vain))) = unmeant needs names options.ignored f vain
 of_no_context needs disk options f (inr (names, are, inr (known, list, inr (asked, is, lacks)))) = unsited needs disk options.sites f lacks
 
 of_audited : (names : NameLists) (asked : Asked) (options : AuditOptions) (store : Store) (stdout : Writing) (f : Fate) (sites : Option Table) → AuditsLog names sites asked options store stdout f → ComesByRefusal Growths f
 of_audited names asked options store stdout f sites (inl h) = unread Growths store.disk Log options.input.now None f h.0
 of_audited names asked options store stdout f sites (inr h) = of_delivered Growths store None stdout h.1 f (of_audit Growths names sites asked options h.0.bytes h.1 tt h.4) h.5
+
+of_rest_checked : (names : NameLists) (asked : Asked) (options : CheckRestOptions) (store : Store) (stdout : Writing) (f : Fate) → ChecksRestBy names asked options store stdout f → ComesByRefusal Growths f
+of_rest_checked names asked options store stdout f (inl (shown, are, inl h)) = unread Growths store.disk Log options.check.input.now None f h.0
+of_rest_checked names asked options store stdout f (inl (shown, are, inr h)) = of_delivered Growths store None stdout h.1 f (of_check_rest Growths shown asked _ _ h.0.bytes h.1 tt h.4) h.5
+of_rest_checked names asked options store stdout f (inr lacks) = subst (ComesByRefusal Growths) (sym lacks.1) lacks.0
 
 of_explained : (names : NameLists) (asked : Asked) (options : ExplainOptions) (store : Store) (stdout : Writing) (f : Fate) (sites : Option Table) → ExplainsLog names sites asked options store stdout f → ComesByRefusal Growths f
 of_explained names asked options store stdout f sites (inl h) = unread_apart Growths store.disk Log options.input.now options.target (drawing_of options) f h.0
@@ -384,6 +398,8 @@ unfolding Does
 of_done store (request.Check options) stdout f (inl h) = unnamed Growths store.disk options.names f h.0
 of_done store (request.Check options) stdout f (inr (names, read, (shown, are, inl h))) = unread Growths store.disk Log options.input.now None f h.0
 of_done store (request.Check options) stdout f (inr (names, read, (shown, are, inr h))) = of_delivered Growths store None stdout h.1 f (of_check Growths shown _ _ _ h.0.bytes h.1 tt h.4) h.5
+of_done store (request.CheckRest options) stdout f (inl h) = of_no_context Growths store.disk (context_of_check options) f h.0
+of_done store (request.CheckRest options) stdout f (inr (names, asked, sites, are, h)) = of_rest_checked names asked options store stdout f h
 of_done store (request.Explain options) stdout f (inl h) = of_no_context Growths store.disk (context_of_explain options) f h.0
 of_done store (request.Explain options) stdout f (inr (names, asked, sites, are, h)) = of_explained names asked options store stdout f sites h
 of_done store (request.Carry options) stdout f (inl h) = unread Growths store.disk Log options.input.now (Some options.target) f h.0

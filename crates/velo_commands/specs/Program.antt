@@ -11,15 +11,16 @@ use Rattle.velo_delivery.specs.Disk.{Store}
 use Rattle.velo_delivery.specs.Writing.{Writing}
 use Rattle.velo_fate.specs.declared.fate.Fate.{Fate}
 use Rattle.velo_audit_commands.specs.Commands.{DoesAudit, DoesPredict}
-use Rattle.velo_log_commands.specs.Commands.{DoesCarry, DoesCheck, DoesExplain, DoesThin, DoesWatch, DoesWatchEndless}
+use Rattle.velo_log_commands.specs.Commands.{DoesCarry, DoesCheck, DoesCheckRest, DoesExplain, DoesThin, DoesWatch, DoesWatchEndless}
 use Rattle.velo_request.specs.declared.request.Request.{Request}
-use Rattle.velo_request.specs.declared.request.Request.TheVariants.{Audit, Carry, Check, Explain, Explore, Predict, Replay, Run, Thin, Verify, Watch, WatchEndless}
+use Rattle.velo_request.specs.declared.request.Request.TheVariants.{Audit, Carry, Check, CheckRest, Explain, Explore, Predict, Replay, Run, Thin, Verify, Watch, WatchEndless}
 use Rattle.velo_verify.specs.Commands.{DoesVerify}
 use Rattle.velo_workload_commands.specs.Commands.{DoesExplore, DoesReplay, DoesRun}
 
 -- What was asked for was done. (It is opaque to the crates above: It is opaque outside this crate.)
 unfoldable pub Does : Store → Request → Writing → Fate → Type 0
 Does store (Check options) stdout f = DoesCheck options store stdout f
+Does store (CheckRest options) stdout f = DoesCheckRest options store stdout f
 Does store (Explain options) stdout f = DoesExplain options store stdout f
 Does store (Carry options) stdout f = DoesCarry options store stdout f
 Does store (Watch options) stdout f = DoesWatch options store stdout f

@@ -12,7 +12,8 @@ use velo_bytes::Sink;
 use velo_delivery::Files;
 use velo_fate::Fate;
 use velo_log_commands::{
-    carry_file, check_file, explain_file, thin_file, watch_endless_file, watch_file,
+    carry_file, check_file, check_rest_file, explain_file, thin_file, watch_endless_file,
+    watch_file,
 };
 use velo_request::Request;
 use velo_verify::verify_file;
@@ -51,6 +52,7 @@ fn do_by<R: Threads + Wait + Sync, F: Files, O: Sink, P: ExploreProgress>(
 {
     match request {
         Request::Check(options) => check_file(alloc, options, files, out),
+        Request::CheckRest(options) => check_rest_file(alloc, options, files, out),
         Request::Replay(options) => replay_file(alloc, options, files, out),
         Request::Run(options) => run_file(rt, alloc, options, files, out),
         Request::Explain(options) => explain_file(alloc, options, files, out),

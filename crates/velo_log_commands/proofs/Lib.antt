@@ -1,5 +1,7 @@
+mod OnCheckingRest
 mod OnChecks
 mod OnEndless
 mod OnExplaining
+mod OnRests
 pub mod OnThinning
 mod OnWatching

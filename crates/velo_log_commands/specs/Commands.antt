@@ -16,6 +16,7 @@ use Rattle.velo_inputs.specs.Leaving.{left_out_at_first}
 use Rattle.velo_inputs.specs.Sending.{LacksMemoryToDeliver}
 use Rattle.velo_request.specs.declared.request.CarryOptions.{CarryOptions}
 use Rattle.velo_request.specs.declared.request.CheckOptions.{CheckOptions}
+use Rattle.velo_request.specs.declared.request.CheckRestOptions.{CheckRestOptions}
 use Rattle.velo_request.specs.declared.request.EndlessOptions.{EndlessOptions}
 use Rattle.velo_request.specs.declared.request.ExplainOptions.{ExplainOptions}
 use Rattle.velo_request.specs.declared.request.ThinOptions.{ThinOptions}
@@ -23,6 +24,7 @@ use Rattle.velo_delivery.specs.declared.failure.Operand.TheVariants.{Log, Svg}
 use Rattle.velo_request.specs.declared.request.WatchOptions.{WatchOptions}
 use Rattle.velo_log_commands.specs.Carrying.{IsCarryAnswer, IsPut}
 use Rattle.velo_log_commands.specs.Check.{IsCheckAnswer}
+use Rattle.velo_log_commands.specs.CheckingRest.{IsCheckRestAnswer}
 use Rattle.velo_fate.specs.declared.files.Beside.{Beside}
 use Rattle.velo_fate.specs.Delivery.{CommandAnswer, IsDelivered, IsDeliveredInTurn}
 use Rattle.velo_fate.specs.Barred.{WritesNowhere, DoesNotRead, DoesNotReadApart}
@@ -64,8 +66,49 @@ DoesCheck options store stdout f =
     ⊎ ((names : NameLists) × AreNamesOf store.disk options.names names
     × ChecksBy names options store stdout f)
 
--- ---- velodrome explain LOG [--names FILE] [--sites FILE] [--not-atomic FILE]
--- ---- [--ignore-label WORD].. [--ignore-lock WORD].. [--ignore-locks] [--ignore-variable WORD]..
+-- ---- velodrome check LOG [--names FILE] [--events N] [--nodes N] [--why], without the certificate, where
+-- ---- something is left out: [--not-atomic FILE] [--ignore FILE] [--ignore-label WORD]..
+-- ---- [--ignore-lock WORD]..
+-- ---- [--ignore-locks] [--ignore-variable WORD]..
+
+-- LOG is read whole. The report of what is left of it, by these names and by the positions of LOG, goes
+-- to standard output; or nothing, for a reason (`CheckingRest`). No file is opened to be written.
+abbrev pub ChecksRestFile : Names → Omitted → CheckRestOptions → Store → Writing → Fate → Type 0
+ChecksRestFile shown omitted options store stdout f =
+    DoesNotRead store Log options.check.input.now None stdout f
+    ⊎ ((read : Reading) × (answer : CommandAnswer)
+    × store.disk.gives options.check.input.now read × FailuresAsTold read f
+    × IsCheckRestAnswer shown omitted options.check.limits.events options.check.limits.nodes
+    read.bytes answer
+    × IsDelivered store None stdout answer f)
+
+-- Left out is what was asked for, and where a file of names is given the report is by these, and else
+-- by numbers; or memory was wanting.
+abbrev pub ChecksRestBy : NameLists → Asked → CheckRestOptions → Store → Writing → Fate → Type 0
+ChecksRestBy names asked options store stdout f =
+    ((shown : Names) × AreShown options.check.names names shown
+    × ChecksRestFile shown (left_out_at_first asked) options store stdout f)
+    ⊎ LacksMemoryToDeliver store stdout f
+
+-- what it knows before is in `Context` of `velo_inputs`
+abbrev pub context_of_check : CheckRestOptions → ContextOptions
+context_of_check options =
+    record {
+      names = options.check.names;
+      ignored = options.ignored;
+      sites = None;
+      source = None;
+    }
+
+abbrev pub DoesCheckRest : CheckRestOptions → Store → Writing → Fate → Type 0
+DoesCheckRest options store stdout f =
+    KnowsNoContext store (context_of_check options) stdout f
+    ⊎ ((names : NameLists) × (asked : Asked) × (sites : Option Table)
+    × IsContext store.disk (context_of_check options) names asked sites
+    × ChecksRestBy names asked options store stdout f)
+
+-- ---- velodrome explain LOG [--names FILE] [--sites FILE] [--source FOLDER] [--not-atomic FILE]
+-- ---- [--ignore FILE] [--ignore-label WORD].. [--ignore-lock WORD].. [--ignore-locks] [--ignore-variable WORD]..
 -- ---- [--dot OUT] [--svg SVG] [--format FORM]
 
 -- the drawing, beside the picture
@@ -87,7 +130,12 @@ ExplainsLog names sites asked options store stdout f =
 -- what it knows before is in `Context` of `velo_inputs`
 abbrev pub context_of_explain : ExplainOptions → ContextOptions
 context_of_explain options =
-    record { names = options.names; ignored = options.ignored; sites = options.sites }
+    record {
+      names = options.names;
+      ignored = options.ignored;
+      sites = options.sites;
+      source = options.source;
+    }
 
 abbrev pub DoesExplain : ExplainOptions → Store → Writing → Fate → Type 0
 DoesExplain options store stdout f =
@@ -132,7 +180,8 @@ ThinsAsked asked options store stdout f =
 
 -- what it knows before is in `Context` of `velo_inputs`
 abbrev pub context_of_thin : ThinOptions → ContextOptions
-context_of_thin options = record { names = options.names; ignored = options.ignored; sites = None }
+context_of_thin options =
+    record { names = options.names; ignored = options.ignored; sites = None; source = None }
 
 abbrev pub DoesThin : ThinOptions → Store → Writing → Fate → Type 0
 DoesThin options store stdout f =

@@ -1,5 +1,6 @@
 pub mod Carrying
 pub mod Check
+pub mod CheckingRest
 pub mod Commands
 pub mod Endless
 pub mod Explaining

@@ -147,6 +147,7 @@ pub fn explain_file<F: Files, O: Sink>(
         names: options.names,
         ignored: options.ignored,
         sites: options.sites,
+        source: options.source,
     };
     do_in_context(alloc, &Command { options }, &context, files, out)
 }

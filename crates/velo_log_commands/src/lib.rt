@@ -3,6 +3,7 @@
 
 mod carrying;
 mod check;
+mod checking_rest;
 mod command;
 mod endless;
 mod explaining;
@@ -10,11 +11,13 @@ mod explaining_alarm;
 mod explaining_rest;
 mod explaining_whole;
 mod explaining_words;
+mod rest_report;
 mod thinning;
 mod watching;
 
 pub use carrying::{CarryFault, carry_file, carry_run};
 pub use check::{check_file, check_run};
+pub use checking_rest::check_rest_file;
 pub use endless::watch_endless_file;
 pub use explaining::explain_file;
 pub use thinning::thin_file;

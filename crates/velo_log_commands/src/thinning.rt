@@ -147,6 +147,7 @@ pub fn thin_file<F: Files, O: Sink>(
         names: options.names,
         ignored: options.ignored,
         sites: None,
+        source: None,
     };
     do_in_context(alloc, &Command { options }, &context, files, out)
 }
