@@ -1,16 +1,20 @@
 //! Checks whether the atomic blocks of an observed run can be serialized.
 #![tactic(auto)]
 
+mod colours;
 mod host;
 mod notes;
 mod progress;
+mod terminal;
 mod why;
 
+use colours::{ColouredSink, are_wanted};
 use host::HostFiles;
 use notes::Notes;
-use progress::{ProgressLine, is_terminal};
+use progress::ProgressLine;
 use std::io::ErrorKind;
 use std::process::ExitCode;
+use terminal::{STANDARD_ERROR, is_terminal};
 use velo_bytes::WriterSink;
 use velo_cli::{end_without_words, run};
 use why::with_why;
@@ -28,15 +32,16 @@ fn words_of(rt: &HostRuntime) -> Result<Vec<String>, ErrorKind> {
 
 fn main(rt: HostRuntime) -> ExitCode {
     let notes = Notes::new();
-    let mut out = WriterSink::new(rt.stdout());
     let mut err = WriterSink::new(rt.stderr());
     let told = WriterSink::new(rt.stderr());
-    let is_terminal = is_terminal(&rt);
+    let is_terminal = is_terminal(&rt, STANDARD_ERROR);
     let mut progress = ProgressLine::new(&rt, rt.alloc(), told, is_terminal);
     let words = match words_of(&rt) {
         Ok(words) => words,
         Err(kind) => return ExitCode::from(end_without_words(kind, &mut err)),
     };
+    let in_colours = are_wanted(&rt, words.as_slice());
+    let mut out = ColouredSink::new(rt.alloc(), WriterSink::new(rt.stdout()), in_colours);
     let status = match with_why(rt.alloc(), &words, is_terminal) {
         Ok(passed) => run(
             &rt,

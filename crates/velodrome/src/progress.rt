@@ -4,8 +4,6 @@ ghost use Rattle.std.specs.Prelude.{◌≡◌, is_some};
 
 use std::alloc::Global;
 use std::cmp::max;
-use std::fs;
-use std::os::unix::fs::MetadataExt;
 use std::time::{Clock, Duration};
 use velo_bytes::{Sink, write_all};
 use velo_commands::{ExploreProgress, Progress};
@@ -169,21 +167,6 @@ impl<C: Clock, S: Sink> ExploreProgress for ProgressLine<'_, C, S> {
             let _ = write_all(&mut self.sink, b"\r\x1b[K");
         }
         self.manner = None;
-    }
-}
-
-/// Whether a file of this mode, for this device, is a terminal: a character device with the major
-/// number of terminals, consoles or their pseudo ones, as Linux counts them.
-fn is_terminal_device(mode: u32, device: u64) -> bool {
-    let major = device >> 8 & 0xfff;
-    mode & 0o170_000 == 0o020_000 && matches!(major, 4 | 5 | 136..=143)
-}
-
-/// Whether standard error is a terminal, as far as this can be seen.
-pub fn is_terminal(files: &impl fs::Files) -> bool {
-    match fs::metadata(files, "/proc/self/fd/2") {
-        Ok(metadata) => is_terminal_device(metadata.mode(), metadata.rdev()),
-        Err(_) => false,
     }
 }
 

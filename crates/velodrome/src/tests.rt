@@ -10,6 +10,7 @@ mod explored;
 mod growths;
 mod hostile;
 mod ignored;
+mod listed;
 mod logs;
 mod named;
 mod precedence;
@@ -161,6 +162,17 @@ fn show_short<R: Threads + Wait + Sync, F: Files + Recall>(
 ) -> Shown {
     let out = Text::new(alloc).failing_after(room);
     show_on(rt, alloc, words, files, out, Text::new(alloc))
+}
+
+/// The words of a command line.
+pub fn words_of(alloc: Global, line: &str) -> Option<Vec<String>> {
+    let mut words = Vec::new(alloc);
+    for word in line.split(' ') {
+        let mut owned = String::new(alloc);
+        owned.push_str(word).ok()?;
+        words.push(owned).ok()?;
+    }
+    Some(words)
 }
 
 /// Fails the test where this does not hold of a case.

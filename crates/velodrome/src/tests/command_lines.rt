@@ -132,7 +132,7 @@ static WRONG_WORDS: [&[&str]; 50] = [
     ],
     &["velodrome", "audit", "a.log", "--ignore-lock"],
     &["velodrome", "audit", "a.log", "--ignore-locks=0"],
-    &["velodrome", "check", "a.log", "--ignore-locks"],
+    &["velodrome", "watch", "a.log", "--ignore-locks"],
     &["velodrome", "thin", "a.log"],
     &["velodrome", "verify", "a.log"],
     &["velodrome", "thin", "a.log", "--log", "o", "--events", "4"],
@@ -143,7 +143,7 @@ static WRONG_WORDS: [&[&str]; 50] = [
 ];
 
 /// Right words that do not go together, with the line that says so.
-static WORDS_APART: [(&[&str], &str); 34] = [
+static WORDS_APART: [(&[&str], &str); 39] = [
     (
         &["velodrome", "check", "-", "--names", "-"],
         "error: standard input can be read once\n",
@@ -324,6 +324,38 @@ static WORDS_APART: [(&[&str], &str); 34] = [
     (
         &["velodrome", "audit", "-", "--sites=-", "--format="],
         "error: --format takes text, json, sarif or junit\n",
+    ),
+    (
+        &[
+            "velodrome",
+            "audit",
+            "a.log",
+            "--not-atomic=l",
+            "--ignore=l",
+        ],
+        "error: --ignore does not go with --not-atomic\n",
+    ),
+    (
+        &["velodrome", "thin", "-", "--log=o", "--ignore", "-"],
+        "error: standard input can be read once\n",
+    ),
+    (
+        &["velodrome", "predict", "a.log", "--source", "f"],
+        "error: --source goes only with --sites\n",
+    ),
+    (
+        &[
+            "velodrome",
+            "check",
+            "a.log",
+            "--ignore-lock=0",
+            "--certificate",
+        ],
+        "error: --certificate does not go with what leaves events out of the log\n",
+    ),
+    (
+        &["velodrome", "check", "-", "--ignore=-"],
+        "error: standard input can be read once\n",
     ),
 ];
 

@@ -1,6 +1,6 @@
 //! What is left out of a log because the words of a command say so.
-use crate::tests::LOST_UPDATE;
 use crate::tests::audits::{BAD, BOTH, LOCKED, Listed, NAMES, NESTED, UNREADABLE, try_listed};
+use crate::tests::{LOST_UPDATE, LOST_UPDATE_REPORT};
 
 static IGNORED: [Listed; 9] = [
     Listed {
@@ -337,6 +337,171 @@ static ALL_LOCKS: [Listed; 4] = [
 const LOCKED_UPDATE: &str =
     "vlog 2 2 1 1\n0 fork 1\n0 begin 7\n0 acq 0\n0 rd 0 0\n0 rel 0\n1 acq 0\n1 wr 0 5\n1 rel 0\n0 acq 0\n0 wr 0 1\n0 rel 0\n0 end\n";
 
+/// After its alarm, which is about variable 0, no graph is kept.
+const WIDE_AFTER_ALARM: &str =
+    "vlog 1 3 2 0\n0 fork 1\n0 fork 2\n0 begin 7\n0 rd 0 0\n1 wr 0 5\n0 wr 0 1\n0 wr 1 1\n1 rd 1 1\n2 rd 1 1\n";
+
+static CHECKED: [Listed; 13] = [
+    // the one alarm is about a lock
+    Listed {
+        words: &["velodrome", "check", "a"],
+        log: LOCKED,
+        names: BAD,
+        list: "",
+        out: "events 7\nthread 0 5\nthread 1 2\nverdict alarm 6\ntransaction 1\nblame 1 7\n",
+        err: "",
+        status: 3,
+    },
+    Listed {
+        words: &["velodrome", "check", "a", "--ignore-locks"],
+        log: LOCKED,
+        names: BAD,
+        list: "",
+        out: "events 2\nthread 0 2\nthread 1 0\nverdict clean\n",
+        err: "",
+        status: 0,
+    },
+    // the positions are those of the whole log, and the counts are of what is left
+    Listed {
+        words: &["velodrome", "check", "a", "--ignore-lock", "0"],
+        log: LOCKED_UPDATE,
+        names: BAD,
+        list: "",
+        out: "events 6\nthread 0 5\nthread 1 1\nverdict alarm 9\ntransaction 1\nblame 1 7\n",
+        err: "",
+        status: 3,
+    },
+    // a block that is known goes, and the one inside it is told by its name
+    Listed {
+        words: &[
+            "velodrome",
+            "check",
+            "a",
+            "--names",
+            "n",
+            "--not-atomic",
+            "l",
+        ],
+        log: NESTED,
+        names: NAMES,
+        list: "flush\n",
+        out: "events 5\nthread 0 4 main\nthread 1 1\nverdict alarm 5\ntransaction 2\nblame 2 9 {lambda()#1}\n",
+        err: "",
+        status: 3,
+    },
+    Listed {
+        words: &[
+            "velodrome",
+            "check",
+            "a",
+            "--ignore-label",
+            "7",
+            "--ignore-label",
+            "9",
+        ],
+        log: NESTED,
+        names: BAD,
+        list: "",
+        out: "events 4\nthread 0 3\nthread 1 1\nverdict clean\n",
+        err: "",
+        status: 0,
+    },
+    Listed {
+        words: &["velodrome", "check", "a", "--ignore-variable=0"],
+        log: NESTED,
+        names: BAD,
+        list: "",
+        out: "events 3\nthread 0 3\nthread 1 0\nverdict clean\n",
+        err: "",
+        status: 0,
+    },
+    // what the log does not have is left out in vain: the report is that of the whole log
+    Listed {
+        words: &["velodrome", "check", "a", "--ignore-variable", "65535"],
+        log: LOST_UPDATE,
+        names: BAD,
+        list: "",
+        out: LOST_UPDATE_REPORT,
+        err: "",
+        status: 3,
+    },
+    // a fault of the whole log stays, also one of what is left out
+    Listed {
+        words: &["velodrome", "check", "a", "--ignore-locks"],
+        log: "vlog 2 1 0 1\n0 acq 0\n0 acq 0\n",
+        names: BAD,
+        list: "",
+        out: "",
+        err: "refused 7 at 1\n",
+        status: 2,
+    },
+    // the limits are of the whole log
+    Listed {
+        words: &["velodrome", "check", "a", "--ignore-locks", "--events", "6"],
+        log: LOCKED,
+        names: BAD,
+        list: "",
+        out: "",
+        err: "refused 17 at 6\n",
+        status: 4,
+    },
+    // without the alarm the graph of what is left is full, at a position of the whole log
+    Listed {
+        words: &["velodrome", "check", "a", "--nodes", "2"],
+        log: WIDE_AFTER_ALARM,
+        names: BAD,
+        list: "",
+        out: "events 9\nthread 0 6\nthread 1 2\nthread 2 1\nverdict alarm 5\ntransaction 2\nblame 2 7\n",
+        err: "",
+        status: 3,
+    },
+    Listed {
+        words: &[
+            "velodrome",
+            "check",
+            "a",
+            "--nodes",
+            "2",
+            "--ignore-variable",
+            "0",
+        ],
+        log: WIDE_AFTER_ALARM,
+        names: BAD,
+        list: "",
+        out: "",
+        err: "refused 18 at 8\n",
+        status: 4,
+    },
+    // what means none, before the log is read
+    Listed {
+        words: &["velodrome", "check", "a", "--ignore-lock", "x"],
+        log: UNREADABLE,
+        names: BAD,
+        list: "",
+        out: "",
+        err: "velodrome: --ignore-lock: no lock has this name, and numbers go from 0 to 65535\n    x\nhelp: for names, give their file: see --names\nignored fault 1\n",
+        status: 2,
+    },
+    // a fault of the names, before that
+    Listed {
+        words: &[
+            "velodrome",
+            "check",
+            "a",
+            "--names",
+            "n",
+            "--ignore-lock",
+            "x",
+        ],
+        log: UNREADABLE,
+        names: BAD,
+        list: "",
+        out: "",
+        err: "names fault 1 line 2\n",
+        status: 2,
+    },
+];
+
 static EXPLAINED: [Listed; 7] = [
     // the lines are those of the whole log; the events on the lock have no rows
     Listed {
@@ -450,6 +615,13 @@ To blame in thread 0:
         status: 2,
     },
 ];
+
+#[test]
+fn checks_of_the_rest(rt: HostRuntime) {
+    for told in &CHECKED {
+        try_listed(&rt, rt.alloc(), told);
+    }
+}
 
 #[test]
 fn what_is_ignored(rt: HostRuntime) {

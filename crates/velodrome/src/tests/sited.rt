@@ -31,6 +31,29 @@ block 7, from line 3: line 5 `1 wr 0 5` must come after its begin and before lin
 atomic 0 labels\n\
 rounds 2\n";
 
+/// The source at `f/bank.c`. Line 12 begins with a tab.
+const BANK: &str =
+    "\n\n\n\nint main(void)\n\n\n\n\nvoid deposit(long n) {\n\tlong old = balance;\n\tbalance = old + n;\n}\n";
+
+/// `WITNESS` with the lines of `BANK`.
+const WITH_SOURCES: &str = "\
+not atomic 7\n  \
+block 7 begins at bank.c:10 deposit | void deposit(long n) {\n  \
+Line 6 `0 wr 0 1` closes a cycle of 2 transactions:\n  \
+T1: thread 0, block 7, lines 3 to 6\n  \
+T2: thread 1, outside blocks, line 5\n  \
+T1 before T2:\n    \
+line 4 `0 rd 0 0` at bank.c:12 deposit | balance = old + n;\n      \
+in block 7 at bank.c:10 deposit | void deposit(long n) {\n    \
+line 5 `1 wr 0 5`\n  \
+T2 before T1:\n    \
+line 5 `1 wr 0 5`\n    \
+line 6 `0 wr 0 1` at bank.c:13 deposit | }\n      \
+in block 7 at bank.c:10 deposit | void deposit(long n) {\n  \
+block 7, from line 3: line 5 `1 wr 0 5` must come after its begin and before line 6\n\
+atomic 0 labels\n\
+rounds 2\n";
+
 const COUNTED: &str = "\
 not atomic 7\n  \
 1 of 1 blocks\n  \
@@ -95,7 +118,7 @@ struct Sited {
     status: u8,
 }
 
-static SITED: [Sited; 12] = [
+static SITED: [Sited; 15] = [
     Sited {
         words: &["velodrome", "audit", "a", "--sites", "s"],
         log: LOST_UPDATE,
@@ -111,6 +134,33 @@ static SITED: [Sited; 12] = [
         out: COUNTED,
         err: "",
         status: 3,
+    },
+    // with the lines of source
+    Sited {
+        words: &["velodrome", "audit", "a", "--sites", "s", "--source", "f"],
+        log: LOST_UPDATE,
+        sites: SITES,
+        out: WITH_SOURCES,
+        err: "",
+        status: 3,
+    },
+    // no source is in this folder
+    Sited {
+        words: &["velodrome", "audit", "a", "--sites", "s", "--source", "g"],
+        log: LOST_UPDATE,
+        sites: SITES,
+        out: WITNESS,
+        err: "",
+        status: 3,
+    },
+    // a fault of the sites is the same
+    Sited {
+        words: &["velodrome", "audit", "a", "--sites=s", "--source=f"],
+        log: LOST_UPDATE,
+        sites: "vsites 1 1 5\nbank.c:12 deposit\n2\n",
+        out: "",
+        err: "sites fault 1 line 3\n",
+        status: 2,
     },
     // without a witness the blocks have their places all the same
     Sited {
@@ -211,7 +261,7 @@ static SITED: [Sited; 12] = [
 
 /// Compares what the program shows of the files with what it is to show.
 fn try_sited<R: Threads + Wait + Sync + Abort>(rt: &R, alloc: Global, told: &Sited) {
-    let files = [("a", told.log), ("s", told.sites)];
+    let files = [("a", told.log), ("s", told.sites), ("f/bank.c", BANK)];
     let mut folder = Folder::new(alloc, &files, 5);
     let shown = show(rt, told.words, &mut folder);
     compare(rt, &shown, told.out, told.err, told.status, told.sites);

@@ -1,6 +1,6 @@
 //! Which words are passed on.
 use super::with_why;
-use crate::tests::holds_for;
+use crate::tests::{holds_for, words_of};
 use std::alloc::Global;
 use std::test::Fail;
 
@@ -20,17 +20,6 @@ static LINES: &[(&str, bool, &str)] = &[
     ("velodrome explain a", true, "velodrome explain a "),
     ("velodrome help check", true, "velodrome help check "),
 ];
-
-/// The words of a command line.
-fn words_of(alloc: Global, line: &str) -> Option<Vec<String>> {
-    let mut words = Vec::new(alloc);
-    for word in line.split(' ') {
-        let mut owned = String::new(alloc);
-        owned.push_str(word).ok()?;
-        words.push(owned).ok()?;
-    }
-    Some(words)
-}
 
 /// The words that are passed on for those of a command line, with a space after each.
 fn passed_for(alloc: Global, line: &str, is_terminal: bool) -> Option<String> {
