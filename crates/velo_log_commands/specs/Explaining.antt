@@ -10,6 +10,7 @@ use Rattle.velo_names.specs.Names.{NameLists}
 use Rattle.velo_sites.specs.Sites.{Table}
 use Rattle.velo_filter.specs.Left.{Omitted, rest_of}
 use Rattle.velo_audit.specs.Witness.{IsWitness}
+use Rattle.velo_accesses.specs.Text.{accesses_text}
 use Rattle.velo_audit_text.specs.declared.words.Asked.{Asked}
 use Rattle.velo_audit_text.specs.Witness.{edges_text}
 use Rattle.velo_audit_text.specs.Words.{asked_text}
@@ -83,6 +84,11 @@ abbrev pub stacks_text : NameLists → Option Table → List Event → Evidence 
 stacks_text names sites log evidence =
     stacks_heading ++ edges_text names sites log evidence.edges.items
 
+-- where nothing is left out, the accesses that make edges by locks, too
+abbrev pub accesses_if : Bool → NameLists → Option Table → List Event → Evidence → List ℕ
+accesses_if true names sites log evidence = accesses_text names sites log evidence.edges.items
+accesses_if false names sites log evidence = []
+
 -- they stand behind the words, if they are asked for
 abbrev pub stacks_if : Bool → NameLists → Option Table → List Event → Evidence → List ℕ
 stacks_if true names sites log evidence = stacks_text names sites log evidence
@@ -97,7 +103,8 @@ json_page manner log verdict =
 -- an alarm at position p, by its evidence
 abbrev pub alarm_page_in : TextOrJson → Manner → List Event → ℕ → Evidence → List ℕ
 alarm_page_in Text manner log p evidence =
-    (manner.before ++ words_of manner.names manner.sites log p evidence)
+    ((manner.before ++ words_of manner.names manner.sites log p evidence)
+    ++ accesses_if (is_whole manner.asked) manner.names manner.sites log evidence)
     ++ stacks_if manner.stacks manner.names manner.sites log evidence
 alarm_page_in Json manner log p evidence = json_page manner log (Cyclic p evidence)
 

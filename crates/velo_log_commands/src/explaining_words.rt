@@ -1,5 +1,6 @@
 //! The page of an explanation, and the legend that it is made by.
 ghost use Rattle.std.specs.Prelude.{◌≡◌, ◌≤◌, ◌++◌, IfOk, OnOk, length};
+ghost use Rattle.velo_certify.specs.Owners.{AreOwners};
 ghost use Rattle.velo_events.specs.Graph.{HasCycle};
 ghost use Rattle.velo_events.specs.declared.limits.TheConstants.{MAX_EVENTS};
 ghost use Rattle.velo_explain.specs.Count.{transactions_of};
@@ -7,10 +8,12 @@ ghost use Rattle.velo_explain.specs.Evidence.{AreEdgesWithin, IsWithin};
 ghost use Rattle.velo_explain.specs.Text.{clean_text};
 ghost use Rattle.velo_explain_forms.specs.Answer.{verdict_of};
 ghost use Rattle.velo_filter.specs.Thinned.{CanComeAbout};
-ghost use Rattle.velo_log_commands.specs.Explaining.{alarm_page, json_page, serial_page, stacks_heading, stacks_if, stacks_text, words_of};
+ghost use Rattle.velo_log_commands.specs.Explaining.{accesses_if, alarm_page, is_whole, json_page, serial_page, stacks_heading, stacks_if, words_of};
 ghost use Rattle.velo_log_commands.specs.Steps.{manner_of};
 
+use crate::explaining_rest::is_whole;
 use std::alloc::Global;
+use velo_accesses::add_accesses;
 use velo_audit_text::{Asked, Background, add_stacks};
 use velo_certify::owners_of;
 use velo_events::Memory;
@@ -116,73 +119,99 @@ fn add_stacks_heading(page: &mut Page) -> Result<(), Memory>
     page.add_bytes(b"Each of these events, in the blocks that were open:\n")
 }
 
-/// Adds the events of the cycle's edges, each in its open blocks.
-fn add_edges_in_blocks(
-    page: &mut Page,
-    alloc: Global,
-    alarm: &ExplainedAlarm,
-    legend: &Legend,
-) -> Result<(), Memory>
-    requires few { length alarm.now.log.now.events ≤ MAX_EVENTS }
-    requires can_come_about { CanComeAbout alarm.now.log.now.events }
-    requires within { AreEdgesWithin (length alarm.now.log.now.events)
-        alarm.now.evidence.now.edges.items }
-    ensures { OnOk result (page.new ≡ page.old
-        ++ stacks_text legend.now.inquiry.now.names.now legend.now.sites.now
-        alarm.now.log.now.events alarm.now.evidence.now) }
-{
-    let events = alarm.log.as_slice();
-    let owners = owners_of(alloc, events)?;
-    let background = Background {
-        alloc,
-        names: legend.inquiry.names,
-        sites: legend.sites,
-        events,
-        owners: &owners,
-    };
-    add_stacks_heading(page)?;
-    add_stacks(page, &background, &alarm.evidence.edges)
-}
-
-/// Adds them, if this is asked for.
+/// Adds the events of the edges of a cycle, each in its open blocks, if this is asked for.
 fn add_stacks_if(
     page: &mut Page,
     stacks: bool,
-    alloc: Global,
-    alarm: &ExplainedAlarm,
-    legend: &Legend,
+    background: &Background,
+    evidence: &Evidence,
 ) -> Result<(), Memory>
-    requires few { length alarm.now.log.now.events ≤ MAX_EVENTS }
-    requires can_come_about { CanComeAbout alarm.now.log.now.events }
-    requires within { AreEdgesWithin (length alarm.now.log.now.events)
-        alarm.now.evidence.now.edges.items }
+    requires few { length background.now.events.now ≤ MAX_EVENTS }
+    requires can_come_about { CanComeAbout background.now.events.now }
+    requires owners { AreOwners background.now.owners.now background.now.events.now }
+    requires within { AreEdgesWithin (length background.now.events.now) evidence.now.edges.items }
     ensures { OnOk result (page.new ≡ page.old
-        ++ stacks_if stacks legend.now.inquiry.now.names.now legend.now.sites.now
-        alarm.now.log.now.events alarm.now.evidence.now) }
+        ++ stacks_if stacks background.now.names.now background.now.sites.now
+        background.now.events.now evidence.now) }
 {
     if !stacks {
         return Ok(());
     }
-    add_edges_in_blocks(page, alloc, alarm, legend)
+    add_stacks_heading(page)?;
+    add_stacks(page, background, &evidence.edges)
 }
 
-/// The words of an alarm behind what comes before them, and the open blocks behind these, if they are
-/// asked for.
+/// Adds the accesses that make edges by locks, too, if nothing is left out of the log.
+fn add_accesses_if(
+    page: &mut Page,
+    whole: bool,
+    background: &Background,
+    evidence: &Evidence,
+) -> Result<(), Memory>
+    requires few { length background.now.events.now ≤ MAX_EVENTS }
+    requires owners { AreOwners background.now.owners.now background.now.events.now }
+    requires within { AreEdgesWithin (length background.now.events.now) evidence.now.edges.items }
+    ensures { OnOk result (page.new ≡ page.old
+        ++ accesses_if whole background.now.names.now background.now.sites.now
+        background.now.events.now evidence.now) }
+{
+    if !whole {
+        return Ok(());
+    }
+    add_accesses(page, background, &evidence.edges)
+}
+
+/// Adds what stands behind the words of an alarm: the accesses that make edges by locks, too, and the
+/// open blocks, if they are asked for.
+fn add_details(
+    page: &mut Page,
+    alloc: Global,
+    alarm: &ExplainedAlarm,
+    legend: &Legend,
+) -> Result<(), Memory>
+    requires few { length alarm.now.log.now.events ≤ MAX_EVENTS }
+    requires can_come_about { CanComeAbout alarm.now.log.now.events }
+    requires within { AreEdgesWithin (length alarm.now.log.now.events)
+        alarm.now.evidence.now.edges.items }
+    ensures { OnOk result (page.new ≡ (page.old
+        ++ accesses_if (is_whole legend.now.inquiry.now.asked.now)
+        legend.now.inquiry.now.names.now legend.now.sites.now alarm.now.log.now.events
+        alarm.now.evidence.now)
+        ++ stacks_if legend.now.inquiry.now.options.now.stacks legend.now.inquiry.now.names.now
+        legend.now.sites.now alarm.now.log.now.events alarm.now.evidence.now) }
+{
+    let inquiry = legend.inquiry;
+    let events = alarm.log.as_slice();
+    let owners = owners_of(alloc, events)?;
+    let background = Background {
+        alloc,
+        names: inquiry.names,
+        sites: legend.sites,
+        events,
+        owners: &owners,
+    };
+    add_accesses_if(page, is_whole(inquiry.asked), &background, alarm.evidence)?;
+    add_stacks_if(page, inquiry.options.stacks, &background, alarm.evidence)
+}
+
+/// The words of an alarm behind what comes before them, and the details behind these.
 fn all_words(alloc: Global, alarm: &ExplainedAlarm, legend: &Legend) -> Result<Page, Memory>
     requires few { length alarm.now.log.now.events ≤ MAX_EVENTS }
     requires can_come_about { CanComeAbout alarm.now.log.now.events }
     requires within { IsWithin (length alarm.now.log.now.events) alarm.now.position
         alarm.now.evidence.now }
-    ensures { IfOk result (λ words. words ≡ (legend.now.before.now
+    ensures { IfOk result (λ words. words ≡ ((legend.now.before.now
         ++ words_of legend.now.inquiry.now.names.now legend.now.sites.now
         alarm.now.log.now.events alarm.now.position alarm.now.evidence.now)
+        ++ accesses_if (is_whole legend.now.inquiry.now.asked.now)
+        legend.now.inquiry.now.names.now legend.now.sites.now alarm.now.log.now.events
+        alarm.now.evidence.now)
         ++ stacks_if legend.now.inquiry.now.options.now.stacks legend.now.inquiry.now.names.now
         legend.now.sites.now alarm.now.log.now.events alarm.now.evidence.now) }
 {
     let words = words_of(alloc, alarm, legend)?;
     let mut page = words_behind(alloc, legend.before, words.as_slice())?;
-    let stacks = legend.inquiry.options.stacks;
-    add_stacks_if(&mut page, stacks, alloc, alarm, legend)?;
+    add_details(&mut page, alloc, alarm, legend)?;
     Ok(page)
 }
 

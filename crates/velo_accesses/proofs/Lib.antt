@@ -1,0 +1,2 @@
+pub mod OnLatest
+pub mod OnPairs
