@@ -1,5 +1,6 @@
 //! The program over logs and devices in memory.
 mod audits;
+mod beside;
 mod carried;
 mod chance;
 mod command_lines;
