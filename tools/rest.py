@@ -1,11 +1,12 @@
 #!/usr/bin/env python3
-"""What `check` says where something is left out is what it says of a log without it, at the positions of the whole log.
+"""What `check` and `watch` say where something is left out is what `check` says of a log without it, at the positions of the whole log.
 
     tools/rest.py PROGRAM [COUNT]             COUNT random logs, 5,000 if it is not given
 
 A random log is checked with random labels, locks and variables left out, each by an option or by a line of an --ignore list. The
 same events are taken out of the log here, and what is left is checked without options. The two reports have to be the same, but
-for the positions, which are turned into those of the whole log. The last line is `N compared, N alarms`.
+for the positions, which are turned into those of the whole log; and so has that of `watch`, behind the line of its alarm, which
+has the same position and blocks. The last line is `N compared, N alarms`.
 """
 import os
 import random
@@ -87,9 +88,19 @@ def options_of(draw, omitted, path):
     return options
 
 
-def check(program, options, text):
-    done = subprocess.run([program, "check", "-", *options], input=text, capture_output=True, text=True, check=False)
+def judge(program, command, options, text):
+    done = subprocess.run([program, command, "-", *options], input=text, capture_output=True, text=True, check=False)
     return done.returncode, done.stdout
+
+
+def alarm_of(report):
+    """The line that `watch` prints of the alarm of a report, if it has one."""
+    lines = [line.split(" ") for line in report.splitlines()]
+    if ["verdict", "clean"] in lines:
+        return ""
+    position = next(words[2] for words in lines if words[0] == "verdict")
+    blamed = [" ".join(words) for words in lines if words[0] == "blame"]
+    return f"alarm {position} {' '.join(blamed)}\n"
 
 
 def placed(report, places):
@@ -115,11 +126,13 @@ def main():
             omitted = drawn(draw, run) or {("lock", "all")}
             stays = lambda about: about not in omitted and not (about and about[0] == "lock" and ("lock", "all") in omitted)
             places = [place for place, event in enumerate(run.events) if stays(event[2])]
-            status, report = check(program, [], run.text(places))
+            status, report = judge(program, "check", [], run.text(places))
+            wanted = placed(report, places)
             options = options_of(draw, omitted, os.path.join(room, "list"))
-            found = check(program, options, run.text(range(len(run.events))))
-            if found != (status, placed(report, places)):
-                sys.exit(f"log {seed} with {' '.join(options)}: {found} in place of {status, placed(report, places)}")
+            for command, said in (("check", wanted), ("watch", alarm_of(wanted) + wanted)):
+                found = judge(program, command, options, run.text(range(len(run.events))))
+                if found != (status, said):
+                    sys.exit(f"{command} of log {seed} with {' '.join(options)}: {found} in place of {status, said}")
             alarms += status == 3
     print(f"{count} compared, {alarms} alarms")
 

@@ -12,7 +12,7 @@ use Rattle.velo_request.specs.declared.request.OutputFormat.{OutputFormat}
 use Rattle.velo_request.specs.declared.request.TextOrJson.{TextOrJson}
 use Rattle.velo_request.specs.declared.request.RandomRuns.{RandomRuns}
 use Rattle.velo_request.specs.declared.request.TheConstants.{MAX_SECONDS}
-use Rattle.velo_arguments.specs.Asked.{AreLeftOut, AreRandomRuns, AreSeconds, IsFlag, IsList, IsSeed, LeaveNothingOut, WritesNumber, leaves_out, form_of, text_or_json_of}
+use Rattle.velo_arguments.specs.Asked.{AreLeftOut, AreRandomRuns, AreSeconds, IsFlag, IsList, IsSeed, LeaveNothingOut, WritesNumber, form_of, is_auto, leaves_out, text_or_json_of}
 
 pub option_read : (f : Found) (id : Text) (r : Option (Bor Text)) → option_map (λ s. s.now) r ≡ first_value f id
     → first_of id (rows_of f) ≡ option_map (λ s. s.now) r
@@ -135,6 +135,11 @@ form_read f id r form read is = is ∙ ap form_of (sym (option_read f id r read)
 pub text_or_json_read : (f : Found) (id : Text) (r : Option (Bor Text)) (form : TextOrJson) → option_map (λ s. s.now) r ≡ first_value f id
     → form ≡ text_or_json_of (option_map (λ s. s.now) r) → form ≡ text_or_json_of (first_of id (rows_of f))
 text_or_json_read f id r form read is = is ∙ ap text_or_json_of (sym (option_read f id r read))
+
+-- whether the files beside the logs are asked for, by its word
+pub auto_read : (f : Found) (id : Text) (r : Option (Bor Text)) (auto : Bool) → option_map (λ s. s.now) r ≡ first_value f id
+    → auto ≡ is_auto (option_map (λ s. s.now) r) → auto ≡ is_auto (first_of id (rows_of f))
+auto_read f id r auto read is = is ∙ ap is_auto (sym (option_read f id r read))
 
 -- ---- where nothing is asked for
 

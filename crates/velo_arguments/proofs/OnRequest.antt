@@ -21,6 +21,7 @@ use Rattle.velo_request.specs.declared.request.RunOptions.{RunOptions}
 use Rattle.velo_request.specs.declared.request.ReplayOptions.{ReplayOptions}
 use Rattle.velo_request.specs.declared.request.ExplainOptions.{ExplainOptions}
 use Rattle.velo_request.specs.declared.request.ExploreOptions.{ExploreOptions}
+use Rattle.velo_request.specs.declared.request.ManyOptions.{ManyOptions}
 use Rattle.velo_request.specs.declared.request.PredictOptions.{PredictOptions}
 use Rattle.velo_request.specs.declared.request.RandomRuns.{RandomRuns}
 use Rattle.velo_request.specs.declared.request.ScheduleSource.{ScheduleSource}
@@ -28,9 +29,10 @@ use Rattle.velo_request.specs.declared.request.ScheduleSource.TheVariants as sou
 use Rattle.velo_request.specs.declared.request.TheConstants.{DEFAULT_SEED, MAX_RUNS, MAX_SECONDS, MAX_STATES, MAX_TRIES}
 use Rattle.velo_request.specs.declared.request.ThinOptions.{ThinOptions}
 use Rattle.velo_request.specs.declared.request.VerifyOptions.{VerifyOptions}
+use Rattle.velo_request.specs.declared.request.WatchOptions.{WatchOptions}
 use Rattle.velo_request.specs.declared.request.Request.{Request}
-use Rattle.velo_request.specs.declared.request.Request.TheVariants.{Audit, Carry, Check, CheckRest, Explain, Explore, Predict, Replay, Run, Thin, Verify, Watch, WatchEndless}
-use Rattle.velo_arguments.specs.Asked.{AreLeftOut, AreLimits, AreRandomRuns, AreSeconds, AreTurns, AsksFor, AsksForNothing, AsksAudit, AsksCarry, AsksCheck, AsksExplain, AsksExplore, IsFlag, IsList, AsksPredict, AsksReplay, AsksRun, IsScheduleSource, IsSeed, AsksThin, AsksVerify, WritesNumber, form_of, leaves_out, text_or_json_of}
+use Rattle.velo_request.specs.declared.request.Request.TheVariants.{Audit, AuditMany, Carry, Check, CheckRest, Explain, Explore, MergeAudits, Predict, Replay, Run, Thin, Verify, Watch, WatchEndless, WatchRest}
+use Rattle.velo_arguments.specs.Asked.{AreLeftOut, AreLimits, AreRandomRuns, AreSeconds, AreTurns, AsksFor, AsksForNothing, AsksAudit, AsksAuditMany, AsksCarry, AsksCheck, AsksExplain, AsksExplore, IsFlag, IsList, AsksPredict, AsksReplay, AsksRun, IsScheduleSource, IsSeed, AsksThin, AsksVerify, AsksWatch, WritesNumber, form_of, has_summary, is_auto, is_merge, leaves_out, text_or_json_of}
 use Rattle.velo_arguments.specs.CommandLine.{asked_by, audit, carry, check, command_line, explain, explore, faults_of, predict, replay, run, thin, verify, watch}
 use Rattle.velo_arguments.proofs.OnAsked.{nothing_left}
 use Rattle.velo_arguments.proofs.OnLimits.{HasLimit, HasWide, HasWord, MayHave}
@@ -288,7 +290,19 @@ an_exploring rows word has =
       ),
     )
 
--- what the word `watch` asks for, endless or not
+-- a watch that is not endless
+a_watch : (rows : List Row) → IsFlag (one_of (codes "endless") rows) false → HasWord (codes "LOG") rows → HasLimits rows → (options : WatchOptions) × AsksWatch rows options
+unfolding a_path
+a_watch rows endless word has =
+    let limits = a_limits rows has in
+    let stop = is_true (one_of (codes "stop") rows) in
+    let certificate = is_true (one_of (codes "certificate") rows) in
+    let names = a_path_if (first_of (codes "names") rows) in (
+      record { input = a_path word.0; stop = stop; limits = limits.0; certificate = certificate; names = names },
+      (endless, is_flag (one_of (codes "certificate") rows), (word.1, is_flag (one_of (codes "stop") rows), limits.1, path_of (first_of (codes "names") rows))),
+    )
+
+-- what the word `watch` asks for: a log of any length, the whole log, or what is left of it
 asks_watch : (rows : List Row) (endless : Bool) → IsFlag (one_of (codes "endless") rows) endless → HasWord (codes "LOG") rows → HasLimits rows
     → (request : Request) × AsksFor (Some (codes "watch", rows)) request
 unfolding a_path
@@ -299,17 +313,17 @@ asks_watch rows true endless word has =
       WatchEndless (record { input = a_path word.0; stop = stop; limits = limits.0; names = names }),
       (refl, (endless, (word.1, is_flag (one_of (codes "stop") rows), limits.1, path_of (first_of (codes "names") rows)))),
     )
-asks_watch rows false endless word has =
-    let limits = a_limits rows has in
-    let stop = is_true (one_of (codes "stop") rows) in
-    let certificate = is_true (one_of (codes "certificate") rows) in
-    let names = a_path_if (first_of (codes "names") rows) in (
-      Watch (record { input = a_path word.0; stop = stop; limits = limits.0; certificate = certificate; names = names }),
-      (
-        refl,
-        (endless, is_flag (one_of (codes "certificate") rows), (word.1, is_flag (one_of (codes "stop") rows), limits.1, path_of (first_of (codes "names") rows))),
-      ),
-    )
+asks_watch rows false endless word has = go (leaves_out left.0) refl
+  where
+    watch : (options : WatchOptions) × AsksWatch rows options
+    watch = a_watch rows endless word has
+
+    left : (ignored : Ignored) × AreLeftOut rows ignored
+    left = left_out rows
+
+    go : (b : Bool) → leaves_out left.0 ≡ b → (request : Request) × AsksFor (Some (codes "watch", rows)) request
+    go true is = (WatchRest (record { watch = watch.0; ignored = left.0 }), (refl, (watch.1, left.1, is)))
+    go false is = (Watch watch.0, (refl, watch.1, nothing_left rows left.0 left.1 is))
 
 an_audit : (rows : List Row) → HasWord (codes "LOG") rows → HasLimits rows → (options : AuditOptions) × AsksAudit rows options
 unfolding a_path
@@ -341,6 +355,37 @@ an_audit rows word has =
         limits.1,
       ),
     )
+
+a_summary : (rows : List Row) → HasLimits rows → (options : ManyOptions) × AsksAuditMany rows options
+a_summary rows has =
+    let left = left_out rows in
+    let limits = a_limits rows has in (
+      record {
+        inputs = the_words (codes "LOG") rows;
+        names = is_auto (first_of (codes "names") rows);
+        sites = is_auto (first_of (codes "sites") rows);
+        ignored = left.0;
+        format = text_or_json_of (first_of (codes "format") rows);
+        limits = limits.0;
+      },
+      (words_of (unwrap_or (all_of (codes "LOG") rows) []), refl, refl, left.1, refl, limits.1),
+    )
+
+-- what the word `audit` asks for: a merge of summaries, a summary, or the audit of one log
+asks_audit : (rows : List Row) → HasWord (codes "LOG") rows → HasLimits rows → (request : Request) × AsksFor (Some (codes "audit", rows)) request
+asks_audit rows word has = go (is_merge rows) (has_summary rows) refl refl
+  where
+    go : (merge summary : Bool) → is_merge rows ≡ merge → has_summary rows ≡ summary → (request : Request) × AsksFor (Some (codes "audit", rows)) request
+    go true summary merges whole = (
+      MergeAudits (record { inputs = the_words (codes "LOG") rows; format = text_or_json_of (first_of (codes "format") rows) }),
+      (refl, (words_of (unwrap_or (all_of (codes "LOG") rows) []), refl), merges),
+    )
+    go false true merges whole =
+        let many = a_summary rows has in
+        (AuditMany many.0, (refl, many.1, merges, whole))
+    go false false merges whole =
+        let audit = an_audit rows word has in
+        (Audit audit.0, (refl, audit.1, merges, whole))
 
 a_thinning : (rows : List Row) → HasWord (codes "LOG") rows → HasWord (codes "log") rows → (options : ThinOptions) × AsksThin rows options
 unfolding a_path
@@ -452,7 +497,7 @@ watch_asks words e =
     asks_watch (rows_of_leaf watch words) (is_true endless) (is_flag endless) (watch_right words e).0 (watch_right words e).1
 
 audit_asks : (words : List Text) → AsksBy audit words
-audit_asks words = asks audit words Audit AsksAudit (λ o is. (refl, is)) (λ e. an_audit (rows_of_leaf audit words) (audit_right words e).0 (audit_right words e).1)
+audit_asks words e = asks_audit (rows_of_leaf audit words) (audit_right words e).0 (audit_right words e).1
 
 thin_asks : (words : List Text) → AsksBy thin words
 thin_asks words = asks thin words Thin AsksThin (λ o is. (refl, is)) (λ e. a_thinning (rows_of_leaf thin words) (thin_right words e).0 (thin_right words e).1)

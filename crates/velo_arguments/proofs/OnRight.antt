@@ -14,7 +14,7 @@ use Rattle.clap.specs.Faults.{built_fault, defaults_fault, entered_fault, level_
 use Rattle.clap.specs.declared.parser.matches.ValueSource.{ValueSource}
 use Rattle.velo_events.specs.declared.limits.TheConstants.{MAX_EVENTS, MAX_NODES}
 use Rattle.velo_request.specs.declared.request.TheConstants.{MAX_RUNS, MAX_SECONDS, MAX_STATES, MAX_TRIES}
-use Rattle.velo_arguments.specs.CommandLine.{audit, carry, check, command_line, events, explain, explore, flag, graph_options, label_options, left_out_options, needed, nodes, predict, random, repeated, replay, run, run_options, saved_options, seconds, seed, states, thin, tries, valued, verify, watch, word}
+use Rattle.velo_arguments.specs.CommandLine.{audit, carry, check, command_line, events, explain, explore, flag, graph_options, label_options, left_out_options, needed, nodes, predict, random, repeated, replay, run, run_options, saved_options, seconds, seed, states, thin, tries, valued, verify, watch, word, words}
 use Rattle.velo_arguments.proofs.OnWalk.{Each, level_keeps, neither}
 use Rattle.velo_arguments.proofs.OnStop.{StopsNotAtHelp, walk_stops}
 use Rattle.velo_arguments.proofs.OnRows.{IsFilled, MakesRows, default_keeps, defaults_have, is_plain, more_row, new_row, required_given, row_given, row_there, subcommand_there, used_keeps}
@@ -164,6 +164,9 @@ others a (l ∷ ls) e = go (bytes_eq a.id l.id) refl e (others a ls)
 makes_word : (name : Text) → is_other name limits ≡ true → MakesRows (Passes limits) (with_index 1 (filled (word name)))
 makes_word name other = makes limits (with_index 1 (filled (word name))) refl (others (with_index 1 (filled (word name))) limits other)
 
+makes_words : (name : Text) → is_other name limits ≡ true → MakesRows (Passes limits) (with_index 1 (filled (words name)))
+makes_words name other = makes limits (with_index 1 (filled (words name))) refl (others (with_index 1 (filled (words name))) limits other)
+
 makes_valued : (name : Text) → is_other name limits ≡ true → MakesRows (Passes limits) (filled (valued name))
 makes_valued name other = makes limits (filled (valued name)) refl (others (filled (valued name)) limits other)
 
@@ -281,14 +284,14 @@ explore_right words e =
 pub watch_right : (words : List Text) → AreFaultless watch words
     → HasWord (codes "LOG") (rows_of_leaf watch words) × HasLimits (rows_of_leaf watch words)
 watch_right words e =
-    let level = level_has limits (leaf watch) words refl (makes_word (codes "LOG") refl, (makes_valued (codes "names") refl, (makes_flag (codes "stop") refl, (makes_flag (codes "endless") refl, graph_made)))) e in
-    (word_there (codes "LOG") (rows_of_leaf watch words) level.passes (level.given.0 refl), limits_there (rows_of_leaf watch words) level.passes (level.defaults.1.1.1.1.0 tt) (level.defaults.1.1.1.1.1.0 tt))
+    let level = level_has limits (leaf watch) words refl (makes_word (codes "LOG") refl, (makes_valued (codes "names") refl, (makes_flag (codes "stop") refl, (makes_flag (codes "endless") refl, left_out_before_graph)))) e in
+    (word_there (codes "LOG") (rows_of_leaf watch words) level.passes (level.given.0 refl), limits_there (rows_of_leaf watch words) level.passes (level.defaults.1.1.1.1.1.1.1.1.1.1.0 tt) (level.defaults.1.1.1.1.1.1.1.1.1.1.1.0 tt))
 
 pub audit_right : (words : List Text) → AreFaultless audit words
     → HasWord (codes "LOG") (rows_of_leaf audit words) × HasLimits (rows_of_leaf audit words)
 audit_right words e =
-    let level = level_has limits (leaf audit) words refl (makes_word (codes "LOG") refl, (makes_flag (codes "no-witness") refl, (makes_flag (codes "counts") refl, (makes_flag (codes "by-count") refl, (makes_flag (codes "innermost") refl, (makes_valued (codes "format") refl, labels_made)))))) e in
-    (word_there (codes "LOG") (rows_of_leaf audit words) level.passes (level.given.0 refl), limits_there (rows_of_leaf audit words) level.passes (level.defaults.1.1.1.1.1.1.1.1.1.1.1.1.1.1.1.0 tt) (level.defaults.1.1.1.1.1.1.1.1.1.1.1.1.1.1.1.1.0 tt))
+    let level = level_has limits (leaf audit) words refl (makes_words (codes "LOG") refl, (makes_flag (codes "no-witness") refl, (makes_flag (codes "counts") refl, (makes_flag (codes "by-count") refl, (makes_flag (codes "innermost") refl, (makes_flag (codes "summary") refl, (makes_flag (codes "merge") refl, (makes_valued (codes "format") refl, labels_made)))))))) e in
+    (word_there (codes "LOG") (rows_of_leaf audit words) level.passes (level.given.0 refl), limits_there (rows_of_leaf audit words) level.passes (level.defaults.1.1.1.1.1.1.1.1.1.1.1.1.1.1.1.1.1.0 tt) (level.defaults.1.1.1.1.1.1.1.1.1.1.1.1.1.1.1.1.1.1.0 tt))
 
 pub thin_right : (words : List Text) → AreFaultless thin words
     → HasWord (codes "LOG") (rows_of_leaf thin words) × HasWord (codes "log") (rows_of_leaf thin words)

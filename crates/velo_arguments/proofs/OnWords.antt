@@ -18,6 +18,8 @@ use Rattle.velo_request.specs.declared.request.EndlessOptions.{EndlessOptions}
 use Rattle.velo_request.specs.declared.request.ExplainOptions.{ExplainOptions}
 use Rattle.velo_request.specs.declared.request.OutputFormat.TheVariants as form
 use Rattle.velo_request.specs.declared.request.TextOrJson.TheVariants as text_or_json
+use Rattle.velo_request.specs.declared.request.ManyOptions.{ManyOptions}
+use Rattle.velo_request.specs.declared.request.MergeOptions.{MergeOptions}
 use Rattle.velo_request.specs.declared.request.PredictOptions.{PredictOptions}
 use Rattle.velo_request.specs.declared.request.ReplayOptions.{ReplayOptions}
 use Rattle.velo_request.specs.declared.request.RunOptions.{RunOptions}
@@ -27,16 +29,22 @@ use Rattle.velo_request.specs.declared.request.TheConstants.{DEFAULT_SEED, DEFAU
 use Rattle.velo_request.specs.declared.request.ThinOptions.{ThinOptions}
 use Rattle.velo_request.specs.declared.request.VerifyOptions.{VerifyOptions}
 use Rattle.velo_request.specs.declared.request.WatchOptions.{WatchOptions}
-use Rattle.velo_request.specs.declared.request.Request.TheVariants.{Audit, Carry, Check, CheckRest, Explain, Explore, Predict, Replay, Run, Thin, Verify, Watch, WatchEndless}
+use Rattle.velo_request.specs.declared.request.WatchRestOptions.{WatchRestOptions}
+use Rattle.velo_request.specs.declared.request.Request.TheVariants.{Audit, AuditMany, Carry, Check, CheckRest, Explain, Explore, MergeAudits, Predict, Replay, Run, Thin, Verify, Watch, WatchEndless, WatchRest}
 use Rattle.velo_arguments.specs.Asked.{AreTurns, AsksFor, IsFlag, IsScheduleSource, WritesNumber, leaves_out}
 use Rattle.velo_arguments.specs.CommandLine.{asked_by, faults_of}
 use Rattle.velo_arguments.specs.Together.{given_by}
+use Rattle.velo_arguments.specs.declared.together.Given.{Given}
 
 -- ---- right words
 
 -- a flag that is not given
 is_unset : (flag : Bool) → flag ≡ false → IsFlag (Some (codes "false")) flag
 is_unset flag is = (λ e. cc, λ e. is, λ e. is)
+
+-- none of the options is given that a request does not show
+abbrev nothing_given : Given
+nothing_given = given_by None
 
 -- a log alone, with the limits that are there by default
 abbrev check_words : List Text
@@ -103,7 +111,7 @@ replay_asks options text schedule says file stop log names events nodes certific
   ),
 )
 
-replay_gives : given_by (asked_by replay_words) ≡ record { states = false; seed = false; schedule = true; certificate = false; not_atomic = false; other_form = false; neither_text_nor_json = false }
+replay_gives : given_by (asked_by replay_words) ≡ record nothing_given { schedule = true }
 unfolding asked_by walked
 replay_gives = refl
 
@@ -231,7 +239,7 @@ explore_asks options file states seconds first progress random format log names 
   ),
 )
 
-explore_gives : given_by (asked_by explore_words) ≡ record { states = false; seed = false; schedule = false; certificate = false; not_atomic = false; other_form = false; neither_text_nor_json = false }
+explore_gives : given_by (asked_by explore_words) ≡ nothing_given
 unfolding asked_by walked
 explore_gives = refl
 
@@ -243,7 +251,7 @@ chance_is_right : faults_of chance_words ≡ []
 unfolding faults_of walk_fault walked defaults_fault
 chance_is_right = refl
 
-chance_gives : given_by (asked_by chance_words) ≡ record { states = false; seed = true; schedule = false; certificate = false; not_atomic = false; other_form = false; neither_text_nor_json = false }
+chance_gives : given_by (asked_by chance_words) ≡ record nothing_given { seed = true }
 unfolding asked_by walked
 chance_gives = refl
 
@@ -259,7 +267,29 @@ watch_asks : (options : WatchOptions) → options.input.now ≡ codes "-" → op
     → options.certificate ≡ false → options.names ≡ None → AsksFor (asked_by watch_words) (Watch options)
 unfolding asked_by walked
 watch_asks options log stop events nodes certificate names =
-    (refl, (search rules, search rules, (ap Some (sym log), search rules, search rules, ap (option_map (λ path. path.now)) (sym names))))
+    (refl, (search rules, search rules, (ap Some (sym log), search rules, search rules, ap (option_map (λ path. path.now)) (sym names))), (refl, refl, refl, refl, refl, is_unset false refl))
+
+-- a log that is watched without its locks, and without the labels of a list
+abbrev watch_rest_words : List Text
+watch_rest_words = codes "velodrome" ∷ codes "watch" ∷ codes "--ignore-locks" ∷ codes "a" ∷ codes "--not-atomic=l" ∷ []
+
+watch_rest_is_right : faults_of watch_rest_words ≡ []
+unfolding faults_of walk_fault walked defaults_fault
+watch_rest_is_right = refl
+
+watch_rest_asks : (options : WatchRestOptions) → options.watch.input.now ≡ codes "a" → options.watch.stop ≡ false → options.watch.limits.events ≡ 1048576
+    → options.watch.limits.nodes ≡ 1024 → options.watch.certificate ≡ false → options.watch.names ≡ None → option_map (λ path. path.now) options.ignored.known ≡ Some (codes "l")
+    → options.ignored.is_wide ≡ false → map (λ w. w.now) options.ignored.labels.now ≡ [] → map (λ w. w.now) options.ignored.locks.now ≡ []
+    → map (λ w. w.now) options.ignored.variables.now ≡ [] → options.ignored.all_locks ≡ true → IsTrue (leaves_out options.ignored) → AsksFor (asked_by watch_rest_words) (WatchRest options)
+unfolding asked_by walked
+watch_rest_asks options log stop events nodes certificate names known wide labels locks variables all leaves = (
+  refl,
+  (
+    (search rules, search rules, (ap Some (sym log), search rules, search rules, ap (option_map (λ path. path.now)) (sym names))),
+    ((sym known, wide), sym labels, sym locks, sym variables, search rules),
+    leaves,
+  ),
+)
 
 -- a log of any length, and a certificate beside it
 abbrev endless_words : List Text
@@ -275,9 +305,21 @@ unfolding asked_by walked
 endless_asks options log stop events nodes names =
     (refl, (search rules, (ap Some (sym log), search rules, search rules, ap (option_map (λ path. path.now)) (sym names))))
 
-endless_gives : given_by (asked_by endless_words) ≡ record { states = false; seed = false; schedule = false; certificate = true; not_atomic = false; other_form = false; neither_text_nor_json = false }
+endless_gives : given_by (asked_by endless_words) ≡ record nothing_given { certificate = true }
 unfolding asked_by walked
 endless_gives = refl
+
+-- a log of any length, of which something is left out
+abbrev endless_rest_words : List Text
+endless_rest_words = codes "velodrome" ∷ codes "watch" ∷ codes "-" ∷ codes "--ignore-label=7" ∷ codes "--endless" ∷ []
+
+endless_rest_is_right : faults_of endless_rest_words ≡ []
+unfolding faults_of walk_fault walked defaults_fault
+endless_rest_is_right = refl
+
+endless_rest_gives : given_by (asked_by endless_rest_words) ≡ record nothing_given { leaves_out = true; of_logs = true }
+unfolding asked_by walked
+endless_rest_gives = refl
 
 -- a log that is thinned, without its locks, a variable and the labels of a list
 abbrev thin_words : List Text
@@ -345,7 +387,7 @@ sarif_is_right : faults_of sarif_words ≡ []
 unfolding faults_of walk_fault walked defaults_fault
 sarif_is_right = refl
 
-sarif_gives : given_by (asked_by sarif_words) ≡ record { states = false; seed = false; schedule = false; certificate = false; not_atomic = false; other_form = false; neither_text_nor_json = true }
+sarif_gives : given_by (asked_by sarif_words) ≡ record nothing_given { neither_text_nor_json = true }
 unfolding asked_by walked
 sarif_gives = refl
 
@@ -376,7 +418,112 @@ audit_asks options log names sites source known wide labels locks variables all 
     format,
     search rules,
   ),
+  refl,
+  refl,
 )
+
+audit_gives : given_by (asked_by audit_words) ≡ record nothing_given { not_atomic = true; leaves_out = true; of_logs = true; of_one_log = true; file_of_one_log = true }
+unfolding asked_by walked
+audit_gives = refl
+
+-- two logs have one summary, with the names beside them
+abbrev many_words : List Text
+many_words = codes "velodrome" ∷ codes "audit" ∷ codes "a" ∷ codes "--ignore-locks" ∷ codes "b" ∷ codes "--names=auto" ∷ []
+
+many_is_right : faults_of many_words ≡ []
+unfolding faults_of walk_fault walked defaults_fault
+many_is_right = refl
+
+many_asks : (options : ManyOptions) → map (λ w. w.now) options.inputs.now ≡ codes "a" ∷ codes "b" ∷ [] → options.names ≡ true → options.sites ≡ false
+    → options.ignored.known ≡ None → options.ignored.is_wide ≡ false
+    → map (λ w. w.now) options.ignored.labels.now ≡ [] → map (λ w. w.now) options.ignored.locks.now ≡ [] → map (λ w. w.now) options.ignored.variables.now ≡ []
+    → options.ignored.all_locks ≡ true → options.format ≡ text_or_json.Text → options.limits.events ≡ 16777216 → options.limits.nodes ≡ 4096 → AsksFor (asked_by many_words) (AuditMany options)
+unfolding asked_by walked
+many_asks options logs names sites known wide labels locks variables all format events nodes = (
+  refl,
+  (
+    sym logs,
+    names,
+    sites,
+    ((ap (option_map (λ path. path.now)) (sym known), wide), sym labels, sym locks, sym variables, search rules),
+    format,
+    search rules,
+  ),
+  refl,
+  refl,
+)
+
+many_gives : given_by (asked_by many_words) ≡ record nothing_given { leaves_out = true; of_logs = true }
+unfolding asked_by walked
+many_gives = refl
+
+-- so has one, where it is asked for
+abbrev summary_words : List Text
+summary_words = codes "velodrome" ∷ codes "audit" ∷ codes "--summary" ∷ codes "a" ∷ codes "--sites" ∷ codes "auto" ∷ codes "--format" ∷ codes "json" ∷ []
+
+summary_is_right : faults_of summary_words ≡ []
+unfolding faults_of walk_fault walked defaults_fault
+summary_is_right = refl
+
+summary_asks : (options : ManyOptions) → map (λ w. w.now) options.inputs.now ≡ codes "a" ∷ [] → options.names ≡ false → options.sites ≡ true
+    → options.ignored.known ≡ None → options.ignored.is_wide ≡ false
+    → map (λ w. w.now) options.ignored.labels.now ≡ [] → map (λ w. w.now) options.ignored.locks.now ≡ [] → map (λ w. w.now) options.ignored.variables.now ≡ []
+    → options.ignored.all_locks ≡ false → options.format ≡ text_or_json.Json → options.limits.events ≡ 16777216 → options.limits.nodes ≡ 4096 → AsksFor (asked_by summary_words) (AuditMany options)
+unfolding asked_by walked
+summary_asks options logs names sites known wide labels locks variables all format events nodes = (
+  refl,
+  (
+    sym logs,
+    names,
+    sites,
+    ((ap (option_map (λ path. path.now)) (sym known), wide), sym labels, sym locks, sym variables, search rules),
+    format,
+    search rules,
+  ),
+  refl,
+  refl,
+)
+
+-- the names of one log, and the blocks of its labels
+abbrev one_log_words : List Text
+one_log_words = codes "velodrome" ∷ codes "audit" ∷ codes "a" ∷ codes "b" ∷ codes "--names" ∷ codes "n" ∷ codes "--counts" ∷ []
+
+one_log_is_right : faults_of one_log_words ≡ []
+unfolding faults_of walk_fault walked defaults_fault
+one_log_is_right = refl
+
+one_log_gives : given_by (asked_by one_log_words) ≡ record nothing_given { of_logs = true; of_one_log = true; file_of_one_log = true }
+unfolding asked_by walked
+one_log_gives = refl
+
+-- two summaries
+abbrev merge_words : List Text
+merge_words = codes "velodrome" ∷ codes "audit" ∷ codes "--merge" ∷ codes "a" ∷ codes "b" ∷ codes "--format=json" ∷ []
+
+merge_is_right : faults_of merge_words ≡ []
+unfolding faults_of walk_fault walked defaults_fault
+merge_is_right = refl
+
+merge_asks : (options : MergeOptions) → map (λ w. w.now) options.inputs.now ≡ codes "a" ∷ codes "b" ∷ [] → options.format ≡ text_or_json.Json → AsksFor (asked_by merge_words) (MergeAudits options)
+unfolding asked_by walked
+merge_asks options summaries format = (refl, (sym summaries, format), refl)
+
+-- limits by default are not given
+merge_gives : given_by (asked_by merge_words) ≡ nothing_given
+unfolding asked_by walked
+merge_gives = refl
+
+-- one that is given is, whatever it is by default
+abbrev merge_limit_words : List Text
+merge_limit_words = codes "velodrome" ∷ codes "audit" ∷ codes "--merge" ∷ codes "a" ∷ codes "--nodes=4096" ∷ []
+
+merge_limit_is_right : faults_of merge_limit_words ≡ []
+unfolding faults_of walk_fault walked defaults_fault
+merge_limit_is_right = refl
+
+merge_limit_gives : given_by (asked_by merge_limit_words) ≡ record nothing_given { of_logs = true }
+unfolding asked_by walked
+merge_limit_gives = refl
 
 -- no lock is looked at, and the form is none that there is
 abbrev no_locks_words : List Text
@@ -386,7 +533,7 @@ no_locks_is_right : faults_of no_locks_words ≡ []
 unfolding faults_of walk_fault walked defaults_fault
 no_locks_is_right = refl
 
-no_locks_gives : given_by (asked_by no_locks_words) ≡ record { states = false; seed = false; schedule = false; certificate = false; not_atomic = false; other_form = true; neither_text_nor_json = true }
+no_locks_gives : given_by (asked_by no_locks_words) ≡ record nothing_given { leaves_out = true; of_logs = true; other_form = true; neither_text_nor_json = true }
 unfolding asked_by walked
 no_locks_gives = refl
 

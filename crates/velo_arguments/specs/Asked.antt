@@ -1,9 +1,10 @@
 -- What the matches of the command line ask for: the values of a subcommand, by the names of its
 -- arguments.
-use Rattle.std.specs.Prelude.{◌≡◌, ◌≢◌, ◌⊎◌, ◌<◌, ◌≤◌, ◌^◌, ◌++◌, ◌==◌, ◌||◌, ℕ, Bool, true, false, not, List, [], length, map, Option, Some, None, IsTrue, codes, is_some, option_and_then, option_map, unwrap_or, if◌then◌else◌}
+use Rattle.std.specs.Prelude.{◌≡◌, ◌≢◌, ◌⊎◌, ◌<◌, ◌≤◌, ◌^◌, ◌++◌, ◌==◌, ◌||◌, ℕ, Bool, true, false, not, List, [], length, map, nat_lt, Option, Some, None, IsTrue, codes, is_some, option_and_then, option_map, unwrap_or, if◌then◌else◌}
 use Rattle.std.specs.Borrow.{Bor}
 use Rattle.std.specs.Str.{bytes_eq}
 use Rattle.std.specs.Str.Parse.{IsNumeral, digits_value, without_leading_plus}
+use Rattle.clap.specs.Takes.{is_given}
 use Rattle.clap.specs.Words.{Row, Text, all_of, first_of, one_of}
 use Rattle.velo_request.specs.declared.request.Ignored.{Ignored}
 use Rattle.velo_request.specs.declared.request.Limits.{Limits}
@@ -17,6 +18,8 @@ use Rattle.velo_request.specs.declared.request.EndlessOptions.{EndlessOptions}
 use Rattle.velo_request.specs.declared.request.ExploreOptions.{ExploreOptions}
 use Rattle.velo_request.specs.declared.request.TextOrJson.{TextOrJson}
 use Rattle.velo_request.specs.declared.request.TextOrJson.TheVariants as text_or_json
+use Rattle.velo_request.specs.declared.request.ManyOptions.{ManyOptions}
+use Rattle.velo_request.specs.declared.request.MergeOptions.{MergeOptions}
 use Rattle.velo_request.specs.declared.request.PredictOptions.{PredictOptions}
 use Rattle.velo_request.specs.declared.request.RandomRuns.{RandomRuns}
 use Rattle.velo_request.specs.declared.request.RunOptions.{RunOptions}
@@ -28,8 +31,9 @@ use Rattle.velo_request.specs.declared.request.ExplainOptions.{ExplainOptions}
 use Rattle.velo_request.specs.declared.request.ThinOptions.{ThinOptions}
 use Rattle.velo_request.specs.declared.request.VerifyOptions.{VerifyOptions}
 use Rattle.velo_request.specs.declared.request.WatchOptions.{WatchOptions}
+use Rattle.velo_request.specs.declared.request.WatchRestOptions.{WatchRestOptions}
 use Rattle.velo_request.specs.declared.request.Request.{Request}
-use Rattle.velo_request.specs.declared.request.Request.TheVariants.{Audit, Carry, Check, CheckRest, Explain, Explore, Predict, Replay, Run, Thin, Verify, Watch, WatchEndless}
+use Rattle.velo_request.specs.declared.request.Request.TheVariants.{Audit, AuditMany, Carry, Check, CheckRest, Explain, Explore, MergeAudits, Predict, Replay, Run, Thin, Verify, Watch, WatchEndless, WatchRest}
 
 -- the text writes this number, which an unsigned type of `bits` bits holds; a plus may come before
 -- it
@@ -210,6 +214,11 @@ AsksEndless rows options =
     IsFlag (one_of (codes "endless") rows) true
     × AsksWatchOf rows options.input options.stop options.limits options.names
 
+abbrev pub AsksWatchRest : List Row → WatchRestOptions → Type 0
+AsksWatchRest rows options =
+    AsksWatch rows options.watch × AreLeftOut rows options.ignored
+    × IsTrue (leaves_out options.ignored)
+
 -- the form of an answer that a word names, if it names one
 abbrev pub form_named : Text → Option OutputFormat
 form_named word =
@@ -239,6 +248,37 @@ AsksAudit rows options =
     × IsListing rows options
     × (options.format ≡ form_of (first_of (codes "format") rows))
     × AreLimits rows options.limits
+
+-- how many logs are given
+abbrev pub logs_given : List Row → ℕ
+logs_given rows = length (unwrap_or (all_of (codes "LOG") rows) [])
+
+-- the logs have one summary: there are several, or it is asked for
+abbrev pub has_summary : List Row → Bool
+has_summary rows = is_given (codes "summary") rows || nat_lt 1 (logs_given rows)
+
+-- the word asks for the files beside the logs
+abbrev pub is_auto : Option Text → Bool
+is_auto None = false
+is_auto (Some word) = bytes_eq word (codes "auto")
+
+abbrev pub AsksAuditMany : List Row → ManyOptions → Type 0
+AsksAuditMany rows options =
+    AreWords (codes "LOG") rows options.inputs.now
+    × (options.names ≡ is_auto (first_of (codes "names") rows))
+    × (options.sites ≡ is_auto (first_of (codes "sites") rows))
+    × AreLeftOut rows options.ignored
+    × (options.format ≡ text_or_json_of (first_of (codes "format") rows))
+    × AreLimits rows options.limits
+
+-- the words are summaries, which are merged
+abbrev pub is_merge : List Row → Bool
+is_merge rows = is_given (codes "merge") rows
+
+abbrev pub AsksMerge : List Row → MergeOptions → Type 0
+AsksMerge rows options =
+    AreWords (codes "LOG") rows options.inputs.now
+    × (options.format ≡ text_or_json_of (first_of (codes "format") rows))
 
 abbrev pub AsksThin : List Row → ThinOptions → Type 0
 AsksThin rows options =
@@ -283,9 +323,19 @@ AsksFor (Some found) (Run options) = (found.0 ≡ codes "run") × AsksRun found.
 AsksFor (Some found) (Explain options) = (found.0 ≡ codes "explain") × AsksExplain found.1 options
 AsksFor (Some found) (Carry options) = (found.0 ≡ codes "carry") × AsksCarry found.1 options
 AsksFor (Some found) (Explore options) = (found.0 ≡ codes "explore") × AsksExplore found.1 options
-AsksFor (Some found) (Watch options) = (found.0 ≡ codes "watch") × AsksWatch found.1 options
+AsksFor (Some found) (Watch options) =
+    (found.0 ≡ codes "watch") × AsksWatch found.1 options × LeaveNothingOut found.1
+AsksFor (Some found) (WatchRest options) =
+    (found.0 ≡ codes "watch") × AsksWatchRest found.1 options
 AsksFor (Some found) (WatchEndless options) = (found.0 ≡ codes "watch") × AsksEndless found.1 options
-AsksFor (Some found) (Audit options) = (found.0 ≡ codes "audit") × AsksAudit found.1 options
+AsksFor (Some found) (Audit options) =
+    (found.0 ≡ codes "audit") × AsksAudit found.1 options × (is_merge found.1 ≡ false)
+    × (has_summary found.1 ≡ false)
+AsksFor (Some found) (AuditMany options) =
+    (found.0 ≡ codes "audit") × AsksAuditMany found.1 options × (is_merge found.1 ≡ false)
+    × IsTrue (has_summary found.1)
+AsksFor (Some found) (MergeAudits options) =
+    (found.0 ≡ codes "audit") × AsksMerge found.1 options × IsTrue (is_merge found.1)
 AsksFor (Some found) (Thin options) = (found.0 ≡ codes "thin") × AsksThin found.1 options
 AsksFor (Some found) (Predict options) = (found.0 ≡ codes "predict") × AsksPredict found.1 options
 AsksFor (Some found) (Verify options) = (found.0 ≡ codes "verify") × AsksVerify found.1 options

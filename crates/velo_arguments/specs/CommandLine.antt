@@ -16,6 +16,10 @@ use Rattle.velo_request.specs.declared.request.TheConstants.{MAX_RUNS, MAX_SECON
 abbrev pub word : Text → Rule
 word name = record (new_rule name) { action = Some Set; required = true }
 
+-- one or more such words
+abbrev pub words : Text → Rule
+words name = record (word name) { action = Some Append }
+
 -- an option with a value, under its name
 abbrev pub valued : Text → Rule
 valued name = record (new_rule name) { long = Some name; value_names = 1 }
@@ -137,14 +141,14 @@ explore = subcommand (codes "explore") (word (codes "FILE") ∷ search_options)
 abbrev pub watch : Shape
 watch = subcommand (codes "watch")
     (word (codes "LOG") ∷ valued (codes "names") ∷ flag (codes "stop") ∷ flag (codes "endless")
-    ∷ graph_options)
+    ∷ left_out_options ++ graph_options)
 
 abbrev pub audit : Shape
 audit =
     subcommand (codes "audit")
-    (word (codes "LOG") ∷ flag (codes "no-witness") ∷ flag (codes "counts")
-    ∷ flag (codes "by-count") ∷ flag (codes "innermost") ∷ valued (codes "format")
-    ∷ label_options)
+    (words (codes "LOG") ∷ flag (codes "no-witness") ∷ flag (codes "counts")
+    ∷ flag (codes "by-count") ∷ flag (codes "innermost") ∷ flag (codes "summary")
+    ∷ flag (codes "merge") ∷ valued (codes "format") ∷ label_options)
 
 abbrev pub thin : Shape
 thin = subcommand (codes "thin")

@@ -1,5 +1,5 @@
 -- Which options of a request do not go together, and the line that says so.
-use Rattle.std.specs.Prelude.{◌≡◌, ◌||◌, ◌&&◌, List, [], ◌∷◌, ◌++◌, ℕ, Bool, false, Option, Some, None, codes, count_by, is_some, nat_lt, not, if◌then◌else◌}
+use Rattle.std.specs.Prelude.{◌≡◌, ◌||◌, ◌&&◌, List, [], ◌∷◌, ◌++◌, ℕ, Bool, false, Option, Some, None, codes, count_by, is_some, map, nat_lt, not, if◌then◌else◌}
 use Rattle.std.specs.Borrow.{Bor}
 use Rattle.std.specs.Option.{option_or}
 use Rattle.std.specs.Str.{bytes_eq}
@@ -11,19 +11,22 @@ use Rattle.velo_request.specs.declared.request.EndlessOptions.{EndlessOptions}
 use Rattle.velo_request.specs.declared.request.ExplainOptions.{ExplainOptions}
 use Rattle.velo_request.specs.declared.request.ExploreOptions.{ExploreOptions}
 use Rattle.velo_request.specs.declared.request.Ignored.{Ignored}
+use Rattle.velo_request.specs.declared.request.ManyOptions.{ManyOptions}
+use Rattle.velo_request.specs.declared.request.MergeOptions.{MergeOptions}
 use Rattle.velo_request.specs.declared.request.PredictOptions.{PredictOptions}
 use Rattle.velo_request.specs.declared.request.RandomRuns.{RandomRuns}
 use Rattle.velo_request.specs.declared.request.ReplayOptions.{ReplayOptions}
 use Rattle.velo_request.specs.declared.request.Request.{Request}
-use Rattle.velo_request.specs.declared.request.Request.TheVariants.{Audit, Carry, Check, CheckRest, Explain, Explore, Predict, Replay, Run, Thin, Verify, Watch, WatchEndless}
+use Rattle.velo_request.specs.declared.request.Request.TheVariants.{Audit, AuditMany, Carry, Check, CheckRest, Explain, Explore, MergeAudits, Predict, Replay, Run, Thin, Verify, Watch, WatchEndless, WatchRest}
 use Rattle.velo_request.specs.declared.request.ScheduleSource.{ScheduleSource}
 use Rattle.velo_request.specs.declared.request.ScheduleSource.TheVariants as schedule
 use Rattle.velo_request.specs.declared.request.TextOrJson.{TextOrJson}
 use Rattle.velo_request.specs.declared.request.TextOrJson.TheVariants.{Json, Text}
 use Rattle.velo_request.specs.declared.request.ThinOptions.{ThinOptions}
-use Rattle.velo_arguments.specs.Asked.{Matches, AsksFor, form_named, text_or_json_named}
+use Rattle.velo_request.specs.declared.request.WatchRestOptions.{WatchRestOptions}
+use Rattle.velo_arguments.specs.Asked.{Matches, AsksFor, form_named, is_auto, text_or_json_named}
 use Rattle.velo_arguments.specs.declared.together.Clash.{Clash}
-use Rattle.velo_arguments.specs.declared.together.Clash.TheVariants.{DrawingIsPicture, EndlessCertificate, InputTwice, JsonCertificate, MapIsLog, NamesWithoutLog, NeitherTextNorJson, NoSuchForm, OnePath, RestCertificate, SearchByChance, SeedAlone, SourceWithoutSites, TwoLists, TwoSchedules}
+use Rattle.velo_arguments.specs.declared.together.Clash.TheVariants.{DrawingIsPicture, EndlessCertificate, EndlessRest, FileOfOneLog, InputTwice, JsonCertificate, MapIsLog, MergeAlone, NamesWithoutLog, NeitherTextNorJson, NoSuchForm, OneLogAlone, OnePath, RestCertificate, SearchByChance, SeedAlone, SourceWithoutSites, TwoLists, TwoSchedules}
 use Rattle.velo_arguments.specs.declared.together.Given.{Given}
 
 -- ---- paths
@@ -75,6 +78,43 @@ abbrev pub is_neither_text_nor_json : Option (List ℕ) → Bool
 is_neither_text_nor_json None = false
 is_neither_text_nor_json (Some word) = not (is_some (text_or_json_named word))
 
+-- a word is given that names a file, and does not ask for those beside the logs
+abbrev pub is_file : Option (List ℕ) → Bool
+is_file None = false
+is_file (Some word) = not (is_auto (Some word))
+
+-- the names or the sites of one log are given
+abbrev pub has_file_of_one_log : List Row → Bool
+has_file_of_one_log rows =
+    is_file (first_of (codes "names") rows) || is_file (first_of (codes "sites") rows)
+
+-- an option is given that the audit of one log alone has
+abbrev pub has_option_of_one_log : List Row → Bool
+has_option_of_one_log rows =
+    is_given (codes "source") rows
+    || (is_given (codes "no-witness") rows
+    || (is_given (codes "counts") rows
+    || (is_given (codes "by-count") rows || is_given (codes "innermost") rows)))
+
+-- an option is given that leaves something out of a log
+abbrev pub has_option_that_leaves_out : List Row → Bool
+has_option_that_leaves_out rows =
+    is_given (codes "not-atomic") rows
+    || (is_given (codes "ignore") rows
+    || (is_given (codes "ignore-label") rows
+    || (is_given (codes "ignore-lock") rows
+    || (is_given (codes "ignore-locks") rows || is_given (codes "ignore-variable") rows))))
+
+-- an option is given that an audit of logs has, and a merge of summaries has not
+abbrev pub has_option_of_logs : List Row → Bool
+has_option_of_logs rows =
+    is_given (codes "summary") rows
+    || (is_given (codes "names") rows
+    || (is_given (codes "sites") rows
+    || (is_given (codes "events") rows
+    || (is_given (codes "nodes") rows
+    || (has_option_of_one_log rows || has_option_that_leaves_out rows)))))
+
 -- which of the options that a request does not show are given by the values of a subcommand
 abbrev pub given_in : List Row → Given
 given_in rows = record {
@@ -83,6 +123,10 @@ given_in rows = record {
   schedule = is_given (codes "schedule") rows;
   certificate = is_given (codes "certificate") rows;
   not_atomic = is_given (codes "not-atomic") rows;
+  leaves_out = has_option_that_leaves_out rows;
+  of_logs = has_option_of_logs rows;
+  of_one_log = has_option_of_one_log rows;
+  file_of_one_log = has_file_of_one_log rows;
   other_form = is_other_form (first_of (codes "format") rows);
   neither_text_nor_json = is_neither_text_nor_json (first_of (codes "format") rows);
 }
@@ -94,6 +138,10 @@ given_by None = record {
   schedule = false;
   certificate = false;
   not_atomic = false;
+  leaves_out = false;
+  of_logs = false;
+  of_one_log = false;
+  file_of_one_log = false;
   other_form = false;
   neither_text_nor_json = false;
 }
@@ -201,6 +249,35 @@ clash_of_audit options given =
     (clash_of_source options.sites options.source))
     (clash_of_lists options.ignored given.not_atomic)
 
+-- ---- an audit of several logs
+
+-- their summary is asked for in a form that does not exist, with an option that the audit of one log
+-- alone has, or with the names or sites of one; or standard input is read twice, or there are two lists
+abbrev pub clash_of_many : ManyOptions → Given → Option Clash
+clash_of_many options given =
+    if given.neither_text_nor_json
+    then Some NeitherTextNorJson
+    else (if given.of_one_log
+    then Some OneLogAlone
+    else (if given.file_of_one_log
+    then Some FileOfOneLog
+    else option_or
+    (clash_of_inputs
+    (path_if options.ignored.known ++ map (λ path. path.now) options.inputs.now))
+    (clash_of_lists options.ignored given.not_atomic)))
+
+-- ---- a merge of summaries
+
+-- it is asked for in a form that does not exist, or with an option that an audit of logs has; or
+-- standard input is read twice
+abbrev pub clash_of_merge : MergeOptions → Given → Option Clash
+clash_of_merge options given =
+    if given.neither_text_nor_json
+    then Some NeitherTextNorJson
+    else (if given.of_logs
+    then Some MergeAlone
+    else clash_of_inputs (map (λ path. path.now) options.inputs.now))
+
 -- ---- a search for predictions
 
 -- the same, with two forms
@@ -227,14 +304,29 @@ clash_of_thin options has_known =
     (clash_of_lists options.ignored has_known))
     (clash_of_map options.target.now options.map)
 
+-- ---- a watch of what is left
+
+-- it has a certificate; or standard input is read twice, or there are two lists
+abbrev pub clash_of_watch_rest : WatchRestOptions → Bool → Option Clash
+clash_of_watch_rest options has_known =
+    if options.watch.certificate
+    then Some RestCertificate
+    else option_or
+    (clash_of_inputs
+    (options.watch.input.now ∷ path_if options.watch.names ++ path_if options.ignored.known))
+    (clash_of_lists options.ignored has_known)
+
 -- ---- an endless watch
 
--- it has a certificate, for which the whole log is needed; or standard input is read twice
-abbrev pub clash_of_endless : EndlessOptions → Bool → Option Clash
-clash_of_endless options has_certificate =
-    if has_certificate
+-- it has a certificate, for which the whole log is needed, or leaves something out; or standard input
+-- is read twice
+abbrev pub clash_of_endless : EndlessOptions → Given → Option Clash
+clash_of_endless options given =
+    if given.certificate
     then Some EndlessCertificate
-    else clash_of_inputs (options.input.now ∷ path_if options.names)
+    else (if given.leaves_out
+    then Some EndlessRest
+    else clash_of_inputs (options.input.now ∷ path_if options.names))
 
 -- ---- any request
 
@@ -248,8 +340,11 @@ clash_of (Explain options) given = clash_of_explain options given
 clash_of (Carry options) given = None
 clash_of (Explore options) given = clash_of_explore options given
 clash_of (Watch options) given = clash_of_inputs (options.input.now ∷ path_if options.names)
-clash_of (WatchEndless options) given = clash_of_endless options given.certificate
+clash_of (WatchEndless options) given = clash_of_endless options given
+clash_of (WatchRest options) given = clash_of_watch_rest options given.not_atomic
 clash_of (Audit options) given = clash_of_audit options given
+clash_of (AuditMany options) given = clash_of_many options given
+clash_of (MergeAudits options) given = clash_of_merge options given
 clash_of (Thin options) given = clash_of_thin options given.not_atomic
 clash_of (Predict options) given = clash_of_predict options given
 clash_of (Verify options) given = clash_of_inputs (options.input.now ∷ options.report.now ∷ [])
@@ -271,6 +366,10 @@ line_of_clash JsonCertificate = codes "error: --format json does not go with --c
 line_of_clash NamesWithoutLog = codes "error: --names-out goes only with --log\n"
 line_of_clash NeitherTextNorJson = codes "error: --format takes text or json\n"
 line_of_clash NoSuchForm = codes "error: --format takes text, json, sarif or junit\n"
+line_of_clash OneLogAlone =
+    codes "error: a summary goes with no option but --format, --names, --sites, --events, --nodes and what leaves events out\n"
+line_of_clash FileOfOneLog = codes "error: for a summary --names and --sites take auto alone\n"
+line_of_clash MergeAlone = codes "error: --merge goes with no option but --format\n"
 line_of_clash OnePath = codes "error: OUT and NAMES are one file\n"
 line_of_clash RestCertificate =
     codes "error: --certificate does not go with what leaves events out of the log\n"
@@ -283,3 +382,5 @@ line_of_clash SeedAlone = codes "error: --seed goes only with --random\n"
 line_of_clash MapIsLog = codes "error: OUT and MAP are one file\n"
 line_of_clash DrawingIsPicture = codes "error: OUT and SVG are one file\n"
 line_of_clash EndlessCertificate = codes "error: --endless does not go with --certificate\n"
+line_of_clash EndlessRest =
+    codes "error: --endless does not go with what leaves events out of the log\n"

@@ -9,10 +9,10 @@ use crate::help;
 use crate::options::{
     ALL_EVENTS, ALL_NODES, Argument, BY_COUNT, CARRIED_LOG, CERTIFICATE, COUNTS, DELAY_SEED, DOT,
     ENDLESS, EVENTS, FILE, FIRST, FORMAT, FOUND_LOG, IGNORE, IGNORE_LABEL, IGNORE_LOCK,
-    IGNORE_LOCKS, IGNORE_VARIABLE, INNERMOST, LOG, MAP, NAMES, NAMES_OUT, NO_WITNESS, NODES,
-    NOT_ATOMIC, PREDICTED_LOG, PROGRESS, RANDOM, REPORT, RUN_LOG, RUN_SEED, SCHEDULE, SECONDS,
-    SITES, SOURCE, STACKS, STATES, STOP, STOP_WATCH, SVG, TEXT_OR_JSON, THINNED_LOG, TRIES, TURNS,
-    VALUES, WHY, argument_of,
+    IGNORE_LOCKS, IGNORE_VARIABLE, INNERMOST, LOG, LOGS, MAP, MERGE, NAMES, NAMES_OUT, NO_WITNESS,
+    NODES, NOT_ATOMIC, PREDICTED_LOG, PROGRESS, RANDOM, REPORT, RUN_LOG, RUN_SEED, SCHEDULE,
+    SECONDS, SITES, SOURCE, STACKS, STATES, STOP, STOP_WATCH, SUMMARY, SVG, TEXT_OR_JSON,
+    THINNED_LOG, TRIES, TURNS, VALUES, WHY, argument_of,
 };
 use clap::Command;
 use std::alloc::Global;
@@ -172,7 +172,21 @@ fn watch<'a>(alloc: Global) -> Result<Command<'a>, Memory>
     ensures { IfOk result (IsSubcommand watch) }
 {
     let about = "Reads a log as it is written, prints its alarm at once, and reports the verdict";
-    let arguments = [LOG, NAMES, STOP_WATCH, ENDLESS, EVENTS, NODES, CERTIFICATE];
+    let arguments = [
+        LOG,
+        NAMES,
+        STOP_WATCH,
+        ENDLESS,
+        NOT_ATOMIC,
+        IGNORE,
+        IGNORE_LABEL,
+        IGNORE_LOCK,
+        IGNORE_LOCKS,
+        IGNORE_VARIABLE,
+        EVENTS,
+        NODES,
+        CERTIFICATE,
+    ];
     subcommand(alloc, "watch", about, help::OF_WATCH, &arguments)
 }
 
@@ -181,11 +195,13 @@ fn audit<'a>(alloc: Global) -> Result<Command<'a>, Memory>
 {
     let about = "Reads a recorded log and lists the labels whose blocks are not atomic";
     let arguments = [
-        LOG,
+        LOGS,
         NO_WITNESS,
         COUNTS,
         BY_COUNT,
         INNERMOST,
+        SUMMARY,
+        MERGE,
         FORMAT,
         NAMES,
         SITES,

@@ -323,7 +323,12 @@ rest unread. At the first line that is wrong, is refused or reads a wrong value 
 report, with the line and the status of 'velodrome check'; an earlier alarm has already been printed.
 
 With --names the names are read before the log, and the report has those of threads and labels after
-their numbers. The line of the alarm has numbers alone. Only one of LOG and FILE can be -.
+their numbers. The line of the alarm has numbers alone.
+
+--not-atomic, --ignore, --ignore-label, --ignore-lock, --ignore-locks and --ignore-variable are those of
+'velodrome audit'. Each line is judged as in the whole log. The alarm and the report are those of what
+is left, with the positions of the whole log. The report has no certificate, and --endless does not go
+with these options. Only one of LOG and the FILEs can be -.
 
 LOG is a pipe, a FIFO or a regular file. A regular file is read to its end. To follow one that grows:
 tail -c +1 -f LOG | velodrome watch -
@@ -336,14 +341,18 @@ only if a block stays open for too many events, or if the values and locks alone
 Statuses, each with the lines on standard error:
   0  no alarm, or help
   2  usage; 'error: standard input can be read once'; 'error: --endless does not go with
-     --certificate'; the text is no log: 'log fault K', 'log fault K line N'; an event cannot happen:
-     'refused K at P', 'wrong value at P'; the text of --names is no file of names:
-     'names fault K line N'
-  3  an alarm: no serial reordering of the log exists
+     --certificate'; 'error: --endless does not go with what leaves events out of the log';
+     'error: --certificate does not go with what leaves events out of the log'; 'error: --ignore does
+     not go with --not-atomic'; the text is no log: 'log fault K', 'log fault K line N'; an event cannot
+     happen: 'refused K at P', 'wrong value at P'; the text of --names is no file of names:
+     'names fault K line N'; the text of --not-atomic or --ignore is no list: 'list fault K line N'; a
+     word of --ignore-label, --ignore-lock or --ignore-variable means nothing: 'ignored fault K'
+  3  an alarm: no serial reordering of the log, or of what is left of it, exists
   4  a limit was met: 'refused 17 at P', 'refused 18 at P'
   5  memory or a device failed: 'out of memory', 'read failed', 'write failed', 'cannot open'
 
-Log, names, faults and refusals: see 'velodrome check --help'.";
+Lists, ignored words: see 'velodrome audit --help'. Log, names, faults and refusals: see
+'velodrome check --help'.";
 
 /// After the help of `thin`.
 pub const OF_THIN: &str = "\

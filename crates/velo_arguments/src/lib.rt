@@ -2,6 +2,7 @@
 #![tactic(auto)]
 
 mod arguments;
+mod given;
 mod growth;
 pub mod help;
 mod options;

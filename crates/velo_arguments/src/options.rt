@@ -1,5 +1,5 @@
 //! The arguments of the subcommands, each a constant.
-ghost use Rattle.velo_arguments.specs.CommandLine.{IsArgument, flag, numbered, valued, word};
+ghost use Rattle.velo_arguments.specs.CommandLine.{IsArgument, flag, numbered, valued, word, words};
 ghost use Rattle.velo_arguments.specs.Options.{rule_for};
 
 use clap::{Arg, ArgAction, value_parser};
@@ -12,6 +12,8 @@ use velo_request::{MAX_RUNS, MAX_SECONDS, MAX_STATES, MAX_TRIES};
 pub enum Takes<'a> {
     /// It is a word that has to be there.
     Operand,
+    /// There are one or more such words.
+    Operands,
     /// Nothing.
     Nothing,
     /// A value, which help calls so.
@@ -43,6 +45,12 @@ pub const LOG: Argument<'static> = Argument {
     name: "LOG",
     takes: Takes::Operand,
     help: "The path of the log, or - for standard input",
+};
+
+pub const LOGS: Argument<'static> = Argument {
+    name: "LOG",
+    takes: Takes::Operands,
+    help: "The path of the log, or - for standard input; more than one have one summary",
 };
 
 pub const FILE: Argument<'static> = Argument {
@@ -303,6 +311,18 @@ pub const INNERMOST: Argument<'static> = Argument {
     help: "Print only labels with a block to blame that has no other one inside it",
 };
 
+pub const SUMMARY: Argument<'static> = Argument {
+    name: "summary",
+    takes: Takes::Nothing,
+    help: "Print one summary, of one log too",
+};
+
+pub const MERGE: Argument<'static> = Argument {
+    name: "merge",
+    takes: Takes::Nothing,
+    help: "Make one summary of several: each LOG is one, as --format json prints it",
+};
+
 const EVENTS_HELP: &str = "The most events that the log may have, 1 to 16777216";
 
 const NODES_HELP: &str = "The most transactions that the graph may hold at once, 1 to 4096";
@@ -341,6 +361,16 @@ fn word<'a>(alloc: Global, name: &'a str, help: &'a str) -> Arg<'a>
         .action(ArgAction::Set)
 }
 
+/// One or more operands.
+fn words<'a>(alloc: Global, name: &'a str, help: &'a str) -> Arg<'a>
+    ensures { IsArgument (words name.entry.now) result }
+{
+    Arg::new(alloc, name)
+        .help(help)
+        .required(true)
+        .action(ArgAction::Append)
+}
+
 /// An option with a value, under its name.
 fn valued<'a>(alloc: Global, name: &'a str, value: &'a str, help: &'a str) -> Arg<'a>
     ensures { IsArgument (valued name.entry.now) result }
@@ -375,6 +405,7 @@ pub fn argument_of<'a>(alloc: Global, argument: &Argument<'a>) -> Arg<'a>
     let (name, help) = (argument.name, argument.help);
     match argument.takes {
         Takes::Operand => word(alloc, name, help),
+        Takes::Operands => words(alloc, name, help),
         Takes::Nothing => flag(alloc, name, help),
         Takes::Value(value) => valued(alloc, name, value, help),
         Takes::Needed(value) => valued(alloc, name, value, help).required(true),

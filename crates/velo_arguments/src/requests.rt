@@ -8,6 +8,7 @@ ghost use Rattle.velo_request.specs.declared.request.CheckOptions.{CheckOptions}
 ghost use Rattle.velo_request.specs.declared.request.ExplainOptions.{ExplainOptions};
 ghost use Rattle.velo_request.specs.declared.request.EndlessOptions.{EndlessOptions};
 ghost use Rattle.velo_request.specs.declared.request.ExploreOptions.{ExploreOptions};
+ghost use Rattle.velo_request.specs.declared.request.ManyOptions.{ManyOptions};
 ghost use Rattle.velo_request.specs.declared.request.PredictOptions.{PredictOptions};
 ghost use Rattle.velo_request.specs.declared.request.RandomRuns.{RandomRuns};
 ghost use Rattle.velo_request.specs.declared.request.ReplayOptions.{ReplayOptions};
@@ -15,15 +16,17 @@ ghost use Rattle.velo_request.specs.declared.request.RunOptions.{RunOptions};
 ghost use Rattle.velo_request.specs.declared.request.ThinOptions.{ThinOptions};
 ghost use Rattle.velo_request.specs.declared.request.VerifyOptions.{VerifyOptions};
 ghost use Rattle.velo_request.specs.declared.request.WatchOptions.{WatchOptions};
-ghost use Rattle.velo_arguments.specs.Asked.{AreLeftOut, AreLimits, AreRandomRuns, AreSeconds, AreTurns, AsksFor, AsksForNothing, AsksAudit, AsksCarry, AsksCheck, AsksEndless, AsksExplain, AsksExplore, AsksPredict, AsksReplay, AsksRun, IsScheduleSource, IsSeed, AsksThin, AsksVerify, AsksWatch, WritesNumber, form_named, form_of, leaves_out, text_or_json_named, text_or_json_of};
+ghost use Rattle.velo_arguments.specs.Asked.{AreLeftOut, AreLimits, AreRandomRuns, AreSeconds, AreTurns, AreWords, AsksFor, AsksForNothing, AsksAudit, AsksAuditMany, AsksCarry, AsksCheck, AsksEndless, AsksExplain, AsksExplore, AsksMerge, AsksPredict, AsksReplay, AsksRun, IsScheduleSource, IsSeed, AsksThin, AsksVerify, AsksWatch, WritesNumber, form_named, form_of, has_summary, is_auto, leaves_out, text_or_json_named, text_or_json_of};
 
+use crate::given::is_given;
 use clap::ArgMatches;
 use velo_events::{MAX_EVENTS, MAX_NODES};
 use velo_request::{
     AuditOptions, CarryOptions, CheckOptions, CheckRestOptions, DEFAULT_SEED, EndlessOptions,
     ExplainOptions, ExploreOptions, Ignored, Limits, MAX_RUNS, MAX_SECONDS, MAX_STATES, MAX_TRIES,
-    OutputFormat, PredictOptions, RandomRuns, ReplayOptions, Request, RunOptions, ScheduleSource,
-    TextOrJson, ThinOptions, VerifyOptions, WatchOptions,
+    ManyOptions, MergeOptions, OutputFormat, PredictOptions, RandomRuns, ReplayOptions, Request,
+    RunOptions, ScheduleSource, TextOrJson, ThinOptions, VerifyOptions, WatchOptions,
+    WatchRestOptions,
 };
 
 /// Reads a number from 1 to `most`; none where it is missing or out of this range.
@@ -260,9 +263,9 @@ fn explore_options<'a>(found: &ArgMatches<'a>) -> Option<ExploreOptions<'a>>
     })
 }
 
-/// What a watch is asked for, endless or not; none where its word is missing or a limit is out of
-/// its range.
-fn watch_request<'a>(found: &ArgMatches<'a>) -> Option<Request<'a>>
+/// What a watch is asked for, endless or not, of the whole log or of what is left of it; none where
+/// its word is missing or a limit is out of its range.
+fn watch_request<'a>(found: &'a ArgMatches) -> Option<Request<'a>>
     ensures some { IfSome result (AsksFor (Some (codes "watch", rows_of (found_of found.now)))) }
     ensures none { IfNone result
         (((options : WatchOptions) → ¬ AsksWatch (rows_of (found_of found.now)) options)
@@ -280,14 +283,18 @@ fn watch_request<'a>(found: &ArgMatches<'a>) -> Option<Request<'a>>
             names,
         }));
     }
-    let certificate = found.get_flag("certificate");
-    Some(Request::Watch(WatchOptions {
+    let watch = WatchOptions {
         input,
         stop,
         limits,
-        certificate,
+        certificate: found.get_flag("certificate"),
         names,
-    }))
+    };
+    let ignored = left_out(found);
+    if leaves_out(&ignored) {
+        return Some(Request::WatchRest(WatchRestOptions { watch, ignored }));
+    }
+    Some(Request::Watch(watch))
 }
 
 /// What is left out of a log.
@@ -344,6 +351,67 @@ fn audit_options<'a>(found: &'a ArgMatches) -> Option<AuditOptions<'a>>
         format: form_of(found.get_str("format")),
         limits: limits_of(found)?,
     })
+}
+
+/// The words of the operand of an audit, in the order in which they are given.
+fn operands<'a>(found: &'a ArgMatches) -> &'a [&'a str]
+    ensures { AreWords (codes "LOG") (rows_of (found_of found.now)) result.now }
+{
+    found.get_strs("LOG").unwrap_or(&[])
+}
+
+/// Whether the logs have one summary: there are several, or it is asked for.
+fn has_summary(found: &ArgMatches) -> bool
+    ensures { result ≡ has_summary (rows_of (found_of found.now)) }
+{
+    is_given(found, "summary") || operands(found).len() > 1
+}
+
+/// Whether the word asks for the files beside the logs.
+pub fn is_auto(word: Option<&str>) -> bool
+    ensures { result ≡ is_auto (option_map (λ w. w.now) word.entry) }
+{
+    matches!(word, Some("auto"))
+}
+
+fn many_options<'a>(found: &'a ArgMatches) -> Option<ManyOptions<'a>>
+    ensures some { IfSome result (AsksAuditMany (rows_of (found_of found.now))) }
+    ensures none { IfNone result ((options : ManyOptions)
+        → ¬ AsksAuditMany (rows_of (found_of found.now)) options) }
+{
+    Some(ManyOptions {
+        inputs: operands(found),
+        names: is_auto(found.get_str("names")),
+        sites: is_auto(found.get_str("sites")),
+        ignored: left_out(found),
+        format: text_or_json_of(found.get_str("format")),
+        limits: limits_of(found)?,
+    })
+}
+
+fn merge_options<'a>(found: &'a ArgMatches) -> MergeOptions<'a>
+    ensures { AsksMerge (rows_of (found_of found.now)) result }
+{
+    MergeOptions {
+        inputs: operands(found),
+        format: text_or_json_of(found.get_str("format")),
+    }
+}
+
+/// What an audit is asked for: of one log, of logs that have one summary, or of summaries; none where
+/// a word is missing or a limit is out of its range.
+fn audit_request<'a>(found: &'a ArgMatches) -> Option<Request<'a>>
+    ensures some { IfSome result (AsksFor (Some (codes "audit", rows_of (found_of found.now)))) }
+    ensures none { IfNone result
+        (AsksForNothing (Some (codes "audit", rows_of (found_of found.now)))) }
+{
+    if is_given(found, "merge") {
+        return Some(Request::MergeAudits(merge_options(found)));
+    }
+    if has_summary(found) {
+        return Some(Request::AuditMany(many_options(found)?));
+    }
+    Some(Request::Audit(audit_options(found)?))
 }
 
 fn thin_options<'a>(found: &'a ArgMatches) -> Option<ThinOptions<'a>>
@@ -407,7 +475,7 @@ pub fn request_of<'a>(matches: &'a ArgMatches) -> Option<Request<'a>>
         "carry" => Some(Request::Carry(carry_options(found)?)),
         "explore" => Some(Request::Explore(explore_options(found)?)),
         "watch" => watch_request(found),
-        "audit" => Some(Request::Audit(audit_options(found)?)),
+        "audit" => audit_request(found),
         "thin" => Some(Request::Thin(thin_options(found)?)),
         "predict" => Some(Request::Predict(predict_options(found)?)),
         "verify" => Some(Request::Verify(verify_options(found)?)),

@@ -1,18 +1,20 @@
 //! Options of a request that do not go together.
-ghost use Rattle.std.specs.Prelude.{◌≡◌, ◌∷◌, ◌++◌, IfErr, IfOk, codes, false, option_map};
+ghost use Rattle.std.specs.Prelude.{◌≡◌, ◌∷◌, ◌++◌, IfErr, IfOk, codes, count_by, false, map, option_map};
 ghost use Rattle.std.specs.Option.{option_map_or};
 ghost use Rattle.std.specs.Str.{bytes_eq};
-ghost use Rattle.clap.specs.Takes.{is_given};
 ghost use Rattle.clap.specs.Words.{found_of, rows_of, subcommand_rows_of};
 ghost use Rattle.velo_arguments.specs.Asked.{AsksForNothing};
-ghost use Rattle.velo_arguments.specs.Together.{IsApart, IsTogether, clash_of, clash_of_audit, clash_of_certificate, clash_of_chance, clash_of_check_rest, clash_of_drawing, clash_of_endless, clash_of_explain, clash_of_explore, clash_of_inputs, clash_of_lists, clash_of_map, clash_of_predict, clash_of_replay, clash_of_schedule, clash_of_search, clash_of_source, clash_of_targets, clash_of_thin, given_by, given_in, is_other_form, is_neither_text_nor_json, line_of_clash, path_if, schedule_path_if};
+ghost use Rattle.velo_arguments.specs.Together.{IsApart, IsTogether, clash_of, clash_of_audit, clash_of_certificate, clash_of_chance, clash_of_check_rest, clash_of_drawing, clash_of_endless, clash_of_explain, clash_of_explore, clash_of_inputs, clash_of_lists, clash_of_many, clash_of_map, clash_of_merge, clash_of_predict, clash_of_replay, clash_of_schedule, clash_of_search, clash_of_source, clash_of_targets, clash_of_thin, clash_of_watch_rest, given_by, given_in, has_file_of_one_log, is_file, is_other_form, is_neither_text_nor_json, line_of_clash, path_if, schedule_path_if};
 
-use crate::requests::{form_named, request_of, text_or_json_named};
+use crate::given::{
+    has_option_of_logs, has_option_of_one_log, has_option_that_leaves_out, is_given,
+};
+use crate::requests::{form_named, is_auto, request_of, text_or_json_named};
 use clap::ArgMatches;
-use clap::parser::ValueSource;
 use velo_request::{
     AuditOptions, CheckRestOptions, EndlessOptions, ExplainOptions, ExploreOptions, Ignored,
-    PredictOptions, RandomRuns, ReplayOptions, Request, ScheduleSource, TextOrJson, ThinOptions,
+    ManyOptions, MergeOptions, PredictOptions, RandomRuns, ReplayOptions, Request, ScheduleSource,
+    TextOrJson, ThinOptions, WatchRestOptions,
 };
 
 /// Why the options of a request do not go together.
@@ -22,18 +24,27 @@ pub enum Clash {
     DrawingIsPicture,
     /// An endless watch is to have a certificate.
     EndlessCertificate,
+    /// An endless watch is to leave something out of the log.
+    EndlessRest,
+    /// Logs are to have one summary, with the names or the sites of one.
+    FileOfOneLog,
     /// Both inputs are standard input.
     InputTwice,
     /// A JSON object is to have a certificate behind it.
     JsonCertificate,
     /// A thinned log and its map are to be saved at one path.
     MapIsLog,
+    /// Summaries are to be merged, with an option of an audit of logs.
+    MergeAlone,
     /// The names of a run are to be saved, and its log is not.
     NamesWithoutLog,
-    /// The form of an explanation, an exploration or predictions is to be neither of the two.
+    /// The form of an explanation, an exploration, predictions or a summary is to be neither of the
+    /// two.
     NeitherTextNorJson,
     /// No form of an answer has this name.
     NoSuchForm,
+    /// Logs are to have one summary, with an option of the audit of one.
+    OneLogAlone,
     /// The log and the names of a run are to be saved at one path.
     OnePath,
     /// What is left of a log is to have a certificate.
@@ -63,21 +74,18 @@ pub struct Given {
     pub certificate: bool,
     /// `--not-atomic`.
     pub not_atomic: bool,
+    /// An option that leaves something out of a log.
+    pub leaves_out: bool,
+    /// An option that an audit of logs has, and a merge of summaries has not.
+    pub of_logs: bool,
+    /// An option that the audit of one log alone has.
+    pub of_one_log: bool,
+    /// `--names` or `--sites`, with the path of a file.
+    pub file_of_one_log: bool,
     /// `--format`, with a word that names no form.
     pub other_form: bool,
     /// `--format`, with a word that names neither of two forms.
     pub neither_text_nor_json: bool,
-}
-
-/// Whether the words give this option: a value by default does not count.
-fn is_given(found: &ArgMatches, option: &str) -> bool
-    ensures { result ≡ is_given option.now (rows_of (found_of found.now)) }
-{
-    match found.value_source(option) {
-        Some(ValueSource::CommandLine) => true,
-        Some(ValueSource::DefaultValue) => false,
-        None => found.contains_id(option),
-    }
 }
 
 /// Whether a word is given that names no form of an answer.
@@ -100,6 +108,20 @@ fn is_neither_text_nor_json(word: Option<&str>) -> bool
     }
 }
 
+/// Whether a word is given that names a file, and does not ask for those beside the logs.
+fn is_file(word: Option<&str>) -> bool
+    ensures { result ≡ is_file (option_map (λ w. w.now) word.entry) }
+{
+    word.is_some() && !is_auto(word)
+}
+
+/// Whether the names or the sites of one log are given.
+fn has_file_of_one_log(found: &ArgMatches) -> bool
+    ensures { result ≡ has_file_of_one_log (rows_of (found_of found.now)) }
+{
+    is_file(found.get_str("names")) || is_file(found.get_str("sites"))
+}
+
 /// Which of the options a subcommand is given that a request does not show.
 fn given_in(found: &ArgMatches) -> Given
     ensures { result ≡ given_in (rows_of (found_of found.now)) }
@@ -110,6 +132,10 @@ fn given_in(found: &ArgMatches) -> Given
         schedule: is_given(found, "schedule"),
         certificate: is_given(found, "certificate"),
         not_atomic: is_given(found, "not-atomic"),
+        leaves_out: has_option_that_leaves_out(found),
+        of_logs: has_option_of_logs(found),
+        of_one_log: has_option_of_one_log(found),
+        file_of_one_log: has_file_of_one_log(found),
         other_form: is_other_form(found.get_str("format")),
         neither_text_nor_json: is_neither_text_nor_json(found.get_str("format")),
     }
@@ -127,6 +153,10 @@ fn given_by(matches: &ArgMatches) -> Given
             schedule: false,
             certificate: false,
             not_atomic: false,
+            leaves_out: false,
+            of_logs: false,
+            of_one_log: false,
+            file_of_one_log: false,
             other_form: false,
             neither_text_nor_json: false,
         },
@@ -146,8 +176,11 @@ fn clash_of(request: &Request, given: Given) -> Option<Clash>
         Request::Carry(_) => None,
         Request::Explore(options) => clash_of_explore(options, given),
         Request::Watch(options) => clash_of_inputs(options.input, options.names),
-        Request::WatchEndless(options) => clash_of_endless(options, given.certificate),
+        Request::WatchEndless(options) => clash_of_endless(options, given),
+        Request::WatchRest(options) => clash_of_watch_rest(options, given.not_atomic),
         Request::Audit(options) => clash_of_audit(options, given),
+        Request::AuditMany(options) => clash_of_many(options, given),
+        Request::MergeAudits(options) => clash_of_merge(options, given),
         Request::Thin(options) => clash_of_thin(options, given.not_atomic),
         Request::Predict(options) => clash_of_predict(options, given),
         Request::Verify(options) => clash_of_inputs(options.input, Some(options.report)),
@@ -248,6 +281,64 @@ fn clash_of_audit(options: &AuditOptions, given: Given) -> Option<Clash>
     .or(clash_of_lists(&options.ignored, given.not_atomic))
 }
 
+/// How many of these paths are that of standard input.
+fn count_standard_inputs(paths: &[&str]) -> usize
+    ensures { result ≡ count_by (λ path. bytes_eq path (codes "-")) (map (λ path. path.now) paths.now) }
+{
+    let mut count = 0;
+    for path in paths {
+        if *path == "-" {
+            count += 1;
+        }
+    }
+    count
+}
+
+/// A list of what is known and logs beside it are not to be there twice either.
+fn clash_of_many_inputs(known: Option<&str>, logs: &[&str]) -> Option<Clash>
+    ensures { result ≡ clash_of_inputs (path_if known.entry ++ map (λ path. path.now) logs.now) }
+{
+    let count = count_standard_inputs(logs);
+    if count > 1 || count == 1 && is_standard_input(known) {
+        Some(Clash::InputTwice)
+    } else {
+        None
+    }
+}
+
+/// A summary has one of two forms, and neither options nor files of one log, and no clash of the paths.
+fn clash_of_many(options: &ManyOptions, given: Given) -> Option<Clash>
+    ensures { result ≡ clash_of_many options.now given }
+{
+    if given.neither_text_nor_json {
+        return Some(Clash::NeitherTextNorJson);
+    }
+    if given.of_one_log {
+        return Some(Clash::OneLogAlone);
+    }
+    if given.file_of_one_log {
+        return Some(Clash::FileOfOneLog);
+    }
+    clash_of_many_inputs(options.ignored.known, options.inputs).or(clash_of_lists(
+        &options.ignored,
+        given.not_atomic,
+    ))
+}
+
+/// Summaries are merged in one of two forms, without an option of an audit, and without a clash of
+/// their paths.
+fn clash_of_merge(options: &MergeOptions, given: Given) -> Option<Clash>
+    ensures { result ≡ clash_of_merge options.now given }
+{
+    if given.neither_text_nor_json {
+        return Some(Clash::NeitherTextNorJson);
+    }
+    if given.of_logs {
+        return Some(Clash::MergeAlone);
+    }
+    clash_of_many_inputs(None, options.inputs)
+}
+
 /// Predictions have one of two forms, and no clash of their paths.
 fn clash_of_predict(options: &PredictOptions, given: Given) -> Option<Clash>
     ensures { result ≡ clash_of_predict options.now given }
@@ -283,6 +374,19 @@ fn clash_of_check_rest(options: &CheckRestOptions, has_known: bool) -> Option<Cl
         return Some(Clash::RestCertificate);
     }
     clash_of_files(check.input, check.names, None, ignored.known).or(clash_of_lists(
+        ignored, has_known,
+    ))
+}
+
+/// What is left of a log is watched without a certificate, and without a clash of its paths.
+fn clash_of_watch_rest(options: &WatchRestOptions, has_known: bool) -> Option<Clash>
+    ensures { result ≡ clash_of_watch_rest options.now has_known }
+{
+    let (watch, ignored) = (&options.watch, &options.ignored);
+    if watch.certificate {
+        return Some(Clash::RestCertificate);
+    }
+    clash_of_files(watch.input, watch.names, None, ignored.known).or(clash_of_lists(
         ignored, has_known,
     ))
 }
@@ -347,12 +451,15 @@ fn clash_of_drawing(picture: Option<&str>, drawing: Option<&str>) -> Option<Clas
     }
 }
 
-/// An endless watch has no certificate, and no clash of its paths.
-fn clash_of_endless(options: &EndlessOptions, has_certificate: bool) -> Option<Clash>
-    ensures { result ≡ clash_of_endless options.now has_certificate }
+/// An endless watch has no certificate, leaves nothing out, and has no clash of its paths.
+fn clash_of_endless(options: &EndlessOptions, given: Given) -> Option<Clash>
+    ensures { result ≡ clash_of_endless options.now given }
 {
-    if has_certificate {
+    if given.certificate {
         return Some(Clash::EndlessCertificate);
+    }
+    if given.leaves_out {
+        return Some(Clash::EndlessRest);
     }
     clash_of_inputs(options.input, options.names)
 }
@@ -425,12 +532,20 @@ pub fn line_of_clash(clash: Clash) -> &'static [u8]
     match clash {
         Clash::DrawingIsPicture => b"error: OUT and SVG are one file\n",
         Clash::EndlessCertificate => b"error: --endless does not go with --certificate\n",
+        Clash::EndlessRest => {
+            b"error: --endless does not go with what leaves events out of the log\n"
+        }
+        Clash::FileOfOneLog => b"error: for a summary --names and --sites take auto alone\n",
         Clash::InputTwice => b"error: standard input can be read once\n",
         Clash::JsonCertificate => b"error: --format json does not go with --certificate\n",
         Clash::MapIsLog => b"error: OUT and MAP are one file\n",
+        Clash::MergeAlone => b"error: --merge goes with no option but --format\n",
         Clash::NamesWithoutLog => b"error: --names-out goes only with --log\n",
         Clash::NeitherTextNorJson => b"error: --format takes text or json\n",
         Clash::NoSuchForm => b"error: --format takes text, json, sarif or junit\n",
+        Clash::OneLogAlone => {
+            b"error: a summary goes with no option but --format, --names, --sites, --events, --nodes and what leaves events out\n"
+        }
         Clash::OnePath => b"error: OUT and NAMES are one file\n",
         Clash::RestCertificate => {
             b"error: --certificate does not go with what leaves events out of the log\n"

@@ -1,5 +1,5 @@
 -- Why the program comes to want of memory.
-use Rattle.std.proofs.Common.{◌≡◌, ⊎_elim, inl, inr, refl, subst, sym}
+use Rattle.std.proofs.Common.{◌≡◌, ◌+◌, ⊎_elim, inl, inr, refl, subst, sym}
 use Rattle.std.specs.Prelude.{ℕ, Bool, true, false, List, Option, Some, None, IfSome, if◌then◌else◌}
 use Rattle.std.specs.Borrow.{Bor}
 use Rattle.velo_events.specs.declared.config.Bounds.{Bounds}
@@ -53,7 +53,7 @@ use Rattle.velo_log_commands.specs.Carrying.{IsCarryAnswer, IsPut}
 use Rattle.velo_log_commands.specs.Check.{IsCheckAnswer}
 use Rattle.velo_log_commands.specs.CheckingRest.{IsCheckRestAnswer}
 use Rattle.velo_inputs.specs.Input.{IsFaultOfInput}
-use Rattle.velo_fate.specs.Delivery.{CommandAnswer, DeliversBy, FailsSaving, IsDelivered, IsDeliveredInTurn, IsPrinted, LacksMemory, silent}
+use Rattle.velo_fate.specs.Delivery.{CommandAnswer, DeliversBy, FailsSaving, IsDelivered, IsDeliveredInTurn, IsPrinted, LacksMemory, printing, silent}
 use Rattle.velo_delivery.specs.Disk.{Disk, Store, behind}
 use Rattle.velo_fate.specs.declared.files.Beside.{Beside}
 use Rattle.velo_fate.specs.Barred.{IsBarred, IsBarredApart, IsBarredRun, names_beside}
@@ -63,19 +63,27 @@ use Rattle.velo_audit_commands.specs.Commands.{AuditsLog, PredictsLog, context_o
 use Rattle.velo_inputs.specs.Context.{LacksContext}
 use Rattle.velo_inputs.specs.declared.context.ContextOptions.{ContextOptions}
 use Rattle.velo_inputs.specs.Ignoring.{AsksInVain, MeanNothing}
-use Rattle.velo_fate.specs.Format.{SaysNone}
+use Rattle.velo_fate.specs.Format.{LacksGiven, SaysNone}
 use Rattle.velo_inputs.specs.Listing.{HaveFaultOfList, LacksKnown, list_file, scope_of}
 use Rattle.velo_audit_commands.specs.Predicting.{IsPredictAnswer}
 use Rattle.velo_inputs.specs.Naming.{HaveFaultOfNames, LacksNames, names_file}
 use Rattle.velo_inputs.specs.Siting.{HaveFaultOfSites, LacksSites, sites_file}
 use Rattle.velo_workload_commands.specs.Playing.{ByThreads, ByTurns, IsPlayAnswer, IsRunOf, IsSaidOfRun, IsUnread, Play}
+use Rattle.velo_many.specs.declared.audits.LogAudit.{LogAudit}
+use Rattle.velo_many_commands.specs.Commands.{DoesAuditMany, entries_file}
+use Rattle.velo_many_commands.specs.Merging.{DoesMerge, LackSummaries, summary_file}
+use Rattle.velo_many_commands.specs.Telling.{TellsLogs, end_of}
+use Rattle.velo_request.specs.declared.request.ManyOptions.{ManyOptions}
+use Rattle.velo_request.specs.declared.request.MergeOptions.{MergeOptions}
+use Rattle.velo_request.specs.declared.request.TextOrJson.{TextOrJson}
 use Rattle.velo_commands.specs.Program.{Does}
 use Rattle.velo_workload_commands.specs.Commands.{DoesPlay}
 use Rattle.velo_schedule_text.specs.Schedule.{IsFaultOfSchedule, IsFaultOfTurns}
 use Rattle.velo_workload_commands.specs.Scheduling.{HaveFaultOfSchedule, LacksSchedule, turns_file}
 use Rattle.velo_log_commands.specs.Watching.{EndsAfter, IsFaultOfHeader, IsFaultWithin, IsWatchAnswer, Terms, Watches, terms_of_watch}
 use Rattle.velo_log_commands.specs.Endless.{IsFaultOfWhole, terms_of_endless}
-use Rattle.velo_log_commands.specs.Commands.{ChecksRestBy, DoesWatchBy, ExplainsLog, ThinsAsked, context_of_check, context_of_explain, context_of_thin, drawing_of}
+use Rattle.velo_log_commands.specs.WatchingRest.{IsFaultWithout, terms_of_rest}
+use Rattle.velo_log_commands.specs.Commands.{ChecksRestBy, DoesWatchBy, ExplainsLog, ThinsAsked, context_of_check, WatchesBy, context_of_explain, context_of_thin, context_of_watch, drawing_of}
 use Rattle.velo_world.specs.declared.log_replay.LogReplayFault.TheVariants as replay
 use Rattle.velo_delivery.specs.Writing.{Writing}
 use Rattle.velo_log_commands.specs.Thinning.{map_of}
@@ -363,6 +371,13 @@ of_fault_of_whole limits bounds log e p r (config, same, keeps, (there, why)) =
     (λ full. ⊎_elim (λ h. rw h.0 tt) (λ h. rw h.0 tt) full.1.1)
     why
 
+of_fault_without : (asked : Asked) (limits : Limits) → (bounds : Bounds) (log : List Event) (e : Event) (p : ℕ) (r : Refusal) → IsFaultWithout (left_out_at_first asked) limits bounds log e (replay.Refused p r) → RefusedByGrowth r
+of_fault_without asked limits bounds log e p r (config, same, keeps, (there, why)) =
+    ⊎_elim
+    (λ flawed. of_flaw config.bounds log e r flawed)
+    (λ full. ⊎_elim (λ h. rw h.0 tt) (λ h. rw h.0 tt) full.1)
+    why
+
 of_header : (read : Option (List ℕ)) (f : CheckFault) → IsFaultOfHeader read f → CheckByGrowth f
 of_header read (check_fault.Log f) is = of_log f is.0.1
 of_header read check_fault.Memory is = is
@@ -388,10 +403,58 @@ module _ (terms : Terms) (so : RefusesByGrowth terms) where
   of_watch names read out f (inl h) = of_printed Growths out h.0 f (of_watch_answer names read h.0 h.1) h.2
   of_watch names read out f (inr h) = subst (ComesByRefusal Growths) (sym h.0) tt
 
+  of_watch_named : (names : NameLists) (store : Store) (stdout : Writing) (f : Fate) → WatchesBy names terms store stdout f → ComesByRefusal Growths f
+  of_watch_named names store stdout f (shown, are, inl h) = unread Growths store.disk Log terms.input None f h.0
+  of_watch_named names store stdout f (shown, are, inr h) = of_watch shown h.0.bytes stdout f h.3
+
   of_watch_by : (store : Store) (stdout : Writing) (f : Fate) → DoesWatchBy terms store stdout f → ComesByRefusal Growths f
   of_watch_by store stdout f (inl h) = unnamed Growths store.disk terms.names f h.0
-  of_watch_by store stdout f (inr (names, read, (shown, are, inl h))) = unread Growths store.disk Log terms.input None f h.0
-  of_watch_by store stdout f (inr (names, read, (shown, are, inr h))) = of_watch shown h.0.bytes stdout f h.3
+  of_watch_by store stdout f (inr (names, read, watches)) = of_watch_named names store stdout f watches
+
+-- of several logs: nor their list
+unlisted_entries_by : (scope : Scope) (read : Option (List ℕ)) (f : Fate) → SaysNone (entries_file scope) read f → ComesByRefusal Growths f
+unlisted_entries_by scope read (fate.List fault) is = of_list scope read fault is
+unlisted_entries_by scope read fate.ReadFailed is = tt
+unlisted_entries_by scope read fate.Memory is = is
+unlisted_entries_by scope read f is = absurd is
+
+unlisted_entries : (scope : Scope) (disk : Disk) (path : Option (Bor (List ℕ))) (f : Fate) → LacksGiven (entries_file scope) disk path f → ComesByRefusal Growths f
+unlisted_entries scope disk None f lacks = absurd lacks
+unlisted_entries scope disk (Some path) f (inl closed) = subst (ComesByRefusal Growths) (sym closed.0) tt
+unlisted_entries scope disk (Some path) f (inr broken) = unlisted_entries_by scope broken.read.bytes f broken.unsaid
+
+-- their summary
+of_end_if : (found unreadable : Bool) (n m : ℕ) → ComesByRefusal Growths (if found then fate.Finished ending.Done true else (if unreadable then fate.Unaudited n m else fate.Finished ending.Done false))
+of_end_if true unreadable n m = tt
+of_end_if false true n m = tt
+of_end_if false false n m = tt
+
+of_summary : (format : TextOrJson) (logs : List LogAudit) (stdout : Writing) (f : Fate) → TellsLogs format logs stdout f → ComesByRefusal Growths f
+of_summary format logs stdout f (inl prints) = of_printed Growths stdout (printing prints.page (end_of logs)) f (of_end_if _ _ _ _) prints.printed
+of_summary format logs stdout f (inr lacks) = subst (ComesByRefusal Growths) (sym lacks.1) lacks.0
+
+of_audits : (options : ManyOptions) (store : Store) (stdout : Writing) (f : Fate) → DoesAuditMany options store stdout f → ComesByRefusal Growths f
+of_audits options store stdout f (inl h) = unlisted_entries (scope_of options.ignored.is_wide) store.disk options.ignored.known f h.0
+of_audits options store stdout f (inr (entries, are, kept, inl h)) = of_summary options.format h.logs stdout f (inl h.prints)
+of_audits options store stdout f (inr (entries, are, kept, inr h)) = subst (ComesByRefusal Growths) (sym h.1) h.0
+
+-- and their merge
+unsummarized_by : (number : ℕ) (read : Option (List ℕ)) (f : Fate) → SaysNone (summary_file number) read f → ComesByRefusal Growths f
+unsummarized_by number read (fate.NoSummary file) is = tt
+unsummarized_by number read fate.ReadFailed is = tt
+unsummarized_by number read fate.Memory is = is
+unsummarized_by number read f is = absurd is
+
+unsummarized : (disk : Disk) (paths : List (Bor (List ℕ))) (f : Fate) → LackSummaries disk paths f → ComesByRefusal Growths f
+unsummarized disk paths f (inl first) = ⊎_elim
+    (λ closed. subst (ComesByRefusal Growths) (sym closed.0) tt)
+    (λ broken. unsummarized_by (first.before + 1) broken.read.bytes f broken.unsaid)
+    first.lacks
+unsummarized disk paths f (inr lacks) = subst (ComesByRefusal Growths) (sym lacks.1) lacks.0
+
+of_merge : (options : MergeOptions) (store : Store) (stdout : Writing) (f : Fate) → DoesMerge options store stdout f → ComesByRefusal Growths f
+of_merge options store stdout f (inl h) = unsummarized store.disk options.inputs.now f h.0
+of_merge options store stdout f (inr (logs, are, kept, tells)) = of_summary options.format logs stdout f tells
 
 pub of_done : (store : Store) (asked : Request) (stdout : Writing) (f : Fate) → Does store asked stdout f → MemoryHasCause asked f
 unfolding Does
@@ -419,7 +482,13 @@ of_done store (request.Explore options) stdout f (inr h) =
     of_in_turn Growths store options.target options.names_target h.2 stdout h.1 f (of_exploration options h.0.bytes h.1 h.2 h.5) h.6
 of_done store (request.Watch options) stdout f h = of_watch_by (terms_of_watch options) (of_fault_within options.limits) store stdout f h
 of_done store (request.WatchEndless options) stdout f h = of_watch_by (terms_of_endless options) (of_fault_of_whole options.limits) store stdout f h
+of_done store (request.WatchRest options) stdout f (inl h) = of_no_context Growths store.disk (context_of_watch options) f h.0
+of_done store (request.WatchRest options) stdout f (inr (names, asked, sites, are, inl h)) =
+    of_watch_named (terms_of_rest options.watch (left_out_at_first asked)) (of_fault_without asked options.watch.limits) names store stdout f h
+of_done store (request.WatchRest options) stdout f (inr (names, asked, sites, are, inr h)) = subst (ComesByRefusal Growths) (sym h.1) h.0
 of_done store (request.Audit options) stdout f (inl h) = of_no_context Growths store.disk (context_of_audit options) f h.0
 of_done store (request.Audit options) stdout f (inr (names, asked, sites, are, h)) = of_audited names asked options store stdout f sites h
 of_done store (request.Predict options) stdout f (inl h) = of_no_context Growths store.disk (context_of_predict options) f h.0
 of_done store (request.Predict options) stdout f (inr (names, asked, sites, are, h)) = of_predicted names asked options store stdout f sites h
+of_done store (request.AuditMany options) stdout f h = of_audits options store stdout f h
+of_done store (request.MergeAudits options) stdout f h = of_merge options store stdout f h

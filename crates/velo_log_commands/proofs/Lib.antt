@@ -5,3 +5,4 @@ mod OnExplaining
 mod OnRests
 pub mod OnThinning
 mod OnWatching
+mod OnWatchingRest

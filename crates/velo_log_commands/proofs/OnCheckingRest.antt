@@ -1,5 +1,5 @@
 -- What a check of what is left of a log comes to.
-use Rattle.std.proofs.Common.{◌≡◌, ◌∙◌, ◌≤◌, List, ap, arith, inl, inr, length, refl, subst, sym, ⊎_elim}
+use Rattle.std.proofs.Common.{◌≡◌, ◌∙◌, ◌≤◌, List, ap, arith, inl, inr, length, refl, subst, ⊎_elim}
 use Rattle.std.specs.Prelude.{◌⊎◌, ℕ, None, Option, slice_index}
 use Rattle.velo_events.specs.declared.config.Bounds.{Bounds}
 use Rattle.velo_events.specs.declared.config.Config.{Config}

@@ -73,7 +73,7 @@ module _ (options : EndlessOptions) (read old : Option (List ℕ)) where
 
   come : (new : Option (List ℕ)) (bounds : Bounds) (log : List Event) → IsFront read bounds log → IsWellFormed bounds log → length log ≤ MAX_WATCHED → Tells old new log → HasCome own read old new bounds log
   come new bounds log front well few told =
-      record { so_far = record { front = front; well_formed = well; room = few }; told = told }
+      record { so_far = record { front = front; well_formed = well; room = few }; told = record { alarm = told.alarm; exact = told.exact; appends = told.appends } }
 
   front_of : (remaining new : Option (List ℕ)) (log : List Event) (watch : EndlessWatch) → IsUnderWay read remaining old new log watch → IsFront read watch.piece.world.config.bounds log
   front_of remaining new log watch h = front_read read log watch.reader remaining watch.piece.world.config.bounds h.bounds h.given
@@ -115,7 +115,7 @@ module _ (options : EndlessOptions) (read old : Option (List ℕ)) where
           record {
             so_far = record { front = fails.front; well_formed = fails.came; room = fails.room };
             ends = record { before = log; last = e; whole = refl; no_cycle = fails.no_cycle; cycle = HasCycle-from_closing all alarm.0.position alarm.1.closing };
-            part = alarm;
+            part = record { alarm = alarm.0; exact = alarm.1; begins = alarm.2 };
           },
         ),
         tt,

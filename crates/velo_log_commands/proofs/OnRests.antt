@@ -10,7 +10,7 @@ use Rattle.velo_events.specs.Graph.{HasCycle}
 use Rattle.velo_world.specs.declared.analysis.Alarm.{Alarm}
 use Rattle.velo_world.specs.World.{AlarmOf, IsAlarm}
 use Rattle.velo_audit.proofs.OnTold.{blamed-within, transaction-within}
-use Rattle.velo_log_commands.specs.CheckingRest.{IsAlarmWithin}
+use Rattle.velo_rest_watch.specs.Alarm.{IsAlarmWithin}
 use Rattle.std.proofs.lemmas.Bool.{false≢true}
 use Rattle.velo_report.specs.Lines.{line_of}
 use Rattle.std.specs.List.{flat_map, range_with_len}

@@ -34,7 +34,7 @@ use Rattle.velo_log_commands.specs.Check.{fate_of}
 use Rattle.velo_fate.specs.Verdict.{is_alarm}
 use Rattle.velo_fate.specs.Failures.{failures_told}
 use Rattle.velo_report.specs.declared.names.Names.{Names}
-use Rattle.velo_log_commands.specs.Steps.{ShowsLog}
+use Rattle.velo_log_commands.specs.Steps.{ShowsText}
 use Rattle.velo_log_commands.specs.Watching.{check_fault_of_watching, EndsAfter, Follows, GoesOn, HasCome, HasWatched, HasLimits, StepsOn, Terms, Watches, terms_of_watch}
 use Rattle.velo_delivery.specs.Writing.{Writing, WritesNothing}
 
@@ -58,7 +58,10 @@ module _ (options : WatchOptions) (read old : Option (List ℕ)) where
 
   come : (new : Option (List ℕ)) (w : WorldState) → HasLimits options.limits w.config → CameAbout w → IsFront read w.config.bounds w.log → Tells old new w.log → HasCome own read old new w.config.bounds w.log
   come new w within came front told =
-      record { so_far = record { front = front; well_formed = came.well_formed; room = subst (λ (n : ℕ). length w.log ≤ n) within.events came.room }; told = told }
+      record {
+        so_far = record { front = front; well_formed = came.well_formed; room = subst (λ (n : ℕ). length w.log ≤ n) within.events came.room };
+        told = record { alarm = told.alarm; exact = told.exact; appends = told.appends };
+      }
 
   pub steps_on : (before between remaining new : Option (List ℕ)) (watch watch' : Watch) (r : Result Bool WatchFault) → HasLimits options.limits watch.world.config → IsUnderWay read before old between watch → Steps read old watch r watch' remaining new
       → IfOk r (λ more. Advances watch.world more watch'.world) → OnOk r (watch'.world.config ≡ watch.world.config)
@@ -107,7 +110,7 @@ module _ (options : WatchOptions) (read old : Option (List ℕ)) where
           record {
             so_far = record { front = fails.front; well_formed = fails.came.well_formed; room = subst (λ (n : ℕ). length log ≤ n) within.events fails.came.room };
             ends = record { before = watch.world.log; last = e; whole = refl; no_cycle = fails.no_cycle; cycle = HasCycle-from_closing log alarm.0.position alarm.1.closing };
-            part = alarm;
+            part = record { alarm = alarm.0; exact = alarm.1; begins = alarm.2 };
           },
         ),
         tt,
@@ -149,7 +152,7 @@ module _ (terms : Terms) (read : Option (List ℕ)) (stdout : Writing) where
       record { so_far = come.so_far; read_to = to; alarm = come.told.alarm; exact = come.told.exact; told = (come.told.appends, kept) }
 
   cut_short : (bounds : Bounds) (log : List Event) → HasCome terms read stdout.old stdout.new bounds log → stdout.failures_after ≡ stdout.failures_before → (fault : CheckFault)
-      → ((GoesOn terms.stop log × EndsAfter terms read bounds log fault) ⊎ ((fault ≡ Memory) × GrowthRefused)) → (names : Names) → Watches names terms read stdout (Check fault)
+      → ((GoesOn terms log × EndsAfter terms read bounds log fault) ⊎ ((fault ≡ Memory) × GrowthRefused)) → (names : Names) → Watches names terms read stdout (Check fault)
   cut_short bounds log come kept fault reason names = inl (
     printing (told_text come.told.alarm) (Check fault),
     inr (inl (record { bounds = bounds; log = log; so_far = come.so_far; alarm = come.told.alarm; exact = come.told.exact; fault = fault; reason = reason; said = refl })),
@@ -170,9 +173,9 @@ module _ (terms : Terms) (read : Option (List ℕ)) (stdout : Writing) where
       log = log ++ e ∷ [];
       so_far = breaks.so_far;
       ends = breaks.ends;
-      alarm = breaks.part.0;
-      exact = breaks.part.1;
-      part = (breaks.part.2, kept);
+      alarm = breaks.part.alarm;
+      exact = breaks.part.exact;
+      part = (breaks.part.begins, kept);
     },
   )
 
@@ -203,7 +206,7 @@ reads_told X watch_fault.Write n = refl
 
 -- what is shown after the line of the alarm is the answer
 module _ (names : Names) (terms : Terms) (read : Option (List ℕ)) (bounds : Bounds) (log : List Event) (before after all : Writing) where
-  pub shown : (result : Result Verdict CheckFault) (has : HasWatched terms read before bounds log) → ShowsLog names terms.certificate bounds.threads log after result
+  pub shown : (result : Result Verdict CheckFault) (has : HasWatched terms read before bounds log) → ShowsText (terms.IsReportOf names bounds.threads log) (terms.judged log) after result
       → all.old ≡ before.old → before.new ≡ after.old → all.new ≡ after.new → all.failures_before ≡ before.failures_before → before.failures_after ≡ after.failures_before → all.failures_after ≡ after.failures_after
       → Watches names terms read all (fate_of result)
   shown (Ok verdict) has shows o m n fb fm fa =

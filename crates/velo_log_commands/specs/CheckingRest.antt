@@ -1,5 +1,5 @@
 -- What a check of what is left of a log has to say, by the bytes of its input and by the definitions.
-use Rattle.std.specs.Prelude.{◌≡◌, ◌<◌, ◌⊎◌, ℕ, All, List, map, Option, Some, None, option_map}
+use Rattle.std.specs.Prelude.{◌≡◌, ◌⊎◌, ℕ, List, Option, Some, None, option_map}
 use Rattle.std.specs.Borrow.{Bor}
 use Rattle.velo_events.specs.declared.config.Bounds.{Bounds}
 use Rattle.velo_events.specs.declared.event.Event.{Event}
@@ -12,7 +12,7 @@ use Rattle.velo_report.specs.declared.names.Names.{Names}
 use Rattle.velo_report.specs.declared.names.Names.TheVariants.{Listed, Numbers}
 use Rattle.velo_report.specs.Report.{report_lines}
 use Rattle.velo_filter.specs.Left.{Omitted, place_of, rest_of}
-use Rattle.velo_audit.specs.Witness.{block_as_read}
+use Rattle.velo_rest_watch.specs.Alarm.{alarm_as_read}
 use Rattle.velo_worker.specs.declared.ending.Ending.TheVariants.{Done}
 use Rattle.velo_fate.specs.declared.fault.CheckFault.TheVariants.{Refused}
 use Rattle.velo_fate.specs.declared.fate.Fate.{Fate}
@@ -26,15 +26,6 @@ use Rattle.velo_delivery.specs.Writing.{Writing}
 use Rattle.velo_inputs.specs.Input.{ComesAbout, IsUnchecked}
 
 -- ---- the report of the rest. `place` gives the position in the whole log for each of the rest
-
--- the same alarm, by the positions of the whole log
-abbrev pub alarm_as_read : (ℕ → ℕ) → Alarm → Alarm
-alarm_as_read place alarm =
-    record {
-      position = place alarm.position;
-      transaction = place alarm.transaction;
-      blamed = record alarm.blamed { items = map (block_as_read place) alarm.blamed.items };
-    }
 
 -- The text is the report of the rest by these names: how many events are left, how many of each of so
 -- many threads, and the verdict; its alarm is the first of the rest, by the positions of the whole log.
@@ -95,12 +86,6 @@ IsCheckRestAnswer names omitted limit nodes read answer =
 abbrev pub shown_of : Option (Bor NameLists) → Names
 shown_of (Some names) = Listed names
 shown_of None = Numbers
-
--- the positions of the alarm, and those of the blocks to blame, are below n
-pub record IsAlarmWithin (n : ℕ) (alarm : Alarm) : Type 0 where
-  pub position : alarm.position < n
-  pub transaction : alarm.transaction < n
-  pub blamed : All (λ block. block.first < n) alarm.blamed.items
 
 -- an answer that says so was printed, or memory was wanting
 abbrev pub Says : (CommandAnswer → Type 0) → Writing → Fate → Type 0

@@ -22,6 +22,7 @@ use Rattle.velo_request.specs.declared.request.ExplainOptions.{ExplainOptions}
 use Rattle.velo_request.specs.declared.request.ThinOptions.{ThinOptions}
 use Rattle.velo_delivery.specs.declared.failure.Operand.TheVariants.{Log, Svg}
 use Rattle.velo_request.specs.declared.request.WatchOptions.{WatchOptions}
+use Rattle.velo_request.specs.declared.request.WatchRestOptions.{WatchRestOptions}
 use Rattle.velo_log_commands.specs.Carrying.{IsCarryAnswer, IsPut}
 use Rattle.velo_log_commands.specs.Check.{IsCheckAnswer}
 use Rattle.velo_log_commands.specs.CheckingRest.{IsCheckRestAnswer}
@@ -36,6 +37,7 @@ use Rattle.velo_fate.specs.Failures.{FailuresAsTold}
 use Rattle.velo_delivery.specs.Reading.{Reading}
 use Rattle.velo_log_commands.specs.Thinning.{ThinsInput, map_of}
 use Rattle.velo_log_commands.specs.Watching.{Terms, Watches, terms_of_watch}
+use Rattle.velo_log_commands.specs.WatchingRest.{terms_of_rest}
 use Rattle.velo_delivery.specs.Writing.{Writing, WritesNothing}
 use Rattle.velo_inputs.specs.Context.{DoesNotName, IsContext, KnowsNoContext}
 use Rattle.velo_inputs.specs.declared.context.ContextOptions.{ContextOptions}
@@ -222,3 +224,31 @@ DoesWatch options store stdout f = DoesWatchBy (terms_of_watch options) store st
 -- a log of any length, of which no more events are kept than --events says (`Endless`)
 abbrev pub DoesWatchEndless : EndlessOptions → Store → Writing → Fate → Type 0
 DoesWatchEndless options store stdout f = DoesWatchBy (terms_of_endless options) store stdout f
+
+-- ---- velodrome watch LOG [--names FILE] [--stop] [--events N] [--nodes N], without the certificate,
+-- ---- where something is left out: [--not-atomic FILE] [--ignore FILE] [--ignore-label WORD]..
+-- ---- [--ignore-lock WORD].. [--ignore-locks] [--ignore-variable WORD]..
+
+-- Left out is what was asked for. The line of the alarm is that of what is left, by the positions of LOG,
+-- and so is the report (`WatchingRest`); or memory was wanting.
+abbrev pub WatchesRestBy : NameLists → Asked → WatchRestOptions → Store → Writing → Fate → Type 0
+WatchesRestBy names asked options store stdout f =
+    WatchesBy names (terms_of_rest options.watch (left_out_at_first asked)) store stdout f
+    ⊎ LacksMemoryToDeliver store stdout f
+
+-- what it knows before is in `Context` of `velo_inputs`
+abbrev pub context_of_watch : WatchRestOptions → ContextOptions
+context_of_watch options =
+    record {
+      names = options.watch.names;
+      ignored = options.ignored;
+      sites = None;
+      source = None;
+    }
+
+abbrev pub DoesWatchRest : WatchRestOptions → Store → Writing → Fate → Type 0
+DoesWatchRest options store stdout f =
+    KnowsNoContext store (context_of_watch options) stdout f
+    ⊎ ((names : NameLists) × (asked : Asked) × (sites : Option Table)
+    × IsContext store.disk (context_of_watch options) names asked sites
+    × WatchesRestBy names asked options store stdout f)

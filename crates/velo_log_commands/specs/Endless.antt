@@ -11,6 +11,8 @@ use Rattle.velo_endless.specs.declared.reading.TheConstants.{MAX_WATCHED}
 use Rattle.velo_endless.specs.declared.watch.EndlessWatch.{EndlessWatch}
 use Rattle.velo_request.specs.declared.request.EndlessOptions.{EndlessOptions}
 use Rattle.velo_request.specs.declared.request.Limits.{Limits}
+use Rattle.velo_world.specs.World.{AlarmOf}
+use Rattle.velo_fate.specs.Verdict.{IsOutput}
 use Rattle.velo_world.specs.declared.log_replay.LogReplayFault.{LogReplayFault}
 use Rattle.velo_log_commands.specs.Watching.{HasLimits, Terms}
 
@@ -30,11 +32,13 @@ terms_of_endless options =
       input = options.input.now;
       names = options.names;
       stop = options.stop;
-      certificate = false;
       text_limit = MAX_WATCHED;
       event_limit = MAX_WATCHED;
       IsMetInText = IsMetEndless;
       IsFaultOfNext = IsFaultOfWhole options.limits;
+      judged = λ log. log;
+      IsAlarmOf = AlarmOf;
+      IsReportOf = λ names. IsOutput names false;
     }
 
 -- ---- on the way. Contracts within the crate cite this word

@@ -7,3 +7,4 @@ pub mod Explaining
 pub mod Steps
 pub mod Thinning
 pub mod Watching
+pub mod WatchingRest

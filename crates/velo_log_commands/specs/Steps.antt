@@ -28,17 +28,20 @@ use Rattle.velo_delivery.specs.Writing.{BreaksOff, Writes, WritesNothing, Writin
 
 -- ---- a check
 
--- what a log of so many threads shows by these names, and its verdict; or a growth was refused
+-- such a text was written, and these events have this verdict; or a growth was refused
+abbrev pub ShowsText : (List ℕ → Type 0) → List Event → Writing → Result Verdict CheckFault → Type 0
+ShowsText IsText judged stdout (Ok verdict) =
+    IsVerdict judged verdict × ((text : List ℕ) × IsText text × Writes stdout text)
+ShowsText IsText judged stdout (Err check_fault.Write) =
+    ((verdict : Verdict) × IsVerdict judged verdict)
+    × ((text : List ℕ) × IsText text × BreaksOff stdout text)
+ShowsText IsText judged stdout (Err check_fault.Memory) = GrowthRefused × WritesNothing stdout
+ShowsText IsText judged stdout (Err fault) = ⊥
+
+-- what a log of so many threads shows by these names, and its verdict
 abbrev pub ShowsLog : Names → Bool → ℕ → List Event → Writing → Result Verdict CheckFault → Type 0
-ShowsLog names certificate threads log stdout (Ok verdict) =
-    IsVerdict log verdict
-    × ((text : List ℕ) × IsOutput names certificate threads log text × Writes stdout text)
-ShowsLog names certificate threads log stdout (Err check_fault.Write) =
-    ((verdict : Verdict) × IsVerdict log verdict)
-    × ((text : List ℕ) × IsOutput names certificate threads log text × BreaksOff stdout text)
-ShowsLog names certificate threads log stdout (Err check_fault.Memory) =
-    GrowthRefused × WritesNothing stdout
-ShowsLog names certificate threads log stdout (Err fault) = ⊥
+ShowsLog names certificate threads log =
+    ShowsText (IsOutput names certificate threads log) log
 
 -- what a world shows
 abbrev pub Shows : Names → Bool → WorldState → Writing → Result Verdict CheckFault → Type 0

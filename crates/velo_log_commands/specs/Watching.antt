@@ -1,6 +1,8 @@
 -- What a watch has to say, by the bytes of its input as they come.
 use Rattle.std.specs.Borrow.{Bor}
-use Rattle.std.specs.Prelude.{◌≡◌, ℕ, ◌≤◌, ◌⊎◌, ◌∷◌, ◌++◌, [], Bool, true, false, List, length, Option, Result, Ok, Err}
+use Rattle.std.specs.Io.KnownBytes.{Appends}
+use Rattle.velo_bytes.specs.Device.{AppendsBeginning}
+use Rattle.std.specs.Prelude.{◌≡◌, ℕ, ◌≤◌, ◌⊎◌, ◌∷◌, ◌++◌, [], Bool, true, false, List, length, Option, Some, Result, Ok, Err}
 use Rattle.velo_events.specs.declared.config.Bounds.{Bounds}
 use Rattle.velo_events.specs.declared.config.Config.{Config}
 use Rattle.velo_events.specs.declared.event.Event.{Event}
@@ -12,14 +14,13 @@ use Rattle.velo_logtext.specs.Reader.{IsMetBehind, IsMetInHeader}
 use Rattle.velo_logtext.specs.declared.fault.LogFault.{LogFault}
 use Rattle.velo_report.specs.Alarm.{alarm_line}
 use Rattle.velo_report.specs.declared.names.Names.{Names}
-use Rattle.velo_watch.specs.UnderWay.{TellsPart}
-use Rattle.velo_watch.specs.Watch.{IsFront, Tells, told_text}
+use Rattle.velo_watch.specs.Watch.{IsFront, told_text}
 use Rattle.velo_watch.specs.declared.fault.WatchFault.{WatchFault}
 use Rattle.velo_watch.specs.declared.fault.WatchFault.TheVariants as watch_fault
 use Rattle.velo_watch.specs.declared.state.Watch.{Watch}
 use Rattle.velo_worker.specs.declared.ending.Ending.TheVariants.{Done}
 use Rattle.velo_world.specs.Faults.{IsFaultAtEvent}
-use Rattle.velo_world.specs.World.{AlarmOf, IsAlarm}
+use Rattle.velo_world.specs.World.{AlarmOf}
 use Rattle.velo_world.specs.declared.analysis.Alarm.{Alarm}
 use Rattle.velo_world.specs.declared.log_replay.LogReplayFault.{LogReplayFault}
 use Rattle.velo_world.specs.declared.log_replay.LogReplayFault.TheVariants as replay
@@ -36,8 +37,10 @@ use Rattle.velo_fate.specs.Delivery.{CommandAnswer, IsPrinted, printing, silent}
 use Rattle.velo_inputs.specs.Faults.{check_fault_of}
 use Rattle.velo_delivery.specs.Writing.{BreaksOff, Writes, Writing}
 
--- ---- what is asked of a watch, and what bounds it. `watch` and `watch --endless` differ in the two
--- limits and the two reasons alone (`terms_of_watch`, `terms_of_endless`)
+-- ---- what is asked of a watch, what bounds it, and what it judges. `watch` and `watch --endless` judge
+-- all events, and differ in the two limits and the two reasons alone (`terms_of_watch`,
+-- `terms_of_endless`). A watch of a log of which something is left out judges the rest
+-- (`terms_of_rest`).
 
 pub record Terms : Type 1 where
   -- the path of the log
@@ -46,8 +49,6 @@ pub record Terms : Type 1 where
   pub names : Option (Bor (List ℕ))
   -- the alarm ends the watch
   pub stop : Bool
-  -- the certificate is asked for
-  pub certificate : Bool
   -- the most events that the text may have, and that may happen
   pub text_limit : ℕ
   pub event_limit : ℕ
@@ -55,6 +56,14 @@ pub record Terms : Type 1 where
   pub IsMetInText : ℕ → LogFault → Type 0
   -- after these events the next one cannot happen, for this reason
   pub IsFaultOfNext : Bounds → List Event → Event → LogReplayFault → Type 0
+  -- the events that are judged, of these
+  pub judged : List Event → List Event
+  -- this is the alarm of those that are judged of these events, if they have one; its positions are those
+  -- of these events
+  pub IsAlarmOf : List Event → Option Alarm → Type 0
+  -- the text is what is reported of those that are judged of these events, of so many threads, by these
+  -- names
+  pub IsReportOf : Names → ℕ → List Event → List ℕ → Type 0
 
 -- ---- the events so far
 
@@ -65,23 +74,23 @@ pub record IsSoFar (limit : ℕ) (read : Option (List ℕ)) (bounds : Bounds) (l
   pub well_formed : IsWellFormed bounds log
   pub room : length log ≤ limit
 
--- the last of the events closes the first cycle
-pub record EndsAtAlarm (log : List Event) : Type 0 where
+-- the last of the events closes the first cycle of those that are judged
+pub record EndsAtAlarm (terms : Terms) (log : List Event) : Type 0 where
   pub before : List Event
   pub last : Event
   pub whole : log ≡ before ++ last ∷ []
-  pub no_cycle : ¬ HasCycle before
-  pub cycle : HasCycle log
+  pub no_cycle : ¬ HasCycle (terms.judged before)
+  pub cycle : HasCycle (terms.judged log)
 
 -- with `stop` there is no alarm yet
-abbrev pub GoesOn : Bool → List Event → Type 0
-GoesOn stop log = stop ≡ true → ¬ HasCycle log
+abbrev pub GoesOn : Terms → List Event → Type 0
+GoesOn terms log = terms.stop ≡ true → ¬ HasCycle (terms.judged log)
 
 -- how far the input is read: to its end, or with `stop` to the event that raises the alarm, this
 -- one too
-abbrev pub IsReadTo : Bool → Option (List ℕ) → Bounds → List Event → Type 0
-IsReadTo stop read bounds log =
-    (IsInput read bounds log × GoesOn stop log) ⊎ ((stop ≡ true) × EndsAtAlarm log)
+abbrev pub IsReadTo : Terms → Option (List ℕ) → Bounds → List Event → Type 0
+IsReadTo terms read bounds log =
+    (IsInput read bounds log × GoesOn terms log) ⊎ ((terms.stop ≡ true) × EndsAtAlarm terms log)
 
 -- ---- why it ends early
 
@@ -107,21 +116,21 @@ IsFaultOfHeader read _ = ⊥
 
 -- ---- the answer
 
--- the line of the alarm, if there is one, by numbers; then the report by these names of the events
--- that were read, with its certificate if that is asked for; the fate has the verdict
+-- the line of the alarm, if there is one, by numbers; then what is reported by these names of the
+-- events that were read; the fate has the verdict of those that are judged
 pub record IsWatched (names : Names) (terms : Terms) (read : Option (List ℕ))
     (answer : CommandAnswer)
     : Type 0 where
   pub bounds : Bounds
   pub log : List Event
   pub so_far : IsSoFar terms.event_limit read bounds log
-  pub read_to : IsReadTo terms.stop read bounds log
+  pub read_to : IsReadTo terms read bounds log
   pub alarm : Option Alarm
-  pub exact : AlarmOf log alarm
+  pub exact : terms.IsAlarmOf log alarm
   pub text : List ℕ
-  pub output : IsOutput names terms.certificate bounds.threads log text
+  pub output : terms.IsReportOf names bounds.threads log text
   pub verdict : Verdict
-  pub is_verdict : IsVerdict log verdict
+  pub is_verdict : IsVerdict (terms.judged log) verdict
   pub said : answer ≡ printing (told_text alarm ++ text) (Finished Done (is_alarm verdict))
 
 -- the line of the alarm of the events so far, if they have one, and no report: the input goes no
@@ -132,9 +141,9 @@ pub record EndsUnreported (terms : Terms) (read : Option (List ℕ))
   pub log : List Event
   pub so_far : IsSoFar terms.event_limit read bounds log
   pub alarm : Option Alarm
-  pub exact : AlarmOf log alarm
+  pub exact : terms.IsAlarmOf log alarm
   pub fault : CheckFault
-  pub reason : (GoesOn terms.stop log × EndsAfter terms read bounds log fault)
+  pub reason : (GoesOn terms log × EndsAfter terms read bounds log fault)
       ⊎ ((fault ≡ Memory) × GrowthRefused)
   pub said : answer ≡ printing (told_text alarm) (Check fault)
 
@@ -153,9 +162,9 @@ pub record FailsAtAlarm (terms : Terms) (read : Option (List ℕ)) (stdout : Wri
   pub bounds : Bounds
   pub log : List Event
   pub so_far : IsSoFar terms.event_limit read bounds log
-  pub ends : EndsAtAlarm log
+  pub ends : EndsAtAlarm terms log
   pub alarm : Alarm
-  pub exact : IsAlarm log alarm
+  pub exact : terms.IsAlarmOf log (Some alarm)
   pub part : BreaksOff stdout (alarm_line alarm)
 
 -- The fate of a watch: an answer to what was read was printed; or not even its first line was.
@@ -183,27 +192,42 @@ terms_of_watch options =
       input = options.input.now;
       names = options.names;
       stop = options.stop;
-      certificate = options.certificate;
       text_limit = MAX_EVENTS;
       event_limit = options.limits.events;
       IsMetInText = IsMetBehind;
       IsFaultOfNext = IsFaultWithin options.limits;
+      judged = λ log. log;
+      IsAlarmOf = AlarmOf;
+      IsReportOf = λ names. IsOutput names options.certificate;
     }
 
 -- ---- on the way. Contracts within the crate cite these words: how far each step has come
+
+-- the output grew by the line of the alarm of these events, if they have one, and by nothing else
+pub record TellsAlarm (terms : Terms) (old new : Option (List ℕ)) (log : List Event) : Type 0 where
+  pub alarm : Option Alarm
+  pub exact : terms.IsAlarmOf log alarm
+  pub appends : Appends old new (told_text alarm)
+
+-- a beginning of that line went out
+pub record TellsAlarmPart (terms : Terms) (old new : Option (List ℕ)) (log : List Event)
+    : Type 0 where
+  pub alarm : Alarm
+  pub exact : terms.IsAlarmOf log (Some alarm)
+  pub begins : AppendsBeginning old new (alarm_line alarm)
 
 -- these events of the input happened, and the line of their alarm went out, if they have one
 pub record HasCome (terms : Terms) (read old new : Option (List ℕ)) (bounds : Bounds)
     (log : List Event) : Type 0 where
   pub so_far : IsSoFar terms.event_limit read bounds log
-  pub told : Tells old new log
+  pub told : TellsAlarm terms old new log
 
 -- the line of the alarm broke off, which the last of these events raised
 pub record BreaksAtAlarm (terms : Terms) (read old new : Option (List ℕ)) (bounds : Bounds)
     (log : List Event) : Type 0 where
   pub so_far : IsSoFar terms.event_limit read bounds log
-  pub ends : EndsAtAlarm log
-  pub part : TellsPart old new log
+  pub ends : EndsAtAlarm terms log
+  pub part : TellsAlarmPart terms old new log
 
 -- why no event comes after these, whose alarm is told
 abbrev pub FailsAfter : Terms → Option (List ℕ) → Option (List ℕ) → Option (List ℕ) → Bounds
@@ -233,9 +257,9 @@ StepsOn terms read old new bounds log (Err fault) bounds' log' =
 abbrev pub Follows : Terms → Option (List ℕ) → Option (List ℕ) → Option (List ℕ) → {X : Type 0}
     → Result X WatchFault → Bounds → List Event → Type 0
 Follows terms read old new (Ok x) bounds log =
-    HasCome terms read old new bounds log × IsReadTo terms.stop read bounds log
+    HasCome terms read old new bounds log × IsReadTo terms read bounds log
 Follows terms read old new (Err fault) bounds log =
-    (before : Bounds) × GoesOn terms.stop log × FailsAfter terms read old new before log fault
+    (before : Bounds) × GoesOn terms log × FailsAfter terms read old new before log fault
 
 -- a watch within the limits
 pub record CanWatch (options : WatchOptions) (watch : Watch) : Type 0 where
@@ -245,9 +269,9 @@ pub record CanWatch (options : WatchOptions) (watch : Watch) : Type 0 where
 pub record HasWatched (terms : Terms) (read : Option (List ℕ)) (stdout : Writing)
     (bounds : Bounds) (log : List Event) : Type 0 where
   pub so_far : IsSoFar terms.event_limit read bounds log
-  pub read_to : IsReadTo terms.stop read bounds log
+  pub read_to : IsReadTo terms read bounds log
   pub alarm : Option Alarm
-  pub exact : AlarmOf log alarm
+  pub exact : terms.IsAlarmOf log alarm
   pub told : Writes stdout (told_text alarm)
 
 -- the fault of a check where a watch ends early

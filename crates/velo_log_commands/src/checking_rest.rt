@@ -5,11 +5,11 @@ ghost use Rattle.velo_delivery.specs.Reading.{reading};
 ghost use Rattle.velo_delivery.specs.Writing.{writing};
 ghost use Rattle.velo_events.specs.WellFormed.{IsWellFormed};
 ghost use Rattle.velo_filter.specs.Tables.{left_of};
-ghost use Rattle.velo_inputs.specs.Naming.{AreShown};
 ghost use Rattle.velo_log_commands.specs.CheckingRest.{ChecksRest, ChecksRestInput, JudgesRest, Says, TellsRest, shown_of};
 ghost use Rattle.velo_log_commands.specs.Commands.{ChecksRestBy, ChecksRestFile, DoesCheckRest};
 
 use crate::command::Command;
+use crate::naming::names_given;
 use crate::rest_report::page_of_rest;
 use std::alloc::Global;
 use velo_audit_text::Asked;
@@ -152,16 +152,6 @@ fn check_without<F: Files, O: Sink>(
     match open_input(files, Operand::Log, check.input, None) {
         Ok(mut log) => check_rest_of(alloc, &mut log, check.limits, left, names, out),
         Err(fate) => fate,
-    }
-}
-
-/// These names, if a file of names is given, and else none.
-fn names_given<'a>(path: Option<&str>, names: &'a Names<'a>) -> Option<&'a Names<'a>>
-    ensures { AreShown path.entry names.now (shown_of result) }
-{
-    match path {
-        Some(_) => Some(names),
-        None => None,
     }
 }
 

@@ -11,14 +11,15 @@ ghost use Rattle.velo_log_commands.specs.Steps.{ShowsLog};
 ghost use Rattle.velo_log_commands.specs.Endless.{CanWatchOn, terms_of_endless};
 
 use crate::command::Command;
+use crate::naming::{names_given, shown_of};
 use crate::watching::{AskedWatch, watch_named};
 use std::alloc::Global;
 use velo_bytes::{Sink, Source, WriteFault};
 use velo_delivery::Files;
 use velo_endless::EndlessWatch;
 use velo_fate::{CheckFault, Fate, Verdict};
-use velo_inputs::{ByNames, do_by_names, shown_by};
-use velo_report::Names;
+use velo_inputs::{ByNames, do_by_names};
+use velo_names::Names;
 use velo_request::EndlessOptions;
 use velo_watch::WatchFault;
 
@@ -29,9 +30,9 @@ impl AskedWatch for EndlessOptions<'_> {
 
     ghost bounds = { λ watch. watch.piece.world.config.bounds };
 
-    ghost has_seen = { λ watch events. HasSeen events watch };
+    ghost has_seen = { λ asked watch events. HasSeen events watch };
 
-    ghost is_at = { λ watch read remaining old new events. IsUnderWay read remaining old new events watch };
+    ghost is_at = { λ asked watch read remaining old new events. IsUnderWay read remaining old new events watch };
 
     ghost can_go_on = { CanWatchOn };
 
@@ -67,10 +68,11 @@ impl AskedWatch for EndlessOptions<'_> {
         &self,
         _alloc: Global,
         watch: EndlessWatch,
-        names: &Names,
+        names: Option<&Names>,
         out: &mut O,
     ) -> Result<Verdict, CheckFault> {
-        let answer = report_of(&watch, names, out);
+        let shown = shown_of(names);
+        let answer = report_of(&watch, &shown, out);
         drop(watch);
         answer
     }
@@ -90,7 +92,7 @@ fn verdict_of(watch: &EndlessWatch) -> Verdict
 /// Writes the report of the events that a watch has seen, and returns their verdict.
 fn report_of<O: Sink>(
     watch: &EndlessWatch,
-    names: &Names,
+    names: &velo_report::Names,
     out: &mut O,
 ) -> Result<Verdict, CheckFault>
     requires { CanGoOn watch.now }
@@ -110,12 +112,12 @@ impl ByNames for Command<'_, EndlessOptions<'_>> {
     fn do_by<F: Files, O: Sink>(
         &self,
         alloc: Global,
-        names: &velo_names::Names,
+        names: &Names,
         files: &mut F,
         out: &mut O,
     ) -> Fate {
-        let shown = shown_by(self.options.names, names);
-        watch_named(alloc, self.options, &shown, files, out)
+        let given = names_given(self.options.names, names);
+        watch_named(alloc, self.options, given, files, out)
     }
 }
 

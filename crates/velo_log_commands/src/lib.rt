@@ -11,9 +11,11 @@ mod explaining_alarm;
 mod explaining_rest;
 mod explaining_whole;
 mod explaining_words;
+mod naming;
 mod rest_report;
 mod thinning;
 mod watching;
+mod watching_rest;
 
 pub use carrying::{CarryFault, carry_file, carry_run};
 pub use check::{check_file, check_run};
@@ -22,3 +24,4 @@ pub use endless::watch_endless_file;
 pub use explaining::explain_file;
 pub use thinning::thin_file;
 pub use watching::watch_file;
+pub use watching_rest::watch_rest_file;

@@ -2,10 +2,11 @@
 ghost use Rattle.std.specs.Prelude.{◌≡◌, ◌<◌, ◌++◌, [], ◌∷◌, All, Some, decimal, length, map, option_map, slice_index, IfOk, IfSome, OnOk};
 ghost use Rattle.std.specs.Option.{option_copied};
 ghost use Rattle.velo_audit.specs.Witness.{block_as_read};
-ghost use Rattle.velo_log_commands.specs.CheckingRest.{IsAlarmWithin, IsRestReport, alarm_as_read, shown_of};
+ghost use Rattle.velo_log_commands.specs.CheckingRest.{IsRestReport, shown_of};
 ghost use Rattle.velo_report.specs.Lines.{line_of};
 ghost use Rattle.velo_report.specs.Names.{name_behind};
 ghost use Rattle.velo_report.specs.Report.{blame_line, blame_lines, count_line, thread_lines, verdict_lines};
+ghost use Rattle.velo_rest_watch.specs.Alarm.{IsAlarmWithin, alarm_as_read};
 
 use std::alloc::Global;
 use velo_events::{Memory, ThreadId};

@@ -7,20 +7,22 @@ ghost use Rattle.velo_events.specs.declared.event.Event.{Event as EventOf};
 ghost use Rattle.velo_events.specs.Graph.{HasCycle};
 ghost use Rattle.velo_fate.specs.Failures.{failures_told};
 ghost use Rattle.velo_log_commands.specs.Check.{fate_of};
+ghost use Rattle.velo_log_commands.specs.CheckingRest.{shown_of};
 ghost use Rattle.velo_log_commands.specs.Commands.{DoesWatch, WatchesBy, WatchesLog};
-ghost use Rattle.velo_log_commands.specs.Steps.{ShowsLog};
+ghost use Rattle.velo_log_commands.specs.Steps.{ShowsText};
 ghost use Rattle.velo_log_commands.specs.Watching.{check_fault_of_watching, CanWatch, Follows, HasWatched, StepsOn, Terms, Watches, terms_of_watch};
 ghost use Rattle.velo_report.specs.declared.names.Names.{Names as Shown};
 ghost use Rattle.velo_watch.specs.UnderWay.{IsFaultOfOpening, IsUnderWay, read_failures, write_failures};
 
 use crate::check::{fate_of, finish};
 use crate::command::Command;
+use crate::naming::{names_given, shown_of};
 use std::alloc::Global;
 use velo_bytes::{Sink, Source};
 use velo_delivery::{Files, Operand};
 use velo_fate::{CheckFault, Fate, Verdict, open_input};
-use velo_inputs::{ByNames, do_by_names, fault_of, shown_by};
-use velo_report::Names;
+use velo_inputs::{ByNames, do_by_names, fault_of};
+use velo_names::Names;
 use velo_request::WatchOptions;
 use velo_watch::{Watch, WatchFault};
 
@@ -36,10 +38,10 @@ pub trait AskedWatch {
     ghost bounds: { Self.State → BoundsOf };
 
     /// These events happened.
-    ghost has_seen: { Self.State → List EventOf → Type 0 };
+    ghost has_seen: { Self → Self.State → List EventOf → Type 0 };
 
     /// They were read from the input, so much of it remains, and the output grew by what is told of them.
-    ghost is_at: { Self.State → Option (List ℕ) → Option (List ℕ) → Option (List ℕ) → Option (List ℕ) → List EventOf → Type 0 };
+    ghost is_at: { Self → Self.State → Option (List ℕ) → Option (List ℕ) → Option (List ℕ) → Option (List ℕ) → List EventOf → Type 0 };
 
     /// It may go on.
     ghost can_go_on: { Self → Self.State → Type 0 };
@@ -62,7 +64,8 @@ pub trait AskedWatch {
     /// refused.
     fn open<I: Source>(&self, alloc: Global, log: &mut I) -> Result<Self::State, WatchFault>
         ensures at_start { IfOk result (λ watch. (contents : Option (List ℕ)) →
-            is_at watch (I.remaining log.old) (I.remaining log.new) contents contents []) }
+            is_at self.now watch (I.remaining log.old) (I.remaining log.new) contents contents []) }
+        ensures quiet { ¬ HasCycle ((terms self.now).judged []) }
         ensures goes_on { IfOk result (can_go_on self.now) }
         ensures fault { IfErr result (IsFaultOfOpening (I.remaining log.old)) }
         ensures reads { I.failures log.new ≡ read_failures result (I.failures log.old) };
@@ -83,34 +86,34 @@ pub trait AskedWatch {
         requires { can_go_on self.now watch.old }
         ensures goes_on { OnOk result (can_go_on self.now watch.new) }
         ensures steps { (read old : Option (List ℕ)) (events : List EventOf)
-            → is_at watch.old read (I.remaining log.old) old (O.contents out.old) events
+            → is_at self.now watch.old read (I.remaining log.old) old (O.contents out.old) events
             → (after : List EventOf)
             × StepsOn (terms self.now) read old (O.contents out.new) (bounds watch.old) events result
             (bounds watch.new) after
-            × OnOk result (has_seen watch.new after)
+            × OnOk result (has_seen self.now watch.new after)
             × IfOk result (λ more. more ≡ true
-            → is_at watch.new read (I.remaining log.new) old (O.contents out.new) after) }
+            → is_at self.now watch.new read (I.remaining log.new) old (O.contents out.new) after) }
         ensures ends { IfOk result (λ more. more ≡ true → left watch.new < left watch.old) }
         ensures reads { I.failures log.new ≡ read_failures result (I.failures log.old) }
         ensures writes { O.failures out.new ≡ write_failures result (O.failures out.old) };
 
-    /// Whether its events raised an alarm.
+    /// Whether those that are judged of its events raised an alarm.
     fn has_told(&self, watch: &Self::State) -> bool
-        ensures { (events : List EventOf) → has_seen watch.now events
-            → IsTrue result ↔ HasCycle events };
+        ensures { (events : List EventOf) → has_seen self.now watch.now events
+            → IsTrue result ↔ HasCycle ((terms self.now).judged events) };
 
     /// Writes what its events show by the names, and returns their verdict.
     fn show<O: Sink>(
         &self,
         alloc: Global,
         watch: Self::State,
-        names: &Names,
+        names: Option<&Names>,
         out: &mut O,
     ) -> Result<Verdict, CheckFault>
         requires { can_go_on self.now watch }
-        ensures { (events : List EventOf) → has_seen watch events
-            → ShowsLog names.now (terms self.now).certificate (bounds watch).threads events
-            (writing O.contents O.failures out.old out.new) result };
+        ensures { (events : List EventOf) → has_seen self.now watch events
+            → ShowsText ((terms self.now).IsReportOf (shown_of names.entry) (bounds watch).threads events)
+            ((terms self.now).judged events) (writing O.contents O.failures out.old out.new) result };
 }
 
 /// The same fault of a check.
@@ -133,13 +136,14 @@ fn follow<A: AskedWatch, I: Source, O: Sink>(
     log: &mut I,
     out: &mut O,
 ) -> Result<(), WatchFault>
-    requires { A.can_go_on asked.now watch.old }
+    requires goes_on { A.can_go_on asked.now watch.old }
+    requires quiet { ¬ HasCycle ((A.terms asked.now).judged []) }
     ensures goes_on { OnOk result (A.can_go_on asked.now watch.new) }
     ensures follows { (read old : Option (List ℕ))
-        → A.is_at watch.old read (I.remaining log.old) old (O.contents out.old) []
+        → A.is_at asked.now watch.old read (I.remaining log.old) old (O.contents out.old) []
         → (events : List EventOf)
         × Follows (A.terms asked.now) read old (O.contents out.new) result (A.bounds watch.new)
-        events × OnOk result (A.has_seen watch.new events) }
+        events × OnOk result (A.has_seen asked.now watch.new events) }
     ensures reads { I.failures log.new ≡ read_failures result (I.failures log.old) }
     ensures writes { O.failures out.new ≡ write_failures result (O.failures out.old) }
 {
@@ -163,7 +167,7 @@ fn watch_input<A: AskedWatch, I: Source, O: Sink>(
     ensures ok { IfOk result (λ watch. (events : List EventOf)
         × HasWatched (A.terms asked.now) (I.remaining log.old)
         (writing O.contents O.failures out.old out.new) (A.bounds watch) events
-        × A.has_seen watch events) }
+        × A.has_seen asked.now watch events) }
     ensures err { (shown : Shown) → IfErr result (λ fault. Watches shown (A.terms asked.now)
         (I.remaining log.old) (writing O.contents O.failures out.old out.new)
         (fate_of (Err fault))) }
@@ -188,11 +192,11 @@ fn watch_input<A: AskedWatch, I: Source, O: Sink>(
 fn watch_log<A: AskedWatch, I: Source, O: Sink>(
     alloc: Global,
     asked: &A,
-    names: &Names,
+    names: Option<&Names>,
     log: &mut I,
     out: &mut O,
 ) -> Fate
-    ensures told { Watches names.now (A.terms asked.now) (I.remaining log.old)
+    ensures told { Watches (shown_of names.entry) (A.terms asked.now) (I.remaining log.old)
         (writing O.contents O.failures out.old out.new) result }
     ensures failures { I.failures log.new ≡ failures_told result (I.failures log.old) }
 {
@@ -207,11 +211,11 @@ fn watch_log<A: AskedWatch, I: Source, O: Sink>(
 pub fn watch_named<A: AskedWatch, F: Files, O: Sink>(
     alloc: Global,
     asked: &A,
-    names: &Names,
+    names: Option<&Names>,
     files: &F,
     out: &mut O,
 ) -> Fate
-    ensures { WatchesLog names.now (A.terms asked.now) (store F.disk files.now files.now)
+    ensures { WatchesLog (shown_of names.entry) (A.terms asked.now) (store F.disk files.now files.now)
         (writing O.contents O.failures out.old out.new) result }
 {
     match open_input(files, Operand::Log, asked.input(), None) {
@@ -227,9 +231,9 @@ impl AskedWatch for WatchOptions<'_> {
 
     ghost bounds = { λ watch. watch.world.config.bounds };
 
-    ghost has_seen = { λ watch events. (watch.world.log ≡ events) × (IsTrue watch.told ↔ HasCycle watch.world.log) };
+    ghost has_seen = { λ asked watch events. (watch.world.log ≡ events) × (IsTrue watch.told ↔ HasCycle watch.world.log) };
 
-    ghost is_at = { λ watch read remaining old new events. (watch.world.log ≡ events)
+    ghost is_at = { λ asked watch read remaining old new events. (watch.world.log ≡ events)
         × IsUnderWay read remaining old new watch };
 
     ghost can_go_on = { CanWatch };
@@ -266,10 +270,11 @@ impl AskedWatch for WatchOptions<'_> {
         &self,
         alloc: Global,
         watch: Watch,
-        names: &Names,
+        names: Option<&Names>,
         out: &mut O,
     ) -> Result<Verdict, CheckFault> {
-        finish(alloc, watch.close(), names, self.certificate, out)
+        let shown = shown_of(names);
+        finish(alloc, watch.close(), &shown, self.certificate, out)
     }
 }
 
@@ -279,12 +284,12 @@ impl ByNames for Command<'_, WatchOptions<'_>> {
     fn do_by<F: Files, O: Sink>(
         &self,
         alloc: Global,
-        names: &velo_names::Names,
+        names: &Names,
         files: &mut F,
         out: &mut O,
     ) -> Fate {
-        let shown = shown_by(self.options.names, names);
-        watch_named(alloc, self.options, &shown, files, out)
+        let given = names_given(self.options.names, names);
+        watch_named(alloc, self.options, given, files, out)
     }
 }
 

@@ -220,6 +220,15 @@ pub struct EndlessOptions<'a> {
     pub names: Option<&'a str>,
 }
 
+/// What `velodrome watch` was asked for, if something is left out of the log.
+#[derive(Clone, Copy, Debug)]
+pub struct WatchRestOptions<'a> {
+    /// The rest, which is as for the whole log; without a certificate.
+    pub watch: WatchOptions<'a>,
+    /// What is left out.
+    pub ignored: Ignored<'a>,
+}
+
 /// What `velodrome thin` was asked for.
 #[derive(Clone, Copy, Debug)]
 pub struct ThinOptions<'a> {
@@ -320,6 +329,32 @@ pub struct AuditOptions<'a> {
     pub limits: Limits,
 }
 
+/// What `velodrome audit` was asked for of logs that have one summary.
+#[derive(Clone, Copy, Debug)]
+pub struct ManyOptions<'a> {
+    /// The paths of the logs, one of which may be `-`.
+    pub inputs: &'a [&'a str],
+    /// Whether the file of names beside each log is read, where there is one.
+    pub names: bool,
+    /// Whether the file of sites beside each log is read, where there is one.
+    pub sites: bool,
+    /// What is left out of each.
+    pub ignored: Ignored<'a>,
+    /// The form in which the summary is printed.
+    pub format: TextOrJson,
+    /// The limits within which each is checked.
+    pub limits: Limits,
+}
+
+/// What `velodrome audit --merge` was asked for.
+#[derive(Clone, Copy, Debug)]
+pub struct MergeOptions<'a> {
+    /// The paths of the summaries, one of which may be `-`.
+    pub inputs: &'a [&'a str],
+    /// The form in which the summary of all their logs is printed.
+    pub format: TextOrJson,
+}
+
 /// What events can be ignored by.
 #[derive(Clone, Copy, Debug, PartialEq, Eq)]
 pub enum Ignorable {
@@ -352,8 +387,14 @@ pub enum Request<'a> {
     Watch(WatchOptions<'a>),
     /// To check a log of any length as it comes.
     WatchEndless(EndlessOptions<'a>),
+    /// To check what is left of a log as it comes.
+    WatchRest(WatchRestOptions<'a>),
     /// To list the labels of a recorded log whose blocks are not atomic.
     Audit(AuditOptions<'a>),
+    /// To list them of several recorded logs.
+    AuditMany(ManyOptions<'a>),
+    /// To make one summary of several.
+    MergeAudits(MergeOptions<'a>),
     /// To leave out of a recorded log what adds nothing to its verdict.
     Thin(ThinOptions<'a>),
     /// To judge by the certificate of a report what it claims of a recorded log.

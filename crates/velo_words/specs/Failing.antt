@@ -1,5 +1,5 @@
 -- What is said where a file could not be opened, read or written: which one it is, and why.
-use Rattle.std.specs.Prelude.{◌≡◌, ℕ, true, List, [], ◌∷◌, Option, Some, None, codes}
+use Rattle.std.specs.Prelude.{◌≡◌, ◌⊎◌, ℕ, Contains, true, List, [], ◌∷◌, Option, Some, None, codes}
 use Rattle.velo_explain.specs.Pieces.{joined}
 use Rattle.velo_fate.specs.declared.fate.Fate.{Fate}
 use Rattle.velo_fate.specs.declared.fate.Fate.TheVariants.{CannotOpen, Check, ReadFailed, WriteFailed}
@@ -9,7 +9,8 @@ use Rattle.velo_request.specs.declared.request.Request.{Request}
 use Rattle.velo_words.specs.declared.failing.SystemReason.{SystemReason}
 use Rattle.velo_words.specs.declared.failing.SystemReason.TheVariants.{Denied, Full, IsDirectory, NotFound, Other}
 use Rattle.velo_words.specs.declared.roles.Role.{Role}
-use Rattle.velo_words.specs.Roles.{asks_for_words, path_of, word_of}
+use Rattle.velo_words.specs.declared.roles.Role.TheVariants.{Summary}
+use Rattle.velo_words.specs.Roles.{asks_for_words, path_of, summaries_of, word_of}
 
 -- what was to be done with the file, where the fate is that it failed
 abbrev pub verb_of : Fate → Option (List ℕ)
@@ -32,9 +33,14 @@ failure_text path verb word reason =
     joined (codes "velodrome: " ∷ path ∷ codes ": cannot " ∷ verb ∷ codes " " ∷ word
     ∷ codes ": " ∷ reason ∷ codes "\n" ∷ [])
 
+-- the request has a file of this role at this path; of summaries it has any number
+abbrev pub IsFileOf : Role → Request → List ℕ → Type 0
+IsFileOf role request path =
+    (path_of role request ≡ Some path) ⊎ ((role ≡ Summary) × Contains (summaries_of request) path)
+
 -- the files say that the file of this role failed, which is at this path, for this reason
 abbrev pub IsFailure : (List ℕ → SystemReason → Type 0) → Request → Role → List ℕ → SystemReason → Type 0
-IsFailure failed request role path reason = (path_of role request ≡ Some path) × failed path reason
+IsFailure failed request role path reason = IsFileOf role request path × failed path reason
 
 -- what is said of a fate by the failure of a file of the request, where words are asked for
 pub record SaysFailure (failed : List ℕ → SystemReason → Type 0) (request : Request) (f : Fate)

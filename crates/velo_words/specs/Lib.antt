@@ -7,3 +7,4 @@ pub mod Ignoring
 pub mod Refused
 pub mod Roles
 pub mod Saying
+pub mod Summaries

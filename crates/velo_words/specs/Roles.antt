@@ -1,9 +1,9 @@
 -- The files of a request, by what each is for.
-use Rattle.std.specs.Prelude.{ℕ, Bool, true, List, Option, Some, None, codes, option_and_then, option_map, if◌then◌else◌}
+use Rattle.std.specs.Prelude.{ℕ, Bool, true, List, [], map, Option, Some, None, codes, option_and_then, option_map, if◌then◌else◌}
 use Rattle.std.specs.Borrow.{Bor}
 use Rattle.velo_request.specs.declared.request.Ignored.{Ignored}
 use Rattle.velo_request.specs.declared.request.Request.{Request}
-use Rattle.velo_request.specs.declared.request.Request.TheVariants.{Audit, Carry, Check, CheckRest, Explain, Explore, Predict, Replay, Run, Thin, Verify, Watch, WatchEndless}
+use Rattle.velo_request.specs.declared.request.Request.TheVariants.{Audit, AuditMany, Carry, Check, CheckRest, Explain, Explore, MergeAudits, Predict, Replay, Run, Thin, Verify, Watch, WatchEndless, WatchRest}
 use Rattle.velo_request.specs.declared.request.ScheduleSource.{ScheduleSource}
 use Rattle.velo_request.specs.declared.request.ScheduleSource.TheVariants.{File}
 use Rattle.velo_words.specs.declared.roles.Role.{Role}
@@ -18,6 +18,7 @@ word_of role.Ignored = codes "--ignore"
 word_of role.Sites = codes "--sites"
 word_of role.Log = codes "LOG"
 word_of role.Report = codes "REPORT"
+word_of role.Summary = codes "SUMMARY"
 word_of role.Work = codes "FILE"
 word_of role.Picture = codes "--dot"
 word_of role.Drawing = codes "--svg"
@@ -54,6 +55,7 @@ names_of (CheckRest options) = given options.check.names
 names_of (Explain options) = given options.names
 names_of (Watch options) = given options.names
 names_of (WatchEndless options) = given options.names
+names_of (WatchRest options) = given options.watch.names
 names_of (Audit options) = given options.names
 names_of (Thin options) = given options.names
 names_of (Predict options) = given options.names
@@ -63,7 +65,9 @@ names_of _ = None
 abbrev pub ignored_of : Request → Option Ignored
 ignored_of (CheckRest options) = Some options.ignored
 ignored_of (Explain options) = Some options.ignored
+ignored_of (WatchRest options) = Some options.ignored
 ignored_of (Audit options) = Some options.ignored
+ignored_of (AuditMany options) = Some options.ignored
 ignored_of (Thin options) = Some options.ignored
 ignored_of (Predict options) = Some options.ignored
 ignored_of _ = None
@@ -95,6 +99,7 @@ log_path_of (Explain options) = Some options.input.now
 log_path_of (Carry options) = Some options.input.now
 log_path_of (Watch options) = Some options.input.now
 log_path_of (WatchEndless options) = Some options.input.now
+log_path_of (WatchRest options) = Some options.watch.input.now
 log_path_of (Audit options) = Some options.input.now
 log_path_of (Thin options) = Some options.input.now
 log_path_of (Predict options) = Some options.input.now
@@ -104,6 +109,11 @@ log_path_of _ = None
 abbrev pub report_of : Request → Option (List ℕ)
 report_of (Verify options) = Some options.report.now
 report_of _ = None
+
+-- of summaries there are any number
+abbrev pub summaries_of : Request → List (List ℕ)
+summaries_of (MergeAudits options) = map (λ path. path.now) options.inputs.now
+summaries_of _ = []
 
 abbrev pub work_path_of : Request → Option (List ℕ)
 work_path_of (Replay options) = Some options.run.input.now
@@ -147,6 +157,7 @@ path_of role.Ignored request = wide_list_of request
 path_of role.Sites request = sites_of request
 path_of role.Log request = log_path_of request
 path_of role.Report request = report_of request
+path_of role.Summary request = None
 path_of role.Work request = work_path_of request
 path_of role.Picture request = picture_of request
 path_of role.Drawing request = drawing_of request

@@ -13,7 +13,7 @@ use Rattle.velo_fate.specs.declared.fate.Fate.TheVariants as fate
 use Rattle.velo_fate.specs.declared.fault.CheckFault.TheVariants as check_fault
 use Rattle.velo_names.specs.declared.fault.NamesFault.TheVariants as names_fault
 use Rattle.velo_request.specs.declared.request.Request.{Request}
-use Rattle.velo_request.specs.declared.request.Request.TheVariants.{Audit, Carry, Check, CheckRest, Explain, Explore, Predict, Replay, Run, Thin, Verify, Watch}
+use Rattle.velo_request.specs.declared.request.Request.TheVariants.{Audit, Carry, Check, CheckRest, Explain, Explore, Predict, Replay, Run, Thin, Verify, Watch, WatchRest}
 use Rattle.velo_request.specs.declared.request.ScheduleSource.{ScheduleSource}
 use Rattle.velo_request.specs.declared.request.ScheduleSource.TheVariants as source
 use Rattle.velo_schedule_text.specs.declared.limits.TheConstants.{MAX_SCHEDULE_BYTES}
@@ -35,12 +35,14 @@ use Rattle.velo_fault_words.specs.Schedule.{numbers_words, schedule_words, turns
 use Rattle.velo_fault_words.specs.declared.faults.FileFault.{FileFault}
 use Rattle.velo_fault_words.specs.declared.faults.FileFault.TheVariants as file
 use Rattle.velo_words.specs.Refused.{refused_words, wrong_value_words}
+use Rattle.velo_words.specs.Summaries.{no_summary_words, summary_at}
 
 -- the path of the log whose faults are said in words, if the request has one. A log that is watched
 -- without an end can be longer than others may be: its limits are other ones
 abbrev pub log_of : Request → Option (List ℕ)
 log_of (Explain options) = Some options.input.now
 log_of (Watch options) = Some options.input.now
+log_of (WatchRest options) = Some options.watch.input.now
 log_of (Audit options) = Some options.input.now
 log_of (Thin options) = Some options.input.now
 log_of (Predict options) = Some options.input.now
@@ -123,6 +125,8 @@ IsSaid disk request (fate.Report fault) words =
     IsSomeAnd (report_of request) (λ path. SaysFault disk path (file.Report fault) words)
 IsSaid disk request (fate.Ignored what) words = SaysVain disk request what words
 IsSaid disk request fate.Open words = SaysOpen request words
+IsSaid disk request (fate.NoSummary file) words =
+    IsSomeAnd (summary_at request file) (λ path. words ≡ no_summary_words path)
 IsSaid disk request (fate.List list_fault.Memory) words = ⊥
 IsSaid disk request (fate.List fault) words =
     IsSomeAnd (list_of request) (λ path. SaysFault disk path (file.List fault) words)

@@ -4,7 +4,7 @@ ghost use Rattle.velo_words.specs.Failing.{IsFailure, SaysFailure, failure_text,
 ghost use Rattle.velo_words.specs.Roles.{word_of};
 ghost use Rattle.velo_words.specs.declared.failing.SystemReason.{SystemReason as ReasonOf};
 
-use crate::roles::{ROLES, Role, asks_for_words, path_of, word_of};
+use crate::roles::{ROLES, Role, asks_for_words, path_of, summaries_of, word_of};
 use std::alloc::Global;
 use velo_events::Memory;
 use velo_explain::{Page, Piece};
@@ -84,6 +84,20 @@ fn failure_of<'a, F: Recall>(role: Role, request: &Request<'a>, files: &F) -> Op
     Some(Failed { role, path, reason })
 }
 
+/// The failure of a summary of the request, if one failed.
+fn failed_summary_of<'a, F: Recall>(request: &Request<'a>, files: &F) -> Option<Failed<'a>>
+    ensures { IfSome result (λ it. IsFailure (F.failed files.now) request.now it.role it.path.now
+        it.reason) }
+{
+    for path in summaries_of(request) {
+        if let Some(reason) = files.failure_at(path) {
+            let role = Role::Summary;
+            return Some(Failed { role, path, reason });
+        }
+    }
+    None
+}
+
 /// The file of a request that failed, if it is known.
 fn failed_of<'a, F: Recall>(request: &Request<'a>, files: &F) -> Option<Failed<'a>>
     ensures { IfSome result (λ it. IsFailure (F.failed files.now) request.now it.role it.path.now
@@ -94,7 +108,7 @@ fn failed_of<'a, F: Recall>(request: &Request<'a>, files: &F) -> Option<Failed<'
             return Some(failed);
         }
     }
-    None
+    failed_summary_of(request, files)
 }
 
 /// Adds what is said of a file, by what was to be done, its word and the reason.

@@ -11,6 +11,7 @@ mod reasons;
 mod refused;
 mod roles;
 mod saying;
+mod summaries;
 
 pub use failing::{Recall, SystemReason};
 pub use saying::end_in_words;

@@ -1,6 +1,6 @@
 //! The files of a request, by what each is for.
-ghost use Rattle.std.specs.Prelude.{◌≡◌, option_map};
-ghost use Rattle.velo_words.specs.Roles.{asks_for_words, drawing_of, ignored_of, known_of, list_of, log_path_of, map_of, names_of, path_of, picture_of, report_of, saved_log_of, saved_names_of, sites_of, turns_of, wide_list_of, word_of, work_path_of};
+ghost use Rattle.std.specs.Prelude.{◌≡◌, map, option_map};
+ghost use Rattle.velo_words.specs.Roles.{asks_for_words, drawing_of, ignored_of, known_of, list_of, log_path_of, map_of, names_of, path_of, picture_of, report_of, saved_log_of, saved_names_of, sites_of, summaries_of, turns_of, wide_list_of, word_of, work_path_of};
 
 use velo_request::{Ignored, Request, ScheduleSource};
 
@@ -21,6 +21,8 @@ pub enum Role {
     Log,
     /// It is a report, with its certificate.
     Report,
+    /// It is a summary of logs.
+    Summary,
     /// It is a workload.
     Work,
     /// A picture is saved there.
@@ -36,7 +38,7 @@ pub enum Role {
 }
 
 /// The roles, in the order in which a command opens its files; but `verify` opens its report first.
-pub const ROLES: [Role; 13] = [
+pub const ROLES: [Role; 14] = [
     Role::Turns,
     Role::Names,
     Role::Known,
@@ -44,6 +46,7 @@ pub const ROLES: [Role; 13] = [
     Role::Sites,
     Role::Log,
     Role::Report,
+    Role::Summary,
     Role::Work,
     Role::Picture,
     Role::Drawing,
@@ -64,6 +67,7 @@ pub fn word_of(role: Role) -> &'static str
         Role::Sites => "--sites",
         Role::Log => "LOG",
         Role::Report => "REPORT",
+        Role::Summary => "SUMMARY",
         Role::Work => "FILE",
         Role::Picture => "--dot",
         Role::Drawing => "--svg",
@@ -109,6 +113,7 @@ pub fn names_of<'a>(request: &Request<'a>) -> Option<&'a str>
         Request::Explain(options) => options.names,
         Request::Watch(options) => options.names,
         Request::WatchEndless(options) => options.names,
+        Request::WatchRest(options) => options.watch.names,
         Request::Audit(options) => options.names,
         Request::Thin(options) => options.names,
         Request::Predict(options) => options.names,
@@ -123,7 +128,9 @@ pub fn ignored_of<'a>(request: &Request<'a>) -> Option<Ignored<'a>>
     match request {
         Request::CheckRest(options) => Some(options.ignored),
         Request::Explain(options) => Some(options.ignored),
+        Request::WatchRest(options) => Some(options.ignored),
         Request::Audit(options) => Some(options.ignored),
+        Request::AuditMany(options) => Some(options.ignored),
         Request::Thin(options) => Some(options.ignored),
         Request::Predict(options) => Some(options.ignored),
         _ => None,
@@ -181,6 +188,7 @@ fn log_path_of<'a>(request: &Request<'a>) -> Option<&'a str>
         Request::Carry(options) => Some(options.input),
         Request::Watch(options) => Some(options.input),
         Request::WatchEndless(options) => Some(options.input),
+        Request::WatchRest(options) => Some(options.watch.input),
         Request::Audit(options) => Some(options.input),
         Request::Thin(options) => Some(options.input),
         Request::Predict(options) => Some(options.input),
@@ -196,6 +204,16 @@ pub fn report_of<'a>(request: &Request<'a>) -> Option<&'a str>
     match request {
         Request::Verify(options) => Some(options.report),
         _ => None,
+    }
+}
+
+/// The paths of the summaries of the request.
+pub fn summaries_of<'a>(request: &Request<'a>) -> &'a [&'a str]
+    ensures { map (λ path. path.now) result.now ≡ summaries_of request.now }
+{
+    match request {
+        Request::MergeAudits(options) => options.inputs,
+        _ => &[],
     }
 }
 
@@ -262,7 +280,7 @@ fn map_of<'a>(request: &Request<'a>) -> Option<&'a str>
     }
 }
 
-/// The path of the file of a role, if the request has one.
+/// The path of the file of a role, if the request has one. Of summaries a request has any number.
 pub fn path_of<'a>(role: Role, request: &Request<'a>) -> Option<&'a str>
     ensures { option_map (λ path. path.now) result ≡ path_of role request.now }
 {
@@ -274,6 +292,7 @@ pub fn path_of<'a>(role: Role, request: &Request<'a>) -> Option<&'a str>
         Role::Sites => sites_of(request),
         Role::Log => log_path_of(request),
         Role::Report => report_of(request),
+        Role::Summary => None,
         Role::Work => work_path_of(request),
         Role::Picture => picture_of(request),
         Role::Drawing => drawing_of(request),

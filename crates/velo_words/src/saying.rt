@@ -16,6 +16,7 @@ use crate::given::{names_explained_of, schedule_of};
 use crate::ignoring::words_in_vain;
 use crate::refused::{refused_words, wrong_value_words};
 use crate::roles::{list_of, report_of, sites_of};
+use crate::summaries::words_of_no_summary;
 use std::alloc::Global;
 use velo_bytes::{Bytes, Sink, WriteFault, write_all};
 use velo_claims::ReportFault;
@@ -49,6 +50,7 @@ fn log_of<'a>(request: &Request<'a>) -> Option<&'a str>
     match request {
         Request::Explain(options) => Some(options.input),
         Request::Watch(options) => Some(options.input),
+        Request::WatchRest(options) => Some(options.watch.input),
         Request::Audit(options) => Some(options.input),
         Request::Thin(options) => Some(options.input),
         Request::Predict(options) => Some(options.input),
@@ -56,8 +58,7 @@ fn log_of<'a>(request: &Request<'a>) -> Option<&'a str>
         Request::Check(options) => if_asked(options.why, options.input),
         Request::CheckRest(options) => if_asked(options.check.why, options.check.input),
         Request::Carry(options) => if_asked(options.why, options.input),
-        Request::Replay(_) | Request::Run(_) | Request::Explore(_) | Request::WatchEndless(_) =>
-            None,
+        _ => None,
     }
 }
 
@@ -199,6 +200,7 @@ fn words_of<F: Files>(alloc: Global, request: &Request, fate: Fate, files: &F) -
         }
         Fate::Ignored(what) => words_in_vain(alloc, request, what, files),
         Fate::Open => words_of_open(alloc, request),
+        Fate::NoSummary { file } => words_of_no_summary(alloc, request, file),
         Fate::List(ListFault::Memory) => None,
         Fate::List(fault) => {
             words_of_file(alloc, list_of(request)?, FileFault::List(fault), files)

@@ -13,6 +13,7 @@ mod hostile;
 mod ignored;
 mod listed;
 mod logs;
+mod many;
 mod named;
 mod precedence;
 mod predicted;

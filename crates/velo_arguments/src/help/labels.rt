@@ -39,7 +39,13 @@ each a number or a name as of --ignore-lock, 'all locks', and what an audit prin
 --ignore-label, --ignore-lock and --ignore-variable take a number, or a name in which '*' stands for any
 characters, and may be repeated. The events inside a block stay where its label is left out.
 --ignore-locks leaves out all locks: then only the accesses to variables, forks and joins order threads.
-Only one of LOG and the FILEs can be -.
+Only one of the LOGs and the FILEs can be -.
+
+More than one LOG, or --summary, gives one summary: how many logs are atomic, how many are not, and how
+many are unreadable; each label found, with in how many logs, and in which one first; and of each log
+that cannot be audited, why. With --names auto it has the names beside each log, and with --sites auto
+the sites, where there are some: app.names and app.sites beside app.log. --format json prints it as one
+JSON object, and --merge makes the summary of all from such objects of parts. docs/MANY.md describes it.
 
 List faults, line 0 for the whole text:
    1  bad line
@@ -55,13 +61,18 @@ Statuses, each with the lines on standard error:
   0  no label was found, or help
   2  usage; 'error: standard input can be read once'; 'error: --format takes text, json, sarif or
      junit'; 'error: --source goes only with --sites'; 'error: --ignore does not go with --not-atomic';
-     the text is no log: 'log fault K', 'log fault K line N'; an event cannot happen: 'refused K at P',
-     'wrong value at P'; the text of --names is no file of names: 'names fault K line N'; the text of
-     --sites is no file of sites, or of another log: 'sites fault K line N'; the text of --not-atomic or
-     --ignore is no list: 'list fault K line N'; a word of --ignore-label, --ignore-lock or
-     --ignore-variable means nothing: 'ignored fault K'
+     of a summary 'error: --format takes text or json', 'error: a summary goes with no option but
+     --format, --names, --sites, --events, --nodes and what leaves events out', 'error: for a summary
+     --names and --sites take auto alone', 'error: --merge goes with no option but --format'; a file of
+     --merge is no summary: 'summary fault 1 file N'; the text is no log: 'log fault K',
+     'log fault K line N'; an event cannot happen: 'refused K at P', 'wrong value at P'; the text of
+     --names is no file of names: 'names fault K line N'; the text of --sites is no file of sites, or of
+     another log: 'sites fault K line N'; the text of --not-atomic or --ignore is no list:
+     'list fault K line N'; a word of --ignore-label, --ignore-lock or --ignore-variable means nothing:
+     'ignored fault K'
   3  a label was found whose blocks are not atomic
-  4  a limit was met: 'refused 17 at P', 'refused 18 at P'
+  4  a limit was met: 'refused 17 at P', 'refused 18 at P'; of a summary, no label was found, and some
+     logs are unreadable: 'N of M logs unreadable'
   5  memory or a device failed: 'out of memory', 'read failed', 'write failed', 'cannot open'
 
 Sites and their faults: see 'velodrome explain --help'. Log, names, faults and refusals: see

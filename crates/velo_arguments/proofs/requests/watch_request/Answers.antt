@@ -1,7 +1,7 @@
-use Rattle.std.proofs.Common.{codes, refl, subst}
+use Rattle.std.proofs.Common.{◌∙◌, codes, refl, subst, sym}
 use Rattle.clap.specs.Words.{found_of, one_of, rows_of}
 use Rattle.velo_arguments.specs.Asked.{AsksEndless, IsFlag, AsksWatch}
-use Rattle.velo_arguments.proofs.OnAsked.{flag_read, no_word, on_none_of_two, option_read, word_read}
+use Rattle.velo_arguments.proofs.OnAsked.{flag_read, no_word, nothing_left, on_none_of_two, option_read, word_read}
 use Rattle.velo_arguments.proofs.requests.watch_request.Goals as goal
 
 pub returns-in_err-input-clause-none : goal.returns-in_err-input-clause-none
@@ -33,15 +33,36 @@ returns-then-get_flag-clause-some c =
       ),
     )
 
+pub returns-then-leaves_out-clause-some : goal.returns-then-leaves_out-clause-some
+returns-then-leaves_out-clause-some c =
+    let f = found_of c.args.found.now in (
+      refl,
+      (
+        (
+          subst (IsFlag (one_of (codes "endless") (rows_of f))) c.if-get_flag.false
+              (flag_read f (codes "endless") c.get_flag.result c.get_flag.ensures.none c.get_flag.ensures.value c.get_flag.ensures.other),
+          flag_read f (codes "certificate") c.get_flag-2.result c.get_flag-2.ensures.none c.get_flag-2.ensures.value c.get_flag-2.ensures.other,
+          (
+            word_read f (codes "LOG") c.get_str.result c.in_ok-input.input c.get_str.ensures c.in_ok-input.was,
+            flag_read f (codes "stop") c.get_flag-stop.result c.get_flag-stop.ensures.none c.get_flag-stop.ensures.value c.get_flag-stop.ensures.other,
+            c.in_ok-limits.ensures.some,
+            option_read f (codes "names") c.get_str-names.result c.get_str-names.ensures,
+          ),
+        ),
+        c.left_out-ignored.ensures,
+        sym c.leaves_out.ensures ∙ c.if-leaves_out.true,
+      ),
+    )
+
 pub returns-clause-some : goal.returns-clause-some
 returns-clause-some c =
-    let f = found_of c.args.found.now in (
+    let f = found_of c.args.found.now in
+    let nothing = sym c.leaves_out.ensures ∙ c.if-leaves_out.false in (
       refl,
       (
         subst (IsFlag (one_of (codes "endless") (rows_of f))) c.if-get_flag.false
             (flag_read f (codes "endless") c.get_flag.result c.get_flag.ensures.none c.get_flag.ensures.value c.get_flag.ensures.other),
-        flag_read f (codes "certificate") c.get_flag-certificate.result c.get_flag-certificate.ensures.none c.get_flag-certificate.ensures.value
-            c.get_flag-certificate.ensures.other,
+        flag_read f (codes "certificate") c.get_flag-2.result c.get_flag-2.ensures.none c.get_flag-2.ensures.value c.get_flag-2.ensures.other,
         (
           word_read f (codes "LOG") c.get_str.result c.in_ok-input.input c.get_str.ensures c.in_ok-input.was,
           flag_read f (codes "stop") c.get_flag-stop.result c.get_flag-stop.ensures.none c.get_flag-stop.ensures.value c.get_flag-stop.ensures.other,
@@ -49,4 +70,5 @@ returns-clause-some c =
           option_read f (codes "names") c.get_str-names.result c.get_str-names.ensures,
         ),
       ),
+      nothing_left (rows_of f) c.left_out-ignored.result c.left_out-ignored.ensures nothing,
     )

@@ -1,5 +1,5 @@
-use Rattle.std.proofs.Common.{Bool, List, ap, inl, inr, refl, rules, subst, sym}
-use Rattle.std.specs.Prelude.{ℕ, slice_index}
+use Rattle.std.proofs.Common.{Bool, ap, inl, inr, refl, rules, subst, sym}
+use Rattle.std.specs.Prelude.{slice_index}
 use Rattle.velo_worker.specs.declared.ending.Ending.TheVariants.{Done}
 use Rattle.velo_fate.specs.declared.fate.Fate.TheVariants.{Finished, Memory}
 use Rattle.velo_fate.specs.Delivery.{printing, silent}

@@ -1,4 +1,4 @@
-use Rattle.std.proofs.Common.{Some, inl, inr, refl}
+use Rattle.std.proofs.Common.{inl, inr, refl}
 use Rattle.velo_log_commands.proofs.explaining_alarm.put_both.Goals as goal
 
 pub returns-in-Ok : goal.returns-in-Ok

@@ -1,4 +1,4 @@
-use Rattle.std.proofs.Common.{◌≡◌, [], List, Some, None, inl, inr, refl, subst}
+use Rattle.std.proofs.Common.{[], List, inl, inr, refl, subst}
 use Rattle.velo_events.specs.declared.event.Event.{Event}
 use Rattle.velo_events.specs.Graph.{HasCycle}
 use Rattle.velo_filter.specs.Left.{rest_of}

@@ -2,7 +2,6 @@ use Rattle.std.proofs.Common.{[], ◌∙◌, List, inl, inr, refl, sym, subst}
 use Rattle.std.proofs.lemmas.Result.{err_from_is_err_and}
 use Rattle.velo_events.specs.declared.event.Event.{Event}
 use Rattle.velo_events.specs.Graph.{HasCycle}
-use Rattle.velo_endless.proofs.OnWatches.{no_cycle}
 use Rattle.velo_log_commands.proofs.OnWatching.{no_more, no_other, not_both, one_more}
 use Rattle.velo_log_commands.proofs.watching.follow.Goals as goal
 use Rattle.velo_log_commands.proofs.watching.follow.Goals.{else-stops-via-then-stops+else-has_told, else-stops-via-else-stops}
@@ -10,8 +9,8 @@ use Rattle.velo_log_commands.proofs.watching.follow.Goals.{else-stops-via-then-s
 pub loop-watch-init : goal.loop-watch-init
 loop-watch-init g c =
     record {
-      goes_on = c.requires;
-      so_far = λ read old at. ([], at, λ on. no_cycle);
+      goes_on = c.requires.goes_on;
+      so_far = λ read old at. ([], at, λ on. c.requires.quiet);
       reads = refl;
       writes = refl;
     }
@@ -60,7 +59,7 @@ loop-watch-preserved g c =
             steps.0,
             steps.3 c.if-branch.true,
             λ on. elim c.else-stops.branch [
-              | else-stops-via-then-stops+else-has_told x ↦ no_more x.has_told.result steps.0 x.if-has_told.false (x.has_told.ensures steps.0 steps.2)
+              | else-stops-via-then-stops+else-has_told x ↦ no_more x.has_told.result ((g.A.AskedWatch.terms c.args.asked.now).judged steps.0) x.if-has_told.false (x.has_told.ensures steps.0 steps.2)
               | else-stops-via-else-stops x ↦ absurd (not_both _ on (sym c.stops.ensures ∙ x.if-stops.false))
             ],
           );
@@ -77,4 +76,4 @@ returns-clause-follows g c read old at =
     let new = g.O.Sink.contents c.step.new.out in
     let steps = c.in_ok-step.ensures.steps read old so_far.0 so_far.1 in
     let end = no_other (A.terms c.args.asked.now) read old new (A.bounds w) (A.bounds w') so_far.0 steps.0 _ c.if-branch.false steps.1 in
-    (steps.0, (end.1, inl (end.2, λ stop. subst (λ (log : List Event). ¬ HasCycle log) (sym end.0) (so_far.2 stop))), steps.2)
+    (steps.0, (end.1, inl (end.2, λ stop. subst (λ (log : List Event). ¬ HasCycle ((A.terms c.args.asked.now).judged log)) (sym end.0) (so_far.2 stop))), steps.2)

@@ -1,4 +1,3 @@
-use Rattle.std.proofs.Common.{subst, sym}
 use Rattle.velo_log_commands.proofs.OnEndless.{cycle_seen}
 use Rattle.velo_log_commands.proofs.endless.EndlessOptionsAskedWatch.has_told.Goals as goal
 

@@ -1,0 +1,166 @@
+//! `velodrome watch` where something is left out: a log is checked as it comes, and what is left of it is
+//! judged.
+ghost use Rattle.std.specs.Prelude.{◌≡◌, ◌-◌, length, slice_index};
+ghost use Rattle.velo_delivery.specs.Disk.{store};
+ghost use Rattle.velo_delivery.specs.Writing.{writing};
+ghost use Rattle.velo_filter.specs.Left.{rest_of};
+ghost use Rattle.velo_filter.specs.Tables.{left_of};
+ghost use Rattle.velo_log_commands.specs.CheckingRest.{IsRestReport, shown_of};
+ghost use Rattle.velo_log_commands.specs.Commands.{DoesWatchRest, WatchesRestBy};
+ghost use Rattle.velo_log_commands.specs.Steps.{ShowsText};
+ghost use Rattle.velo_log_commands.specs.WatchingRest.{CanWatchRest, terms_of_rest};
+ghost use Rattle.velo_rest_watch.specs.UnderWay.{IsUnderWay};
+
+use crate::command::Command;
+use crate::naming::names_given;
+use crate::rest_report::page_of_rest;
+use crate::watching::{AskedWatch, watch_named};
+use std::alloc::Global;
+use velo_audit_text::Asked;
+use velo_bytes::{Sink, Source, WriteFault, write_all};
+use velo_delivery::Files;
+use velo_events::Memory;
+use velo_fate::{CheckFault, Fate, Verdict, verdict_of};
+use velo_filter::LeftOut;
+use velo_inputs::{ContextOptions, InContext, do_in_context, left_out};
+use velo_names::Names;
+use velo_request::{WatchOptions, WatchRestOptions};
+use velo_rest_watch::{ClosedRest, RestWatch};
+use velo_sites::Sites;
+use velo_watch::WatchFault;
+
+/// A watch that was asked for, and what is left out of its log.
+#[derive(Clone, Copy)]
+struct RestAsked<'a> {
+    options: &'a WatchOptions<'a>,
+    left: &'a LeftOut,
+}
+
+impl AskedWatch for RestAsked<'_> {
+    type State = RestWatch;
+
+    ghost terms = { λ asked. terms_of_rest asked.options.now (left_of asked.left.now) };
+
+    ghost bounds = { λ watch. watch.rest.world.config.bounds };
+
+    ghost has_seen = { λ asked watch events. (watch.whole.trace.events ≡ events)
+        × (watch.rest.world.log ≡ rest_of (left_of asked.left.now) events) };
+
+    ghost is_at = { λ asked watch read remaining old new events. (watch.whole.trace.events ≡ events)
+        × IsUnderWay (left_of asked.left.now) read remaining old new watch };
+
+    ghost can_go_on = { λ asked. CanWatchRest asked.options.now (left_of asked.left.now) };
+
+    ghost left = { λ watch. watch.rest.world.config.events - length watch.whole.trace.events };
+
+    fn input(&self) -> &str {
+        self.options.input
+    }
+
+    fn stops(&self) -> bool {
+        self.options.stop
+    }
+
+    fn open<I: Source>(&self, alloc: Global, log: &mut I) -> Result<RestWatch, WatchFault> {
+        let limits = self.options.limits;
+        RestWatch::open(alloc, log, limits.events, limits.nodes)
+    }
+
+    fn step<I: Source, O: Sink>(
+        &self,
+        alloc: Global,
+        watch: &mut RestWatch,
+        log: &mut I,
+        out: &mut O,
+    ) -> Result<bool, WatchFault> {
+        watch.step(alloc, self.left, log, out)
+    }
+
+    fn has_told(&self, watch: &RestWatch) -> bool {
+        watch.has_told()
+    }
+
+    fn show<O: Sink>(
+        &self,
+        alloc: Global,
+        watch: RestWatch,
+        names: Option<&Names>,
+        out: &mut O,
+    ) -> Result<Verdict, CheckFault> {
+        let rest = watch.close();
+        let answer = report_rest(alloc, names, &rest, out);
+        drop(rest);
+        answer
+    }
+}
+
+/// Writes the report of what is left of a log, and returns its verdict.
+fn report_rest<O: Sink>(
+    alloc: Global,
+    names: Option<&Names>,
+    rest: &ClosedRest,
+    out: &mut O,
+) -> Result<Verdict, CheckFault>
+    requires { length rest.now.places.items ≡ length rest.now.closed.log }
+    ensures { ShowsText (IsRestReport (shown_of names.entry) rest.now.closed.config.bounds.threads
+        rest.now.closed.log (slice_index rest.now.places.items)) rest.now.closed.log
+        (writing O.contents O.failures out.old out.new) result }
+{
+    let verdict = verdict_of(&rest.closed);
+    match page_of_rest(alloc, names, &rest.closed, &rest.places) {
+        Ok(page) => match write_all(out, page.as_slice()) {
+            Ok(()) => Ok(verdict),
+            Err(WriteFault) => Err(CheckFault::Write),
+        },
+        Err(Memory) => Err(CheckFault::Memory),
+    }
+}
+
+impl InContext for Command<'_, WatchRestOptions<'_>> {
+    ghost does = { λ command names asked sites. WatchesRestBy names asked command.options.now };
+
+    fn do_in<F: Files, O: Sink>(
+        &self,
+        alloc: Global,
+        names: &Names,
+        asked: &Asked,
+        _sites: &Option<Sites>,
+        files: &mut F,
+        out: &mut O,
+    ) -> Fate {
+        let options = &self.options.watch;
+        match left_out(alloc, asked) {
+            Ok(left) => {
+                let given = names_given(options.names, names);
+                let asked = RestAsked {
+                    options,
+                    left: &left,
+                };
+                let fate = watch_named(alloc, &asked, given, files, out);
+                drop(left);
+                fate
+            }
+            Err(Memory) => Fate::Memory,
+        }
+    }
+}
+
+/// Watches the log that was asked for, of which what is left is judged. The names are read first, and then
+/// the list of what is known already.
+pub fn watch_rest_file<F: Files, O: Sink>(
+    alloc: Global,
+    options: &WatchRestOptions,
+    files: &mut F,
+    out: &mut O,
+) -> Fate
+    ensures { DoesWatchRest options.now (store F.disk files.old files.new)
+        (writing O.contents O.failures out.old out.new) result }
+{
+    let context = ContextOptions {
+        names: options.watch.names,
+        ignored: options.ignored,
+        sites: None,
+        source: None,
+    };
+    do_in_context(alloc, &Command { options }, &context, files, out)
+}

@@ -1,0 +1,2 @@
+mod OnKeys
+mod OnListing

@@ -1,0 +1,12 @@
+//! What the audits of several logs come to, as one summary.
+#![tactic(auto)]
+
+mod audits;
+mod listing;
+mod summary;
+#[cfg(test)]
+mod tests;
+
+pub use audits::{FoundLabel, LogAudit, LogResult, Verdict, count_logs, verdict_of};
+pub use listing::{Listed, listing_of};
+pub use summary::summary_text;

@@ -1,0 +1,4 @@
+mod OnBatch
+mod OnJudging
+mod OnLists
+mod OnMerging

@@ -1,0 +1,6 @@
+pub mod Batch
+pub mod Commands
+pub mod Judging
+pub mod Merging
+pub mod Reading
+pub mod Telling

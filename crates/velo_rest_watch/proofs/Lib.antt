@@ -1,0 +1,5 @@
+mod OnMore
+mod OnFaults
+mod OnTelling
+mod OnRests
+pub mod OnWatches

@@ -1,0 +1,3 @@
+pub mod Alarm
+pub mod Faults
+pub mod UnderWay
