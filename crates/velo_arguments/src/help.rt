@@ -179,6 +179,7 @@ Example, a lost update:
 It shows the cycle in lanes: a column for each thread, a row for each event shown, with its line of
 the log, and how many lines are between two rows. Then it says which event closes the cycle, which
 transactions are on it, which two events make each edge, and which blocks are to blame and why.
+Accesses to variables that make an edge by locks, too, are shown after that, where nothing is left out.
 
 --svg writes the same as a drawing that a browser shows, in one file: a column for each thread, blocks
 as bars, and an arrow for each edge. --dot writes the cycle alone, for Graphviz. --format json prints the
