@@ -132,7 +132,7 @@ static WRONG_WORDS: [&[&str]; 50] = [
     ],
     &["velodrome", "audit", "a.log", "--ignore-lock"],
     &["velodrome", "audit", "a.log", "--ignore-locks=0"],
-    &["velodrome", "watch", "a.log", "--ignore-locks"],
+    &["velodrome", "verify", "a.log", "r", "--ignore-locks"],
     &["velodrome", "thin", "a.log"],
     &["velodrome", "verify", "a.log"],
     &["velodrome", "thin", "a.log", "--log", "o", "--events", "4"],
@@ -143,7 +143,7 @@ static WRONG_WORDS: [&[&str]; 50] = [
 ];
 
 /// Right words that do not go together, with the line that says so.
-static WORDS_APART: [(&[&str], &str); 39] = [
+static WORDS_APART: [(&[&str], &str); 41] = [
     (
         &["velodrome", "check", "-", "--names", "-"],
         "error: standard input can be read once\n",
@@ -356,6 +356,20 @@ static WORDS_APART: [(&[&str], &str); 39] = [
     (
         &["velodrome", "check", "-", "--ignore=-"],
         "error: standard input can be read once\n",
+    ),
+    (
+        &[
+            "velodrome",
+            "watch",
+            "a.log",
+            "--ignore-locks",
+            "--certificate",
+        ],
+        "error: --certificate does not go with what leaves events out of the log\n",
+    ),
+    (
+        &["velodrome", "watch", "a.log", "--ignore-locks", "--endless"],
+        "error: --endless does not go with what leaves events out of the log\n",
     ),
 ];
 

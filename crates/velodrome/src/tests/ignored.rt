@@ -341,6 +341,61 @@ const LOCKED_UPDATE: &str =
 const WIDE_AFTER_ALARM: &str =
     "vlog 1 3 2 0\n0 fork 1\n0 fork 2\n0 begin 7\n0 rd 0 0\n1 wr 0 5\n0 wr 0 1\n0 wr 1 1\n1 rd 1 1\n2 rd 1 1\n";
 
+/// The lock closes a cycle at position 6, the variable another one at position 10.
+const TWO_CYCLES: &str =
+    "vlog 2 2 1 1\n0 fork 1\n0 begin 7\n0 acq 0\n0 rel 0\n1 acq 0\n1 rel 0\n0 acq 0\n0 rel 0\n0 rd 0 0\n1 wr 0 5\n0 wr 0 1\n0 end\n";
+
+static WATCHED: [Listed; 4] = [
+    // the alarm is that of what is left, at its position in the whole log
+    Listed {
+        words: &["velodrome", "watch", "a", "--ignore-locks"],
+        log: TWO_CYCLES,
+        names: BAD,
+        list: "",
+        out: "alarm 10 blame 1 7\nevents 6\nthread 0 5\nthread 1 1\nverdict alarm 10\ntransaction 1\nblame 1 7\n",
+        err: "",
+        status: 3,
+    },
+    // it ends the watch
+    Listed {
+        words: &["velodrome", "watch", "a", "--stop", "--ignore-lock", "0"],
+        log: TWO_CYCLES,
+        names: BAD,
+        list: "",
+        out: "alarm 10 blame 1 7\nevents 5\nthread 0 4\nthread 1 1\nverdict alarm 10\ntransaction 1\nblame 1 7\n",
+        err: "",
+        status: 3,
+    },
+    // a list by the names of a file
+    Listed {
+        words: &[
+            "velodrome",
+            "watch",
+            "a",
+            "--names",
+            "n",
+            "--not-atomic",
+            "l",
+        ],
+        log: TWO_CYCLES,
+        names: NAMES,
+        list: "flush\n",
+        out: "events 10\nthread 0 7 main\nthread 1 3\nverdict clean\n",
+        err: "",
+        status: 0,
+    },
+    // a fault of what is left out stays, behind the alarm that came before
+    Listed {
+        words: &["velodrome", "watch", "a", "--ignore-locks"],
+        log: "vlog 2 2 1 1\n0 fork 1\n0 begin 7\n0 rd 0 0\n1 acq 0\n1 wr 0 5\n0 wr 0 1\n0 rel 0\n",
+        names: BAD,
+        list: "",
+        out: "alarm 5 blame 1 7\n",
+        err: "refused 8 at 6\n",
+        status: 2,
+    },
+];
+
 static CHECKED: [Listed; 13] = [
     // the one alarm is about a lock
     Listed {
@@ -619,6 +674,13 @@ To blame in thread 0:
 #[test]
 fn checks_of_the_rest(rt: HostRuntime) {
     for told in &CHECKED {
+        try_listed(&rt, rt.alloc(), told);
+    }
+}
+
+#[test]
+fn watches_of_the_rest(rt: HostRuntime) {
+    for told in &WATCHED {
         try_listed(&rt, rt.alloc(), told);
     }
 }
