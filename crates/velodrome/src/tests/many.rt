@@ -188,7 +188,7 @@ static MERGES: [Row; 7] = [
     Row {
         words: &["velodrome", "audit", "--merge", "one.json", "a.log"],
         out: "",
-        err: "summary fault 1 file 2\n",
+        err: "velodrome: a.log: this is not a summary of logs\nhelp: `velodrome audit --summary --format json LOG..` prints one\nsummary fault 1 file 2\n",
         status: 2,
     },
     // no file
