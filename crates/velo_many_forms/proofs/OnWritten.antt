@@ -139,14 +139,17 @@ pub summary-numbers : (logs : List LogAudit) (listed : List Listed) → IsListin
 unfolding json_of_summary
 summary-numbers logs listed w h few =
     let shown_all : All IsShown (map appearance_of w.all) = All-same IsShown (map appearance_of w.all) (first_of_each (appearances logs)) w.are_listed.these (shown-once (appearances logs) (shown logs h)) in (
-      logs-numbers logs h,
+      IsNumber-decimal 1 (omega arith),
       (
-        IsNumber-decimal _ (omega (arith, few, count_by-le-length (has_verdict verdict.Atomic) logs)),
+        logs-numbers logs h,
         (
-          IsNumber-decimal _ (omega (arith, few, count_by-le-length (has_verdict verdict.NotAtomic) logs)),
+          IsNumber-decimal _ (omega (arith, few, count_by-le-length (has_verdict verdict.Atomic) logs)),
           (
-            IsNumber-decimal _ (omega (arith, few, count_by-le-length (has_verdict verdict.Unreadable) logs)),
-            (listing-numbers logs listed few (All-map-IsPermutation appearance_of IsShown w.all listed w.moved shown_all) (All-permutation (IsCounted logs) w.all listed w.moved w.are_listed.counted), tt),
+            IsNumber-decimal _ (omega (arith, few, count_by-le-length (has_verdict verdict.NotAtomic) logs)),
+            (
+              IsNumber-decimal _ (omega (arith, few, count_by-le-length (has_verdict verdict.Unreadable) logs)),
+              (listing-numbers logs listed few (All-map-IsPermutation appearance_of IsShown w.all listed w.moved shown_all) (All-permutation (IsCounted logs) w.all listed w.moved w.are_listed.counted), tt),
+            ),
           ),
         ),
       ),
