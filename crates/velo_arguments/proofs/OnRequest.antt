@@ -31,7 +31,7 @@ use Rattle.velo_request.specs.declared.request.ThinOptions.{ThinOptions}
 use Rattle.velo_request.specs.declared.request.VerifyOptions.{VerifyOptions}
 use Rattle.velo_request.specs.declared.request.WatchOptions.{WatchOptions}
 use Rattle.velo_request.specs.declared.request.Request.{Request}
-use Rattle.velo_request.specs.declared.request.Request.TheVariants.{Audit, AuditMany, Carry, Check, CheckRest, Explain, Explore, MergeAudits, Predict, Replay, Run, Thin, Verify, Watch, WatchEndless, WatchRest}
+use Rattle.velo_request.specs.declared.request.Request.TheVariants.{Audit, AuditMany, Carry, Check, CheckRest, Explain, Explore, ExploreRest, MergeAudits, Predict, Replay, Run, Thin, Verify, Watch, WatchEndless, WatchRest}
 use Rattle.velo_arguments.specs.Asked.{AreLeftOut, AreLimits, AreRandomRuns, AreSeconds, AreTurns, AsksFor, AsksForNothing, AsksAudit, AsksAuditMany, AsksCarry, AsksCheck, AsksExplain, AsksExplore, IsFlag, IsList, AsksPredict, AsksReplay, AsksRun, IsScheduleSource, IsSeed, AsksThin, AsksVerify, AsksWatch, WritesNumber, form_of, has_summary, is_auto, is_merge, leaves_out, text_or_json_of}
 use Rattle.velo_arguments.specs.CommandLine.{asked_by, audit, carry, check, command_line, explain, explore, faults_of, predict, replay, run, thin, verify, watch}
 use Rattle.velo_arguments.proofs.OnAsked.{nothing_left}
@@ -290,6 +290,20 @@ an_exploring rows word has =
       ),
     )
 
+-- what the word `explore` asks for: whole logs, or what is left of them
+asks_explore : (rows : List Row) → HasWord (codes "FILE") rows → HasSearch rows → (request : Request) × AsksFor (Some (codes "explore", rows)) request
+asks_explore rows word has = go (leaves_out left.0) refl
+  where
+    explore : (options : ExploreOptions) × AsksExplore rows options
+    explore = an_exploring rows word has
+
+    left : (ignored : Ignored) × AreLeftOut rows ignored
+    left = left_out rows
+
+    go : (b : Bool) → leaves_out left.0 ≡ b → (request : Request) × AsksFor (Some (codes "explore", rows)) request
+    go true is = (ExploreRest (record { explore = explore.0; ignored = left.0 }), (refl, (explore.1, left.1, is)))
+    go false is = (Explore explore.0, (refl, explore.1, nothing_left rows left.0 left.1 is))
+
 -- a watch that is not endless
 a_watch : (rows : List Row) → IsFlag (one_of (codes "endless") rows) false → HasWord (codes "LOG") rows → HasLimits rows → (options : WatchOptions) × AsksWatch rows options
 unfolding a_path
@@ -489,7 +503,7 @@ carry_asks : (words : List Text) → AsksBy carry words
 carry_asks words = asks carry words Carry AsksCarry (λ o is. (refl, is)) (λ e. a_carrying (rows_of_leaf carry words) (carry_right words e).0 (carry_right words e).1)
 
 explore_asks : (words : List Text) → AsksBy explore words
-explore_asks words = asks explore words Explore AsksExplore (λ o is. (refl, is)) (λ e. an_exploring (rows_of_leaf explore words) (explore_right words e).0 (explore_right words e).1)
+explore_asks words e = asks_explore (rows_of_leaf explore words) (explore_right words e).0 (explore_right words e).1
 
 watch_asks : (words : List Text) → AsksBy watch words
 watch_asks words e =

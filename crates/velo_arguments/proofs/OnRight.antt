@@ -213,11 +213,12 @@ saved_made = (makes_valued (codes "log") refl, (makes_valued (codes "names-out")
 run_made : Each (MakesRows (Passes limits)) (map filled run_options ++ filled help_rule ∷ [])
 run_made = (makes_flag (codes "stop") refl, (makes_flag (codes "why") refl, saved_made))
 
-left_out_made : Each (MakesRows (Passes limits)) (map filled left_out_options ++ filled help_rule ∷ [])
-left_out_made = (makes_valued (codes "not-atomic") refl, (makes_valued (codes "ignore") refl, (makes_repeated (codes "ignore-label") refl, (makes_repeated (codes "ignore-lock") refl, (makes_flag (codes "ignore-locks") refl, (makes_repeated (codes "ignore-variable") refl, (makes_help, tt)))))))
+left_out_before : (rules : List Rule) → Each (MakesRows (Passes limits)) (map filled rules ++ filled help_rule ∷ [])
+    → Each (MakesRows (Passes limits)) (map filled (left_out_options ++ rules) ++ filled help_rule ∷ [])
+left_out_before rules made = (makes_valued (codes "not-atomic") refl, (makes_valued (codes "ignore") refl, (makes_repeated (codes "ignore-label") refl, (makes_repeated (codes "ignore-lock") refl, (makes_flag (codes "ignore-locks") refl, (makes_repeated (codes "ignore-variable") refl, made))))))
 
-left_out_before_graph : Each (MakesRows (Passes limits)) (map filled (left_out_options ++ graph_options) ++ filled help_rule ∷ [])
-left_out_before_graph = (makes_valued (codes "not-atomic") refl, (makes_valued (codes "ignore") refl, (makes_repeated (codes "ignore-label") refl, (makes_repeated (codes "ignore-lock") refl, (makes_flag (codes "ignore-locks") refl, (makes_repeated (codes "ignore-variable") refl, graph_made))))))
+left_out_made : Each (MakesRows (Passes limits)) (map filled left_out_options ++ filled help_rule ∷ [])
+left_out_made = left_out_before [] (makes_help, tt)
 
 labels_made : Each (MakesRows (Passes limits)) (map filled label_options ++ filled help_rule ∷ [])
 labels_made = (makes_valued (codes "names") refl, (makes_valued (codes "sites") refl, (makes_valued (codes "source") refl, (makes_valued (codes "not-atomic") refl, (makes_valued (codes "ignore") refl, (makes_repeated (codes "ignore-label") refl, (makes_repeated (codes "ignore-lock") refl, (makes_flag (codes "ignore-locks") refl, (makes_repeated (codes "ignore-variable") refl, (makes_events (codes "16777216"), (makes_nodes (codes "4096"), (makes_help, tt))))))))))))
@@ -236,7 +237,7 @@ AreFaultless s words = level_fault (leaf s) [] nothing_held words false [] ≡ [
 pub check_right : (words : List Text) → AreFaultless check words
     → HasWord (codes "LOG") (rows_of_leaf check words) × HasLimits (rows_of_leaf check words)
 check_right words e =
-    let level = level_has limits (leaf check) words refl (makes_word (codes "LOG") refl, (makes_valued (codes "names") refl, (makes_flag (codes "why") refl, left_out_before_graph))) e in
+    let level = level_has limits (leaf check) words refl (makes_word (codes "LOG") refl, (makes_valued (codes "names") refl, (makes_flag (codes "why") refl, left_out_before graph_options graph_made))) e in
     (word_there (codes "LOG") (rows_of_leaf check words) level.passes (level.given.0 refl), limits_there (rows_of_leaf check words) level.passes (level.defaults.1.1.1.1.1.1.1.1.1.0 tt) (level.defaults.1.1.1.1.1.1.1.1.1.1.0 tt))
 
 pub run_right : (words : List Text) → AreFaultless run words
@@ -278,13 +279,13 @@ pub explore_right : (words : List Text) → AreFaultless explore words
     → HasWord (codes "FILE") (rows_of_leaf explore words) × HasSearch (rows_of_leaf explore words)
 explore_right words e =
     let rows = rows_of_leaf explore words in
-    let level = level_has limits (leaf explore) words refl (makes_word (codes "FILE") refl, (makes_states, (makes_seconds, (makes_flag (codes "first") refl, (makes_flag (codes "progress") refl, (makes_random, (makes_seed, (makes_valued (codes "format") refl, saved_made)))))))) e in
-    (word_there (codes "FILE") rows level.passes (level.given.0 refl), (states_there rows level.passes (level.defaults.1.0 tt), seconds_there rows level.passes, limits_there rows level.passes (level.defaults.1.1.1.1.1.1.1.1.1.1.0 tt) (level.defaults.1.1.1.1.1.1.1.1.1.1.1.0 tt), runs_there rows level.passes, seed_there rows level.passes))
+    let level = level_has limits (leaf explore) words refl (makes_word (codes "FILE") refl, (makes_states, (makes_seconds, (makes_flag (codes "first") refl, (makes_flag (codes "progress") refl, (makes_random, (makes_seed, (makes_valued (codes "format") refl, left_out_before saved_options saved_made)))))))) e in
+    (word_there (codes "FILE") rows level.passes (level.given.0 refl), (states_there rows level.passes (level.defaults.1.0 tt), seconds_there rows level.passes, limits_there rows level.passes (level.defaults.1.1.1.1.1.1.1.1.1.1.1.1.1.1.1.1.0 tt) (level.defaults.1.1.1.1.1.1.1.1.1.1.1.1.1.1.1.1.1.0 tt), runs_there rows level.passes, seed_there rows level.passes))
 
 pub watch_right : (words : List Text) → AreFaultless watch words
     → HasWord (codes "LOG") (rows_of_leaf watch words) × HasLimits (rows_of_leaf watch words)
 watch_right words e =
-    let level = level_has limits (leaf watch) words refl (makes_word (codes "LOG") refl, (makes_valued (codes "names") refl, (makes_flag (codes "stop") refl, (makes_flag (codes "endless") refl, left_out_before_graph)))) e in
+    let level = level_has limits (leaf watch) words refl (makes_word (codes "LOG") refl, (makes_valued (codes "names") refl, (makes_flag (codes "stop") refl, (makes_flag (codes "endless") refl, left_out_before graph_options graph_made)))) e in
     (word_there (codes "LOG") (rows_of_leaf watch words) level.passes (level.given.0 refl), limits_there (rows_of_leaf watch words) level.passes (level.defaults.1.1.1.1.1.1.1.1.1.1.0 tt) (level.defaults.1.1.1.1.1.1.1.1.1.1.1.0 tt))
 
 pub audit_right : (words : List Text) → AreFaultless audit words

@@ -24,13 +24,14 @@ use Rattle.velo_request.specs.declared.request.PredictOptions.{PredictOptions}
 use Rattle.velo_request.specs.declared.request.ReplayOptions.{ReplayOptions}
 use Rattle.velo_request.specs.declared.request.RunOptions.{RunOptions}
 use Rattle.velo_request.specs.declared.request.ExploreOptions.{ExploreOptions}
+use Rattle.velo_request.specs.declared.request.ExploreRestOptions.{ExploreRestOptions}
 use Rattle.velo_request.specs.declared.request.ScheduleSource.TheVariants as source
 use Rattle.velo_request.specs.declared.request.TheConstants.{DEFAULT_SEED, DEFAULT_TRIES}
 use Rattle.velo_request.specs.declared.request.ThinOptions.{ThinOptions}
 use Rattle.velo_request.specs.declared.request.VerifyOptions.{VerifyOptions}
 use Rattle.velo_request.specs.declared.request.WatchOptions.{WatchOptions}
 use Rattle.velo_request.specs.declared.request.WatchRestOptions.{WatchRestOptions}
-use Rattle.velo_request.specs.declared.request.Request.TheVariants.{Audit, AuditMany, Carry, Check, CheckRest, Explain, Explore, MergeAudits, Predict, Replay, Run, Thin, Verify, Watch, WatchEndless, WatchRest}
+use Rattle.velo_request.specs.declared.request.Request.TheVariants.{Audit, AuditMany, Carry, Check, CheckRest, Explain, Explore, ExploreRest, MergeAudits, Predict, Replay, Run, Thin, Verify, Watch, WatchEndless, WatchRest}
 use Rattle.velo_arguments.specs.Asked.{AreTurns, AsksFor, IsFlag, IsScheduleSource, WritesNumber, leaves_out}
 use Rattle.velo_arguments.specs.CommandLine.{asked_by, faults_of}
 use Rattle.velo_arguments.specs.Together.{given_by}
@@ -237,11 +238,52 @@ explore_asks options file states seconds first progress random format log names 
     (writes (codes "1048576") 32 options.limits.events refl refl events, writes (codes "1024") 16 options.limits.nodes refl refl nodes),
     is_unset options.certificate certificate,
   ),
+  (refl, refl, refl, refl, refl, is_unset false refl),
 )
 
 explore_gives : given_by (asked_by explore_words) ≡ nothing_given
 unfolding asked_by walked
 explore_gives = refl
+
+-- a workload whose runs are judged without their locks, and without the labels of a list
+abbrev explore_rest_words : List Text
+explore_rest_words = codes "velodrome" ∷ codes "explore" ∷ codes "w" ∷ codes "--ignore-locks" ∷ codes "--not-atomic=l" ∷ []
+
+explore_rest_is_right : faults_of explore_rest_words ≡ []
+unfolding faults_of walk_fault walked defaults_fault
+explore_rest_is_right = refl
+
+explore_rest_asks : (options : ExploreRestOptions) → options.explore.input.now ≡ codes "w" → options.explore.states ≡ 2097152 → options.explore.seconds ≡ None
+    → options.explore.first ≡ false → options.explore.progress ≡ false → options.explore.random ≡ None → options.explore.format ≡ text_or_json.Text
+    → options.explore.target ≡ None → options.explore.names_target ≡ None → options.explore.limits.events ≡ 1048576 → options.explore.limits.nodes ≡ 1024
+    → options.explore.certificate ≡ false → option_map (λ path. path.now) options.ignored.known ≡ Some (codes "l") → options.ignored.is_wide ≡ false
+    → map (λ w. w.now) options.ignored.labels.now ≡ [] → map (λ w. w.now) options.ignored.locks.now ≡ [] → map (λ w. w.now) options.ignored.variables.now ≡ []
+    → options.ignored.all_locks ≡ true → IsTrue (leaves_out options.ignored) → AsksFor (asked_by explore_rest_words) (ExploreRest options)
+unfolding asked_by walked
+explore_rest_asks options file states seconds first progress random format log names events nodes certificate known wide labels locks variables all leaves = (
+  refl,
+  (
+    (
+      ap Some (sym file),
+      writes (codes "2097152") 32 options.explore.states refl refl states,
+      rw seconds refl,
+      is_unset options.explore.first first,
+      is_unset options.explore.progress progress,
+      rw random refl,
+      format,
+      ap (option_map (λ path. path.now)) (sym log),
+      ap (option_map (λ path. path.now)) (sym names),
+      (writes (codes "1048576") 32 options.explore.limits.events refl refl events, writes (codes "1024") 16 options.explore.limits.nodes refl refl nodes),
+      is_unset options.explore.certificate certificate,
+    ),
+    ((sym known, wide), sym labels, sym locks, sym variables, search rules),
+    leaves,
+  ),
+)
+
+explore_rest_gives : given_by (asked_by explore_rest_words) ≡ record nothing_given { not_atomic = true; leaves_out = true; of_logs = true }
+unfolding asked_by walked
+explore_rest_gives = refl
 
 -- runs by chance
 abbrev chance_words : List Text

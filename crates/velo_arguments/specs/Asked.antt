@@ -16,6 +16,7 @@ use Rattle.velo_request.specs.declared.request.CheckOptions.{CheckOptions}
 use Rattle.velo_request.specs.declared.request.CheckRestOptions.{CheckRestOptions}
 use Rattle.velo_request.specs.declared.request.EndlessOptions.{EndlessOptions}
 use Rattle.velo_request.specs.declared.request.ExploreOptions.{ExploreOptions}
+use Rattle.velo_request.specs.declared.request.ExploreRestOptions.{ExploreRestOptions}
 use Rattle.velo_request.specs.declared.request.TextOrJson.{TextOrJson}
 use Rattle.velo_request.specs.declared.request.TextOrJson.TheVariants as text_or_json
 use Rattle.velo_request.specs.declared.request.ManyOptions.{ManyOptions}
@@ -33,7 +34,7 @@ use Rattle.velo_request.specs.declared.request.VerifyOptions.{VerifyOptions}
 use Rattle.velo_request.specs.declared.request.WatchOptions.{WatchOptions}
 use Rattle.velo_request.specs.declared.request.WatchRestOptions.{WatchRestOptions}
 use Rattle.velo_request.specs.declared.request.Request.{Request}
-use Rattle.velo_request.specs.declared.request.Request.TheVariants.{Audit, AuditMany, Carry, Check, CheckRest, Explain, Explore, MergeAudits, Predict, Replay, Run, Thin, Verify, Watch, WatchEndless, WatchRest}
+use Rattle.velo_request.specs.declared.request.Request.TheVariants.{Audit, AuditMany, Carry, Check, CheckRest, Explain, Explore, ExploreRest, MergeAudits, Predict, Replay, Run, Thin, Verify, Watch, WatchEndless, WatchRest}
 
 -- the text writes this number, which an unsigned type of `bits` bits holds; a plus may come before
 -- it
@@ -196,6 +197,11 @@ AsksExplore rows options =
     × IsPath (codes "names-out") rows options.names_target
     × AreLimits rows options.limits × IsFlag (one_of (codes "certificate") rows) options.certificate
 
+abbrev pub AsksExploreRest : List Row → ExploreRestOptions → Type 0
+AsksExploreRest rows options =
+    AsksExplore rows options.explore × AreLeftOut rows options.ignored
+    × IsTrue (leaves_out options.ignored)
+
 -- what a watch of either kind is asked for
 abbrev pub AsksWatchOf : List Row → Bor Text → Bool → Limits → Option (Bor Text) → Type 0
 AsksWatchOf rows input stop limits names =
@@ -322,7 +328,10 @@ AsksFor (Some found) (Replay options) = (found.0 ≡ codes "replay") × AsksRepl
 AsksFor (Some found) (Run options) = (found.0 ≡ codes "run") × AsksRun found.1 options
 AsksFor (Some found) (Explain options) = (found.0 ≡ codes "explain") × AsksExplain found.1 options
 AsksFor (Some found) (Carry options) = (found.0 ≡ codes "carry") × AsksCarry found.1 options
-AsksFor (Some found) (Explore options) = (found.0 ≡ codes "explore") × AsksExplore found.1 options
+AsksFor (Some found) (Explore options) =
+    (found.0 ≡ codes "explore") × AsksExplore found.1 options × LeaveNothingOut found.1
+AsksFor (Some found) (ExploreRest options) =
+    (found.0 ≡ codes "explore") × AsksExploreRest found.1 options
 AsksFor (Some found) (Watch options) =
     (found.0 ≡ codes "watch") × AsksWatch found.1 options × LeaveNothingOut found.1
 AsksFor (Some found) (WatchRest options) =

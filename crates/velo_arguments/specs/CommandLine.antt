@@ -88,18 +88,18 @@ saved_options = valued (codes "log") ∷ valued (codes "names-out") ∷ graph_op
 abbrev pub run_options : List Rule
 run_options = flag (codes "stop") ∷ flag (codes "why") ∷ saved_options
 
--- the options of explore
-abbrev pub search_options : List Rule
-search_options =
-    states ∷ seconds ∷ flag (codes "first") ∷ flag (codes "progress") ∷ random ∷ seed
-    ∷ valued (codes "format") ∷ saved_options
-
 -- what is left out of a log
 abbrev pub left_out_options : List Rule
 left_out_options =
     valued (codes "not-atomic") ∷ valued (codes "ignore") ∷ repeated (codes "ignore-label")
     ∷ repeated (codes "ignore-lock") ∷ flag (codes "ignore-locks")
     ∷ repeated (codes "ignore-variable") ∷ []
+
+-- the options of explore
+abbrev pub search_options : List Rule
+search_options =
+    states ∷ seconds ∷ flag (codes "first") ∷ flag (codes "progress") ∷ random ∷ seed
+    ∷ valued (codes "format") ∷ left_out_options ++ saved_options
 
 -- the options of each command that goes by labels: names, sites and sources, what is left out, and
 -- the greatest limits by default

@@ -10,6 +10,7 @@ use Rattle.velo_request.specs.declared.request.CheckRestOptions.{CheckRestOption
 use Rattle.velo_request.specs.declared.request.EndlessOptions.{EndlessOptions}
 use Rattle.velo_request.specs.declared.request.ExplainOptions.{ExplainOptions}
 use Rattle.velo_request.specs.declared.request.ExploreOptions.{ExploreOptions}
+use Rattle.velo_request.specs.declared.request.ExploreRestOptions.{ExploreRestOptions}
 use Rattle.velo_request.specs.declared.request.Ignored.{Ignored}
 use Rattle.velo_request.specs.declared.request.ManyOptions.{ManyOptions}
 use Rattle.velo_request.specs.declared.request.MergeOptions.{MergeOptions}
@@ -17,7 +18,7 @@ use Rattle.velo_request.specs.declared.request.PredictOptions.{PredictOptions}
 use Rattle.velo_request.specs.declared.request.RandomRuns.{RandomRuns}
 use Rattle.velo_request.specs.declared.request.ReplayOptions.{ReplayOptions}
 use Rattle.velo_request.specs.declared.request.Request.{Request}
-use Rattle.velo_request.specs.declared.request.Request.TheVariants.{Audit, AuditMany, Carry, Check, CheckRest, Explain, Explore, MergeAudits, Predict, Replay, Run, Thin, Verify, Watch, WatchEndless, WatchRest}
+use Rattle.velo_request.specs.declared.request.Request.TheVariants.{Audit, AuditMany, Carry, Check, CheckRest, Explain, Explore, ExploreRest, MergeAudits, Predict, Replay, Run, Thin, Verify, Watch, WatchEndless, WatchRest}
 use Rattle.velo_request.specs.declared.request.ScheduleSource.{ScheduleSource}
 use Rattle.velo_request.specs.declared.request.ScheduleSource.TheVariants as schedule
 use Rattle.velo_request.specs.declared.request.TextOrJson.{TextOrJson}
@@ -26,7 +27,7 @@ use Rattle.velo_request.specs.declared.request.ThinOptions.{ThinOptions}
 use Rattle.velo_request.specs.declared.request.WatchRestOptions.{WatchRestOptions}
 use Rattle.velo_arguments.specs.Asked.{Matches, AsksFor, form_named, is_auto, text_or_json_named}
 use Rattle.velo_arguments.specs.declared.together.Clash.{Clash}
-use Rattle.velo_arguments.specs.declared.together.Clash.TheVariants.{DrawingIsPicture, EndlessCertificate, EndlessRest, FileOfOneLog, InputTwice, JsonCertificate, MapIsLog, MergeAlone, NamesWithoutLog, NeitherTextNorJson, NoSuchForm, OneLogAlone, OnePath, RestCertificate, SearchByChance, SeedAlone, SourceWithoutSites, TwoLists, TwoSchedules}
+use Rattle.velo_arguments.specs.declared.together.Clash.TheVariants.{DrawingIsPicture, EndlessCertificate, EndlessRest, FileOfOneLog, InputTwice, JsonCertificate, MapIsLog, MergeAlone, NamesWithoutLog, NeitherTextNorJson, NoSuchForm, OneLogAlone, OnePath, RestByChance, RestCertificate, SearchByChance, SeedAlone, SourceWithoutSites, TwoLists, TwoSchedules}
 use Rattle.velo_arguments.specs.declared.together.Given.{Given}
 
 -- ---- paths
@@ -215,6 +216,21 @@ clash_of_check_rest options has_known =
     (options.check.input.now ∷ path_if options.check.names ++ path_if options.ignored.known))
     (clash_of_lists options.ignored has_known)
 
+-- ---- an exploration of what is left
+
+-- it has a certificate, or random runs; or it clashes as any exploration, standard input is read
+-- twice, or there are two lists
+abbrev pub clash_of_explore_rest : ExploreRestOptions → Given → Option Clash
+clash_of_explore_rest options given =
+    if options.explore.certificate
+    then Some RestCertificate
+    else (if is_some options.explore.random
+    then Some RestByChance
+    else option_or
+    (option_or (clash_of_explore options.explore given)
+    (clash_of_inputs (options.explore.input.now ∷ path_if options.ignored.known)))
+    (clash_of_lists options.ignored given.not_atomic))
+
 -- ---- an explanation
 
 -- it is asked for in a form that does not exist; or standard input is read twice, there are no sites
@@ -339,6 +355,7 @@ clash_of (Run options) given = clash_of_targets options.target options.names_tar
 clash_of (Explain options) given = clash_of_explain options given
 clash_of (Carry options) given = None
 clash_of (Explore options) given = clash_of_explore options given
+clash_of (ExploreRest options) given = clash_of_explore_rest options given
 clash_of (Watch options) given = clash_of_inputs (options.input.now ∷ path_if options.names)
 clash_of (WatchEndless options) given = clash_of_endless options given
 clash_of (WatchRest options) given = clash_of_watch_rest options given.not_atomic
@@ -371,6 +388,8 @@ line_of_clash OneLogAlone =
 line_of_clash FileOfOneLog = codes "error: for a summary --names and --sites take auto alone\n"
 line_of_clash MergeAlone = codes "error: --merge goes with no option but --format\n"
 line_of_clash OnePath = codes "error: OUT and NAMES are one file\n"
+line_of_clash RestByChance =
+    codes "error: --random does not go with what leaves events out of the log\n"
 line_of_clash RestCertificate =
     codes "error: --certificate does not go with what leaves events out of the log\n"
 line_of_clash SourceWithoutSites = codes "error: --source goes only with --sites\n"

@@ -23,10 +23,10 @@ use clap::ArgMatches;
 use velo_events::{MAX_EVENTS, MAX_NODES};
 use velo_request::{
     AuditOptions, CarryOptions, CheckOptions, CheckRestOptions, DEFAULT_SEED, EndlessOptions,
-    ExplainOptions, ExploreOptions, Ignored, Limits, MAX_RUNS, MAX_SECONDS, MAX_STATES, MAX_TRIES,
-    ManyOptions, MergeOptions, OutputFormat, PredictOptions, RandomRuns, ReplayOptions, Request,
-    RunOptions, ScheduleSource, TextOrJson, ThinOptions, VerifyOptions, WatchOptions,
-    WatchRestOptions,
+    ExplainOptions, ExploreOptions, ExploreRestOptions, Ignored, Limits, MAX_RUNS, MAX_SECONDS,
+    MAX_STATES, MAX_TRIES, ManyOptions, MergeOptions, OutputFormat, PredictOptions, RandomRuns,
+    ReplayOptions, Request, RunOptions, ScheduleSource, TextOrJson, ThinOptions, VerifyOptions,
+    WatchOptions, WatchRestOptions,
 };
 
 /// Reads a number from 1 to `most`; none where it is missing or out of this range.
@@ -263,6 +263,21 @@ fn explore_options<'a>(found: &ArgMatches<'a>) -> Option<ExploreOptions<'a>>
     })
 }
 
+/// What an exploration is asked for, of whole logs or of what is left of them; none where its word is
+/// missing or a number is out of its range.
+fn explore_request<'a>(found: &'a ArgMatches) -> Option<Request<'a>>
+    ensures some { IfSome result (AsksFor (Some (codes "explore", rows_of (found_of found.now)))) }
+    ensures none { IfNone result ((options : ExploreOptions)
+        → ¬ AsksExplore (rows_of (found_of found.now)) options) }
+{
+    let explore = explore_options(found)?;
+    let ignored = left_out(found);
+    if leaves_out(&ignored) {
+        return Some(Request::ExploreRest(ExploreRestOptions { explore, ignored }));
+    }
+    Some(Request::Explore(explore))
+}
+
 /// What a watch is asked for, endless or not, of the whole log or of what is left of it; none where
 /// its word is missing or a limit is out of its range.
 fn watch_request<'a>(found: &'a ArgMatches) -> Option<Request<'a>>
@@ -473,7 +488,7 @@ pub fn request_of<'a>(matches: &'a ArgMatches) -> Option<Request<'a>>
         "run" => Some(Request::Run(run_options(found)?)),
         "explain" => Some(Request::Explain(explain_options(found)?)),
         "carry" => Some(Request::Carry(carry_options(found)?)),
-        "explore" => Some(Request::Explore(explore_options(found)?)),
+        "explore" => explore_request(found),
         "watch" => watch_request(found),
         "audit" => audit_request(found),
         "thin" => Some(Request::Thin(thin_options(found)?)),

@@ -4,7 +4,7 @@ ghost use Rattle.std.specs.Option.{option_map_or};
 ghost use Rattle.std.specs.Str.{bytes_eq};
 ghost use Rattle.clap.specs.Words.{found_of, rows_of, subcommand_rows_of};
 ghost use Rattle.velo_arguments.specs.Asked.{AsksForNothing};
-ghost use Rattle.velo_arguments.specs.Together.{IsApart, IsTogether, clash_of, clash_of_audit, clash_of_certificate, clash_of_chance, clash_of_check_rest, clash_of_drawing, clash_of_endless, clash_of_explain, clash_of_explore, clash_of_inputs, clash_of_lists, clash_of_many, clash_of_map, clash_of_merge, clash_of_predict, clash_of_replay, clash_of_schedule, clash_of_search, clash_of_source, clash_of_targets, clash_of_thin, clash_of_watch_rest, given_by, given_in, has_file_of_one_log, is_file, is_other_form, is_neither_text_nor_json, line_of_clash, path_if, schedule_path_if};
+ghost use Rattle.velo_arguments.specs.Together.{IsApart, IsTogether, clash_of, clash_of_audit, clash_of_certificate, clash_of_chance, clash_of_check_rest, clash_of_drawing, clash_of_endless, clash_of_explain, clash_of_explore, clash_of_explore_rest, clash_of_inputs, clash_of_lists, clash_of_many, clash_of_map, clash_of_merge, clash_of_predict, clash_of_replay, clash_of_schedule, clash_of_search, clash_of_source, clash_of_targets, clash_of_thin, clash_of_watch_rest, given_by, given_in, has_file_of_one_log, is_file, is_other_form, is_neither_text_nor_json, line_of_clash, path_if, schedule_path_if};
 
 use crate::given::{
     has_option_of_logs, has_option_of_one_log, has_option_that_leaves_out, is_given,
@@ -12,9 +12,9 @@ use crate::given::{
 use crate::requests::{form_named, is_auto, request_of, text_or_json_named};
 use clap::ArgMatches;
 use velo_request::{
-    AuditOptions, CheckRestOptions, EndlessOptions, ExplainOptions, ExploreOptions, Ignored,
-    ManyOptions, MergeOptions, PredictOptions, RandomRuns, ReplayOptions, Request, ScheduleSource,
-    TextOrJson, ThinOptions, WatchRestOptions,
+    AuditOptions, CheckRestOptions, EndlessOptions, ExplainOptions, ExploreOptions,
+    ExploreRestOptions, Ignored, ManyOptions, MergeOptions, PredictOptions, RandomRuns,
+    ReplayOptions, Request, ScheduleSource, TextOrJson, ThinOptions, WatchRestOptions,
 };
 
 /// Why the options of a request do not go together.
@@ -47,6 +47,8 @@ pub enum Clash {
     OneLogAlone,
     /// The log and the names of a run are to be saved at one path.
     OnePath,
+    /// Random runs are asked for, and something is to be left out of their logs.
+    RestByChance,
     /// What is left of a log is to have a certificate.
     RestCertificate,
     /// Random runs are asked for, and what a search alone has.
@@ -175,6 +177,7 @@ fn clash_of(request: &Request, given: Given) -> Option<Clash>
         Request::Explain(options) => clash_of_explain(options, given),
         Request::Carry(_) => None,
         Request::Explore(options) => clash_of_explore(options, given),
+        Request::ExploreRest(options) => clash_of_explore_rest(options, given),
         Request::Watch(options) => clash_of_inputs(options.input, options.names),
         Request::WatchEndless(options) => clash_of_endless(options, given),
         Request::WatchRest(options) => clash_of_watch_rest(options, given.not_atomic),
@@ -477,6 +480,23 @@ fn clash_of_explore(options: &ExploreOptions, given: Given) -> Option<Clash>
         .or(clash_of_targets(options.target, options.names_target))
 }
 
+/// What is left of the logs of a search is judged without a certificate and without random runs, and
+/// with no clash of the search or its paths.
+fn clash_of_explore_rest(options: &ExploreRestOptions, given: Given) -> Option<Clash>
+    ensures { result ≡ clash_of_explore_rest options.now given }
+{
+    let (explore, ignored) = (&options.explore, &options.ignored);
+    if explore.certificate {
+        return Some(Clash::RestCertificate);
+    }
+    if explore.random.is_some() {
+        return Some(Clash::RestByChance);
+    }
+    clash_of_explore(explore, given)
+        .or(clash_of_inputs(explore.input, ignored.known))
+        .or(clash_of_lists(ignored, given.not_atomic))
+}
+
 /// A certificate stands behind a report, which a JSON object does not have.
 fn clash_of_certificate(format: TextOrJson, certificate: bool) -> Option<Clash>
     ensures { result ≡ clash_of_certificate format certificate }
@@ -547,6 +567,9 @@ pub fn line_of_clash(clash: Clash) -> &'static [u8]
             b"error: a summary goes with no option but --format, --names, --sites, --events, --nodes and what leaves events out\n"
         }
         Clash::OnePath => b"error: OUT and NAMES are one file\n",
+        Clash::RestByChance => {
+            b"error: --random does not go with what leaves events out of the log\n"
+        }
         Clash::RestCertificate => {
             b"error: --certificate does not go with what leaves events out of the log\n"
         }

@@ -1,6 +1,6 @@
 -- Why the program comes to want of memory.
 use Rattle.std.proofs.Common.{◌≡◌, ◌+◌, ⊎_elim, inl, inr, refl, subst, sym}
-use Rattle.std.specs.Prelude.{ℕ, Bool, true, false, List, Option, Some, None, IfSome, if◌then◌else◌}
+use Rattle.std.specs.Prelude.{◌⊎◌, ℕ, Bool, true, false, List, Option, Some, None, IfSome, if◌then◌else◌}
 use Rattle.std.specs.Borrow.{Bor}
 use Rattle.velo_events.specs.declared.config.Bounds.{Bounds}
 use Rattle.velo_events.specs.declared.event.Event.{Event}
@@ -15,6 +15,7 @@ use Rattle.velo_sites.specs.declared.fault.SitesFault.{SitesFault}
 use Rattle.velo_sites.specs.declared.fault.SitesFault.TheVariants as sites_fault
 use Rattle.velo_sites.specs.Sites.{Table}
 use Rattle.velo_audit_text.specs.declared.words.Asked.{Asked}
+use Rattle.velo_inputs.specs.Asking.{LacksLeftOut}
 use Rattle.velo_inputs.specs.Leaving.{left_out_at_first}
 use Rattle.velo_report.specs.declared.names.Names.{Names}
 use Rattle.velo_fate.specs.declared.fault.CheckFault.{CheckFault}
@@ -25,6 +26,7 @@ use Rattle.velo_request.specs.declared.request.AuditOptions.{AuditOptions}
 use Rattle.velo_request.specs.declared.request.CheckRestOptions.{CheckRestOptions}
 use Rattle.velo_request.specs.declared.request.ExplainOptions.{ExplainOptions}
 use Rattle.velo_request.specs.declared.request.ExploreOptions.{ExploreOptions}
+use Rattle.velo_request.specs.declared.request.ExploreRestOptions.{ExploreRestOptions}
 use Rattle.velo_request.specs.declared.request.Ignorable.{Ignorable}
 use Rattle.velo_request.specs.declared.request.Ignorable.TheVariants.{Label, Lock, Variable}
 use Rattle.velo_request.specs.declared.request.Ignored.{Ignored}
@@ -59,6 +61,7 @@ use Rattle.velo_fate.specs.declared.files.Beside.{Beside}
 use Rattle.velo_fate.specs.Barred.{IsBarred, IsBarredApart, IsBarredRun, names_beside}
 use Rattle.velo_log_commands.specs.Explaining.{IsExplainAnswer}
 use Rattle.velo_workload_commands.specs.Exploring.{IsExploreAnswer}
+use Rattle.velo_workload_commands.specs.ExploringRest.{LacksOwnNames}
 use Rattle.velo_audit_commands.specs.Commands.{AuditsLog, PredictsLog, context_of_audit, context_of_predict}
 use Rattle.velo_inputs.specs.Context.{LacksContext}
 use Rattle.velo_inputs.specs.declared.context.ContextOptions.{ContextOptions}
@@ -68,7 +71,7 @@ use Rattle.velo_inputs.specs.Listing.{HaveFaultOfList, LacksKnown, list_file, sc
 use Rattle.velo_audit_commands.specs.Predicting.{IsPredictAnswer}
 use Rattle.velo_inputs.specs.Naming.{HaveFaultOfNames, LacksNames, names_file}
 use Rattle.velo_inputs.specs.Siting.{HaveFaultOfSites, LacksSites, sites_file}
-use Rattle.velo_workload_commands.specs.Playing.{ByThreads, ByTurns, IsPlayAnswer, IsRunOf, IsSaidOfRun, IsUnread, Play}
+use Rattle.velo_workload_commands.specs.Playing.{ByThreads, ByTurns, IsPlayAnswer, IsRunOf, IsSaidOfRun, IsUnread, Play, text_of_names}
 use Rattle.velo_many.specs.declared.audits.LogAudit.{LogAudit}
 use Rattle.velo_many_commands.specs.Commands.{DoesAuditMany, entries_file}
 use Rattle.velo_many_commands.specs.Merging.{DoesMerge, LackSummaries, summary_file}
@@ -77,7 +80,7 @@ use Rattle.velo_request.specs.declared.request.ManyOptions.{ManyOptions}
 use Rattle.velo_request.specs.declared.request.MergeOptions.{MergeOptions}
 use Rattle.velo_request.specs.declared.request.TextOrJson.{TextOrJson}
 use Rattle.velo_commands.specs.Program.{Does}
-use Rattle.velo_workload_commands.specs.Commands.{DoesPlay}
+use Rattle.velo_workload_commands.specs.Commands.{DoesExploreRest, DoesPlay}
 use Rattle.velo_schedule_text.specs.Schedule.{IsFaultOfSchedule, IsFaultOfTurns}
 use Rattle.velo_workload_commands.specs.Scheduling.{HaveFaultOfSchedule, LacksSchedule, turns_file}
 use Rattle.velo_log_commands.specs.Watching.{EndsAfter, IsFaultOfHeader, IsFaultWithin, IsWatchAnswer, Terms, Watches, terms_of_watch}
@@ -88,6 +91,7 @@ use Rattle.velo_world.specs.declared.log_replay.LogReplayFault.TheVariants as re
 use Rattle.velo_delivery.specs.Writing.{Writing}
 use Rattle.velo_log_commands.specs.Thinning.{map_of}
 use Rattle.velo_workload_commands.proofs.OnFindings.{caused}
+use Rattle.velo_workload_commands.proofs.OnRests.{rest_caused}
 use Rattle.velo_commands.proofs.OnRefusals.{of_flaw, of_log, of_refused}
 use Rattle.velo_commands.proofs.OnThinning.{of_thin}
 use Rattle.velo_commands.proofs.OnVerifying.{of_verify_answer, unclaimed}
@@ -346,6 +350,33 @@ of_exploration options read answer names (inl (program, text, are, inl explored)
 of_exploration options read answer names (inl (program, text, are, inr lacks)) = of_lack Growths answer lacks
 of_exploration options read answer names (inr (f, unread, is)) = said Growths answer (silent f) is (of_unread Growths read f unread)
 
+-- and of one of whose logs something was left out
+of_own_names : (program : Program) (f : Fate) → LacksOwnNames program f → ComesByRefusal Growths f
+of_own_names program (fate.Names names_fault.Memory) lacks = lacks
+of_own_names program (fate.Names (names_fault.BadLine n)) lacks = tt
+of_own_names program (fate.Names (names_fault.NamedTwice n)) lacks = tt
+of_own_names program (fate.Names names_fault.TooManyLines) lacks = tt
+of_own_names program (fate.Names names_fault.TooManyBytes) lacks = tt
+of_own_names program (fate.Names names_fault.NotText) lacks = tt
+of_own_names program fate.Memory lacks = lacks
+of_own_names program f lacks = absurd lacks
+
+of_nothing_left_out : (names : NameLists) (disk : Disk) (ignored : Ignored) (f : Fate) → LacksLeftOut names disk ignored f → ComesByRefusal Growths f
+of_nothing_left_out names disk ignored f (inl lacks) = unlisted (scope_of ignored.is_wide) names Growths disk ignored.known f lacks
+of_nothing_left_out names disk ignored f (inr (known, is, vain)) = unmeant Growths names ignored f vain
+
+of_either : {Said : Type 0} (answer : CommandAnswer) → (Said → HasCause Growths answer) → Said ⊎ LacksMemory answer → HasCause Growths answer
+of_either answer cause (inl said) = cause said
+of_either answer cause (inr lacks) = of_lack Growths answer lacks
+
+of_rest_exploration : (options : ExploreRestOptions) (store : Store) (stdout : Writing) (f : Fate) → DoesExploreRest options store stdout f → ComesByRefusal Growths f
+of_rest_exploration options store stdout f (inl (inl broken, nowhere)) = of_unread Growths broken.read.bytes f broken.unsaid
+of_rest_exploration options store stdout f (inl (inr barred, nowhere)) = unplayed Growths store.disk options.explore.input.now options.explore.target options.explore.names_target f barred
+of_rest_exploration options store stdout f (inr (program, is, inl (lacks, nowhere))) = of_own_names program f lacks
+of_rest_exploration options store stdout f (inr (program, is, inr (names, are, inl (lacks, nowhere)))) = of_nothing_left_out names store.disk options.ignored f lacks
+of_rest_exploration options store stdout f (inr (program, is, inr (names, are, inr (omitted, left, answer, explored, put)))) =
+    of_in_turn Growths store options.explore.target options.explore.names_target (text_of_names program) stdout answer f (of_either answer (rest_caused omitted options.explore program answer) explored) put
+
 -- of a workload that was played
 played : (needs : Needs) (play : Play) (options : RunOptions) (store : Store) (stdout : Writing) (f : Fate)
     → ((program : Program) (ended : Ending) (w : WorldState) → IsRunOf play options program ended w → EndsByRefusal needs ended) → DoesPlay play options store stdout f → ComesByRefusal needs f
@@ -480,6 +511,7 @@ of_done store (request.Replay options) stdout f (inr h) = played Growths (ByTurn
 of_done store (request.Explore options) stdout f (inl h) = unplayed Growths store.disk options.input.now options.target options.names_target f h.0
 of_done store (request.Explore options) stdout f (inr h) =
     of_in_turn Growths store options.target options.names_target h.2 stdout h.1 f (of_exploration options h.0.bytes h.1 h.2 h.5) h.6
+of_done store (request.ExploreRest options) stdout f h = of_rest_exploration options store stdout f h
 of_done store (request.Watch options) stdout f h = of_watch_by (terms_of_watch options) (of_fault_within options.limits) store stdout f h
 of_done store (request.WatchEndless options) stdout f h = of_watch_by (terms_of_endless options) (of_fault_of_whole options.limits) store stdout f h
 of_done store (request.WatchRest options) stdout f (inl h) = of_no_context Growths store.disk (context_of_watch options) f h.0

@@ -15,9 +15,9 @@ use Rattle.velo_log_commands.specs.Commands.{DoesCarry, DoesCheck, DoesCheckRest
 use Rattle.velo_many_commands.specs.Commands.{DoesAuditMany}
 use Rattle.velo_many_commands.specs.Merging.{DoesMerge}
 use Rattle.velo_request.specs.declared.request.Request.{Request}
-use Rattle.velo_request.specs.declared.request.Request.TheVariants.{Audit, AuditMany, Carry, Check, CheckRest, Explain, Explore, MergeAudits, Predict, Replay, Run, Thin, Verify, Watch, WatchEndless, WatchRest}
+use Rattle.velo_request.specs.declared.request.Request.TheVariants.{Audit, AuditMany, Carry, Check, CheckRest, Explain, Explore, ExploreRest, MergeAudits, Predict, Replay, Run, Thin, Verify, Watch, WatchEndless, WatchRest}
 use Rattle.velo_verify.specs.Commands.{DoesVerify}
-use Rattle.velo_workload_commands.specs.Commands.{DoesExplore, DoesReplay, DoesRun}
+use Rattle.velo_workload_commands.specs.Commands.{DoesExplore, DoesExploreRest, DoesReplay, DoesRun}
 
 -- What was asked for was done. (It is opaque to the crates above: It is opaque outside this crate.)
 unfoldable pub Does : Store → Request → Writing → Fate → Type 0
@@ -37,3 +37,4 @@ Does store (Verify options) stdout f = DoesVerify options store stdout f
 Does store (Run options) stdout f = DoesRun options store stdout f
 Does store (Replay options) stdout f = DoesReplay options store stdout f
 Does store (Explore options) stdout f = DoesExplore options store stdout f
+Does store (ExploreRest options) stdout f = DoesExploreRest options store stdout f

@@ -18,7 +18,9 @@ use velo_log_commands::{
 use velo_many_commands::{audit_many, merge_audits};
 use velo_request::Request;
 use velo_verify::verify_file;
-use velo_workload_commands::{ExploreProgress, explore_file, replay_file, run_file};
+use velo_workload_commands::{
+    ExploreProgress, explore_file, explore_rest_file, replay_file, run_file,
+};
 
 /// Does what was asked for, with the report, the certificate or the words of an explanation on the
 /// sink, and returns its fate. How far a search is goes to `progress`. A run of a workload by
@@ -59,6 +61,7 @@ fn do_by<R: Threads + Wait + Sync, F: Files, O: Sink, P: ExploreProgress>(
         Request::Explain(options) => explain_file(alloc, options, files, out),
         Request::Carry(options) => carry_file(alloc, options, files),
         Request::Explore(options) => explore_file(alloc, options, files, out, progress),
+        Request::ExploreRest(options) => explore_rest_file(alloc, options, files, out, progress),
         Request::Watch(options) => watch_file(alloc, options, files, out),
         Request::WatchEndless(options) => watch_endless_file(alloc, options, files, out),
         Request::WatchRest(options) => watch_rest_file(alloc, options, files, out),

@@ -18,7 +18,7 @@ use Rattle.velo_events.specs.Graph.{HasCycle}
 use Rattle.velo_events.specs.Heap.{status_in}
 use Rattle.velo_events.specs.Meaning.{kind_for, event_for, refusal_of}
 use Rattle.velo_events.specs.Tally.{events_of}
-use Rattle.velo_events.proofs.OnGraphs.{HasCycle-append}
+use Rattle.velo_filter.specs.Left.{Omitted, rest_of}
 use Rattle.velo_events.proofs.OnMeaning.{MayFollow-refusal_of}
 use Rattle.velo_workload.specs.Program.{Program}
 use Rattle.velo_world.specs.World.{WorldState, meaning}
@@ -33,7 +33,7 @@ use Rattle.velo_search.specs.Plain as values
 use Rattle.velo_search.specs.Plain.{plain_log}
 use Rattle.velo_search.specs.Runs.{script_of, IsRunOf, IsNext}
 use Rattle.velo_search.proofs.OnFaults.{next-not_idle, refused-not_idle, turned-not_idle}
-use Rattle.velo_search.proofs.OnPlain.{HasCycle-from_plain, status_in-plain}
+use Rattle.velo_search.proofs.OnPlain.{status_in-plain}
 use Rattle.velo_search.proofs.OnRuns.{IsRunOf-before, IsNext-last}
 use Rattle.velo_search.proofs.OnRunsOfScripts.{length-own}
 use Rattle.velo_movers.specs.Programs.{own}
@@ -46,6 +46,7 @@ use Rattle.velo_explore.proofs.OnBodyScripts.{HaveScripts-bodies, scripts-done}
 use Rattle.velo_explore.proofs.OnReplays.{IsAlong, wants-going, going, along-turn, along-turns, along-start}
 use Rattle.velo_explore.proofs.OnEndings.{err_is, refused-because, wait-not_halted, wait-not_full, idle-passes}
 use Rattle.velo_explore.proofs.OnPlainLogs.{IsRunOf-plain, script_at, alike}
+use Rattle.velo_explore.proofs.OnRests.{cycle-from_plain, cycle-longer}
 
 -- ---- what an action means, where it is not refused
 
@@ -267,32 +268,36 @@ module _ (program : Program) where
       (followed es mid stop c' (along-turn program c e.thread None mid w turn) (halted-turn c e.thread None mid h turn)
       (subst (λ l. IsRunOf program.bounds (all_scripts program) (l ++ es)) (sym here) (run_split (plain_log c.world.log) e es run)) rest)
 
-  -- ---- a cycle stays
+  -- ---- a cycle of what is left stays
 
-  cycle-tries : (w : WorldState) (t : ThreadId) (p : Progress) (stop : Option Ending) (w' : WorldState) (q : Progress) → Tries w t p stop w' q → HasCycle w.log → HasCycle w'.log
-  cycle-tries w t p None w' q (inl (f, did, is)) cycle = subst HasCycle (sym did.log) (HasCycle-append w.log (f ∷ []) cycle)
-  cycle-tries w t p None w' q (inr (r, waits, due, same, is)) cycle = subst (λ (v : WorldState). HasCycle v.log) (sym same) cycle
-  cycle-tries w t p (Some Halted) w' q (due, same, is) cycle = subst (λ (v : WorldState). HasCycle v.log) (sym same) cycle
-  cycle-tries w t p (Some (Refused u r)) w' q (its, not_halted, ends, same, is) cycle = subst (λ (v : WorldState). HasCycle v.log) (sym same) cycle
-  cycle-tries w t p (Some Done) w' q never cycle = absurd never
-  cycle-tries w t p (Some Stuck) w' q never cycle = absurd never
-  cycle-tries w t p (Some Gated) w' q never cycle = absurd never
+  module _ (omitted : Omitted) where
+    abbrev Cycles : WorldState → Type 0
+    Cycles w = HasCycle (rest_of omitted w.log)
 
-  cycle-turn : (c : ReplayState) (t : ThreadId) (stop : Option Ending) (c' : ReplayState) → TurnOf c t stop c' → HasCycle c.world.log → HasCycle c'.world.log
-  cycle-turn c t stop c' (inl (idle, none, same)) cycle = subst (λ (d : ReplayState). HasCycle d.world.log) (sym same) cycle
-  cycle-turn c t stop c' (inr turn) cycle = cycle-tries c.world t turn.before stop c'.world turn.after turn.tries cycle
+    cycle-tries : (w : WorldState) (t : ThreadId) (p : Progress) (stop : Option Ending) (w' : WorldState) (q : Progress) → Tries w t p stop w' q → Cycles w → Cycles w'
+    cycle-tries w t p None w' q (inl (f, did, is)) cycle = subst (λ es. HasCycle (rest_of omitted es)) (sym did.log) (cycle-longer omitted w.log (f ∷ []) cycle)
+    cycle-tries w t p None w' q (inr (r, waits, due, same, is)) cycle = subst Cycles (sym same) cycle
+    cycle-tries w t p (Some Halted) w' q (due, same, is) cycle = subst Cycles (sym same) cycle
+    cycle-tries w t p (Some (Refused u r)) w' q (its, not_halted, ends, same, is) cycle = subst Cycles (sym same) cycle
+    cycle-tries w t p (Some Done) w' q never cycle = absurd never
+    cycle-tries w t p (Some Stuck) w' q never cycle = absurd never
+    cycle-tries w t p (Some Gated) w' q never cycle = absurd never
 
-  cycle-turns : (ts : List ThreadId) (c : ReplayState) (stop : Option Ending) (c' : ReplayState) → TurnsOf c ts stop c' → HasCycle c.world.log → HasCycle c'.world.log
-  unfolding TurnsOf
-  cycle-turns [] c stop c' (none, same) cycle = subst (λ (d : ReplayState). HasCycle d.world.log) (sym same) cycle
-  cycle-turns (t ∷ ts) c stop c' (inl (ending, is, turn)) cycle = cycle-turn c t stop c' turn cycle
-  cycle-turns (t ∷ ts) c stop c' (inr (mid, turn, rest)) cycle = cycle-turns ts mid stop c' rest (cycle-turn c t None mid turn cycle)
+    cycle-turn : (c : ReplayState) (t : ThreadId) (stop : Option Ending) (c' : ReplayState) → TurnOf c t stop c' → Cycles c.world → Cycles c'.world
+    cycle-turn c t stop c' (inl (idle, none, same)) cycle = subst (λ (d : ReplayState). Cycles d.world) (sym same) cycle
+    cycle-turn c t stop c' (inr turn) cycle = cycle-tries c.world t turn.before stop c'.world turn.after turn.tries cycle
 
-  cycle-rounds : (c : ReplayState) (ending : Ending) (c' : ReplayState) → RoundsOf c ending c' → HasCycle c.world.log → HasCycle c'.world.log
-  cycle-rounds _ _ _ (RoundsOf.all_idle c idle) cycle = cycle
-  cycle-rounds _ _ _ (RoundsOf.no_event c c' round same) cycle = cycle-turns (all_threads c) c None c' round.turns cycle
-  cycle-rounds _ _ _ (RoundsOf.ended c c' ending round) cycle = cycle-turns (all_threads c) c (Some ending) c' round.turns cycle
-  cycle-rounds _ _ _ (RoundsOf.goes_on c mid c' ending round more rest) cycle = cycle-rounds mid ending c' rest (cycle-turns (all_threads c) c None mid round.turns cycle)
+    cycle-turns : (ts : List ThreadId) (c : ReplayState) (stop : Option Ending) (c' : ReplayState) → TurnsOf c ts stop c' → Cycles c.world → Cycles c'.world
+    unfolding TurnsOf
+    cycle-turns [] c stop c' (none, same) cycle = subst (λ (d : ReplayState). Cycles d.world) (sym same) cycle
+    cycle-turns (t ∷ ts) c stop c' (inl (ending, is, turn)) cycle = cycle-turn c t stop c' turn cycle
+    cycle-turns (t ∷ ts) c stop c' (inr (mid, turn, rest)) cycle = cycle-turns ts mid stop c' rest (cycle-turn c t None mid turn cycle)
+
+    cycle-rounds : (c : ReplayState) (ending : Ending) (c' : ReplayState) → RoundsOf c ending c' → Cycles c.world → Cycles c'.world
+    cycle-rounds _ _ _ (RoundsOf.all_idle c idle) cycle = cycle
+    cycle-rounds _ _ _ (RoundsOf.no_event c c' round same) cycle = cycle-turns (all_threads c) c None c' round.turns cycle
+    cycle-rounds _ _ _ (RoundsOf.ended c c' ending round) cycle = cycle-turns (all_threads c) c (Some ending) c' round.turns cycle
+    cycle-rounds _ _ _ (RoundsOf.goes_on c mid c' ending round more rest) cycle = cycle-rounds mid ending c' rest (cycle-turns (all_threads c) c None mid round.turns cycle)
 
   -- ---- where all threads are idle or wait
 
@@ -418,15 +423,15 @@ module _ (program : Program) where
     from_start : (stop : Option Ending) (c' : ReplayState) → TurnsOf (start program config) (turns_in log) stop c' → Followed stop (start program config) c' log
     from_start stop c' turns = followed log (start program config) stop c' (along-start program config same) (λ halted. absurd (false≢true halted)) run turns
 
-    -- has the run's cycle
-    pub follows-cycle : (ending : Ending) (closed : WorldState) → HasCycle log → Replays program (turns_in log) config ending closed → HasCycle closed.log ⊎ EndsTooSoon ending closed
-    follows-cycle ending closed cycle r = at r.runs
+    -- has the cycle of what is left of the run
+    pub follows-cycle : (omitted : Omitted) (ending : Ending) (closed : WorldState) → HasCycle (rest_of omitted log) → Replays program (turns_in log) config ending closed → HasCycle (rest_of omitted closed.log) ⊎ EndsTooSoon ending closed
+    follows-cycle omitted ending closed cycle r = at r.runs
       where
-        at : ReplaysTo (start program config) (turns_in log) ending r.last → HasCycle closed.log ⊎ EndsTooSoon ending closed
+        at : ReplaysTo (start program config) (turns_in log) ending r.last → HasCycle (rest_of omitted closed.log) ⊎ EndsTooSoon ending closed
         at (inl turns) = inr (subst (EndsTooSoon ending) (sym r.world) (from_start (Some ending) r.last turns))
         at (inr (mid, turns, rounds)) =
             let there = from_start None mid turns in
-            inl (subst (λ (v : WorldState). HasCycle v.log) (sym r.world) (cycle-rounds mid ending r.last rounds (HasCycle-from_plain mid.world.log (subst HasCycle (sym there.0) cycle))))
+            inl (subst (λ (v : WorldState). HasCycle (rest_of omitted v.log)) (sym r.world) (cycle-rounds omitted mid ending r.last rounds (cycle-from_plain omitted mid.world.log (subst (λ es. HasCycle (rest_of omitted es)) (sym there.0) cycle))))
 
     -- ends stuck as it does
     pub follows-stuck : length program.bodies ≡ program.bounds.threads → searched.IsStuck program.bounds (all_scripts program) log → (ending : Ending) (closed : WorldState) → Replays program (turns_in log) config ending closed → (ending ≡ Stuck) ⊎ EndsTooSoon ending closed

@@ -10,9 +10,11 @@ use Rattle.velo_events.specs.declared.event.Kind.{Kind}
 use Rattle.velo_events.specs.declared.event.Kind.TheVariants.{Exit}
 use Rattle.velo_events.specs.declared.refusal.Refusal.{Refusal}
 use Rattle.velo_events.specs.Event.{is_by}
+use Rattle.velo_events.specs.Graph.{HasCycle}
 use Rattle.velo_events.specs.Meaning.{action_of, kind_for, refusal_of}
 use Rattle.velo_events.specs.Tally.{events_of}
 use Rattle.velo_events.proofs.OnSerializing.{serializable_law-none}
+use Rattle.velo_filter.specs.Left.{Omitted, rest_of}
 use Rattle.velo_workload.specs.declared.statement.Statement.{Statement}
 use Rattle.velo_workload.specs.Program.{Program}
 use Rattle.velo_worker.specs.declared.ending.Ending.TheVariants.{Stuck, Refused}
@@ -21,8 +23,8 @@ use Rattle.velo_worker.specs.Progress.{action_for}
 use Rattle.velo_worker.specs.Walk.{walk_of}
 use Rattle.velo_search.specs.Plain.{plain_kind, plain_log}
 use Rattle.velo_search.specs.Plain as values
-use Rattle.velo_search.specs.Runs.{script_of, IsRunOf, Never, NeverCycles}
-use Rattle.velo_search.proofs.OnPlain.{HasCycle-plain, IsWellFormed-plain, status_in-plain, depth_in-plain, holder_in-plain, shares_in-plain}
+use Rattle.velo_search.specs.Runs.{script_of, IsRunOf, Never}
+use Rattle.velo_search.proofs.OnPlain.{IsWellFormed-plain, status_in-plain, depth_in-plain, holder_in-plain, shares_in-plain}
 use Rattle.velo_movers.specs.Programs.{own}
 use Rattle.velo_movers.specs.Scripts.{plain}
 use Rattle.velo_movers.specs.Wants.{Does, refusal_at, IsRefused, IsStuck, HasRefusal}
@@ -32,6 +34,7 @@ use Rattle.velo_explore.specs.Logs.{wants_of, IsLogOf, AlwaysSerializable, Never
 use Rattle.velo_explore.specs.Bodies.{operation, operations_of, operations_by, scripts, all_scripts}
 use Rattle.velo_explore.proofs.OnBodyScripts.{HaveScripts-bodies, scripts-done}
 use Rattle.velo_explore.proofs.OnReplays.{IsLogOf-replays}
+use Rattle.velo_explore.proofs.OnRests.{cycle-plain}
 use Rattle.velo_explore.proofs.OnEndings.{IsStuck-replays, HasRefusal-replays}
 use Rattle.velo_search.proofs.OnRunsOfScripts.{same_plain, wants_by, length-own}
 
@@ -160,11 +163,11 @@ module _ (program : Program) where
 
   -- ---- all replays
 
-  -- Where no run of the scripts has a cycle, all replays are serializable
-  pub AlwaysSerializable-runs : NeverCycles program.bounds (all_scripts program) [] → AlwaysSerializable program
-  AlwaysSerializable-runs never schedule config ending closed is r =
+  -- Where what is left of no run of the scripts has a cycle, what is left of all replays is serializable
+  pub AlwaysSerializable-runs : (omitted : Omitted) → Never (λ log. HasCycle (rest_of omitted log)) program.bounds (all_scripts program) [] → AlwaysSerializable (rest_of omitted) program
+  AlwaysSerializable-runs omitted never schedule config ending closed is r =
       let all = IsLogOf-replays program schedule config ending closed is r in
-      (serializable_law-none closed.log).0 (λ c. never (plain_log closed.log) (IsRunOf-plain closed.log all) (HasCycle-plain closed.log c))
+      (serializable_law-none (rest_of omitted closed.log)).0 (λ c. never (plain_log closed.log) (IsRunOf-plain closed.log all) (cycle-plain omitted closed.log c))
 
   -- where none is stuck, no replay is
   pub NeverStuck-runs : Never (IsStuck program.bounds (wants_by (all_scripts program))) program.bounds (all_scripts program) [] → NeverStuck program

@@ -221,8 +221,3 @@ module _ (program : Program) where
       along : ReplaysTo (start program config) schedule ending r.last → IsAlong program r.last
       along (inl turns) = along-turns schedule (start program config) (Some ending) r.last (along-start config is) turns
       along (inr (mid, turns, rounds)) = along-rounds mid ending r.last (along-turns schedule (start program config) None mid (along-start config is) turns) rounds
-
-  -- So where no log of the program has a cycle all replays are serializable
-  pub AlwaysSerializable-by : IsNever program.bounds (Does (wants_of program)) HasCycle [] → AlwaysSerializable program
-  AlwaysSerializable-by never schedule config ending closed is r =
-      (serializable_law-none closed.log).0 (never closed.log (IsLogOf-replays schedule config ending closed is r))

@@ -11,6 +11,7 @@ use Rattle.velo_events.specs.declared.event.Event.{Event}
 use Rattle.velo_events.specs.declared.event.ThreadId.{ThreadId}
 use Rattle.velo_events.specs.Graph.{HasCycle}
 use Rattle.velo_events.proofs.OnGraphs.{HasCycle-from_closing}
+use Rattle.velo_filter.specs.Left.{Omitted, rest_of}
 use Rattle.velo_workload.specs.Program.{Program}
 use Rattle.velo_world.specs.declared.analysis.Alarm.{Alarm as AlarmOf}
 use Rattle.velo_world.specs.World.{WorldState, IsAlarm}
@@ -24,7 +25,7 @@ use Rattle.velo_explore.specs.declared.finding.Witness.{Witness}
 use Rattle.velo_explore.specs.declared.goal.Goal.{Goal}
 use Rattle.velo_explore.specs.declared.goal.Goal.TheVariants.{Alarm, Stuck, Refused}
 use Rattle.velo_explore.specs.declared.outcome.RunOutcome.{RunOutcome}
-use Rattle.velo_explore.specs.Goals.{KnowsAlarm, Reached, Reaches, fault_of, finding_of, goal_in}
+use Rattle.velo_explore.specs.Goals.{KnowsAlarm, ReachedIn, ReachesIn, fault_of, finding_of, goal_in, lacks_memory}
 use Rattle.velo_explore.specs.Logs.{ends_refused, is_for_room}
 use Rattle.velo_explore.specs.Told.{AreAlarms, FollowsRun, IsMissed, HasOutcome, LacksFault, IfShown, turns_after}
 use Rattle.velo_explore.specs.Bodies.{all_scripts}
@@ -47,31 +48,44 @@ known_by log (Some alarm) none is = (Some alarm.now, is)
 
 -- ---- the goals of a run
 
-pub goal-reaches : (fault : Fault) (alarm : Bool) (ending : Ending) (closed : WorldState) (goal : Goal) → IsTrue alarm ↔ HasCycle closed.log → goal_in fault alarm ending ≡ Some goal
-    → Reaches goal ending closed × (fault_of goal ≡ fault)
-goal-reaches Cycle true ending closed goal is h = subst (λ (g : Goal). Reaches g ending closed × (fault_of g ≡ Cycle)) (same_Some Alarm goal h) (is.0 refl, refl)
-goal-reaches Cycle false ending closed goal is h = absurd (none-some goal h)
-goal-reaches faults.Stuck alarm endings.Stuck closed goal is h = subst (λ (g : Goal). Reaches g endings.Stuck closed × (fault_of g ≡ faults.Stuck)) (same_Some Stuck goal h) (refl, refl)
-goal-reaches faults.Stuck alarm endings.Done closed goal is h = absurd (none-some goal h)
-goal-reaches faults.Stuck alarm endings.Halted closed goal is h = absurd (none-some goal h)
-goal-reaches faults.Stuck alarm (endings.Refused t r) closed goal is h = absurd (none-some goal h)
-goal-reaches faults.Stuck alarm endings.Gated closed goal is h = absurd (none-some goal h)
-goal-reaches Refusing alarm (endings.Refused t r) closed goal is h = by (is_for_room r) refl h
+pub goal-reaches : (rest : List Event → List Event) (fault : Fault) (alarm : Bool) (ending : Ending) (closed : WorldState) (goal : Goal) → IsTrue alarm ↔ HasCycle (rest closed.log) → goal_in fault alarm ending ≡ Some goal
+    → ReachesIn rest goal ending closed × (fault_of goal ≡ fault)
+goal-reaches rest Cycle true ending closed goal is h = subst (λ (g : Goal). ReachesIn rest g ending closed × (fault_of g ≡ Cycle)) (same_Some Alarm goal h) (is.0 refl, refl)
+goal-reaches rest Cycle false ending closed goal is h = absurd (none-some goal h)
+goal-reaches rest faults.Stuck alarm endings.Stuck closed goal is h = subst (λ (g : Goal). ReachesIn rest g endings.Stuck closed × (fault_of g ≡ faults.Stuck)) (same_Some Stuck goal h) (refl, refl)
+goal-reaches rest faults.Stuck alarm endings.Done closed goal is h = absurd (none-some goal h)
+goal-reaches rest faults.Stuck alarm endings.Halted closed goal is h = absurd (none-some goal h)
+goal-reaches rest faults.Stuck alarm (endings.Refused t r) closed goal is h = absurd (none-some goal h)
+goal-reaches rest faults.Stuck alarm endings.Gated closed goal is h = absurd (none-some goal h)
+goal-reaches rest Refusing alarm (endings.Refused t r) closed goal is h = by (is_for_room r) refl h
   where
-    by : (room : Bool) → is_for_room r ≡ room → (if room then None else Some (Refused t r)) ≡ Some goal → Reaches goal (endings.Refused t r) closed × (fault_of goal ≡ Refusing)
+    by : (room : Bool) → is_for_room r ≡ room → (if room then None else Some (Refused t r)) ≡ Some goal → ReachesIn rest goal (endings.Refused t r) closed × (fault_of goal ≡ Refusing)
     by true same h = absurd (none-some goal h)
-    by false same h = subst (λ (g : Goal). Reaches g (endings.Refused t r) closed × (fault_of g ≡ Refusing)) (same_Some (Refused t r) goal h) ((refl, same), refl)
-goal-reaches Refusing alarm endings.Done closed goal is h = absurd (none-some goal h)
-goal-reaches Refusing alarm endings.Stuck closed goal is h = absurd (none-some goal h)
-goal-reaches Refusing alarm endings.Halted closed goal is h = absurd (none-some goal h)
-goal-reaches Refusing alarm endings.Gated closed goal is h = absurd (none-some goal h)
+    by false same h = subst (λ (g : Goal). ReachesIn rest g (endings.Refused t r) closed × (fault_of g ≡ Refusing)) (same_Some (Refused t r) goal h) ((refl, same), refl)
+goal-reaches rest Refusing alarm endings.Done closed goal is h = absurd (none-some goal h)
+goal-reaches rest Refusing alarm endings.Stuck closed goal is h = absurd (none-some goal h)
+goal-reaches rest Refusing alarm endings.Halted closed goal is h = absurd (none-some goal h)
+goal-reaches rest Refusing alarm endings.Gated closed goal is h = absurd (none-some goal h)
 
 -- ---- a replay
 
-module _ (program : Program) (config : Config) (turns : List ThreadId) (outcome : RunOutcome) (h : HasOutcome program config turns outcome) where
-  pub shows-goal : (fault : Fault) (goal : Goal) (schedule : List ThreadId) → turns ≡ schedule → goal_in fault outcome.alarm outcome.ending ≡ Some goal → Reached program config goal schedule × (fault_of goal ≡ fault)
+-- what a replay comes to, by the world that it left
+pub outcome-of : {E : Type 0} (rest : List Event → List Event) (program : Program) (config : Config) (schedule : List ThreadId) (closed : WorldState) (ending : Ending) → Replays program schedule config ending closed → lacks_memory ending ≡ false
+    → (result : Result RunOutcome E) → IfOk result (λ outcome. IsTrue outcome.alarm ↔ HasCycle (rest closed.log)) → IfOk result (λ outcome. KnowsAlarm closed.log) → IfOk result (λ outcome. outcome.ending ≡ ending)
+    → IfOk result (HasOutcome rest program config schedule)
+outcome-of rest program config schedule closed ending replays memory (Ok outcome) alarm known ended = record {
+  closed = closed;
+  replays = subst (λ e. Replays program schedule config e closed) (sym ended) replays;
+  memory = subst (λ e. lacks_memory e ≡ false) (sym ended) memory;
+  known = known;
+  cycle = alarm;
+}
+outcome-of rest program config schedule closed ending replays memory (Err e) alarm known ended = tt
+
+module _ (rest : List Event → List Event) (program : Program) (config : Config) (turns : List ThreadId) (outcome : RunOutcome) (h : HasOutcome rest program config turns outcome) where
+  pub shows-goal : (fault : Fault) (goal : Goal) (schedule : List ThreadId) → turns ≡ schedule → goal_in fault outcome.alarm outcome.ending ≡ Some goal → ReachedIn rest program config goal schedule × (fault_of goal ≡ fault)
   shows-goal fault goal schedule same is =
-      let shown = goal-reaches fault outcome.alarm outcome.ending h.closed goal h.cycle is in (
+      let shown = goal-reaches rest fault outcome.alarm outcome.ending h.closed goal h.cycle is in (
         record {
           closed = h.closed;
           replay = record {
@@ -85,8 +99,8 @@ module _ (program : Program) (config : Config) (turns : List ThreadId) (outcome 
         shown.1,
       )
 
-  pub lacks-goal : (fault : Fault) (schedule : List ThreadId) → turns ≡ schedule → goal_in fault outcome.alarm outcome.ending ≡ None → LacksFault program config fault schedule
-  lacks-goal fault schedule same none = record { outcome = outcome; is_outcome = subst (λ (ts : List ThreadId). HasOutcome program config ts outcome) same h; none = none }
+  pub lacks-goal : (fault : Fault) (schedule : List ThreadId) → turns ≡ schedule → goal_in fault outcome.alarm outcome.ending ≡ None → LacksFault rest program config fault schedule
+  lacks-goal fault schedule same none = record { outcome = outcome; is_outcome = subst (λ (ts : List ThreadId). HasOutcome rest program config ts outcome) same h; none = none }
 
 no_alarm : (alarm : Bool) (ending : Ending) → goal_in Cycle alarm ending ≡ None → alarm ≡ false
 no_alarm false ending none = refl
@@ -103,8 +117,8 @@ not_refused alarm endings.Stuck none = refl
 not_refused alarm endings.Halted none = refl
 not_refused alarm endings.Gated none = refl
 
-module _ (program : Program) (config : Config) (same : config.bounds ≡ program.bounds) (schedule : List ThreadId) where
-  pub missed-alarm : LacksFault program config Cycle schedule → LeadsTo program.bounds (all_scripts program) Cycle schedule → IsMissed program config Cycle
+module _ (omitted : Omitted) (program : Program) (config : Config) (same : config.bounds ≡ program.bounds) (schedule : List ThreadId) where
+  pub missed-alarm : LacksFault (rest_of omitted) program config Cycle schedule → LeadsTo program.bounds (all_scripts program) (rest_of omitted) Cycle schedule → IsMissed (rest_of omitted) program config Cycle
   missed-alarm w leads =
       let h = w.is_outcome in
       record {
@@ -126,10 +140,11 @@ module _ (program : Program) (config : Config) (same : config.bounds ≡ program
         cut = ⊎_elim
             (λ cycle. absurd (false≢true (sym (no_alarm w.outcome.alarm w.outcome.ending w.none) ∙ h.cycle.1 cycle)))
             (λ cut. cut)
-            (follows-cycle program leads.log leads.run config same w.outcome.ending h.closed leads.bad (subst (λ ts. Replays program ts config w.outcome.ending h.closed) (sym leads.by) h.replays));
+            (follows-cycle program leads.log leads.run config same omitted w.outcome.ending h.closed leads.bad (subst (λ ts. Replays program ts config w.outcome.ending h.closed) (sym leads.by) h.replays));
       }
 
-  pub missed-stuck : length program.bodies ≡ program.bounds.threads → LacksFault program config faults.Stuck schedule → LeadsTo program.bounds (all_scripts program) faults.Stuck schedule → IsMissed program config faults.Stuck
+module _ (rest : List Event → List Event) (program : Program) (config : Config) (same : config.bounds ≡ program.bounds) (schedule : List ThreadId) where
+  pub missed-stuck : length program.bodies ≡ program.bounds.threads → LacksFault rest program config faults.Stuck schedule → LeadsTo program.bounds (all_scripts program) rest faults.Stuck schedule → IsMissed rest program config faults.Stuck
   missed-stuck count w leads =
       let h = w.is_outcome in
       record {
@@ -154,7 +169,7 @@ module _ (program : Program) (config : Config) (same : config.bounds ≡ program
             (follows-stuck program leads.log leads.run config same count leads.bad w.outcome.ending h.closed (subst (λ ts. Replays program ts config w.outcome.ending h.closed) (sym leads.by) h.replays));
       }
 
-  pub missed-refusal : ((t : ℕ) → t < program.bounds.threads → LacksFault program config Refusing (schedule ++ record { 0 = t } ∷ [])) → LeadsTo program.bounds (all_scripts program) Refusing schedule → IsMissed program config Refusing
+  pub missed-refusal : ((t : ℕ) → t < program.bounds.threads → LacksFault rest program config Refusing (schedule ++ record { 0 = t } ∷ [])) → LeadsTo program.bounds (all_scripts program) rest Refusing schedule → IsMissed rest program config Refusing
   missed-refusal lacks leads =
       let t = leads.bad.some.0 in
       let w = lacks t leads.bad.some.1 in
@@ -193,18 +208,18 @@ of_mapped f P (Some x) some h = h
 -- ---- the run that is followed
 
 -- by its turns, or by one turn more
-pub follows-it : {E : Type 0} (program : Program) (fault : Fault) (run turns : List ThreadId) → LeadsTo program.bounds (all_scripts program) fault run → turns ≡ run → (result : Result (Option Witness) E)
-    → IfOk result (λ found. IfSome found (λ w. w.schedule.items ≡ turns)) → IfOk result (λ found. IfSome found (FollowsRun program fault))
-follows-it program fault run turns leads same (Ok (Some w)) is = record { run = run; leads = leads; more = []; turns = is ∙ (same ∙ sym (append-nil run)); few = omega arith }
-follows-it program fault run turns leads same (Ok None) is = tt
-follows-it program fault run turns leads same (Err e) is = tt
+pub follows-it : {E : Type 0} (rest : List Event → List Event) (program : Program) (fault : Fault) (run turns : List ThreadId) → LeadsTo program.bounds (all_scripts program) rest fault run → turns ≡ run → (result : Result (Option Witness) E)
+    → IfOk result (λ found. IfSome found (λ w. w.schedule.items ≡ turns)) → IfOk result (λ found. IfSome found (FollowsRun rest program fault))
+follows-it rest program fault run turns leads same (Ok (Some w)) is = record { run = run; leads = leads; more = []; turns = is ∙ (same ∙ sym (append-nil run)); few = omega arith }
+follows-it rest program fault run turns leads same (Ok None) is = tt
+follows-it rest program fault run turns leads same (Err e) is = tt
 
-pub follows-one_more : {E : Type 0} (program : Program) (fault : Fault) → fault ≡ Refusing → (run turns : List ThreadId) → LeadsTo program.bounds (all_scripts program) fault run → turns ≡ run → (result : Result (Option Witness) E)
-    → IfOk result (λ found. IfSome found (λ w. (t : ThreadId) × (w.schedule.items ≡ turns ++ t ∷ []))) → IfOk result (λ found. IfSome found (FollowsRun program fault))
-follows-one_more program fault refusing run turns leads same (Ok (Some w)) (t, is) =
+pub follows-one_more : {E : Type 0} (rest : List Event → List Event) (program : Program) (fault : Fault) → fault ≡ Refusing → (run turns : List ThreadId) → LeadsTo program.bounds (all_scripts program) rest fault run → turns ≡ run → (result : Result (Option Witness) E)
+    → IfOk result (λ found. IfSome found (λ w. (t : ThreadId) × (w.schedule.items ≡ turns ++ t ∷ []))) → IfOk result (λ found. IfSome found (FollowsRun rest program fault))
+follows-one_more rest program fault refusing run turns leads same (Ok (Some w)) (t, is) =
     record { run = run; leads = leads; more = t ∷ []; turns = is ∙ ap (λ (l : List ThreadId). l ++ t ∷ []) same; few = subst (λ (f : Fault). 1 ≤ turns_after f) (sym refusing) (omega arith) }
-follows-one_more program fault refusing run turns leads same (Ok None) is = tt
-follows-one_more program fault refusing run turns leads same (Err e) is = tt
+follows-one_more rest program fault refusing run turns leads same (Ok None) is = tt
+follows-one_more rest program fault refusing run turns leads same (Err e) is = tt
 
 pub found-one_more : (found : Option Witness) (schedule longer : List ThreadId) (t : ThreadId) → longer ≡ schedule ++ t ∷ [] → IfSome found (λ w. w.schedule.items ≡ longer)
     → IfSome found (λ w. (u : ThreadId) × (w.schedule.items ≡ schedule ++ u ∷ []))
@@ -222,14 +237,14 @@ some-mapped : {X Y : Type 0} (f : X → Y) (o : Option X) → IsTrue (is_some o)
 some-mapped f None some = some
 some-mapped f (Some x) some = refl
 
-pub alarms-told : (program : Program) (config : Config) → config.bounds ≡ program.bounds → (first : Bool) (alarm : Finding) (shown : Schedules) →
-    LeadToCycles program.bounds (all_scripts program) first shown → IfShown alarm (λ w. IsTrue (is_some shown.alarm)) → AreAlarms program config first alarm (alarms_of shown)
-alarms-told program config same first alarm shown cycles from = record {
+pub alarms-told : (omitted : Omitted) (program : Program) (config : Config) → config.bounds ≡ program.bounds → (first : Bool) (alarm : Finding) (shown : Schedules) →
+    LeadToCycles program.bounds (all_scripts program) (rest_of omitted) first shown → IfShown alarm (λ w. IsTrue (is_some shown.alarm)) → AreAlarms (rest_of omitted) program config first alarm (alarms_of shown)
+alarms-told omitted program config same first alarm shown cycles from = record {
   each = λ k d l.
       let leads = cycles.lead k d l in
       record {
         leads = leads;
-        replayed = λ ending closed r. follows-cycle program leads.log leads.run config same ending closed leads.bad (subst (λ ts. Replays program ts config ending closed) (sym leads.by) r);
+        replayed = λ ending closed r. follows-cycle program leads.log leads.run config same omitted ending closed leads.bad (subst (λ ts. Replays program ts config ending closed) (sym leads.by) r);
       };
   few = cycles.few;
   none = cycles.none;
@@ -237,11 +252,11 @@ alarms-told program config same first alarm shown cycles from = record {
 }
 
 -- where nothing was tried
-pub none-shown : (program : Program) (findings : Findings) → ((fault : Fault) → finding_of findings fault ≡ Open) → (fault : Fault) → IfShown (finding_of findings fault) (FollowsRun program fault)
-none-shown program findings unknown fault = subst (λ (f : Finding). IfShown f (FollowsRun program fault)) (sym (unknown fault)) tt
+pub none-shown : (rest : List Event → List Event) (program : Program) (findings : Findings) → ((fault : Fault) → finding_of findings fault ≡ Open) → (fault : Fault) → IfShown (finding_of findings fault) (FollowsRun rest program fault)
+none-shown rest program findings unknown fault = subst (λ (f : Finding). IfShown f (FollowsRun rest program fault)) (sym (unknown fault)) tt
 
-pub no-alarms : (program : Program) (config : Config) (first : Bool) (alarm : Finding) (alarms : List (Vec ThreadId)) → alarm ≡ Open → alarms ≡ [] → AreAlarms program config first alarm (map (λ v. v.items) alarms)
-no-alarms program config first alarm alarms unknown none =
-    subst (λ (f : Finding). AreAlarms program config first f (map (λ v. v.items) alarms)) (sym unknown)
-    (subst (λ (l : List (Vec ThreadId)). AreAlarms program config first Open (map (λ v. v.items) l)) (sym none)
+pub no-alarms : (rest : List Event → List Event) (program : Program) (config : Config) (first : Bool) (alarm : Finding) (alarms : List (Vec ThreadId)) → alarm ≡ Open → alarms ≡ [] → AreAlarms rest program config first alarm (map (λ v. v.items) alarms)
+no-alarms rest program config first alarm alarms unknown none =
+    subst (λ (f : Finding). AreAlarms rest program config first f (map (λ v. v.items) alarms)) (sym unknown)
+    (subst (λ (l : List (Vec ThreadId)). AreAlarms rest program config first Open (map (λ v. v.items) l)) (sym none)
     (record { each = λ k d l. absurd (omega (arith, l)); few = omega arith; none = λ only. refl; some = λ all. tt }))

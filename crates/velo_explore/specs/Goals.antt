@@ -6,6 +6,7 @@ use Rattle.velo_events.specs.declared.event.Event.{Event}
 use Rattle.velo_events.specs.declared.event.ThreadId.{ThreadId}
 use Rattle.velo_events.specs.declared.refusal.Refusal.TheVariants.{Memory, RuntimeMemory}
 use Rattle.velo_events.specs.Graph.{HasCycle}
+use Rattle.velo_search.specs.Parts.{whole_log}
 use Rattle.velo_search.specs.declared.fault.Fault.{Fault}
 use Rattle.velo_search.specs.declared.fault.Fault.TheVariants.{Cycle, Refusing}
 use Rattle.velo_search.specs.declared.fault.Fault.TheVariants as faults
@@ -31,11 +32,15 @@ fault_of (Refused t r) = Refusing
 
 -- ---- one run
 
--- a run that ends so, and leaves this world, shows the goal
+-- a run that ends so, and leaves this world, shows the goal: an alarm is one of what is left of its log
+abbrev pub ReachesIn : (List Event → List Event) → Goal → Ending → WorldState → Type 0
+ReachesIn rest Alarm ending closed = HasCycle (rest closed.log)
+ReachesIn rest Stuck ending closed = ending ≡ endings.Stuck
+ReachesIn rest (Refused t r) ending closed = (ending ≡ endings.Refused t r) × IsFalse (is_for_room r)
+
+-- an alarm is one of the whole log
 abbrev pub Reaches : Goal → Ending → WorldState → Type 0
-Reaches Alarm ending closed = HasCycle closed.log
-Reaches Stuck ending closed = ending ≡ endings.Stuck
-Reaches (Refused t r) ending closed = (ending ≡ endings.Refused t r) × IsFalse (is_for_room r)
+Reaches = ReachesIn whole_log
 
 -- what it shows of a fault, by whether its log has a cycle, and by how it ended
 abbrev pub goal_in : Fault → Bool → Ending → Option Goal
@@ -58,17 +63,23 @@ lacks_memory ending = false
 -- ---- replays
 
 -- by these turns the program replays, with memory for its run, to this world, and shows the goal
-pub record IsReplayOf (program : Program) (config : Config) (goal : Goal) (turns : List ThreadId) (closed : WorldState) : Type 0 where
+pub record IsReplayIn (rest : List Event → List Event) (program : Program) (config : Config) (goal : Goal) (turns : List ThreadId) (closed : WorldState) : Type 0 where
   pub ending : Ending
   pub replays : Replays program turns config ending closed
   pub memory : lacks_memory ending ≡ false
   pub alarm : KnowsAlarm closed.log
-  pub reaches : Reaches goal ending closed
+  pub reaches : ReachesIn rest goal ending closed
+
+abbrev pub IsReplayOf : Program → Config → Goal → List ThreadId → WorldState → Type 0
+IsReplayOf = IsReplayIn whole_log
 
 -- it replays to some world so
-pub record Reached (program : Program) (config : Config) (goal : Goal) (turns : List ThreadId) : Type 0 where
+pub record ReachedIn (rest : List Event → List Event) (program : Program) (config : Config) (goal : Goal) (turns : List ThreadId) : Type 0 where
   pub closed : WorldState
-  pub replay : IsReplayOf program config goal turns closed
+  pub replay : IsReplayIn rest program config goal turns closed
+
+abbrev pub Reached : Program → Config → Goal → List ThreadId → Type 0
+Reached = ReachedIn whole_log
 
 -- it replays by them, with memory for its run, to one that does not show the goal
 pub record DoesNotShow (program : Program) (config : Config) (goal : Goal) (turns : List ThreadId) : Type 0 where
@@ -79,12 +90,18 @@ pub record DoesNotShow (program : Program) (config : Config) (goal : Goal) (turn
   pub has_not : ¬ Reaches goal ending closed
 
 -- its replay shows what it is a witness of
+abbrev pub ShowsIn : (List Event → List Event) → Program → Config → Witness → Type 0
+ShowsIn rest program config witness = ReachedIn rest program config witness.goal witness.schedule.items
+
 abbrev pub Shows : Program → Config → Witness → Type 0
-Shows program config witness = Reached program config witness.goal witness.schedule.items
+Shows = ShowsIn whole_log
 
 -- and that is this fault
+abbrev pub IsWitnessIn : (List Event → List Event) → Program → Config → Fault → Witness → Type 0
+IsWitnessIn rest program config fault witness = ShowsIn rest program config witness × (fault_of witness.goal ≡ fault)
+
 abbrev pub IsWitness : Program → Config → Fault → Witness → Type 0
-IsWitness program config fault witness = Shows program config witness × (fault_of witness.goal ≡ fault)
+IsWitness = IsWitnessIn whole_log
 
 -- ---- findings
 

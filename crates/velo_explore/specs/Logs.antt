@@ -42,10 +42,10 @@ IsLogOf program log = IsLog program.bounds (Does (wants_of program)) log
 
 -- ---- all replays
 
--- the log is serializable, whatever the schedule
-abbrev pub AlwaysSerializable : Program → Type 0
-AlwaysSerializable program =
-    (schedule : List ThreadId) (config : Config) (ending : Ending) (closed : WorldState) → config.bounds ≡ program.bounds → Replays program schedule config ending closed → IsSerializable closed.log
+-- what is left of the log is serializable, whatever the schedule
+abbrev pub AlwaysSerializable : (List Event → List Event) → Program → Type 0
+AlwaysSerializable rest program =
+    (schedule : List ThreadId) (config : Config) (ending : Ending) (closed : WorldState) → config.bounds ≡ program.bounds → Replays program schedule config ending closed → IsSerializable (rest closed.log)
 
 -- no replay is stuck
 abbrev pub NeverStuck : Program → Type 0

@@ -1,6 +1,8 @@
 //! All schedules of a workload at once.
 ghost use Rattle.std.specs.Prelude.{◌≡◌, ◌⊎◌, ◌<◌, ◌≤◌, ◌-◌, ◌^◌, ◌&&◌, [], true, false, is_some, length, map, min, sum_by, IfOk, IfSome, IsTrue};
 ghost use Rattle.velo_worker.specs.Counts.{body_events};
+ghost use Rattle.velo_filter.specs.Left.{rest_of};
+ghost use Rattle.velo_filter.specs.Tables.{left_of};
 ghost use Rattle.velo_search.specs.declared.fault.Fault.{Fault as FaultOf};
 ghost use Rattle.velo_search.specs.Search.{has_fault};
 ghost use Rattle.velo_search.specs.Told.{has_ended, shown_of};
@@ -16,6 +18,7 @@ use crate::scripts::{count_all, scripts_of};
 use crate::showing::tell;
 use std::alloc::Global;
 use velo_events::{Config, Memory};
+use velo_filter::LeftOut;
 use velo_search::{Fault, Progress, Schedules, Searched, search};
 use velo_workload::Workload;
 
@@ -23,6 +26,9 @@ use velo_workload::Workload;
 /// and tells whether some schedule leads to a log that is not serializable, to a deadlock or to a
 /// refusal. The configuration has to have the workload's bounds. Where its bodies have more events
 /// than the configuration lets a log have, nothing is tried.
+///
+/// A log is judged by what is left of it: an alarm is a cycle there. The runs themselves leave nothing
+/// out, so deadlocks and refusals are those of the workload.
 ///
 /// With `first` it ends as soon as it finds one of the three, shows it, and reports the others as
 /// open. Once `progress` says that the search is over, no more states are looked at, and what was not
@@ -37,6 +43,7 @@ use velo_workload::Workload;
 pub fn explore<P: Progress>(
     alloc: Global,
     workload: &Workload,
+    left: &LeftOut,
     most_states: u64,
     first: bool,
     config: Config,
@@ -46,22 +53,22 @@ pub fn explore<P: Progress>(
     ensures events { IfOk result (λ x. x.events ≡ min (sum_by body_events workload.now.bodies) (2 ^ 64 - 1)) }
     ensures states { IfOk result (λ x. x.states ≤ most_states) }
     ensures told { IfOk result (λ x. (fault : FaultOf) →
-        IsTold workload.now config fault (finding_of x.findings fault)) }
+        IsTold (rest_of (left_of left.now)) workload.now config fault (finding_of x.findings fault)) }
     ensures follows { IfOk result (λ x. (fault : FaultOf) →
-        IfShown (finding_of x.findings fault) (FollowsRun workload.now fault)) }
+        IfShown (finding_of x.findings fault) (FollowsRun (rest_of (left_of left.now)) workload.now fault)) }
     ensures left_open { IfOk result (λ x. (fault : FaultOf) → OnOpen (finding_of x.findings fault)
-        (IsLeftOpen workload.now config most_states first
+        (IsLeftOpen (rest_of (left_of left.now)) workload.now config most_states first
         (P.may_end progress.old && P.says_over progress.new) x.states x.findings fault)) }
     ensures untried { IfOk result (λ x. config.events < sum_by body_events workload.now.bodies →
         IsUntried x.states x.findings (map (λ v. v.items) x.alarms.items)) }
-    ensures alarms { IfOk result (λ x. AreAlarms workload.now config first x.findings.alarm
+    ensures alarms { IfOk result (λ x. AreAlarms (rest_of (left_of left.now)) workload.now config first x.findings.alarm
         (map (λ v. v.items) x.alarms.items)) }
 {
     let events = count_all(workload);
     if events > u64::from(config.events) {
         return Ok(untried(alloc, events));
     }
-    let searched = search_all(alloc, workload, most_states, first, &config, progress)?;
+    let searched = search_all(alloc, workload, left, most_states, first, &config, progress)?;
     let no_alarm = searched.rules_out(Fault::Cycle);
     let no_deadlock = searched.rules_out(Fault::Stuck);
     let no_refusal = searched.rules_out(Fault::Refusing);
@@ -76,10 +83,19 @@ pub fn explore<P: Progress>(
         refused: to_refusal,
         alarms,
     } = schedules;
-    let alarm = tell(alloc, workload, config, Fault::Cycle, no_alarm, to_alarm)?;
+    let alarm = tell(
+        alloc,
+        workload,
+        left,
+        config,
+        Fault::Cycle,
+        no_alarm,
+        to_alarm,
+    )?;
     let stuck = tell(
         alloc,
         workload,
+        left,
         config,
         Fault::Stuck,
         no_deadlock,
@@ -88,6 +104,7 @@ pub fn explore<P: Progress>(
     let refused = tell(
         alloc,
         workload,
+        left,
         config,
         Fault::Refusing,
         no_refusal,
@@ -128,6 +145,7 @@ fn untried(alloc: Global, events: u64) -> Exploration
 fn search_all<P: Progress>(
     alloc: Global,
     workload: &Workload,
+    left: &LeftOut,
     most_states: u64,
     first: bool,
     config: &Config,
@@ -136,27 +154,27 @@ fn search_all<P: Progress>(
     requires bounds { config.now.bounds ≡ workload.now.bounds }
     requires few { sum_by body_events workload.now.bodies ≤ config.now.events }
     ensures never { IfOk result (λ x. x.whole ≡ true → (fault : FaultOf) →
-        has_fault x.found fault ≡ false → NeverHas workload.now fault) }
+        has_fault x.found fault ≡ false → NeverHas (rest_of (left_of left.now)) workload.now fault) }
     ensures found { IfOk result (λ x. (fault : FaultOf) → has_fault x.found fault ≡ true →
-        IsSomewhere workload.now fault) }
+        IsSomewhere (rest_of (left_of left.now)) workload.now fault) }
     ensures cut { IfOk result (λ x. x.whole ≡ false → (fault : FaultOf) →
         has_fault x.found fault ≡ false →
         ((has_ended first x.found ≡ true)
         ⊎ ((P.may_end progress.old && P.says_over progress.new) ≡ true)
-        ⊎ AreSpent workload.now most_states x.states fault)) }
+        ⊎ AreSpent (rest_of (left_of left.now)) workload.now most_states x.states fault)) }
     ensures leads { IfOk result (λ x. (fault : FaultOf) → IfSome (turns_for x.schedules fault)
-        (LeadsTo workload.now.bounds (all_scripts workload.now) fault)) }
+        (LeadsTo workload.now.bounds (all_scripts workload.now) (rest_of (left_of left.now)) fault)) }
     ensures each { IfOk result (λ x. x.whole ≡ true → (fault : FaultOf) →
         has_fault x.found fault ≡ true → IsTrue (is_some (turns_for x.schedules fault))) }
     ensures shown { IfOk result (λ x. (fault : FaultOf) →
         has_fault (shown_of first x.found) fault ≡ true →
         IsTrue (is_some (turns_for x.schedules fault))) }
     ensures alarms { IfOk result (λ x. LeadToCycles workload.now.bounds (all_scripts workload.now)
-        first x.schedules) }
+        (rest_of (left_of left.now)) first x.schedules) }
     ensures count { IfOk result (λ x. length workload.now.bodies ≡ workload.now.bounds.threads) }
     ensures states { IfOk result (λ x. x.states ≤ most_states) }
 {
     let scripts = scripts_of(alloc, workload)?;
-    let searched = search(alloc, config, &scripts, most_states, first, progress)?;
+    let searched = search(alloc, config, &scripts, left, most_states, first, progress)?;
     Ok(searched)
 }

@@ -1,3 +1,4 @@
+pub mod Asking
 pub mod Context
 pub mod Faults
 pub mod Ignoring

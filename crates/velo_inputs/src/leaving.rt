@@ -1,18 +1,24 @@
 //! What is left of a log where a command leaves something out.
-ghost use Rattle.std.specs.Prelude.{◌≡◌, false, true, map, IfOk, OnOk};
+ghost use Rattle.std.specs.Prelude.{◌≡◌, false, true, map, IfErr, IfOk, OnOk};
 ghost use Rattle.velo_events.specs.declared.event.Label.{Label as LabelOf};
 ghost use Rattle.velo_events.specs.declared.event.LockId.{LockId as LockOf};
 ghost use Rattle.velo_events.specs.declared.event.VarId.{VarId as VariableOf};
 ghost use Rattle.velo_events.specs.declared.limits.TheConstants.{MAX_LOCKS};
 ghost use Rattle.velo_filter.specs.Left.{with_labels};
 ghost use Rattle.velo_filter.specs.Tables.{left_of};
+ghost use Rattle.velo_inputs.specs.Asking.{IsLeftOutBy, LacksLeftOut};
 ghost use Rattle.velo_inputs.specs.Leaving.{left_out_at_first, with_locks, with_locks_below, with_variables};
 
+use crate::ignoring::{ignored_labels, ignored_locks, ignored_variables};
+use crate::listing::listed_of;
 use std::alloc::Global;
 use velo_audit_text::Asked;
+use velo_delivery::Files;
 use velo_events::{Config, Label, LockId, MAX_LOCKS, Memory, VarId};
+use velo_fate::Fate;
 use velo_filter::LeftOut;
-use velo_request::Limits;
+use velo_names::Names;
+use velo_request::{Ignored, Limits};
 use velo_world::Closed;
 
 /// Leaves out the labels.
@@ -81,6 +87,36 @@ pub fn left_out(alloc: Global, asked: &Asked) -> Result<LeftOut, Memory>
     leave_out_all_locks_if(&mut left, asked.all_locks)?;
     leave_out_variables(&mut left, asked.variables)?;
     Ok(left)
+}
+
+/// What is to be left out by these names: what the list means, which is read first, and what the words
+/// mean.
+///
+/// # Errors
+/// As `listed_of`, and then as `ignored_labels`.
+pub fn left_out_by<F: Files>(
+    alloc: Global,
+    names: &Names,
+    ignored: &Ignored,
+    files: &F,
+) -> Result<LeftOut, Fate>
+    ensures left { IfOk result (λ left. IsLeftOutBy names.now (F.disk files.now) ignored.now (left_of left)) }
+    ensures none { IfErr result (LacksLeftOut names.now (F.disk files.now) ignored.now) }
+{
+    let mut listed = listed_of(alloc, names, ignored, files)?;
+    let labels = ignored_labels(alloc, names, &mut listed.labels, ignored.labels)?;
+    let locks = ignored_locks(alloc, names, &listed.locks, ignored.locks)?;
+    let variables = ignored_variables(alloc, names, &listed.variables, ignored.variables)?;
+    let asked = Asked {
+        labels: &labels,
+        locks: &locks,
+        variables: &variables,
+        all_locks: listed.all_locks || ignored.all_locks,
+    };
+    match left_out(alloc, &asked) {
+        Ok(left) => Ok(left),
+        Err(Memory) => Err(Fate::Memory),
+    }
 }
 
 /// The configuration in which what is left of a log is judged: that of the log, within the limits.

@@ -26,6 +26,7 @@ use Rattle.velo_explore.specs.declared.finding.Witness.{Witness}
 use Rattle.velo_explore.specs.declared.goal.Goal.{Goal}
 use Rattle.velo_explore.specs.Goals.{IsWitness, Reached, fault_of, finding_of, goal_in}
 use Rattle.velo_explore.specs.Told.{IfShown}
+use Rattle.velo_search.specs.Parts.{whole_log}
 use Rattle.velo_explore.proofs.OnShown.{goal-reaches}
 use Rattle.std.proofs.lemmas.List.Sums.{count_by-le-length, sum_by_push}
 use Rattle.velo_random.specs.declared.tally.BlamedLabel.{BlamedLabel}
@@ -173,7 +174,7 @@ module _ (program : Program) (config : Config) where
 
   one-shown : (fault : Fault) (run : Run) → IsRun program config run → (goal : Goal) → goal_in fault (has_alarm run) run.ending ≡ Some goal → IsShown fault (goal, run.schedule)
   one-shown fault run is goal shows =
-      let shown = goal-reaches fault (has_alarm run) run.ending is.closed goal (alarm-cycle is.closed.log run.alarm is.alarm) shows in
+      let shown = goal-reaches whole_log fault (has_alarm run) run.ending is.closed goal (alarm-cycle is.closed.log run.alarm is.alarm) shows in
       (record { closed = is.closed; replay = record { ending = run.ending; replays = is.replays; memory = is.memory; alarm = (run.alarm, is.alarm); reaches = shown.0 } }, shown.1)
 
   first-shown : (fault : Fault) (runs : List Run) → All (IsRun program config) runs → IfSome (first_shown fault runs) (IsShown fault)

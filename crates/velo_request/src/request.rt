@@ -192,6 +192,15 @@ pub struct ExploreOptions<'a> {
     ghost few_states: { states ≤ MAX_STATES },
 }
 
+/// What `velodrome explore` was asked for, if something is left out of the logs of the runs.
+#[derive(Clone, Copy, Debug)]
+pub struct ExploreRestOptions<'a> {
+    /// The rest, which is as for whole logs; without random runs, and without a certificate.
+    pub explore: ExploreOptions<'a>,
+    /// What is left out.
+    pub ignored: Ignored<'a>,
+}
+
 /// What `velodrome watch` was asked for.
 #[derive(Clone, Copy, Debug)]
 pub struct WatchOptions<'a> {
@@ -383,6 +392,8 @@ pub enum Request<'a> {
     Carry(CarryOptions<'a>),
     /// To try every schedule of a workload.
     Explore(ExploreOptions<'a>),
+    /// To try every schedule of a workload, and judge what is left of the logs.
+    ExploreRest(ExploreRestOptions<'a>),
     /// To check a log as it comes.
     Watch(WatchOptions<'a>),
     /// To check a log of any length as it comes.

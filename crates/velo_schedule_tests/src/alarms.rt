@@ -4,6 +4,7 @@ ghost use Rattle.std.specs.Prelude.{◌≡◌, true, is_some};
 use std::alloc::Global;
 use velo_events::{Config, ThreadId};
 use velo_explore::{Exploration, Finding, Progress, Quiet, explore, replayed};
+use velo_filter::LeftOut;
 use velo_workload::{Workload, parse};
 
 /// Whether the replay by a schedule has an alarm.
@@ -25,8 +26,9 @@ fn has_alarm(
 fn count_alarms(alloc: Global, text: &str, first: bool) -> Option<(usize, usize)> {
     let workload = parse(alloc, text).ok()?;
     let config = Config::new(1, workload.bounds(), 10_000, 64, false).ok()?;
+    let whole = LeftOut::new(alloc);
     let Exploration { alarms, .. } = explore(
-        alloc, &workload, 100_000, first, config, &mut Quiet,
+        alloc, &workload, &whole, 100_000, first, config, &mut Quiet,
     ).ok()?;
     let mut shown = 0usize;
     for schedule in &alarms {
@@ -108,8 +110,9 @@ fn told_levels(alloc: Global, text: &str) -> Option<(u64, u64, u64, u64)> {
     let workload = parse(alloc, text).ok()?;
     let config = Config::new(1, workload.bounds(), 10_000, 64, false).ok()?;
     let mut heard = NOTHING;
+    let whole = LeftOut::new(alloc);
     let Exploration { states, .. } = explore(
-        alloc, &workload, 100_000, false, config, &mut heard,
+        alloc, &workload, &whole, 100_000, false, config, &mut heard,
     ).ok()?;
     Some((heard.times, heard.levels, heard.states, states))
 }
@@ -135,11 +138,12 @@ fn told_until(alloc: Global, text: &str, most: u64) -> Option<(u64, bool, bool)>
         left: Some(most),
         ..NOTHING
     };
+    let whole = LeftOut::new(alloc);
     let Exploration {
         states,
         findings,
         ..
-    } = explore(alloc, &workload, 100_000, false, config, &mut heard).ok()?;
+    } = explore(alloc, &workload, &whole, 100_000, false, config, &mut heard).ok()?;
     Some((states, is_open(&findings.alarm), is_open(&findings.stuck)))
 }
 

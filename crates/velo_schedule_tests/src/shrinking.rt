@@ -5,6 +5,7 @@ use crate::words::holds_for;
 use std::alloc::Global;
 use velo_events::{Config, Memory, ThreadId};
 use velo_explore::{Finding, Findings, Quiet, explore};
+use velo_filter::LeftOut;
 use velo_schedule_text::append_turns;
 use velo_shrink::{Shrunk, shrink_findings};
 use velo_workload::{Workload, parse};
@@ -13,7 +14,8 @@ use velo_workload::{Workload, parse};
 fn simple_findings(alloc: Global, workload: &Workload, config: Config) -> Result<Findings, Memory>
     requires bounds { config.bounds ≡ workload.now.bounds }
 {
-    let told = explore(alloc, workload, 100_000, false, config, &mut Quiet)?;
+    let whole = LeftOut::new(alloc);
+    let told = explore(alloc, workload, &whole, 100_000, false, config, &mut Quiet)?;
     let Shrunk { findings, first } = shrink_findings(alloc, workload, told.findings, config)?;
     drop(first);
     Ok(findings)

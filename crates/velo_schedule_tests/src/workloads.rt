@@ -3,6 +3,7 @@ use crate::words::holds_for;
 use std::alloc::Global;
 use velo_events::Config;
 use velo_explore::{Exploration, Finding, Quiet, explore};
+use velo_filter::LeftOut;
 use velo_workload::parse;
 
 /// What is known of a fault.
@@ -52,7 +53,17 @@ fn told_of(exploration: &Exploration) -> Told {
 fn explored(alloc: Global, text: &str, most_states: u64, first: bool) -> Option<Told> {
     let workload = parse(alloc, text).ok()?;
     let config = Config::new(1, workload.bounds(), 10_000, 64, false).ok()?;
-    let exploration = explore(alloc, &workload, most_states, first, config, &mut Quiet).ok()?;
+    let whole = LeftOut::new(alloc);
+    let exploration = explore(
+        alloc,
+        &workload,
+        &whole,
+        most_states,
+        first,
+        config,
+        &mut Quiet,
+    )
+    .ok()?;
     Some(told_of(&exploration))
 }
 

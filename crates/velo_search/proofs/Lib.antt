@@ -21,6 +21,9 @@ pub mod OnTold
 pub mod OnSerial
 pub mod OnRunsOfScripts
 pub mod OnWanted
+pub mod OnOpenBlocks
+pub mod OnParts
+pub mod OnPartsOf
 pub mod OnFreeEvents
 pub mod OnNotes
 pub mod OnHolds
@@ -31,4 +34,6 @@ pub mod OnFitting
 pub mod OnExchanges
 pub mod OnRenamed
 pub mod OnRenamedRuns
+pub mod OnRenamedParts
+pub mod OnNothing
 pub mod OnSearchedAs

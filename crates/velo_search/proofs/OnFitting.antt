@@ -142,12 +142,12 @@ module _ (one other : Bounds) (scripts : List (List Kind)) (alike : AreAlike one
   refused-alike log t run w = record { refusal = w.refusal; turned = turned-alike log t w.refusal run w.turned; for_good = w.for_good }
 
   -- and have the same faults
-  pub IsFault-alike : (fault : Fault) (log : List Event) → IsRunOf one scripts log → IsFault one scripts fault log → IsFault other scripts fault log
-  IsFault-alike Cycle log run bad = bad
-  IsFault-alike Stuck log run bad = record {
+  pub IsFault-alike : (rest : List Event → List Event) (fault : Fault) (log : List Event) → IsRunOf one scripts log → IsFault one scripts rest fault log → IsFault other scripts rest fault log
+  IsFault-alike rest Cycle log run bad = bad
+  IsFault-alike rest Stuck log run bad = record {
     each = λ t below. ⊎_elim (λ idle. inl idle) (λ waits. inr (waiting-alike log t run waits)) (bad.each t (subst (λ n. t < n) (sym alike.threads) below));
     some = (bad.some.0, subst (λ n. bad.some.0 < n) alike.threads bad.some.1, waiting-alike log bad.some.0 run bad.some.2);
   }
-  IsFault-alike Refusing log run bad = record {
+  IsFault-alike rest Refusing log run bad = record {
     some = (bad.some.0, subst (λ n. bad.some.0 < n) alike.threads bad.some.1, refused-alike log bad.some.0 run bad.some.2);
   }

@@ -14,7 +14,7 @@ use Rattle.velo_movers.specs.Free.{GoesAlong, IsFree}
 use Rattle.velo_movers.specs.Moves.{DoesNotConflict}
 use Rattle.velo_movers.specs.Programs.{IsProgram, IsLog}
 use Rattle.velo_movers.specs.Wants as moves
-use Rattle.velo_movers.proofs.OnRules.{cases_free, IsLog-forward, HasCycle-goes_along}
+use Rattle.velo_movers.proofs.OnRules.{cases_free, IsLog-forward}
 use Rattle.velo_movers.proofs.OnStuck.{IsStuck-goes_along}
 use Rattle.velo_movers.proofs.OnRefused.{HasRefusal-goes_along}
 use Rattle.velo_search.specs.declared.state.State.{State}
@@ -22,7 +22,9 @@ use Rattle.velo_search.specs.Faults.{Fault, Cycle, Stuck, Refusing, IsFault}
 use Rattle.velo_search.specs.Runs.{script_of, IsRunOf, IsNext, NeverWithin}
 use Rattle.velo_search.specs.States.{IsStateOf}
 use Rattle.velo_search.specs.Free.{IsFreeAt}
+use Rattle.velo_search.specs.Parts.{Part, rest_by, AreParts}
 use Rattle.velo_search.specs.Search.{ArePlain, AreShort, IsReached, Settles}
+use Rattle.velo_search.proofs.OnParts.{cycle-goes_along}
 use Rattle.velo_search.proofs.OnRuns.{IsRunOf-next}
 use Rattle.velo_search.proofs.OnRunsOfScripts.{DoesScript, wants_by, IsProgram-scripts, AreWanted-scripts, IsLog-run, IsFree-at}
 use Rattle.velo_search.proofs.OnWanted.{AreKnown, known-run, searched-stuck, searched-refused, wanted-stuck, wanted-refused}
@@ -48,7 +50,7 @@ module _ (bounds : Bounds) (May : ℕ → List Event → Type 0) (program : IsPr
 
 -- ---- after one log
 
-module _ (bounds : Bounds) (scripts : List (List Kind)) (log : List Event) (e : Event) (run : IsRunOf bounds scripts log) (next : IsNext bounds scripts log e) (plain : ArePlain scripts) (free : IsFreeAt scripts (thread_of e) (events_of log (thread_of e)) e.kind) where
+module _ (bounds : Bounds) (scripts : List (List Kind)) (parts : ℕ → ℕ → Part) (are : AreParts bounds scripts parts) (log : List Event) (e : Event) (run : IsRunOf bounds scripts log) (next : IsNext bounds scripts log e) (plain : ArePlain scripts) (free : IsFreeAt scripts (thread_of e) (events_of log (thread_of e)) e.kind) where
   known : (more : List Event) → IsRunOf bounds scripts more → AreKnown bounds scripts more
   known more longer = known-run bounds scripts (let first = next.follows.known_thread in omega (arith, first)) more longer.well_formed
 
@@ -63,8 +65,8 @@ module _ (bounds : Bounds) (scripts : List (List Kind)) (log : List Event) (e : 
       ((IsLog-run scripts bounds (log ++ more)).0 longer)
 
   -- 94. for each fault
-  pub free-never : (n : ℕ) (fault : Fault) → NeverWithin n (IsFault bounds scripts fault) bounds scripts (log ++ e ∷ []) → NeverWithin n (IsFault bounds scripts fault) bounds scripts log
-  free-never n Cycle never more few longer cycle = rule HasCycle (HasCycle-goes_along bounds (DoesScript scripts)) n never more few longer cycle
+  pub free-never : (n : ℕ) (fault : Fault) → NeverWithin n (IsFault bounds scripts (rest_by parts) fault) bounds scripts (log ++ e ∷ []) → NeverWithin n (IsFault bounds scripts (rest_by parts) fault) bounds scripts log
+  free-never n Cycle never more few longer cycle = rule (λ es. HasCycle (rest_by parts es)) (cycle-goes_along bounds scripts parts are) n never more few longer cycle
   free-never n Stuck never more few longer stuck =
       rule (moves.IsStuck bounds (wants_by scripts)) (IsStuck-goes_along bounds (DoesScript scripts) (IsProgram-scripts scripts) (wants_by scripts) (AreWanted-scripts scripts)) n
       (λ rest short all w. never rest short all (searched-stuck bounds scripts ((log ++ e ∷ []) ++ rest) (known ((log ++ e ∷ []) ++ rest) all) w))
@@ -76,43 +78,28 @@ module _ (bounds : Bounds) (scripts : List (List Kind)) (log : List Event) (e : 
 
 -- ---- from one state to another
 
-module _ (bounds : Bounds) (scripts : List (List Kind)) where
+module _ (bounds : Bounds) (scripts : List (List Kind)) (rest : List Event → List Event) where
   -- 95. a state and itself
-  pub settles_same : (state : State) → Settles bounds scripts state state
+  pub settles_same : (state : State) → Settles bounds scripts rest state state
   settles_same state = record { reached = λ r. r; clean = λ n fault c. c }
 
   -- 96. one after another
-  pub settles_next : (first second third : State) → Settles bounds scripts first second → Settles bounds scripts second third → Settles bounds scripts first third
+  pub settles_next : (first second third : State) → Settles bounds scripts rest first second → Settles bounds scripts rest second third → Settles bounds scripts rest first third
   settles_next first second third one other = record {
     reached = λ r. other.reached (one.reached r);
     clean = λ n fault c. one.clean n fault (other.clean n fault c);
   }
 
-  -- 97. a free event
-  pub settles_free : (before after : State) (e : Event) → ArePlain scripts →
-      ((log : List Event) → IsRunOf bounds scripts log → IsStateOf log before → IsFreeAt scripts (thread_of e) (events_of log (thread_of e)) e.kind) →
-      ((log : List Event) → IsRunOf bounds scripts log → IsStateOf log before → IsNext bounds scripts log e) →
-      ((log : List Event) → IsStateOf log before → IsStateOf (log ++ e ∷ []) after) →
-      (IsReached bounds scripts before → IsReached bounds scripts after) → Settles bounds scripts before after
-  settles_free before after e plain free next stands reached = record {
-    reached = reached;
-    clean = λ n fault clean. record {
-      each = λ log run here.
-          let due = next log run here in
-          free-never bounds scripts log e run due plain (free log run here) n fault (clean.each (log ++ e ∷ []) (IsRunOf-next bounds scripts log e run due) (stands log here));
-    };
-  }
-
   -- 98. a state after a next event is reached
-  pub next-reached : (before after : State) (e : Event) (r : IsReached bounds scripts before) → IsNext bounds scripts r.log e → IsStateOf (r.log ++ e ∷ []) after → bounds_of after.heap ≡ bounds → IsReached bounds scripts after
+  pub next-reached : (before after : State) (e : Event) (r : IsReached bounds scripts rest before) → IsNext bounds scripts r.log e → IsStateOf rest (r.log ++ e ∷ []) after → bounds_of after.heap ≡ bounds → IsReached bounds scripts rest after
   next-reached before after e r next stands same = record { log = r.log ++ e ∷ []; run = IsRunOf-next bounds scripts r.log e r.run next; stands = stands; same = same }
 
   -- 99. so is the same state once more
-  pub same-reached : (before after : State) → IsReached bounds scripts before → ((log : List Event) → IsStateOf log before → IsStateOf log after) → bounds_of after.heap ≡ bounds → IsReached bounds scripts after
+  pub same-reached : (before after : State) → IsReached bounds scripts rest before → ((log : List Event) → IsStateOf rest log before → IsStateOf rest log after) → bounds_of after.heap ≡ bounds → IsReached bounds scripts rest after
   same-reached before after r stands same = record { log = r.log; run = r.run; stands = stands r.log r.stands; same = same }
 
   -- 100. no thread has done more than can be counted
-  pub counted-next : AreShort scripts → (state : State) (log : List Event) (e : Event) → bounds_of state.heap ≡ bounds → IsStateOf log state → IsNext bounds scripts log e → slice_index_or state.next.items (thread_of e) 0 + 1 < 2 ^ 32
+  pub counted-next : AreShort scripts → (state : State) (log : List Event) (e : Event) → bounds_of state.heap ≡ bounds → IsStateOf rest log state → IsNext bounds scripts log e → slice_index_or state.next.items (thread_of e) 0 + 1 < 2 ^ 32
   counted-next short state log e same stands next =
       let t = thread_of e in
       let items = state.next.items in
@@ -121,3 +108,19 @@ module _ (bounds : Bounds) (scripts : List (List Kind)) where
       let within : events_of log t < length (script_of scripts t) = slice_get_within (script_of scripts t) (events_of log t) e.kind next.due in
       let few = short t in
       omega (arith, read, within, few)
+
+module _ (bounds : Bounds) (scripts : List (List Kind)) (parts : ℕ → ℕ → Part) (are : AreParts bounds scripts parts) where
+  -- 97. a free event
+  pub settles_free : (before after : State) (e : Event) → ArePlain scripts →
+      ((log : List Event) → IsRunOf bounds scripts log → IsStateOf (rest_by parts) log before → IsFreeAt scripts (thread_of e) (events_of log (thread_of e)) e.kind) →
+      ((log : List Event) → IsRunOf bounds scripts log → IsStateOf (rest_by parts) log before → IsNext bounds scripts log e) →
+      ((log : List Event) → IsRunOf bounds scripts (log ++ e ∷ []) → IsStateOf (rest_by parts) log before → IsStateOf (rest_by parts) (log ++ e ∷ []) after) →
+      (IsReached bounds scripts (rest_by parts) before → IsReached bounds scripts (rest_by parts) after) → Settles bounds scripts (rest_by parts) before after
+  settles_free before after e plain free next stands reached = record {
+    reached = reached;
+    clean = λ n fault clean. record {
+      each = λ log run here.
+          let due = next log run here in
+          free-never bounds scripts parts are log e run due plain (free log run here) n fault (clean.each (log ++ e ∷ []) (IsRunOf-next bounds scripts log e run due) (stands log (IsRunOf-next bounds scripts log e run due) here));
+    };
+  }

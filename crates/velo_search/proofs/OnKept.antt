@@ -6,6 +6,7 @@ use Rattle.std.proofs.lemmas.Bool.{cases_lt}
 use Rattle.std.proofs.lemmas.List.{get_or_default}
 use Rattle.std.proofs.lemmas.List.Elements.{All-contains, All-weaker, All-contains_itself}
 use Rattle.velo_events.specs.declared.config.Bounds.{Bounds}
+use Rattle.velo_events.specs.declared.event.Event.{Event}
 use Rattle.velo_events.specs.declared.event.Kind.{Kind}
 use Rattle.velo_search.specs.declared.state.State.{State}
 use Rattle.velo_search.specs.Faults.{Fault}
@@ -30,9 +31,9 @@ All-turned_back P old now turned same all = λ k d l.
     subst (λ j. P (slice_index_or old j d)) back (subst P (turned (length old - 1 - k) d (omega (arith, l))) (all (length old - 1 - k) d (omega (arith, l, same))))
 
 -- and a state is clean, where all of those are among which it stands
-pub clean-among : (bounds : Bounds) (scripts : List (List Kind)) (n : ℕ) (fault : Fault) (states : List State) (state : State) → StandsAmong states state → All (IsClean bounds scripts n fault) states → IsClean bounds scripts n fault state
-clean-among bounds scripts n fault states state among all = record {
-  each = λ log run stands. (All-contains (IsClean bounds scripts n fault) states among.member all among.there).each log run (among.logs log stands);
+pub clean-among : (bounds : Bounds) (scripts : List (List Kind)) (rest : List Event → List Event) (n : ℕ) (fault : Fault) (states : List State) (state : State) → StandsAmong states state → All (IsClean bounds scripts rest n fault) states → IsClean bounds scripts rest n fault state
+clean-among bounds scripts rest n fault states state among all = record {
+  each = λ log run stands. (All-contains (IsClean bounds scripts rest n fault) states among.member all among.there).each log run (among.logs rest log stands);
 }
 
 -- one more member of a list

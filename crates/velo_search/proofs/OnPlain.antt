@@ -93,7 +93,7 @@ same_conflict a b = rw (same_access a.kind, same_access b.kind) refl
 -- ---- tests of all events
 
 -- the value plays no part in the test
-abbrev IsBlind : (Event → Bool) → Type 0
+abbrev pub IsBlind : (Event → Bool) → Type 0
 IsBlind test = (e : Event) → test (plain e) ≡ test e
 
 blind_begin : (t : ℕ) → IsBlind (is_begin_by t)
@@ -158,7 +158,7 @@ latest-plain test blind (e ∷ es) =
     either None true = refl
     either None false = refl
 
-passes_at-plain : (test : Event → Bool) → IsBlind test → (es : List Event) (i : ℕ) → passes_at (plain_log es) test i ≡ passes_at es test i
+pub passes_at-plain : (test : Event → Bool) → IsBlind test → (es : List Event) (i : ℕ) → passes_at (plain_log es) test i ≡ passes_at es test i
 unfolding passes_at
 passes_at-plain test blind es i = ap (λ o. option_map_or test o false) (slice_get-map plain es i) ∙ at (slice_get es i)
   where
@@ -176,7 +176,7 @@ is_balanced-plain es t b e =
     ∙ (ap (λ n. n == times (is_begin_by t) (plain_log (drop b (take (e + 1) es)))) (times-plain (is_end_by t) (blind_end t) (drop b (take (e + 1) es)))
     ∙ ap (λ n. times (is_end_by t) (drop b (take (e + 1) es)) == n) (times-plain (is_begin_by t) (blind_begin t) (drop b (take (e + 1) es))))
 
-is_open_at-plain : (es : List Event) (t b n : ℕ) → is_open_at (plain_log es) t b n ≡ is_open_at es t b n
+pub is_open_at-plain : (es : List Event) (t b n : ℕ) → is_open_at (plain_log es) t b n ≡ is_open_at es t b n
 unfolding is_open_at
 is_open_at-plain es t b n =
     ap (λ x. x && not (any_below n (λ e. nat_le b e && is_balanced (plain_log es) t b e))) (passes_at-plain (is_begin_by t) (blind_begin t) es b)

@@ -13,6 +13,7 @@ use Rattle.velo_events.specs.declared.event.Status.{Status}
 use Rattle.velo_events.specs.declared.refusal.Refusal.{Refusal}
 use Rattle.velo_events.specs.declared.limits.TheConstants.{MAX_OPEN_BLOCKS}
 use Rattle.velo_events.specs.Event.{thread_of, variable_of, lock_of, is_begin, is_end, is_exit, is_by, is_begin_by, is_end_by, is_acquire_by, is_release_by, is_acquire_shared_by, is_release_shared_by, is_exit_by, is_fork_of, is_join_of}
+use Rattle.velo_events.specs.Graph.{HasCycle}
 use Rattle.velo_events.specs.Heap.{depth_in}
 use Rattle.velo_events.specs.Meaning.{holds_a_lock, is_beyond, is_busy, is_held_already, is_live, is_shared_beside, is_unheld, refusal_of, status_is}
 use Rattle.velo_events.specs.Tally.{events_of}
@@ -237,12 +238,14 @@ module _ (bounds : Bounds) (ns back : Numbers) (exchanged : AreExchanged bounds 
     refused-renamed : (log : List Event) (t : ℕ) → IsRunOf bounds scripts log → IsRefused bounds scripts log t → IsRefused bounds (renamed_scripts ns scripts) (renamed_log ns log) t
     refused-renamed log t run w = record { refusal = w.refusal; turned = turned-renamed log t w.refusal run w.turned; for_good = w.for_good }
 
-    pub IsFault-renamed : (fault : Fault) (log : List Event) → IsRunOf bounds scripts log → IsFault bounds scripts fault log → IsFault bounds (renamed_scripts ns scripts) fault (renamed_log ns log)
-    IsFault-renamed Cycle log run bad = HasCycle-renamed ns back exchanged.back log bad
-    IsFault-renamed Stuck log run bad = record {
+    -- where the same is left but for the numbers
+    pub IsFault-renamed : (rest other : List Event → List Event) (fault : Fault) (log : List Event) → IsRunOf bounds scripts log → other (renamed_log ns log) ≡ renamed_log ns (rest log) →
+        IsFault bounds scripts rest fault log → IsFault bounds (renamed_scripts ns scripts) other fault (renamed_log ns log)
+    IsFault-renamed rest other Cycle log run same bad = subst HasCycle (sym same) (HasCycle-renamed ns back exchanged.back (rest log) bad)
+    IsFault-renamed rest other Stuck log run same bad = record {
       each = λ t below. ⊎_elim (λ idle. inl (idle-renamed log t idle)) (λ waits. inr (waiting-renamed log t run waits)) (bad.each t below);
       some = (bad.some.0, bad.some.1, waiting-renamed log bad.some.0 run bad.some.2);
     }
-    IsFault-renamed Refusing log run bad = record {
+    IsFault-renamed rest other Refusing log run same bad = record {
       some = (bad.some.0, bad.some.1, refused-renamed log bad.some.0 run bad.some.2);
     }

@@ -20,13 +20,13 @@ use Rattle.velo_search.specs.Runs.{script_of, kinds_by, IsRunOf, IsNext, Never, 
 
 -- ---- the operations of a thread
 
-kinds_by-append : (t : ℕ) (xs ys : List Event) → kinds_by t (xs ++ ys) ≡ kinds_by t xs ++ kinds_by t ys
+pub kinds_by-append : (t : ℕ) (xs ys : List Event) → kinds_by t (xs ++ ys) ≡ kinds_by t xs ++ kinds_by t ys
 kinds_by-append t xs ys = ap (map (λ e. e.kind)) (filter-append (is_by t) xs ys) ∙ map-append (λ e. e.kind) (filter (is_by t) xs) (filter (is_by t) ys)
 
-kinds_by-own : (t : ℕ) (e : Event) → thread_of e ≡ t → kinds_by t (e ∷ []) ≡ e.kind ∷ []
+pub kinds_by-own : (t : ℕ) (e : Event) → thread_of e ≡ t → kinds_by t (e ∷ []) ≡ e.kind ∷ []
 kinds_by-own t e own = ap (λ b. map {A = Event} {B = Kind} (λ f. f.kind) (cond b (e ∷ []) [])) (eq-eqb (thread_of e) t own)
 
-kinds_by-other : (t : ℕ) (e : Event) → thread_of e ≢ t → kinds_by t (e ∷ []) ≡ []
+pub kinds_by-other : (t : ℕ) (e : Event) → thread_of e ≢ t → kinds_by t (e ∷ []) ≡ []
 kinds_by-other t e other = ap (λ b. map {A = Event} {B = Kind} (λ f. f.kind) (cond b (e ∷ []) [])) (ne_eqb (thread_of e) t other)
 
 length-kinds_by : (t : ℕ) (log : List Event) → length (kinds_by t log) ≡ events_of log t

@@ -11,13 +11,13 @@ use Rattle.velo_search.specs.Search.{IsAt, StandsAmong}
 use Rattle.velo_search.specs.States.{AreSameStates, IsStateOf}
 use Rattle.velo_search.specs.Summary.{IsSummaryOf}
 
-pub stands-same : (one other : State) → AreSameStates one other → (log : List Event) → IsStateOf log other → IsStateOf log one
-stands-same one other same log stands = record {
+pub stands-same : (one other : State) → AreSameStates one other → (rest : List Event → List Event) (log : List Event) → IsStateOf rest log other → IsStateOf rest log one
+stands-same one other same rest log stands = record {
   heap = subst (λ h. IsHeapOf h log) (sym same.heap) stands.heap;
   next = subst (λ xs. Tabulates xs (events_of log)) (sym same.next) stands.next;
-  graph = subst (λ b. IsSummaryOf log (summary_by b one.marks.alarmed one.marks.marks.items)) (sym same.marks.bounds)
-      (subst (λ a. IsSummaryOf log (summary_by other.marks.bounds a one.marks.marks.items)) (sym same.marks.alarmed)
-      (subst (λ ms. IsSummaryOf log (summary_by other.marks.bounds other.marks.alarmed ms)) (sym same.marks.marks) stands.graph));
+  graph = subst (λ b. IsSummaryOf (rest log) (summary_by b one.marks.alarmed one.marks.marks.items)) (sym same.marks.bounds)
+      (subst (λ a. IsSummaryOf (rest log) (summary_by other.marks.bounds a one.marks.marks.items)) (sym same.marks.alarmed)
+      (subst (λ ms. IsSummaryOf (rest log) (summary_by other.marks.bounds other.marks.alarmed ms)) (sym same.marks.marks) stands.graph));
 }
 
 pub among-at : (states : List State) (place : ℕ) (state : State) → IsAt states place state → StandsAmong states state

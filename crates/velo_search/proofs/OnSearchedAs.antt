@@ -8,6 +8,7 @@ use Rattle.velo_events.specs.declared.event.Event.{Event}
 use Rattle.velo_events.specs.declared.event.Kind.{Kind}
 use Rattle.velo_events.specs.declared.event.Kind.TheVariants.{Read, Write, Acquire, Release, AcquireShared, ReleaseShared, Begin, End, Fork, Join, Exit}
 use Rattle.velo_events.specs.declared.event.ThreadId.{ThreadId}
+use Rattle.velo_filter.specs.Left.{Omitted, rest_of}
 use Rattle.velo_search.specs.declared.found.Found.{Found}
 use Rattle.velo_search.specs.declared.naming.Naming.{Naming}
 use Rattle.velo_search.specs.declared.schedules.Schedules.{Schedules}
@@ -15,11 +16,14 @@ use Rattle.velo_search.specs.Faults.{Fault, Cycle, IsFault}
 use Rattle.velo_search.specs.Fitting.{AreAlike}
 use Rattle.velo_search.specs.Names.{numbers_back, numbers_of, IsNamingOf}
 use Rattle.velo_search.specs.Naming.{AreExchanged, LeadBack, Numbers, renamed, renamed_kind, renamed_log, renamed_scripts}
+use Rattle.velo_search.specs.Parts.{Part, rest_by, AreParts, ArePartsOf}
 use Rattle.velo_search.specs.Plain.{plain_kind}
 use Rattle.velo_search.specs.Runs.{script_of, IsRunOf, Never, NeverWithin}
 use Rattle.velo_search.specs.Search.{ArePlain, AreShort, IsSearchCut, IsTrueOf, ways}
 use Rattle.velo_search.specs.Trail.{LeadToCycles, LeadsTo, turns_of}
 use Rattle.velo_search.proofs.OnFitting.{AreAlike-back, IsFault-alike, IsRunOf-alike}
+use Rattle.velo_search.proofs.OnPartsOf.{parts-of_runs, rest-same}
+use Rattle.velo_search.proofs.OnRenamedParts.{omitted_back, rest_by-renamed, ArePartsOf-renamed}
 use Rattle.velo_search.proofs.OnRenamedRuns.{IsFault-renamed, IsRunOf-renamed, script-renamed}
 
 -- ---- the numbers of a naming
@@ -81,13 +85,15 @@ plain-renamed ns Exit h = refl
 
 -- ---- a search
 
--- those scripts are the scripts with other numbers, and the bounds that are needed name as much for them
-pub record AreSearchedAs (bounds needed : Bounds) (ns back : Numbers) (scripts those : List (List Kind)) : Type 0 where
+-- those scripts are the scripts with other numbers, the bounds that are needed name as much for them, and the parts are those of
+-- the scripts
+pub record AreSearchedAs (bounds needed : Bounds) (ns back : Numbers) (scripts those : List (List Kind)) (left : Omitted) (parts : ℕ → ℕ → Part) : Type 0 where
   pub exchanged : AreExchanged bounds ns back
   pub same : those ≡ renamed_scripts ns scripts
   pub alike : AreAlike bounds needed those
+  pub are_parts : ArePartsOf left scripts parts
 
-module _ (bounds needed : Bounds) (ns back : Numbers) (scripts those : List (List Kind)) (is : AreSearchedAs bounds needed ns back scripts those) where
+module _ (bounds needed : Bounds) (ns back : Numbers) (scripts those : List (List Kind)) (left : Omitted) (parts : ℕ → ℕ → Part) (is : AreSearchedAs bounds needed ns back scripts those left parts) where
   exchanged_back : AreExchanged bounds back ns
   exchanged_back = record { back = is.exchanged.forth; forth = is.exchanged.back; within = is.exchanged.within_back; within_back = is.exchanged.within }
 
@@ -101,20 +107,28 @@ module _ (bounds needed : Bounds) (ns back : Numbers) (scripts those : List (Lis
   run-there : (log : List Event) → IsRunOf bounds scripts log → IsRunOf bounds those (renamed_log ns log)
   run-there log run = subst (λ s. IsRunOf bounds s (renamed_log ns log)) (sym is.same) (IsRunOf-renamed bounds ns back is.exchanged scripts log run)
 
-  fault-there : (fault : Fault) (log : List Event) → IsRunOf bounds scripts log → IsFault bounds scripts fault log → IsFault needed those fault (renamed_log ns log)
+  -- the same is left of both, but for the numbers
+  rest-there : (log : List Event) → IsRunOf bounds scripts log → rest_by parts (renamed_log ns log) ≡ renamed_log ns (rest_of left log)
+  rest-there log run = rest_by-renamed parts ns log ∙ ap (renamed_log ns) (rest-same left bounds scripts parts is.are_parts log run)
+
+  fault-there : (fault : Fault) (log : List Event) → IsRunOf bounds scripts log → IsFault bounds scripts (rest_of left) fault log → IsFault needed those (rest_by parts) fault (renamed_log ns log)
   fault-there fault log run bad =
-      IsFault-alike bounds needed those is.alike fault (renamed_log ns log) (run-there log run)
-      (subst (λ s. IsFault bounds s fault (renamed_log ns log)) (sym is.same) (IsFault-renamed bounds ns back is.exchanged scripts fault log run bad))
+      IsFault-alike bounds needed those is.alike (rest_by parts) fault (renamed_log ns log) (run-there log run)
+      (subst (λ s. IsFault bounds s (rest_by parts) fault (renamed_log ns log)) (sym is.same) (IsFault-renamed bounds ns back is.exchanged scripts (rest_of left) (rest_by parts) fault log run (rest-there log run) bad))
 
   run-here : (log : List Event) → IsRunOf needed those log → IsRunOf bounds scripts (renamed_log back log)
   run-here log run =
       subst (λ s. IsRunOf bounds s (renamed_log back log)) undone
       (IsRunOf-renamed bounds back ns exchanged_back those log (IsRunOf-alike needed bounds those alike_back log run))
 
-  fault-here : (fault : Fault) (log : List Event) → IsRunOf needed those log → IsFault needed those fault log → IsFault bounds scripts fault (renamed_log back log)
+  rest-here : (log : List Event) → IsRunOf needed those log → rest_of left (renamed_log back log) ≡ renamed_log back (rest_by parts log)
+  rest-here log run = sym (rest-same left bounds scripts parts is.are_parts (renamed_log back log) (run-here log run)) ∙ rest_by-renamed parts back log
+
+  fault-here : (fault : Fault) (log : List Event) → IsRunOf needed those log → IsFault needed those (rest_by parts) fault log → IsFault bounds scripts (rest_of left) fault (renamed_log back log)
   fault-here fault log run bad =
-      subst (λ s. IsFault bounds s fault (renamed_log back log)) undone
-      (IsFault-renamed bounds back ns exchanged_back those fault log (IsRunOf-alike needed bounds those alike_back log run) (IsFault-alike needed bounds those alike_back fault log run bad))
+      subst (λ s. IsFault bounds s (rest_of left) fault (renamed_log back log)) undone
+      (IsFault-renamed bounds back ns exchanged_back those (rest_by parts) (rest_of left) fault log (IsRunOf-alike needed bounds those alike_back log run) (rest-here log run)
+      (IsFault-alike needed bounds those alike_back (rest_by parts) fault log run bad))
 
   -- ---- what is asked of those
 
@@ -135,22 +149,27 @@ module _ (bounds needed : Bounds) (ns back : Numbers) (scripts those : List (Lis
   short-those short = subst AreShort (sym is.same) (λ t.
       subst (λ n. n < 2 ^ 32) (sym (ap length (script-renamed bounds ns back is.exchanged scripts t) ∙ length-map (script_of scripts t) (renamed_kind ns))) (short t))
 
+  -- what is left of them is found by the parts
+  pub parts-those : AreParts needed those parts
+  parts-those = parts-of_runs (omitted_back back left) needed those parts
+      (subst (λ s. ArePartsOf (omitted_back back left) s parts) (sym is.same) (ArePartsOf-renamed left ns back is.exchanged.back scripts parts (script-renamed bounds ns back is.exchanged scripts) is.are_parts))
+
   -- ---- what is found out of those
 
-  pub true-here : (found : Found) → IsTrueOf needed those found → IsTrueOf bounds scripts found
+  pub true-here : (found : Found) → IsTrueOf needed those (rest_by parts) found → IsTrueOf bounds scripts (rest_of left) found
   true-here found all = λ fault has.
       let some = all fault has in
       record { log = renamed_log back some.log; run = run-here some.log some.run; bad = fault-here fault some.log some.run some.bad }
 
-  pub never-here : (fault : Fault) → Never (IsFault needed those fault) needed those [] → Never (IsFault bounds scripts fault) bounds scripts []
+  pub never-here : (fault : Fault) → Never (IsFault needed those (rest_by parts) fault) needed those [] → Never (IsFault bounds scripts (rest_of left) fault) bounds scripts []
   never-here fault never = λ more run bad.
       never (renamed_log ns more) (IsRunOf-alike bounds needed those is.alike (renamed_log ns more) (run-there more run)) (fault-there fault more run bad)
 
-  never_within-here : (n : ℕ) (fault : Fault) → NeverWithin n (IsFault needed those fault) needed those [] → NeverWithin n (IsFault bounds scripts fault) bounds scripts []
+  never_within-here : (n : ℕ) (fault : Fault) → NeverWithin n (IsFault needed those (rest_by parts) fault) needed those [] → NeverWithin n (IsFault bounds scripts (rest_of left) fault) bounds scripts []
   never_within-here n fault never = λ more few run bad.
       never (renamed_log ns more) (let long = length-map more (renamed ns) in omega (arith, few, long)) (IsRunOf-alike bounds needed those is.alike (renamed_log ns more) (run-there more run)) (fault-there fault more run bad)
 
-  leads-here : (fault : Fault) (turns : List ThreadId) → LeadsTo needed those fault turns → LeadsTo bounds scripts fault turns
+  leads-here : (fault : Fault) (turns : List ThreadId) → LeadsTo needed those (rest_by parts) fault turns → LeadsTo bounds scripts (rest_of left) fault turns
   leads-here fault turns leads = record {
     log = renamed_log back leads.log;
     run = run-here leads.log leads.run;
@@ -158,11 +177,11 @@ module _ (bounds needed : Bounds) (ns back : Numbers) (scripts those : List (Lis
     bad = fault-here fault leads.log leads.run leads.bad;
   }
 
-  pub shown-here : (fault : Fault) (turns : Option (List ThreadId)) → IfSome turns (LeadsTo needed those fault) → IfSome turns (LeadsTo bounds scripts fault)
+  pub shown-here : (fault : Fault) (turns : Option (List ThreadId)) → IfSome turns (LeadsTo needed those (rest_by parts) fault) → IfSome turns (LeadsTo bounds scripts (rest_of left) fault)
   shown-here fault None none = none
   shown-here fault (Some turns) leads = leads-here fault turns leads
 
-  pub alarms-here : (first : Bool) (shown : Schedules) → LeadToCycles needed those first shown → LeadToCycles bounds scripts first shown
+  pub alarms-here : (first : Bool) (shown : Schedules) → LeadToCycles needed those (rest_by parts) first shown → LeadToCycles bounds scripts (rest_of left) first shown
   alarms-here first shown all = record {
     lead = λ i d l. leads-here Cycle _ (all.lead i d l);
     few = all.few;
@@ -170,7 +189,7 @@ module _ (bounds needed : Bounds) (ns back : Numbers) (scripts those : List (Lis
     some = all.some;
   }
 
-  pub cut-here : (most : ℕ) (first over : Bool) (found : Found) (states : ℕ) → IsSearchCut needed those most first over found states → IsSearchCut bounds scripts most first over found states
+  pub cut-here : (most : ℕ) (first over : Bool) (found : Found) (states : ℕ) → IsSearchCut needed those (rest_by parts) most first over found states → IsSearchCut bounds scripts (rest_of left) most first over found states
   cut-here most first over found states cut = ⊎_elim
       (λ ended. inl ended)
       (λ rest. ⊎_elim (λ says. inr (inl says)) (λ spent. inr (inr (record {

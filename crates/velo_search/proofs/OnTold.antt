@@ -21,7 +21,7 @@ use Rattle.velo_search.proofs.OnRuns.{IsRunOf-nil, rule_of_all}
 
 -- ---- of one log
 
-module _ (bounds : Bounds) (scripts : List (List Kind)) (log : List Event) (run : IsRunOf bounds scripts log) (seen : ThreadsSeen) (w : IsSeen bounds scripts log seen bounds.threads) where
+module _ (bounds : Bounds) (scripts : List (List Kind)) (rest : List Event → List Event) (log : List Event) (run : IsRunOf bounds scripts log) (seen : ThreadsSeen) (w : IsSeen bounds scripts log seen bounds.threads) where
   -- 84. stuck, as it was seen
   stuck-told : IsTrue (seen.waits && not (seen.acts || seen.refused)) → IsStuck bounds scripts log
   stuck-told h =
@@ -50,15 +50,15 @@ module _ (bounds : Bounds) (scripts : List (List Kind)) (log : List Event) (run 
       turns_down : (u : ℕ) × (u < bounds.threads) × IsRefused bounds scripts log u → ⊥
       turns_down v = ⊎_elim (λ idle. refused-not_idle bounds scripts log v.0 v.2 idle) (λ waits. refused-not_waiting bounds scripts log v.0 v.2 waits) (stuck.each v.0 v.1)
 
-  module _ (alarmed : Bool) (shown : IsTrue alarmed → HasCycle log) (shows : HasCycle log → IsTrue alarmed) where
+  module _ (alarmed : Bool) (shown : IsTrue alarmed → HasCycle (rest log)) (shows : HasCycle (rest log) → IsTrue alarmed) where
     -- 86. what is told is there
-    pub told-true : (fault : Fault) → is_told alarmed seen fault ≡ true → IsFault bounds scripts fault log
+    pub told-true : (fault : Fault) → is_told alarmed seen fault ≡ true → IsFault bounds scripts rest fault log
     told-true Cycle h = shown h
     told-true Stuck h = stuck-told h
     told-true Refusing h = record { some = w.refused h }
 
     -- 87. and what is not told is not there
-    pub told-false : (fault : Fault) → is_told alarmed seen fault ≡ false → ¬ IsFault bounds scripts fault log
+    pub told-false : (fault : Fault) → is_told alarmed seen fault ≡ false → ¬ IsFault bounds scripts rest fault log
     told-false Cycle h bad = false≢true (sym h ∙ shows bad)
     told-false Stuck h bad = stuck-not_told h bad
     told-false Refusing h bad = w.none_refused h bad.some.0 bad.some.1 bad.some.2
@@ -82,11 +82,11 @@ goes_on-nothing first found is goes_on = each
     each Stuck = (or_parts _ _ (or_parts _ _ some).0).1
     each Refusing = (or_parts _ _ some).1
 
-module _ (bounds : Bounds) (scripts : List (List Kind)) where
+module _ (bounds : Bounds) (scripts : List (List Kind)) (rest : List Event → List Event) where
   -- where the states are spent, no run of fewer events than there are levels has what was not found
   pub spent-cut : (most : ℕ) (first over : Bool) (found : Found) (states levels : ℕ) (level : List State) → most ≤ states * bounds.threads → states ≤ ways bounds.threads levels →
-      ((n : ℕ) (fault : Fault) → has_fault found fault ≡ false → All (IsClean bounds scripts n fault) level → NeverWithin (levels + n) (IsFault bounds scripts fault) bounds scripts []) →
-      IsSearchCut bounds scripts most first over found states
+      ((n : ℕ) (fault : Fault) → has_fault found fault ≡ false → All (IsClean bounds scripts rest n fault) level → NeverWithin (levels + n) (IsFault bounds scripts rest fault) bounds scripts []) →
+      IsSearchCut bounds scripts rest most first over found states
   spent-cut most first over found states levels level all few leads = inr (inr (record {
     all = all;
     events = levels;
@@ -100,12 +100,12 @@ module _ (bounds : Bounds) (scripts : List (List Kind)) where
 
   -- why a search has ended that ends after a level
   pub ended-cut : (most : ℕ) (first over : Bool) (said : Bool) (found : Found) (states : ℕ) → (said || has_ended first found) ≡ true → (said ≡ true → over ≡ true) →
-      IsSearchCut bounds scripts most first over found states
+      IsSearchCut bounds scripts rest most first over found states
   ended-cut most first over said found states ended told =
       ⊎_elim (λ says. inr (inl (told says))) (λ some. inl some) (or_cases said (has_ended first found) ended)
 
   -- before any thread
-  pub tried-start : (state : State) (start : List State) → All (IsReached bounds scripts) start → IsTried bounds scripts state start start (record { acts = false; waits = false; refused = false }) 0
+  pub tried-start : (state : State) (start : List State) → All (IsReached bounds scripts rest) start → IsTried bounds scripts rest state start start (record { acts = false; waits = false; refused = false }) 0
   tried-start state start reached = record {
     reached = reached;
     leads = λ n fault all. (all, λ u l. absurd (omega (arith, l)));
@@ -119,20 +119,20 @@ module _ (bounds : Bounds) (scripts : List (List Kind)) where
     };
   }
 
-  pub nothing-true : IsTrueOf bounds scripts nothing
+  pub nothing-true : IsTrueOf bounds scripts rest nothing
   nothing-true Cycle h = absurd (false≢true h)
   nothing-true Stuck h = absurd (false≢true h)
   nothing-true Refusing h = absurd (false≢true h)
 
-  module _ (state : State) (reached : IsReached bounds scripts state) (start now : List State) (seen : ThreadsSeen) (tried : IsTried bounds scripts state start now seen bounds.threads) (found : Found) where
+  module _ (state : State) (reached : IsReached bounds scripts rest state) (start now : List State) (seen : ThreadsSeen) (tried : IsTried bounds scripts rest state start now seen bounds.threads) (found : Found) where
     -- 88. what is found stays true
-    pub found-true : IsTrueOf bounds scripts found → IsTrueOf bounds scripts (found_after found state.marks.alarmed seen)
+    pub found-true : IsTrueOf bounds scripts rest found → IsTrueOf bounds scripts rest (found_after found state.marks.alarmed seen)
     found-true true_before fault h = ⊎_elim
         (λ old. true_before fault old)
         (λ told. record {
           log = reached.log;
           run = reached.run;
-          bad = told-true bounds scripts reached.log reached.run seen (tried.threads reached.log reached.run reached.stands) state.marks.alarmed reached.stands.graph.alarmed.0 reached.stands.graph.alarmed.1 fault told;
+          bad = told-true bounds scripts rest reached.log reached.run seen (tried.threads reached.log reached.run reached.stands) state.marks.alarmed reached.stands.graph.alarmed.0 reached.stands.graph.alarmed.1 fault told;
         })
         (or_cases (has_fault found fault) (is_told state.marks.alarmed seen fault) (sym (found-either found state.marks.alarmed seen fault) ∙ h))
 
@@ -141,25 +141,25 @@ module _ (bounds : Bounds) (scripts : List (List Kind)) where
     found-more fault h = (or_parts (has_fault found fault) (is_told state.marks.alarmed seen fault) (sym (found-either found state.marks.alarmed seen fault) ∙ h)).0
 
     -- what is found now and was not before is there after each log of the state
-    pub found-shows : (fault : Fault) → has_fault found fault ≡ false → has_fault (found_after found state.marks.alarmed seen) fault ≡ true → (log : List Event) → IsRunOf bounds scripts log → IsStateOf log state → IsFault bounds scripts fault log
+    pub found-shows : (fault : Fault) → has_fault found fault ≡ false → has_fault (found_after found state.marks.alarmed seen) fault ≡ true → (log : List Event) → IsRunOf bounds scripts log → IsStateOf rest log state → IsFault bounds scripts rest fault log
     found-shows fault none some log run stands = ⊎_elim
         (λ old. absurd (false≢true (sym none ∙ old)))
-        (λ told. told-true bounds scripts log run seen (tried.threads log run stands) state.marks.alarmed stands.graph.alarmed.0 stands.graph.alarmed.1 fault told)
+        (λ told. told-true bounds scripts rest log run seen (tried.threads log run stands) state.marks.alarmed stands.graph.alarmed.0 stands.graph.alarmed.1 fault told)
         (or_cases (has_fault found fault) (is_told state.marks.alarmed seen fault) (sym (found-either found state.marks.alarmed seen fault) ∙ some))
 
     -- 90. and the state is clean of it, where those after it are
-    pub found-leads : (n : ℕ) (fault : Fault) → has_fault (found_after found state.marks.alarmed seen) fault ≡ false → All (IsClean bounds scripts n fault) now → (All (IsClean bounds scripts n fault) start × IsClean bounds scripts (n + 1) fault state)
+    pub found-leads : (n : ℕ) (fault : Fault) → has_fault (found_after found state.marks.alarmed seen) fault ≡ false → All (IsClean bounds scripts rest n fault) now → (All (IsClean bounds scripts rest n fault) start × IsClean bounds scripts rest (n + 1) fault state)
     found-leads n fault h all =
         let none = (or_parts (has_fault found fault) (is_told state.marks.alarmed seen fault) (sym (found-either found state.marks.alarmed seen fault) ∙ h)).1 in
         let w = tried.leads n fault all in (
           w.0,
           record {
-            each = λ log run stands. rule_of_all bounds scripts (IsFault bounds scripts fault) n log
-                (told-false bounds scripts log run seen (tried.threads log run stands) state.marks.alarmed stands.graph.alarmed.0 stands.graph.alarmed.1 fault none)
+            each = λ log run stands. rule_of_all bounds scripts (IsFault bounds scripts rest fault) n log
+                (told-false bounds scripts rest log run seen (tried.threads log run stands) state.marks.alarmed stands.graph.alarmed.0 stands.graph.alarmed.1 fault none)
                 (λ e next. (w.1 (thread_of e) next.follows.known_thread).each log e run stands refl next);
           },
         )
 
   -- 91. no event
-  pub start-reached : (state : State) → bounds_of state.heap ≡ bounds → IsStateOf [] state → IsReached bounds scripts state
+  pub start-reached : (state : State) → bounds_of state.heap ≡ bounds → IsStateOf rest [] state → IsReached bounds scripts rest state
   start-reached state same stands = record { log = []; run = IsRunOf-nil bounds scripts; stands = stands; same = same }

@@ -97,8 +97,8 @@ longer-push steps now s is = record { more = s ∷ []; is = is }
 
 -- ---- states
 
-module _ (bounds : Bounds) (scripts : List (List Kind)) where
-  pub reached-longer : (old now : List Step) (state : State) → IsLonger old now → IsReachedBy bounds scripts old state → IsReachedBy bounds scripts now state
+module _ (bounds : Bounds) (scripts : List (List Kind)) (rest : List Event → List Event) where
+  pub reached-longer : (old now : List Step) (state : State) → IsLonger old now → IsReachedBy bounds scripts rest old state → IsReachedBy bounds scripts rest now state
   reached-longer old now state longer r = record {
     log = r.log;
     run = r.run;
@@ -107,15 +107,15 @@ module _ (bounds : Bounds) (scripts : List (List Kind)) where
     way = subst (λ xs. IsWay xs state.place (turns_of r.log)) (sym longer.is) (way-longer old longer.more state.place (turns_of r.log) r.way);
   }
 
-  pub reached-plain : (steps : List Step) (state : State) → IsReachedBy bounds scripts steps state → IsReached bounds scripts state
+  pub reached-plain : (steps : List Step) (state : State) → IsReachedBy bounds scripts rest steps state → IsReached bounds scripts rest state
   reached-plain steps state r = record { log = r.log; run = r.run; stands = r.stands; same = r.same }
 
-  pub reached-within : (steps : List Step) (state : State) → IsReachedBy bounds scripts steps state → state.place ≤ length steps
+  pub reached-within : (steps : List Step) (state : State) → IsReachedBy bounds scripts rest steps state → state.place ≤ length steps
   reached-within steps state r = way-within steps state.place (turns_of r.log) r.way
 
   -- the state after a next event
-  pub reached-next : (old now : List Step) (before after : State) (e : Event) (r : IsReachedBy bounds scripts old before) → IsNext bounds scripts r.log e → IsStateOf (r.log ++ e ∷ []) after → bounds_of after.heap ≡ bounds →
-      now ≡ old ++ record { before = before.place; thread = e.thread } ∷ [] → after.place ≡ length old + 1 → IsReachedBy bounds scripts now after
+  pub reached-next : (old now : List Step) (before after : State) (e : Event) (r : IsReachedBy bounds scripts rest old before) → IsNext bounds scripts r.log e → IsStateOf rest (r.log ++ e ∷ []) after → bounds_of after.heap ≡ bounds →
+      now ≡ old ++ record { before = before.place; thread = e.thread } ∷ [] → after.place ≡ length old + 1 → IsReachedBy bounds scripts rest now after
   reached-next old now before after e r next stands same steps place = record {
     log = r.log ++ e ∷ [];
     run = IsRunOf-next bounds scripts r.log e r.run next;
@@ -128,13 +128,13 @@ module _ (bounds : Bounds) (scripts : List (List Kind)) where
   }
 
   -- from the same state once more
-  pub reached-behind : (old now : List Step) (before copy after : State) (e : Event) (r : IsReachedBy bounds scripts old before) → copy.place ≡ before.place → IsNext bounds scripts r.log e → IsStateOf (r.log ++ e ∷ []) after → bounds_of after.heap ≡ bounds →
-      now ≡ old ++ record { before = copy.place; thread = e.thread } ∷ [] → after.place ≡ length old + 1 → IsReachedBy bounds scripts now after
+  pub reached-behind : (old now : List Step) (before copy after : State) (e : Event) (r : IsReachedBy bounds scripts rest old before) → copy.place ≡ before.place → IsNext bounds scripts r.log e → IsStateOf rest (r.log ++ e ∷ []) after → bounds_of after.heap ≡ bounds →
+      now ≡ old ++ record { before = copy.place; thread = e.thread } ∷ [] → after.place ≡ length old + 1 → IsReachedBy bounds scripts rest now after
   reached-behind old now before copy after e r from next stands same steps place =
       reached-next old now before after e r next stands same (steps ∙ ap (λ (n : ℕ). old ++ record { before = n; thread = e.thread } ∷ []) from) place
 
   -- the same state once more
-  pub reached-same : (steps : List Step) (before after : State) → IsReachedBy bounds scripts steps before → ((log : List Event) → IsStateOf log before → IsStateOf log after) → bounds_of after.heap ≡ bounds → after.place ≡ before.place → IsReachedBy bounds scripts steps after
+  pub reached-same : (steps : List Step) (before after : State) → IsReachedBy bounds scripts rest steps before → ((log : List Event) → IsStateOf rest log before → IsStateOf rest log after) → bounds_of after.heap ≡ bounds → after.place ≡ before.place → IsReachedBy bounds scripts rest steps after
   reached-same steps before after r stands same place = record {
     log = r.log;
     run = r.run;
@@ -144,7 +144,7 @@ module _ (bounds : Bounds) (scripts : List (List Kind)) where
   }
 
   -- before any event
-  pub reached-start : (steps : List Step) (state : State) → bounds_of state.heap ≡ bounds → IsStateOf [] state → state.place ≡ 0 → IsReachedBy bounds scripts steps state
+  pub reached-start : (steps : List Step) (state : State) → bounds_of state.heap ≡ bounds → IsStateOf rest [] state → state.place ≡ 0 → IsReachedBy bounds scripts rest steps state
   reached-start steps state same stands place = record {
     log = [];
     run = IsRunOf-nil bounds scripts;
@@ -153,7 +153,7 @@ module _ (bounds : Bounds) (scripts : List (List Kind)) where
     way = IsWay.none steps state.place [] place refl;
   }
 
-  pub all-longer : (old now : List Step) (states : List State) → IsLonger old now → All (IsReachedBy bounds scripts old) states → All (IsReachedBy bounds scripts now) states
+  pub all-longer : (old now : List Step) (states : List State) → IsLonger old now → All (IsReachedBy bounds scripts rest old) states → All (IsReachedBy bounds scripts rest now) states
   all-longer old now states longer all = λ k d l. reached-longer old now _ longer (all k d l)
 
 -- ---- what is shown of what was found
@@ -216,16 +216,16 @@ notes-by old place before given after now steps first alarms shown alarm stuck r
 
 -- ---- trails that go on
 
-pub alarms-same : (bounds : Bounds) (scripts : List (List Kind)) (old now : Trail) → alarms_of now.shown ≡ alarms_of old.shown → AlarmsGoOn bounds scripts old now
-alarms-same bounds scripts old now same = record {
-  lead = λ all. subst (All (LeadsTo bounds scripts Cycle)) (sym same) all;
+pub alarms-same : (bounds : Bounds) (scripts : List (List Kind)) (rest : List Event → List Event) (old now : Trail) → alarms_of now.shown ≡ alarms_of old.shown → AlarmsGoOn bounds scripts rest old now
+alarms-same bounds scripts rest old now same = record {
+  lead = λ all. subst (All (LeadsTo bounds scripts rest Cycle)) (sym same) all;
   more = omega (arith, ap length same);
   few = λ l. subst (λ xs. length xs ≤ MAX_ALARMS) (sym same) l;
   none = λ first. same;
 }
 
-pub alarms-next : (bounds : Bounds) (scripts : List (List Kind)) (one two three : Trail) → two.first ≡ one.first → AlarmsGoOn bounds scripts one two → AlarmsGoOn bounds scripts two three → AlarmsGoOn bounds scripts one three
-alarms-next bounds scripts one two three same here there = record {
+pub alarms-next : (bounds : Bounds) (scripts : List (List Kind)) (rest : List Event → List Event) (one two three : Trail) → two.first ≡ one.first → AlarmsGoOn bounds scripts rest one two → AlarmsGoOn bounds scripts rest two three → AlarmsGoOn bounds scripts rest one three
+alarms-next bounds scripts rest one two three same here there = record {
   lead = λ all. there.lead (here.lead all);
   more = omega (arith, here.more, there.more);
   few = λ l. there.few (here.few l);
@@ -233,17 +233,17 @@ alarms-next bounds scripts one two three same here there = record {
 }
 
 -- one more is noted, to a state with a cycle
-pub alarms-note : (bounds : Bounds) (scripts : List (List Kind)) (old now : Trail) (state : State) → IsReachedBy bounds scripts old.steps.items state → state.marks.alarmed ≡ true → NotesAlarm old state.place now → AlarmsGoOn bounds scripts old now
-alarms-note bounds scripts old now state r alarmed notes = record {
+pub alarms-note : (bounds : Bounds) (scripts : List (List Kind)) (rest : List Event → List Event) (old now : Trail) (state : State) → IsReachedBy bounds scripts rest old.steps.items state → state.marks.alarmed ≡ true → NotesAlarm old state.place now → AlarmsGoOn bounds scripts rest old now
+alarms-note bounds scripts rest old now state r alarmed notes = record {
   lead = λ all. lead all notes.alarms;
   more = more notes.alarms;
   few = notes.few;
   none = notes.none;
 }
   where
-    lead : All (LeadsTo bounds scripts Cycle) (alarms_of old.shown) → (alarms_of now.shown ≡ alarms_of old.shown) ⊎ ((turns : List ThreadId) × (alarms_of now.shown ≡ alarms_of old.shown ++ turns ∷ []) × IsWay old.steps.items state.place turns) → All (LeadsTo bounds scripts Cycle) (alarms_of now.shown)
-    lead all (inl same) = subst (All (LeadsTo bounds scripts Cycle)) (sym same) all
-    lead all (inr (turns, is, way)) = subst (All (LeadsTo bounds scripts Cycle)) (sym is) (All-push (LeadsTo bounds scripts Cycle) (alarms_of old.shown) turns all (record {
+    lead : All (LeadsTo bounds scripts rest Cycle) (alarms_of old.shown) → (alarms_of now.shown ≡ alarms_of old.shown) ⊎ ((turns : List ThreadId) × (alarms_of now.shown ≡ alarms_of old.shown ++ turns ∷ []) × IsWay old.steps.items state.place turns) → All (LeadsTo bounds scripts rest Cycle) (alarms_of now.shown)
+    lead all (inl same) = subst (All (LeadsTo bounds scripts rest Cycle)) (sym same) all
+    lead all (inr (turns, is, way)) = subst (All (LeadsTo bounds scripts rest Cycle)) (sym is) (All-push (LeadsTo bounds scripts rest Cycle) (alarms_of old.shown) turns all (record {
       log = r.log;
       run = r.run;
       by = way-one old.steps.items state.place (turns_of r.log) turns r.way way;
@@ -294,13 +294,13 @@ goes-cut first second third one steps shown is = record {
   first = is ∙ one.first;
 }
 
-module _ (bounds : Bounds) (scripts : List (List Kind)) where
-  pub settles_by-same : (trail : Trail) (state : State) → IsReachedBy bounds scripts trail.steps.items state → SettlesBy bounds scripts trail state trail state
-  settles_by-same trail state r = record { settles = settles_same bounds scripts state; reached = r; goes_on = goes-same trail trail refl; alarms = refl }
+module _ (bounds : Bounds) (scripts : List (List Kind)) (rest : List Event → List Event) where
+  pub settles_by-same : (trail : Trail) (state : State) → IsReachedBy bounds scripts rest trail.steps.items state → SettlesBy bounds scripts rest trail state trail state
+  settles_by-same trail state r = record { settles = settles_same bounds scripts rest state; reached = r; goes_on = goes-same trail trail refl; alarms = refl }
 
-  pub settles_by-next : (one two three : Trail) (first second third : State) → SettlesBy bounds scripts one first two second → SettlesBy bounds scripts two second three third → SettlesBy bounds scripts one first three third
+  pub settles_by-next : (one two three : Trail) (first second third : State) → SettlesBy bounds scripts rest one first two second → SettlesBy bounds scripts rest two second three third → SettlesBy bounds scripts rest one first three third
   settles_by-next one two three first second third p q = record {
-    settles = settles_next bounds scripts first second third p.settles q.settles;
+    settles = settles_next bounds scripts rest first second third p.settles q.settles;
     reached = q.reached;
     goes_on = goes-next one two three p.goes_on q.goes_on;
     alarms = q.alarms ∙ p.alarms;
@@ -309,11 +309,11 @@ module _ (bounds : Bounds) (scripts : List (List Kind)) where
   -- ---- what is shown
 
   -- the turns to a state at which a fault was found first
-  pub shown-note : (first : Bool) (before after : Found) (old now : Trail) (state : State) → IsReachedBy bounds scripts old.steps.items state → AreShown bounds scripts first before old →
+  pub shown-note : (first : Bool) (before after : Found) (old now : Trail) (state : State) → IsReachedBy bounds scripts rest old.steps.items state → AreShown bounds scripts rest first before old →
       ((fault : Fault) → has_fault after fault ≡ false → has_fault before fault ≡ false) →
-      ((fault : Fault) → has_fault before fault ≡ false → has_fault after fault ≡ true → (log : List Event) → IsRunOf bounds scripts log → IsStateOf log state → IsFault bounds scripts fault log) →
+      ((fault : Fault) → has_fault before fault ≡ false → has_fault after fault ≡ true → (log : List Event) → IsRunOf bounds scripts log → IsStateOf rest log state → IsFault bounds scripts rest fault log) →
       (old.first ≡ false → before.alarm ≡ false → after.alarm ≡ true → 0 < length (alarms_of old.shown)) →
-      NotesTurns old state.place before after now → AreShown bounds scripts first after now
+      NotesTurns old state.place before after now → AreShown bounds scripts rest first after now
   shown-note first before after old now state r shown more bad alarm notes = record {
     same = notes.first ∙ shown.same;
     leads = λ fault. leads fault (notes.turns fault);
@@ -322,14 +322,14 @@ module _ (bounds : Bounds) (scripts : List (List Kind)) where
         (λ not_before. notes.each fault not_before (subst (λ b. has_fault (shown_of b after) fault ≡ true) (sym shown.same) found))
         (cases_Bool (has_fault before fault));
     alarms = record {
-      lead = subst (All (LeadsTo bounds scripts Cycle)) (sym notes.alarms) shown.alarms.lead;
+      lead = subst (All (LeadsTo bounds scripts rest Cycle)) (sym notes.alarms) shown.alarms.lead;
       few = subst (λ xs. length xs ≤ MAX_ALARMS) (sym notes.alarms) shown.alarms.few;
       none = λ all. notes.alarms ∙ shown.alarms.none all;
       some = λ all there. subst (λ xs. 0 < length xs) (sym notes.alarms) (at_least_one all there (notes.turns Cycle));
     };
   }
     where
-      to : (fault : Fault) → has_fault before fault ≡ false → has_fault after fault ≡ true → (o : Option (List ThreadId)) → IfSome o (IsWay now.steps.items state.place) → IfSome o (LeadsTo bounds scripts fault)
+      to : (fault : Fault) → has_fault before fault ≡ false → has_fault after fault ≡ true → (o : Option (List ThreadId)) → IfSome o (IsWay now.steps.items state.place) → IfSome o (LeadsTo bounds scripts rest fault)
       to fault none some None way = tt
       to fault none some (Some turns) way = record {
         log = r.log;
@@ -338,8 +338,8 @@ module _ (bounds : Bounds) (scripts : List (List Kind)) where
         bad = bad fault none some r.log r.run r.stands;
       }
 
-      leads : (fault : Fault) → (turns_for now.shown fault ≡ turns_for old.shown fault) ⊎ ((has_fault before fault ≡ false) × (has_fault after fault ≡ true) × IfSome (turns_for now.shown fault) (IsWay now.steps.items state.place)) → IfSome (turns_for now.shown fault) (LeadsTo bounds scripts fault)
-      leads fault (inl same) = subst (λ o. IfSome o (LeadsTo bounds scripts fault)) (sym same) (shown.leads fault)
+      leads : (fault : Fault) → (turns_for now.shown fault ≡ turns_for old.shown fault) ⊎ ((has_fault before fault ≡ false) × (has_fault after fault ≡ true) × IfSome (turns_for now.shown fault) (IsWay now.steps.items state.place)) → IfSome (turns_for now.shown fault) (LeadsTo bounds scripts rest fault)
+      leads fault (inl same) = subst (λ o. IfSome o (LeadsTo bounds scripts rest fault)) (sym same) (shown.leads fault)
       leads fault (inr (none, some, way)) = to fault none some (turns_for now.shown fault) way
 
       at_least_one : first ≡ false → IsTrue (is_some (turns_for now.shown Cycle)) → (turns_for now.shown Cycle ≡ turns_for old.shown Cycle) ⊎ ((before.alarm ≡ false) × (after.alarm ≡ true) × IfSome (turns_for now.shown Cycle) (IsWay now.steps.items state.place)) → 0 < length (alarms_of old.shown)
@@ -351,13 +351,13 @@ module _ (bounds : Bounds) (scripts : List (List Kind)) where
       kept fault some (inr (none, found, way)) was = absurd (false≢true (sym none ∙ was))
 
   -- nothing is, at the start
-  pub shown-nothing : (first : Bool) (found : Found) (trail : Trail) → found ≡ nothing → trail.first ≡ first → ((fault : Fault) → turns_for trail.shown fault ≡ None) → alarms_of trail.shown ≡ [] → AreShown bounds scripts first found trail
+  pub shown-nothing : (first : Bool) (found : Found) (trail : Trail) → found ≡ nothing → trail.first ≡ first → ((fault : Fault) → turns_for trail.shown fault ≡ None) → alarms_of trail.shown ≡ [] → AreShown bounds scripts rest first found trail
   shown-nothing first found trail is same none empty = record {
     same = same;
-    leads = λ fault. subst (λ o. IfSome o (LeadsTo bounds scripts fault)) (sym (none fault)) tt;
+    leads = λ fault. subst (λ o. IfSome o (LeadsTo bounds scripts rest fault)) (sym (none fault)) tt;
     each = λ fault h. absurd (nowhere fault (subst (λ (f : Found). has_fault f fault ≡ true) is (shown-found first found fault h)));
     alarms = record {
-      lead = subst (All (LeadsTo bounds scripts Cycle)) (sym empty) (All-nil (LeadsTo bounds scripts Cycle));
+      lead = subst (All (LeadsTo bounds scripts rest Cycle)) (sym empty) (All-nil (LeadsTo bounds scripts rest Cycle));
       few = omega (arith, ap length empty);
       none = λ all. empty;
       some = λ all there. absurd (false≢true (sym (ap is_some (none Cycle)) ∙ there));
@@ -370,10 +370,10 @@ module _ (bounds : Bounds) (scripts : List (List Kind)) where
       nowhere Refusing h = false≢true h
 
   -- it stays shown where the trail goes on
-  pub shown-goes_on : (first : Bool) (found : Found) (old now : Trail) → GoesOn old now → AlarmsGoOn bounds scripts old now → AreShown bounds scripts first found old → AreShown bounds scripts first found now
+  pub shown-goes_on : (first : Bool) (found : Found) (old now : Trail) → GoesOn old now → AlarmsGoOn bounds scripts rest old now → AreShown bounds scripts rest first found old → AreShown bounds scripts rest first found now
   shown-goes_on first found old now on alarms shown = record {
     same = on.first ∙ shown.same;
-    leads = λ fault. subst (λ o. IfSome o (LeadsTo bounds scripts fault)) (sym (on.shown fault)) (shown.leads fault);
+    leads = λ fault. subst (λ o. IfSome o (LeadsTo bounds scripts rest fault)) (sym (on.shown fault)) (shown.leads fault);
     each = λ fault h. ap is_some (on.shown fault) ∙ shown.each fault h;
     alarms = record {
       lead = alarms.lead shown.alarms.lead;
@@ -393,10 +393,10 @@ module _ (old mid now : Trail) (count : ℕ) (all : count ≡ length old.steps.i
   goes-kept states kept (inl same) shown first = goes-next old mid now on (record { longer = longer-same mid.steps.items now.steps.items same; shown = λ fault. ap (λ x. turns_for x fault) shown; first = first })
   goes-kept states kept (inr (none, steps)) shown first = goes-cut old mid now on (steps ∙ cut_back) shown first
 
-  pub kept-reached : (bounds : Bounds) (scripts : List (List Kind)) (states kept : List State) (state : State) → ((s : State) → Contains kept s → Contains states s ⊎ (state ≡ s)) → IsReachedBy bounds scripts mid.steps.items state →
-      (now.steps.items ≡ mid.steps.items) ⊎ ((kept ≡ states) × (now.steps.items ≡ take count mid.steps.items)) → All (IsReachedBy bounds scripts old.steps.items) states → All (IsReachedBy bounds scripts now.steps.items) kept
-  kept-reached bounds scripts states kept state members here (inl same) all_old =
-      subst (λ xs. All (IsReachedBy bounds scripts xs) kept) (sym same)
-      (All-kept (IsReachedBy bounds scripts mid.steps.items) states kept state members (all-longer bounds scripts old.steps.items mid.steps.items states on.longer all_old) here)
-  kept-reached bounds scripts states kept state members here (inr (none, steps)) all_old =
-      subst (λ xs. All (IsReachedBy bounds scripts xs) kept) (sym (steps ∙ cut_back)) (subst (All (IsReachedBy bounds scripts old.steps.items)) (sym none) all_old)
+  pub kept-reached : (bounds : Bounds) (scripts : List (List Kind)) (rest : List Event → List Event) (states kept : List State) (state : State) → ((s : State) → Contains kept s → Contains states s ⊎ (state ≡ s)) → IsReachedBy bounds scripts rest mid.steps.items state →
+      (now.steps.items ≡ mid.steps.items) ⊎ ((kept ≡ states) × (now.steps.items ≡ take count mid.steps.items)) → All (IsReachedBy bounds scripts rest old.steps.items) states → All (IsReachedBy bounds scripts rest now.steps.items) kept
+  kept-reached bounds scripts rest states kept state members here (inl same) all_old =
+      subst (λ xs. All (IsReachedBy bounds scripts rest xs) kept) (sym same)
+      (All-kept (IsReachedBy bounds scripts rest mid.steps.items) states kept state members (all-longer bounds scripts rest old.steps.items mid.steps.items states on.longer all_old) here)
+  kept-reached bounds scripts rest states kept state members here (inr (none, steps)) all_old =
+      subst (λ xs. All (IsReachedBy bounds scripts rest xs) kept) (sym (steps ∙ cut_back)) (subst (All (IsReachedBy bounds scripts rest old.steps.items)) (sym none) all_old)

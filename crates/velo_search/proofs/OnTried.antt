@@ -70,53 +70,53 @@ module _ (bounds : Bounds) (scripts : List (List Kind)) (log : List Event) (run 
 
 -- ---- after all logs for which the state stands
 
-module _ (bounds : Bounds) (scripts : List (List Kind)) (state : State) (t : ℕ) where
+module _ (bounds : Bounds) (scripts : List (List Kind)) (rest : List Event → List Event) (state : State) (t : ℕ) where
   Each : (List Event → Type 0) → Type 0
-  Each P = (log : List Event) → IsRunOf bounds scripts log → IsStateOf log state → P log
+  Each P = (log : List Event) → IsRunOf bounds scripts log → IsStateOf rest log state → P log
 
   -- who is turned down or idle has no next event
-  clean-none : Each (λ log. (e : Event) → thread_of e ≡ t → IsNext bounds scripts log e → ⊥) → (n : ℕ) (fault : Fault) → IsCleanBy bounds scripts n fault state t
+  clean-none : Each (λ log. (e : Event) → thread_of e ≡ t → IsNext bounds scripts log e → ⊥) → (n : ℕ) (fault : Fault) → IsCleanBy bounds scripts rest n fault state t
   unfolding Each
   clean-none none n fault = record { each = λ log e run stands own next. absurd (none log run stands e own next) }
 
-  kept_on : (start now : List State) (seen after : ThreadsSeen) → IsTried bounds scripts state start now seen t → ((n : ℕ) (fault : Fault) → IsCleanBy bounds scripts n fault state t) →
-      ((log : List Event) → IsRunOf bounds scripts log → IsStateOf log state → IsSeen bounds scripts log after (t + 1)) → IsTried bounds scripts state start now after (t + 1)
+  kept_on : (start now : List State) (seen after : ThreadsSeen) → IsTried bounds scripts rest state start now seen t → ((n : ℕ) (fault : Fault) → IsCleanBy bounds scripts rest n fault state t) →
+      ((log : List Event) → IsRunOf bounds scripts log → IsStateOf rest log state → IsSeen bounds scripts log after (t + 1)) → IsTried bounds scripts rest state start now after (t + 1)
   kept_on start now seen after tried clean threads = record {
     reached = tried.reached;
-    leads = λ n fault all. let w = tried.leads n fault all in (w.0, below_next (IsCleanBy bounds scripts n fault state) t w.1 (clean n fault));
+    leads = λ n fault all. let w = tried.leads n fault all in (w.0, below_next (IsCleanBy bounds scripts rest n fault state) t w.1 (clean n fault));
     threads = threads;
   }
 
   -- 80. the thread is idle
-  pub tried-idle : (start now : List State) (seen : ThreadsSeen) → ((log : List Event) → IsRunOf bounds scripts log → IsStateOf log state → IsIdle scripts log t) → IsTried bounds scripts state start now seen t → IsTried bounds scripts state start now seen (t + 1)
+  pub tried-idle : (start now : List State) (seen : ThreadsSeen) → ((log : List Event) → IsRunOf bounds scripts log → IsStateOf rest log state → IsIdle scripts log t) → IsTried bounds scripts rest state start now seen t → IsTried bounds scripts rest state start now seen (t + 1)
   unfolding Each
   tried-idle start now seen idle tried = kept_on start now seen seen tried
       (clean-none (λ log run stands e own next. next-not_idle bounds scripts log t e run own next (idle log run stands)))
       (λ log run stands. seen-idle bounds scripts log run t seen (tried.threads log run stands) (idle log run stands))
 
   -- 81. it waits
-  pub tried-waits : (start now : List State) (seen : ThreadsSeen) → ((log : List Event) → IsRunOf bounds scripts log → IsStateOf log state → IsWaiting bounds scripts log t) → IsTried bounds scripts state start now seen t → IsTried bounds scripts state start now (record seen { waits = true }) (t + 1)
+  pub tried-waits : (start now : List State) (seen : ThreadsSeen) → ((log : List Event) → IsRunOf bounds scripts log → IsStateOf rest log state → IsWaiting bounds scripts log t) → IsTried bounds scripts rest state start now seen t → IsTried bounds scripts rest state start now (record seen { waits = true }) (t + 1)
   unfolding Each
   tried-waits start now seen waits tried = kept_on start now seen (record seen { waits = true }) tried
       (clean-none (λ log run stands e own next. let w = waits log run stands in next-not_turned bounds scripts log t e run own next w.refusal w.turned))
       (λ log run stands. seen-waits bounds scripts log run t seen (tried.threads log run stands) (waits log run stands))
 
   -- 82. it is refused
-  pub tried-refused : (start now : List State) (seen : ThreadsSeen) → ((log : List Event) → IsRunOf bounds scripts log → IsStateOf log state → IsRefused bounds scripts log t) → IsTried bounds scripts state start now seen t → IsTried bounds scripts state start now (record seen { refused = true }) (t + 1)
+  pub tried-refused : (start now : List State) (seen : ThreadsSeen) → ((log : List Event) → IsRunOf bounds scripts log → IsStateOf rest log state → IsRefused bounds scripts log t) → IsTried bounds scripts rest state start now seen t → IsTried bounds scripts rest state start now (record seen { refused = true }) (t + 1)
   unfolding Each
   tried-refused start now seen refused tried = kept_on start now seen (record seen { refused = true }) tried
       (clean-none (λ log run stands e own next. let w = refused log run stands in next-not_turned bounds scripts log t e run own next w.refusal w.turned))
       (λ log run stands. seen-refused bounds scripts log run t seen (tried.threads log run stands) (refused log run stands))
 
   -- 83. it goes on to a state that is kept
-  pub tried-acts : (start old now : List State) (seen : ThreadsSeen) (e : Event) (after : State) → thread_of e ≡ t → ((log : List Event) → IsRunOf bounds scripts log → IsStateOf log state → IsNext bounds scripts log e) →
+  pub tried-acts : (start old now : List State) (seen : ThreadsSeen) (e : Event) (after : State) → thread_of e ≡ t → ((log : List Event) → IsRunOf bounds scripts log → IsStateOf rest log state → IsNext bounds scripts log e) →
       ((s : State) → Contains now s → Contains old s ⊎ (after ≡ s)) → ((s : State) → Contains old s → Contains now s) → StandsAmong now after →
-      IsReached bounds scripts after → ((n : ℕ) (fault : Fault) → IsClean bounds scripts n fault after → IsCleanBy bounds scripts n fault state t) →
-      IsTried bounds scripts state start old seen t → IsTried bounds scripts state start now (record seen { acts = true }) (t + 1)
+      IsReached bounds scripts rest after → ((n : ℕ) (fault : Fault) → IsClean bounds scripts rest n fault after → IsCleanBy bounds scripts rest n fault state t) →
+      IsTried bounds scripts rest state start old seen t → IsTried bounds scripts rest state start now (record seen { acts = true }) (t + 1)
   tried-acts start old now seen e after own next members before among reached leads tried = record {
-    reached = All-kept (IsReached bounds scripts) old now after members tried.reached reached;
+    reached = All-kept (IsReached bounds scripts rest) old now after members tried.reached reached;
     leads = λ n fault all.
-        let w = tried.leads n fault (All-before (IsClean bounds scripts n fault) old now before all) in
-        (w.0, below_next (IsCleanBy bounds scripts n fault state) t w.1 (leads n fault (clean-among bounds scripts n fault now after among all)));
+        let w = tried.leads n fault (All-before (IsClean bounds scripts rest n fault) old now before all) in
+        (w.0, below_next (IsCleanBy bounds scripts rest n fault state) t w.1 (leads n fault (clean-among bounds scripts rest n fault now after among all)));
     threads = λ log run stands. seen-acts bounds scripts log run t seen (tried.threads log run stands) e own (next log run stands);
   }

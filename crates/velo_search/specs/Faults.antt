@@ -1,4 +1,4 @@
--- What can go wrong with a run: it has a cycle, it is stuck, or an operation is refused.
+-- What can go wrong with a run: what is left of it has a cycle, it is stuck, or an operation is refused.
 use Rattle.std.specs.Prelude.{◌≡◌, ◌≢◌, ◌⊎◌, ℕ, ◌<◌, Bool, true, false, List, slice_get, Some, None, IsTrue, IsFalse}
 use Rattle.velo_events.specs.declared.config.Bounds.{Bounds}
 use Rattle.velo_events.specs.declared.event.Event.{Event}
@@ -65,7 +65,8 @@ pub record IsStuck (bounds : Bounds) (scripts : List (List Kind)) (log : List Ev
 pub record SomeRefused (bounds : Bounds) (scripts : List (List Kind)) (log : List Event) : Type 0 where
   pub some : (t : ℕ) × (t < bounds.threads) × IsRefused bounds scripts log t
 
-abbrev pub IsFault : Bounds → List (List Kind) → Fault → List Event → Type 0
-IsFault bounds scripts Cycle log = HasCycle log
-IsFault bounds scripts Stuck log = IsStuck bounds scripts log
-IsFault bounds scripts Refusing log = SomeRefused bounds scripts log
+-- a log is judged by what is left of it
+abbrev pub IsFault : Bounds → List (List Kind) → (List Event → List Event) → Fault → List Event → Type 0
+IsFault bounds scripts rest Cycle log = HasCycle (rest log)
+IsFault bounds scripts rest Stuck log = IsStuck bounds scripts log
+IsFault bounds scripts rest Refusing log = SomeRefused bounds scripts log

@@ -5,6 +5,8 @@ pub mod Kept
 pub mod States
 pub mod Plain
 pub mod Runs
+pub mod Parts
+pub mod Marked
 pub mod Fitting
 pub mod Naming
 pub mod Exchanges

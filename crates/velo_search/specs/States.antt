@@ -7,13 +7,13 @@ use Rattle.velo_search.specs.declared.state.State.{State}
 use Rattle.velo_search.specs.Summary.{IsSummaryOf}
 use Rattle.velo_search.specs.Kept.{summary_of, AreSame}
 
-pub record IsStateOf (log : List Event) (state : State) : Type 0 where
+pub record IsStateOf (rest : List Event → List Event) (log : List Event) (state : State) : Type 0 where
   -- the log is well-formed, and its values, statuses, depths and holders are those of the heap
   pub heap : IsHeapOf state.heap log
   -- how many events each thread has done
   pub next : Tabulates state.next.items (events_of log)
-  -- whether there is a cycle, and else which unfinished transactions reach which groups
-  pub graph : IsSummaryOf log (summary_of state.marks)
+  -- of what is left of the log whether there is a cycle, and else which unfinished transactions reach which groups
+  pub graph : IsSummaryOf (rest log) (summary_of state.marks)
 
 -- they are the same, wherever they come from
 pub record AreSameStates (one other : State) : Type 0 where

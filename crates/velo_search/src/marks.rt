@@ -15,6 +15,7 @@ use crate::copied::copied;
 use crate::group::Group;
 use crate::key::mixed;
 use crate::mark::Mark;
+use crate::part::Part;
 use std::alloc::Global;
 use velo_events::growth::filled;
 use velo_events::{Access, Bounds, Cell, Event, Memory, ThreadId, ThreadSet};
@@ -40,6 +41,7 @@ fn are_same(one: &[Mark], other: &[Mark]) -> bool
 
 impl Marks {
     ghost use Rattle.velo_search.specs.Kept.{summary_of, AreSame};
+    ghost use Rattle.velo_search.specs.Parts.{IsPart};
 
     /// Where the cell stands among the variables and locks.
     fn cell(&self, cell: Cell) -> usize
@@ -236,6 +238,22 @@ impl Marks {
         } else {
             self.enter(event.thread, access);
             self.spread(event.thread, looked.reached, inside);
+        }
+    }
+
+    /// One more event of a log, which is this part of what is left of it: the marks are those of
+    /// what is left.
+    pub fn take_in(&mut self, event: &Event, part: Part)
+        requires thread { thread_of event.now < self.old.bounds.threads }
+        requires names { NamesKnown self.old.bounds event.now.kind }
+        ensures bounds { self.new.bounds ≡ self.old.bounds }
+        ensures next { (rest : List Event → List Event) (log : List Event) → IsPart rest self.old.bounds log event.now part →
+            IsSummaryOf (rest log) (summary_of self.old) → IsSummaryOf (rest (log ++ event.now ∷ [])) (summary_of self.new) }
+    {
+        match part {
+            Part::LeftOut => {}
+            Part::Outside => self.step(event, false),
+            Part::Inside => self.step(event, true),
         }
     }
 }

@@ -5,9 +5,12 @@ ghost use Rattle.std.specs.Option.{option_map_or};
 use crate::fitting::fitted;
 use crate::free::{free_ones, is_marked};
 use crate::naming::Naming;
+use crate::part::Part;
+use crate::parts::parts_of;
 use std::alloc::Global;
 use std::marker::Model;
 use velo_events::{Bounds, Kind, Memory, ThreadId};
+use velo_filter::LeftOut;
 
 /// The operations of each thread, in their order, without values.
 #[derive(Drop)]
@@ -35,7 +38,9 @@ impl Scripts {
     ghost use Rattle.velo_search.specs.Fitting.{AreAlike, IsWithin};
     ghost use Rattle.velo_search.specs.Free.{is_free_at};
     ghost use Rattle.velo_search.specs.Names.{numbers_of, IsNamingOf};
+    ghost use Rattle.velo_filter.specs.Tables.{left_of};
     ghost use Rattle.velo_search.specs.Naming.{renamed_scripts};
+    ghost use Rattle.velo_search.specs.Parts.{part_at, ArePartsOf};
     ghost use Rattle.velo_search.specs.Runs.{script_of};
 
     /// These operations of each thread. As guards of free operations so many locks are looked at.
@@ -88,6 +93,17 @@ impl Scripts {
         ensures { IfOk result (IsNamingOf bounds) }
     {
         Naming::of_scripts(alloc, bounds, &self.threads)
+    }
+
+    /// The part of each operation in what is left of a log.
+    ///
+    /// # Errors
+    /// `Memory` where a growth was refused.
+    pub(crate) fn parts(&self, alloc: Global, left: &LeftOut) -> Result<Vec<Vec<Part>>, Memory>
+        ensures { IfOk result (λ parts. ArePartsOf (left_of left.now) self.now.kinds
+            (part_at (map (λ v. v.items) parts.items))) }
+    {
+        parts_of(alloc, &self.threads, left)
     }
 
     /// The scripts with these numbers. As guards of free operations the locks are looked at that have one of the first.

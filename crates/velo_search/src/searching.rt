@@ -8,6 +8,7 @@ ghost use Rattle.velo_events.specs.Tally.{events_of};
 ghost use Rattle.velo_heap.specs.Contents.{bounds_of};
 ghost use Rattle.velo_search.specs.declared.state.State.{State};
 ghost use Rattle.velo_search.specs.Faults.{Fault, IsFault, NextIs, is_wait};
+ghost use Rattle.velo_search.specs.Parts.{rest_by, AreParts, part_at};
 ghost use Rattle.velo_search.specs.Runs.{script_of, IsRunOf, Never, NeverWithin};
 ghost use Rattle.velo_search.specs.States.{IsStateOf};
 ghost use Rattle.velo_search.specs.Search.{ArePlain, AreShort, IsClean, StandsAmong, IsCleanBy, IsNextAt, IsTried, IsTrueOf, IsSearchCut, has_fault};
@@ -18,9 +19,9 @@ ghost use Rattle.velo_search.specs.Trail.{alarms_of, turns_for};
 use crate::found::Found;
 use crate::level::Level;
 use crate::looked::Looked;
+use crate::marked::MarkedScripts;
 use crate::next::Next;
 use crate::progress::Progress;
-use crate::scripts::Scripts;
 use crate::searched::Searched;
 use crate::seen::ThreadsSeen;
 use crate::settling::{advance, settle};
@@ -38,10 +39,10 @@ fn is_wait(refusal: Refusal) -> bool
 }
 
 /// How a thread stands with its next operation.
-pub(crate) fn next_of(scripts: &Scripts, state: &State, thread: ThreadId) -> Next
+pub(crate) fn next_of(scripts: &MarkedScripts, state: &State, thread: ThreadId) -> Next
     requires plain { ArePlain scripts.now.kinds }
     requires thread { thread.0 < (bounds_of state.now.heap).threads }
-    ensures { (log : List Event) → IsRunOf (bounds_of state.now.heap) scripts.now.kinds log → IsStateOf log state.now →
+    ensures { (log : List Event) → IsRunOf (bounds_of state.now.heap) scripts.now.kinds log → IsStateOf (rest_by (part_at scripts.now.parts)) log state.now →
         NextIs (bounds_of state.now.heap) scripts.now.kinds log thread.0 result }
 {
     let Some(kind) = scripts.kind(thread, state.done_by(thread)) else {
@@ -63,26 +64,27 @@ pub(crate) fn next_of(scripts: &Scripts, state: &State, thread: ThreadId) -> Nex
 /// The state after a next event, and the free ones after it.
 fn follow(
     alloc: Global,
-    scripts: &Scripts,
+    scripts: &MarkedScripts,
     state: &State,
     event: &Event,
     trail: &mut Trail,
 ) -> Result<State, Memory>
     requires plain { ArePlain scripts.now.kinds }
     requires short { AreShort scripts.now.kinds }
-    requires reached { IsReachedBy (bounds_of state.now.heap) scripts.now.kinds trail.old.steps.items
+    requires parts { AreParts (bounds_of state.now.heap) scripts.now.kinds (part_at scripts.now.parts) }
+    requires reached { IsReachedBy (bounds_of state.now.heap) scripts.now.kinds (rest_by (part_at scripts.now.parts)) trail.old.steps.items
         state.now }
-    requires next { IsNextAt (bounds_of state.now.heap) scripts.now.kinds state.now event.now }
+    requires next { IsNextAt (bounds_of state.now.heap) scripts.now.kinds (rest_by (part_at scripts.now.parts)) state.now event.now }
     ensures reached { IfOk result
-        (IsReachedBy (bounds_of state.now.heap) scripts.now.kinds trail.new.steps.items) }
+        (IsReachedBy (bounds_of state.now.heap) scripts.now.kinds (rest_by (part_at scripts.now.parts)) trail.new.steps.items) }
     ensures goes_on { OnOk result (GoesOn trail.old trail.new) }
     ensures alarms { OnOk result (alarms_of trail.new.shown ≡ alarms_of trail.old.shown) }
     ensures leads { IfOk result (λ s. (n : ℕ) (fault : Fault) →
-        IsClean (bounds_of state.now.heap) scripts.now.kinds n fault s →
-        IsCleanBy (bounds_of state.now.heap) scripts.now.kinds n fault state.now (thread_of event.now)) }
+        IsClean (bounds_of state.now.heap) scripts.now.kinds (rest_by (part_at scripts.now.parts)) n fault s →
+        IsCleanBy (bounds_of state.now.heap) scripts.now.kinds (rest_by (part_at scripts.now.parts)) n fault state.now (thread_of event.now)) }
 {
     let mut after = state.copy(alloc)?;
-    advance(&mut after, event, trail)?;
+    advance(scripts, &mut after, event, trail)?;
     settle(scripts, &mut after, trail)?;
     Ok(after)
 }
@@ -97,9 +99,9 @@ fn note_closing(
     requires { after.now.place ≤ length trail.old.steps.items }
     ensures steps { trail.new.steps.items ≡ trail.old.steps.items }
     ensures goes_on { OnOk result (GoesOn trail.old trail.new) }
-    ensures alarms { OnOk result ((bounds : Bounds) (scripts : List (List Kind)) →
-        IsReachedBy bounds scripts trail.old.steps.items after.now →
-        AlarmsGoOn bounds scripts trail.old trail.new) }
+    ensures alarms { OnOk result ((bounds : Bounds) (scripts : List (List Kind)) (rest : List Event → List Event) →
+        IsReachedBy bounds scripts rest trail.old.steps.items after.now →
+        AlarmsGoOn bounds scripts rest trail.old trail.new) }
     ensures noted { OnOk result ((alarmed ≡ true → IsNoted trail.old after.now) →
         IsNoted trail.new after.now) }
 {
@@ -133,7 +135,7 @@ fn keep(next: &mut Level, state: State, count: usize, trail: &mut Trail) -> Resu
 /// Looks at one thread: how it stands, and what its next event leads to.
 fn look(
     alloc: Global,
-    scripts: &Scripts,
+    scripts: &MarkedScripts,
     state: &State,
     thread: ThreadId,
     seen: &mut ThreadsSeen,
@@ -142,23 +144,24 @@ fn look(
 ) -> Result<(), Memory>
     requires plain { ArePlain scripts.now.kinds }
     requires short { AreShort scripts.now.kinds }
+    requires parts { AreParts (bounds_of state.now.heap) scripts.now.kinds (part_at scripts.now.parts) }
     requires thread { thread.0 < (bounds_of state.now.heap).threads }
-    requires reached { IsReachedBy (bounds_of state.now.heap) scripts.now.kinds trail.old.steps.items
+    requires reached { IsReachedBy (bounds_of state.now.heap) scripts.now.kinds (rest_by (part_at scripts.now.parts)) trail.old.steps.items
         state.now }
     ensures goes_on { OnOk result (GoesOn trail.old trail.new) }
     ensures alarms { OnOk result
-        (AlarmsGoOn (bounds_of state.now.heap) scripts.now.kinds trail.old trail.new) }
+        (AlarmsGoOn (bounds_of state.now.heap) scripts.now.kinds (rest_by (part_at scripts.now.parts)) trail.old trail.new) }
     ensures noted { OnOk result (IsNoted trail.old state.now →
         All (IsNoted trail.old) next.old.states.items →
         All (IsNoted trail.new) next.new.states.items) }
     ensures reached { OnOk result (All
-        (IsReachedBy (bounds_of state.now.heap) scripts.now.kinds trail.old.steps.items)
+        (IsReachedBy (bounds_of state.now.heap) scripts.now.kinds (rest_by (part_at scripts.now.parts)) trail.old.steps.items)
         next.old.states.items →
-        All (IsReachedBy (bounds_of state.now.heap) scripts.now.kinds trail.new.steps.items)
+        All (IsReachedBy (bounds_of state.now.heap) scripts.now.kinds (rest_by (part_at scripts.now.parts)) trail.new.steps.items)
         next.new.states.items) }
     ensures tried { OnOk result ((start : List State) →
-        IsTried (bounds_of state.now.heap) scripts.now.kinds state.now start next.old.states.items seen.old thread.0 →
-        IsTried (bounds_of state.now.heap) scripts.now.kinds state.now start next.new.states.items seen.new (thread.0 + 1)) }
+        IsTried (bounds_of state.now.heap) scripts.now.kinds (rest_by (part_at scripts.now.parts)) state.now start next.old.states.items seen.old thread.0 →
+        IsTried (bounds_of state.now.heap) scripts.now.kinds (rest_by (part_at scripts.now.parts)) state.now start next.new.states.items seen.new (thread.0 + 1)) }
     ensures count { OnOk result (length next.new.states.items ≤ length next.old.states.items + 1) }
 {
     match next_of(scripts, state, thread) {
@@ -193,34 +196,36 @@ fn put_next(
 ) -> Result<Found, Memory>
     requires plain { ArePlain terms.now.scripts.now.kinds }
     requires short { AreShort terms.now.scripts.now.kinds }
-    requires state { IsReachedBy terms.now.bounds terms.now.scripts.now.kinds
+    requires parts { AreParts terms.now.bounds terms.now.scripts.now.kinds
+        (part_at terms.now.scripts.now.parts) }
+    requires state { IsReachedBy terms.now.bounds terms.now.scripts.now.kinds (rest_by (part_at terms.now.scripts.now.parts))
         trail.old.steps.items state.now }
     requires others { All
-        (IsReachedBy terms.now.bounds terms.now.scripts.now.kinds trail.old.steps.items)
+        (IsReachedBy terms.now.bounds terms.now.scripts.now.kinds (rest_by (part_at terms.now.scripts.now.parts)) trail.old.steps.items)
         next.old.states.items }
     requires noted { IsNoted trail.old state.now }
     requires noted_others { All (IsNoted trail.old) next.old.states.items }
-    requires found { IsTrueOf terms.now.bounds terms.now.scripts.now.kinds found }
-    ensures found { IfOk result (IsTrueOf terms.now.bounds terms.now.scripts.now.kinds) }
+    requires found { IsTrueOf terms.now.bounds terms.now.scripts.now.kinds (rest_by (part_at terms.now.scripts.now.parts)) found }
+    ensures found { IfOk result (IsTrueOf terms.now.bounds terms.now.scripts.now.kinds (rest_by (part_at terms.now.scripts.now.parts))) }
     ensures more { IfOk result (λ after. (fault : Fault) → has_fault after fault ≡ false → has_fault found fault ≡ false) }
     ensures others { OnOk result (All
-        (IsReachedBy terms.now.bounds terms.now.scripts.now.kinds trail.new.steps.items)
+        (IsReachedBy terms.now.bounds terms.now.scripts.now.kinds (rest_by (part_at terms.now.scripts.now.parts)) trail.new.steps.items)
         next.new.states.items) }
     ensures goes_on { OnOk result (GoesOn trail.old trail.new) }
     ensures alarms { OnOk result
-        (AlarmsGoOn terms.now.bounds terms.now.scripts.now.kinds trail.old trail.new) }
+        (AlarmsGoOn terms.now.bounds terms.now.scripts.now.kinds (rest_by (part_at terms.now.scripts.now.parts)) trail.old trail.new) }
     ensures noted { OnOk result (All (IsNoted trail.new) next.new.states.items) }
     ensures alarm { IfOk result (λ after. trail.old.first ≡ false → found.alarm ≡ false →
         after.alarm ≡ true → 0 < length (alarms_of trail.new.shown)) }
     ensures shows { IfOk result (λ after. (fault : Fault) → has_fault found fault ≡ false →
         has_fault after fault ≡ true →
         (log : List Event) → IsRunOf terms.now.bounds terms.now.scripts.now.kinds log →
-        IsStateOf log state.now →
-        IsFault terms.now.bounds terms.now.scripts.now.kinds fault log) }
+        IsStateOf (rest_by (part_at terms.now.scripts.now.parts)) log state.now →
+        IsFault terms.now.bounds terms.now.scripts.now.kinds (rest_by (part_at terms.now.scripts.now.parts)) fault log) }
     ensures leads { IfOk result (λ after. (n : ℕ) (fault : Fault) → has_fault after fault ≡ false →
-        All (IsClean terms.now.bounds terms.now.scripts.now.kinds n fault) next.new.states.items →
-        (All (IsClean terms.now.bounds terms.now.scripts.now.kinds n fault) next.old.states.items
-        × IsClean terms.now.bounds terms.now.scripts.now.kinds (n + 1) fault state.now)) }
+        All (IsClean terms.now.bounds terms.now.scripts.now.kinds (rest_by (part_at terms.now.scripts.now.parts)) n fault) next.new.states.items →
+        (All (IsClean terms.now.bounds terms.now.scripts.now.kinds (rest_by (part_at terms.now.scripts.now.parts)) n fault) next.old.states.items
+        × IsClean terms.now.bounds terms.now.scripts.now.kinds (rest_by (part_at terms.now.scripts.now.parts)) (n + 1) fault state.now)) }
     ensures count { OnOk result (length next.new.states.items ≤ length next.old.states.items +
         terms.now.bounds.threads) }
 {
@@ -256,26 +261,28 @@ fn next_level<P: Progress>(
 ) -> Result<Looked, Memory>
     requires plain { ArePlain terms.now.scripts.now.kinds }
     requires short { AreShort terms.now.scripts.now.kinds }
+    requires parts { AreParts terms.now.bounds terms.now.scripts.now.kinds
+        (part_at terms.now.scripts.now.parts) }
     requires level { All
-        (IsReachedBy terms.now.bounds terms.now.scripts.now.kinds trail.old.steps.items)
+        (IsReachedBy terms.now.bounds terms.now.scripts.now.kinds (rest_by (part_at terms.now.scripts.now.parts)) trail.old.steps.items)
         level.old.states.items }
     requires noted { All (IsNoted trail.old) level.old.states.items }
-    requires found { IsTrueOf terms.now.bounds terms.now.scripts.now.kinds before }
-    requires shown { AreShown terms.now.bounds terms.now.scripts.now.kinds terms.now.first before
+    requires found { IsTrueOf terms.now.bounds terms.now.scripts.now.kinds (rest_by (part_at terms.now.scripts.now.parts)) before }
+    requires shown { AreShown terms.now.bounds terms.now.scripts.now.kinds (rest_by (part_at terms.now.scripts.now.parts)) terms.now.first before
         trail.old }
     ensures found { IfOk result
-        (λ x. IsTrueOf terms.now.bounds terms.now.scripts.now.kinds x.found) }
+        (λ x. IsTrueOf terms.now.bounds terms.now.scripts.now.kinds (rest_by (part_at terms.now.scripts.now.parts)) x.found) }
     ensures more { IfOk result (λ x. (fault : Fault) → has_fault x.found fault ≡ false → has_fault before fault ≡ false) }
     ensures others { IfOk result (λ x. All
-        (IsReachedBy terms.now.bounds terms.now.scripts.now.kinds trail.new.steps.items)
+        (IsReachedBy terms.now.bounds terms.now.scripts.now.kinds (rest_by (part_at terms.now.scripts.now.parts)) trail.new.steps.items)
         x.next.states.items) }
     ensures noted { IfOk result (λ x. All (IsNoted trail.new) x.next.states.items) }
-    ensures shown { IfOk result (λ x. AreShown terms.now.bounds terms.now.scripts.now.kinds
+    ensures shown { IfOk result (λ x. AreShown terms.now.bounds terms.now.scripts.now.kinds (rest_by (part_at terms.now.scripts.now.parts))
         terms.now.first x.found trail.new) }
     ensures leads { IfOk result (λ x. (x.over || has_ended terms.now.first x.found) ≡ false →
         (n : ℕ) (fault : Fault) → has_fault x.found fault ≡ false →
-        All (IsClean terms.now.bounds terms.now.scripts.now.kinds n fault) x.next.states.items →
-        All (IsClean terms.now.bounds terms.now.scripts.now.kinds (n + 1) fault)
+        All (IsClean terms.now.bounds terms.now.scripts.now.kinds (rest_by (part_at terms.now.scripts.now.parts)) n fault) x.next.states.items →
+        All (IsClean terms.now.bounds terms.now.scripts.now.kinds (rest_by (part_at terms.now.scripts.now.parts)) (n + 1) fault)
         level.old.states.items) }
     ensures most { IfOk result (λ x. x.states ≤ length level.old.states.items) }
     ensures all { IfOk result (λ x. (x.over || has_ended terms.now.first x.found) ≡ false →
@@ -324,21 +331,22 @@ fn next_level<P: Progress>(
 fn first_level(
     alloc: Global,
     config: &Config,
-    scripts: &Scripts,
+    scripts: &MarkedScripts,
     trail: &mut Trail,
 ) -> Result<Level, Memory>
     requires plain { ArePlain scripts.now.kinds }
     requires short { AreShort scripts.now.kinds }
+    requires parts { AreParts config.now.bounds scripts.now.kinds (part_at scripts.now.parts) }
     ensures some { IfOk result (λ level. 0 < length level.states.items) }
     ensures one { IfOk result (λ level. length level.states.items ≤ 1) }
     ensures reached { IfOk result (λ level. All
-        (IsReachedBy config.now.bounds scripts.now.kinds trail.new.steps.items) level.states.items) }
+        (IsReachedBy config.now.bounds scripts.now.kinds (rest_by (part_at scripts.now.parts)) trail.new.steps.items) level.states.items) }
     ensures leads { IfOk result (λ level. (n : ℕ) (fault : Fault) → All
-        (IsClean config.now.bounds scripts.now.kinds n fault) level.states.items →
-        NeverWithin n (IsFault config.now.bounds scripts.now.kinds fault) config.now.bounds scripts.now.kinds []) }
+        (IsClean config.now.bounds scripts.now.kinds (rest_by (part_at scripts.now.parts)) n fault) level.states.items →
+        NeverWithin n (IsFault config.now.bounds scripts.now.kinds (rest_by (part_at scripts.now.parts)) fault) config.now.bounds scripts.now.kinds []) }
     ensures goes_on { OnOk result (GoesOn trail.old trail.new) }
     ensures alarms { OnOk result
-        (AlarmsGoOn config.now.bounds scripts.now.kinds trail.old trail.new) }
+        (AlarmsGoOn config.now.bounds scripts.now.kinds (rest_by (part_at scripts.now.parts)) trail.old trail.new) }
     ensures noted { IfOk result (λ level. All (IsNoted trail.new) level.states.items) }
 {
     let mut start = State::new(alloc, config)?;
@@ -356,27 +364,28 @@ fn first_level(
 pub(crate) fn search_states<P: Progress>(
     alloc: Global,
     config: &Config,
-    scripts: &Scripts,
+    scripts: &MarkedScripts,
     most_states: u64,
     first: bool,
     progress: &mut P,
 ) -> Result<Searched, Memory>
     requires plain { ArePlain scripts.now.kinds }
     requires short { AreShort scripts.now.kinds }
-    ensures found { IfOk result (λ x. IsTrueOf config.now.bounds scripts.now.kinds x.found) }
+    requires parts { AreParts config.now.bounds scripts.now.kinds (part_at scripts.now.parts) }
+    ensures found { IfOk result (λ x. IsTrueOf config.now.bounds scripts.now.kinds (rest_by (part_at scripts.now.parts)) x.found) }
     ensures whole { IfOk result (λ x. x.whole ≡ true → (fault : Fault) → has_fault x.found fault ≡ false →
-        Never (IsFault config.now.bounds scripts.now.kinds fault) config.now.bounds scripts.now.kinds []) }
+        Never (IsFault config.now.bounds scripts.now.kinds (rest_by (part_at scripts.now.parts)) fault) config.now.bounds scripts.now.kinds []) }
     ensures first { IfOk result (λ x. first ≡ true → x.whole ≡ true → (fault : Fault) → has_fault x.found fault ≡ false) }
     ensures states { IfOk result (λ x. x.states ≤ most_states) }
     ensures cut { IfOk result (λ x. x.whole ≡ false →
-        IsSearchCut config.now.bounds scripts.now.kinds most_states first
+        IsSearchCut config.now.bounds scripts.now.kinds (rest_by (part_at scripts.now.parts)) most_states first
         (P.may_end progress.old && P.says_over progress.new) x.found x.states) }
     ensures shown { IfOk result (λ x. (fault : Fault) → IfSome (turns_for x.schedules fault)
-        (LeadsTo config.now.bounds scripts.now.kinds fault)) }
+        (LeadsTo config.now.bounds scripts.now.kinds (rest_by (part_at scripts.now.parts)) fault)) }
     ensures each { IfOk result (λ x. (fault : Fault) → has_fault (shown_of first x.found) fault ≡
         true → IsTrue (is_some (turns_for x.schedules fault))) }
     ensures alarms { IfOk result
-        (λ x. LeadToCycles config.now.bounds scripts.now.kinds first x.schedules) }
+        (λ x. LeadToCycles config.now.bounds scripts.now.kinds (rest_by (part_at scripts.now.parts)) first x.schedules) }
 {
     let terms = Terms {
         bounds: config.bounds,

@@ -11,13 +11,14 @@ ghost use Rattle.velo_heap.specs.Contents.{bounds_of, IsAdmitted};
 use crate::copied::copied;
 use crate::key::mixed;
 use crate::marks::Marks;
+use crate::part::Part;
 use std::alloc::Global;
 use velo_events::growth::filled;
 use velo_events::{Config, Event, Memory, Refusal, ThreadId};
 use velo_heap::Heap;
 
 /// All of a log that its continuations depend on: how many events each thread has done, how threads, locks and variables
-/// stand, and which unfinished transactions reach which groups of events.
+/// stand, and, in what is left of the log, which unfinished transactions reach which groups of events.
 #[derive(Debug, Drop)]
 pub struct State {
     next: Vec<u32>,
@@ -37,6 +38,7 @@ fn are_same(one: &[u32], other: &[u32]) -> bool
 }
 
 impl State {
+    ghost use Rattle.velo_search.specs.Parts.{IsPart};
     ghost use Rattle.velo_search.specs.States.{AreSameStates, IsStateOf};
 
     /// The state of the log without events.
@@ -46,7 +48,7 @@ impl State {
     pub fn new(alloc: Global, config: &Config) -> Result<State, Memory>
         ensures bounds { IfOk result (λ s. bounds_of s.heap ≡ config.now.bounds) }
         ensures place { IfOk result (λ s. s.place ≡ 0) }
-        ensures start { IfOk result (λ s. IsStateOf [] s) }
+        ensures start { IfOk result (λ s. (rest : List Event → List Event) → rest [] ≡ [] → IsStateOf rest [] s) }
     {
         let heap = Heap::new(alloc, config)?;
         let marks = Marks::new(alloc, config.bounds)?;
@@ -67,7 +69,7 @@ impl State {
         ensures bounds { IfOk result (λ s. bounds_of s.heap ≡ bounds_of self.now.heap) }
         ensures next { IfOk result (λ s. s.next.items ≡ self.now.next.items) }
         ensures place { IfOk result (λ s. s.place ≡ self.now.place) }
-        ensures same { IfOk result (λ s. (log : List Event) → IsStateOf log self.now → IsStateOf log s) }
+        ensures same { IfOk result (λ s. (rest : List Event → List Event) (log : List Event) → IsStateOf rest log self.now → IsStateOf rest log s) }
     {
         let next = copied(alloc, &self.next)?;
         let heap = self.heap.copy(alloc)?;
@@ -115,7 +117,7 @@ impl State {
     /// How many events the thread has done.
     pub fn done_by(&self, thread: ThreadId) -> u32
         requires { thread.0 < (bounds_of self.now.heap).threads }
-        ensures { (log : List Event) → IsStateOf log self.now → result ≡ events_of log thread.0 }
+        ensures { (rest : List Event → List Event) (log : List Event) → IsStateOf rest log self.now → result ≡ events_of log thread.0 }
     {
         self.next[usize::from(thread.0)]
     }
@@ -123,38 +125,38 @@ impl State {
     /// Whether nobody has forked the thread yet, and it is not thread 0.
     pub fn is_unborn(&self, thread: ThreadId) -> bool
         requires { thread.0 < (bounds_of self.now.heap).threads }
-        ensures { (log : List Event) → IsStateOf log self.now → result ≡ is_unborn (status_in log thread.0) }
+        ensures { (rest : List Event → List Event) (log : List Event) → IsStateOf rest log self.now → result ≡ is_unborn (status_in log thread.0) }
     {
         self.heap.status(thread).is_unborn()
     }
 
     /// Why the event may not come next: the first refusal that applies, from `NotLive` (2) to `LockHeld` (16).
     pub fn refusal(&self, event: &Event) -> Option<Refusal>
-        ensures { (log : List Event) → IsStateOf log self.now →
+        ensures { (rest : List Event → List Event) (log : List Event) → IsStateOf rest log self.now →
             result ≡ refusal_of (bounds_of self.now.heap) log (thread_of event.now) event.now.kind }
     {
         self.heap.refusal(event)
     }
 
-    /// Whether the log has a cycle.
+    /// Whether what is left of the log has a cycle.
     pub fn is_alarmed(&self) -> bool
         ensures value { result ≡ self.now.marks.alarmed }
-        ensures cycle { (log : List Event) → IsStateOf log self.now → (IsTrue result ↔ HasCycle log) }
+        ensures cycle { (rest : List Event → List Event) (log : List Event) → IsStateOf rest log self.now → (IsTrue result ↔ HasCycle (rest log)) }
     {
         self.marks.is_alarmed()
     }
 
-    /// One more event, which stands at the place in the trail.
-    pub fn step(&mut self, event: &Event, place: usize)
+    /// One more event, which is this part of what is left of the log, and stands at the place in the trail.
+    pub fn step(&mut self, event: &Event, part: Part, place: usize)
         requires admitted { IsAdmitted self.old.heap event.now }
         requires room { slice_index_or self.old.next.items (thread_of event.now) 0 + 1 < 2 ^ 32 }
         ensures bounds { bounds_of self.new.heap ≡ bounds_of self.old.heap }
         ensures place { self.new.place ≡ place }
-        ensures next { (log : List Event) → IsStateOf log self.old → IsStateOf (log ++ event.now ∷ []) self.new }
+        ensures next { (rest : List Event → List Event) (log : List Event) → IsStateOf rest log self.old →
+            IsPart rest (bounds_of self.old.heap) log event.now part → IsStateOf rest (log ++ event.now ∷ []) self.new }
     {
         self.heap.apply(event);
-        let inside = self.heap.depth(event.thread) != 0;
-        self.marks.step(event, inside);
+        self.marks.take_in(event, part);
         self.next[usize::from(event.thread.0)] += 1;
         self.place = place;
     }

@@ -10,7 +10,7 @@ use Rattle.velo_events.specs.declared.refusal.Refusal.TheVariants as refusal
 use Rattle.velo_explain.specs.Pieces.{joined}
 use Rattle.velo_request.specs.declared.request.ReplayOptions.{ReplayOptions}
 use Rattle.velo_request.specs.declared.request.Request.{Request}
-use Rattle.velo_request.specs.declared.request.Request.TheVariants.{Explore, Replay, Run}
+use Rattle.velo_request.specs.declared.request.Request.TheVariants.{Explore, ExploreRest, Replay, Run}
 use Rattle.velo_request.specs.declared.request.ScheduleSource.{ScheduleSource}
 use Rattle.velo_request.specs.declared.request.ScheduleSource.TheVariants as source
 use Rattle.velo_schedule_text.specs.File.{IsScheduleIn}
@@ -138,13 +138,15 @@ SaysRun disk path ending.Stuck words =
     (codes "help: `velodrome explore` says which thread waits for which lock, held by whom\n")
 SaysRun disk path ended words = ⊥
 
--- by what was asked for. Of a deadlock that an exploration finds this stands on standard output
+-- by what was asked for. Of a deadlock that an exploration finds this stands on standard output, but not
+-- where something is left out
 abbrev pub SaysEnd : Disk → Request → Ending → List ℕ → Type 0
 SaysEnd disk (Replay options) ended words =
     IsTrue options.run.why × SaysReplay disk options ended words
 SaysEnd disk (Run options) ended words = IsTrue options.why × SaysRun disk options.input.now ended words
 SaysEnd disk (Explore options) (ending.Refused t r) words =
     SaysRun disk options.input.now (ending.Refused t r) words
+SaysEnd disk (ExploreRest options) ended words = SaysRun disk options.explore.input.now ended words
 SaysEnd disk request ended words = ⊥
 
 -- of a search that is undecided
@@ -152,4 +154,7 @@ abbrev pub SaysOpen : Request → List ℕ → Type 0
 SaysOpen (Explore options) words =
     words ≡ whole_words options.input.now (codes "some findings are undecided")
     (codes "help: raise --states, --seconds, --events or --nodes; or make runs by chance: see --random\n")
+SaysOpen (ExploreRest options) words =
+    words ≡ whole_words options.explore.input.now (codes "some findings are undecided")
+    (codes "help: raise --states, --seconds, --events or --nodes\n")
 SaysOpen request words = ⊥

@@ -3,7 +3,7 @@ use Rattle.std.specs.Prelude.{ℕ, Bool, true, List, [], map, Option, Some, None
 use Rattle.std.specs.Borrow.{Bor}
 use Rattle.velo_request.specs.declared.request.Ignored.{Ignored}
 use Rattle.velo_request.specs.declared.request.Request.{Request}
-use Rattle.velo_request.specs.declared.request.Request.TheVariants.{Audit, AuditMany, Carry, Check, CheckRest, Explain, Explore, MergeAudits, Predict, Replay, Run, Thin, Verify, Watch, WatchEndless, WatchRest}
+use Rattle.velo_request.specs.declared.request.Request.TheVariants.{Audit, AuditMany, Carry, Check, CheckRest, Explain, Explore, ExploreRest, MergeAudits, Predict, Replay, Run, Thin, Verify, Watch, WatchEndless, WatchRest}
 use Rattle.velo_request.specs.declared.request.ScheduleSource.{ScheduleSource}
 use Rattle.velo_request.specs.declared.request.ScheduleSource.TheVariants.{File}
 use Rattle.velo_words.specs.declared.roles.Role.{Role}
@@ -65,6 +65,7 @@ names_of _ = None
 abbrev pub ignored_of : Request → Option Ignored
 ignored_of (CheckRest options) = Some options.ignored
 ignored_of (Explain options) = Some options.ignored
+ignored_of (ExploreRest options) = Some options.ignored
 ignored_of (WatchRest options) = Some options.ignored
 ignored_of (Audit options) = Some options.ignored
 ignored_of (AuditMany options) = Some options.ignored
@@ -119,6 +120,7 @@ abbrev pub work_path_of : Request → Option (List ℕ)
 work_path_of (Replay options) = Some options.run.input.now
 work_path_of (Run options) = Some options.input.now
 work_path_of (Explore options) = Some options.input.now
+work_path_of (ExploreRest options) = Some options.explore.input.now
 work_path_of _ = None
 
 abbrev pub picture_of : Request → Option (List ℕ)
@@ -136,12 +138,14 @@ saved_log_of (Predict options) = given options.target
 saved_log_of (Replay options) = given options.run.target
 saved_log_of (Run options) = given options.target
 saved_log_of (Explore options) = given options.target
+saved_log_of (ExploreRest options) = given options.explore.target
 saved_log_of _ = None
 
 abbrev pub saved_names_of : Request → Option (List ℕ)
 saved_names_of (Replay options) = given options.run.names_target
 saved_names_of (Run options) = given options.names_target
 saved_names_of (Explore options) = given options.names_target
+saved_names_of (ExploreRest options) = given options.explore.names_target
 saved_names_of _ = None
 
 abbrev pub map_of : Request → Option (List ℕ)

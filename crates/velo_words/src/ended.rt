@@ -144,7 +144,7 @@ fn add_stuck(page: &mut Page, path: &str, waits: &str) -> Result<(), Memory>
 }
 
 /// The workload of the file at a path, which is read again.
-fn workload_at<F: Files>(alloc: Global, path: &str, files: &F) -> Option<Workload>
+pub(crate) fn workload_at<F: Files>(alloc: Global, path: &str, files: &F) -> Option<Workload>
     ensures { IfSome result (IsWorkloadAt (F.disk files.now) path.now) }
 {
     let bytes = read_again(alloc, path, MAX_WORKLOAD_BYTES, files)?;
@@ -349,8 +349,23 @@ pub(crate) fn words_of_end<F: Files>(
         (Request::Explore(options), Ending::Refused(thread, refusal)) => {
             words_of_act(alloc, options.input, thread, refusal, files)
         }
+        (Request::ExploreRest(options), _) => {
+            words_of_run(alloc, options.explore.input, ending, files)
+        }
         _ => None,
     }
+}
+
+/// What is said of a search of the workload at a path that is undecided, with what to do.
+fn undecided(alloc: Global, path: &str, help: &str) -> Option<Page>
+    ensures { IfSome result (λ page. page ≡ whole_words path.now (codes "some findings are undecided") help.now) }
+{
+    let complaint = Complaint {
+        line: 0,
+        reason: "some findings are undecided",
+        help,
+    };
+    place_words(alloc, path, &[], complaint).ok()
 }
 
 /// What is said of a search that is undecided.
@@ -358,14 +373,16 @@ pub(crate) fn words_of_open(alloc: Global, request: &Request) -> Option<Page>
     ensures { IfSome result (SaysOpen request.now) }
 {
     match request {
-        Request::Explore(options) => {
-            let complaint = Complaint {
-                line: 0,
-                reason: "some findings are undecided",
-                help: "help: raise --states, --seconds, --events or --nodes; or make runs by chance: see --random\n",
-            };
-            place_words(alloc, options.input, &[], complaint).ok()
-        }
+        Request::Explore(options) => undecided(
+            alloc,
+            options.input,
+            "help: raise --states, --seconds, --events or --nodes; or make runs by chance: see --random\n",
+        ),
+        Request::ExploreRest(options) => undecided(
+            alloc,
+            options.explore.input,
+            "help: raise --states, --seconds, --events or --nodes\n",
+        ),
         _ => None,
     }
 }

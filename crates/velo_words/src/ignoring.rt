@@ -1,9 +1,11 @@
 //! What is said of a word that was to be ignored and means nothing.
-ghost use Rattle.std.specs.Prelude.{◌≡◌, ◌==◌, IfOk, IfSome, Some, false, length};
+ghost use Rattle.std.specs.Prelude.{◌≡◌, ◌==◌, IfOk, IfSome, Some, length};
 ghost use Rattle.velo_names.specs.Names.{meant_by, no_names};
-ghost use Rattle.velo_words.specs.Ignoring.{SaysVain, SaysVainAt, SaysVainBy, SaysVainOf, first_in_vain, kind_of, option_of, vain_help, vain_reason, vain_words, words_of};
+ghost use Rattle.velo_words.specs.declared.ignoring.NamesFrom.TheVariants.{Nowhere};
+ghost use Rattle.velo_words.specs.Ignoring.{SaysVain, SaysVainAt, SaysVainBy, SaysVainOf, SaysVainOfWork, first_in_vain, kind_of, option_of, own_names, vain_help, vain_reason, vain_words, words_of};
 
 use crate::again::read_again;
+use crate::ended::workload_at;
 use crate::given::names_explained_of;
 use crate::roles::ignored_of;
 use std::alloc::Global;
@@ -11,8 +13,9 @@ use velo_delivery::Files;
 use velo_events::Memory;
 use velo_explain::Page;
 use velo_fault_words::{Complaint, add_shown, add_text, place_words};
-use velo_names::{MAX_NAMES_BYTES, NameKind, Names};
+use velo_names::{MAX_NAMES_BYTES, NameKind, Names, append_names};
 use velo_request::{Ignorable, Ignored, Request};
+use velo_workload::Workload;
 
 /// The option that takes these.
 fn option_of(what: Ignorable) -> &'static str
@@ -83,20 +86,33 @@ fn vain_reason(what: Ignorable) -> &'static str
     }
 }
 
-/// What to do about it, where names are given, and where none are.
-fn vain_help(named: bool) -> &'static str
-    ensures { result.now ≡ vain_help named }
+/// Where the names are from in which words are looked up.
+#[derive(Clone, Copy)]
+enum NamesFrom {
+    /// A file that is given.
+    File,
+    /// The workload.
+    Workload,
+    /// There are none.
+    Nowhere,
+}
+
+/// What to do about it.
+fn vain_help(from: NamesFrom) -> &'static str
+    ensures { result.now ≡ vain_help from }
 {
-    if named {
-        "help: names are those of --names; quote a word that has a star\n"
-    } else {
-        "help: for names, give their file: see --names\n"
+    match from {
+        NamesFrom::File => "help: names are those of --names; quote a word that has a star\n",
+        NamesFrom::Workload => {
+            "help: names are those of the workload; quote a word that has a star\n"
+        }
+        NamesFrom::Nowhere => "help: for names, give their file: see --names\n",
     }
 }
 
 /// What is said of such a word.
-fn vain_words(alloc: Global, what: Ignorable, word: &str, named: bool) -> Result<Page, Memory>
-    ensures { IfOk result (λ page. page ≡ vain_words what word.now named) }
+fn vain_words(alloc: Global, what: Ignorable, word: &str, from: NamesFrom) -> Result<Page, Memory>
+    ensures { IfOk result (λ page. page ≡ vain_words what word.now from) }
 {
     let complaint = Complaint {
         line: 0,
@@ -105,7 +121,7 @@ fn vain_words(alloc: Global, what: Ignorable, word: &str, named: bool) -> Result
     };
     let mut page = place_words(alloc, option_of(what), &[], complaint)?;
     add_shown(&mut page, alloc, word.as_bytes())?;
-    add_text(&mut page, vain_help(named))?;
+    add_text(&mut page, vain_help(from))?;
     Ok(page)
 }
 
@@ -115,20 +131,26 @@ fn words_by(
     names: &Names,
     what: Ignorable,
     ignored: Ignored,
-    named: bool,
+    from: NamesFrom,
 ) -> Option<Page>
-    ensures { IfSome result (SaysVainBy names.now what ignored.entry named) }
+    ensures { IfSome result (SaysVainBy names.now what ignored.entry from) }
 {
     let word = first_in_vain(alloc, names, kind_of(what), words_of(what, ignored))?;
-    vain_words(alloc, what, word, named).ok()
+    vain_words(alloc, what, word, from).ok()
 }
 
-/// The same, by the names that the bytes of a file say.
-fn words_by_names(alloc: Global, bytes: &[u8], what: Ignorable, ignored: Ignored) -> Option<Page>
-    ensures { IfSome result (SaysVainOf bytes.now what ignored.entry) }
+/// The same, by the names that these bytes say.
+fn words_by_names(
+    alloc: Global,
+    bytes: &[u8],
+    what: Ignorable,
+    ignored: Ignored,
+    from: NamesFrom,
+) -> Option<Page>
+    ensures { IfSome result (SaysVainOf bytes.now what ignored.entry from) }
 {
     match Names::parse(alloc, bytes) {
-        Ok(names) => words_by(alloc, &names, what, ignored, true),
+        Ok(names) => words_by(alloc, &names, what, ignored, from),
         Err(_) => None,
     }
 }
@@ -144,15 +166,44 @@ fn words_by_file<F: Files>(
     ensures { IfSome result (SaysVainAt (F.disk files.now) path.now what ignored.entry) }
 {
     let bytes = read_again(alloc, path, MAX_NAMES_BYTES, files)?;
-    words_by_names(alloc, &bytes, what, ignored)
+    words_by_names(alloc, &bytes, what, ignored, NamesFrom::File)
+}
+
+/// The text of the names that a workload has for these.
+fn own_names(alloc: Global, workload: &Workload, what: Ignorable) -> Result<Vec<u8>, Memory>
+    ensures { IfOk result (λ text. text.items ≡ own_names workload.now what) }
+{
+    let mut text = Vec::new(alloc);
+    let names = match what {
+        Ignorable::Lock => workload.lock_names(),
+        Ignorable::Variable => workload.variable_names(),
+        Ignorable::Label => workload.label_names(),
+    };
+    append_names(&mut text, kind_of(what), names)?;
+    Ok(text)
+}
+
+/// The same, by the names of the workload at a path, which is read again.
+fn words_by_workload<F: Files>(
+    alloc: Global,
+    path: &str,
+    what: Ignorable,
+    ignored: Ignored,
+    files: &F,
+) -> Option<Page>
+    ensures { IfSome result (SaysVainOfWork (F.disk files.now) path.now what ignored.entry) }
+{
+    let workload = workload_at(alloc, path, files)?;
+    let text = own_names(alloc, &workload, what).ok()?;
+    words_by_names(alloc, &text, what, ignored, NamesFrom::Workload)
 }
 
 /// The same, where there are no names.
 fn words_without_names(alloc: Global, what: Ignorable, ignored: Ignored) -> Option<Page>
-    ensures { IfSome result (SaysVainBy no_names what ignored.entry false) }
+    ensures { IfSome result (SaysVainBy no_names what ignored.entry Nowhere) }
 {
     let names = Names::new(alloc);
-    words_by(alloc, &names, what, ignored, false)
+    words_by(alloc, &names, what, ignored, NamesFrom::Nowhere)
 }
 
 /// What is said where something that was to be ignored means nothing.
@@ -165,6 +216,9 @@ pub(crate) fn words_in_vain<F: Files>(
     ensures { IfSome result (SaysVain (F.disk files.now) request.now what) }
 {
     let ignored = ignored_of(request)?;
+    if let Request::ExploreRest(options) = request {
+        return words_by_workload(alloc, options.explore.input, what, ignored, files);
+    }
     match names_explained_of(request) {
         Some(path) => words_by_file(alloc, path, what, ignored, files),
         None => words_without_names(alloc, what, ignored),

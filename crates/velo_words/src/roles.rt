@@ -128,6 +128,7 @@ pub fn ignored_of<'a>(request: &Request<'a>) -> Option<Ignored<'a>>
     match request {
         Request::CheckRest(options) => Some(options.ignored),
         Request::Explain(options) => Some(options.ignored),
+        Request::ExploreRest(options) => Some(options.ignored),
         Request::WatchRest(options) => Some(options.ignored),
         Request::Audit(options) => Some(options.ignored),
         Request::AuditMany(options) => Some(options.ignored),
@@ -224,6 +225,7 @@ fn work_path_of<'a>(request: &Request<'a>) -> Option<&'a str>
         Request::Replay(options) => Some(options.run.input),
         Request::Run(options) => Some(options.input),
         Request::Explore(options) => Some(options.input),
+        Request::ExploreRest(options) => Some(options.explore.input),
         _ => None,
     }
 }
@@ -256,6 +258,7 @@ fn saved_log_of<'a>(request: &Request<'a>) -> Option<&'a str>
         Request::Replay(options) => options.run.target,
         Request::Run(options) => options.target,
         Request::Explore(options) => options.target,
+        Request::ExploreRest(options) => options.explore.target,
         _ => None,
     }
 }
@@ -267,6 +270,7 @@ fn saved_names_of<'a>(request: &Request<'a>) -> Option<&'a str>
         Request::Replay(options) => options.run.names_target,
         Request::Run(options) => options.names_target,
         Request::Explore(options) => options.names_target,
+        Request::ExploreRest(options) => options.explore.names_target,
         _ => None,
     }
 }

@@ -68,6 +68,7 @@ fn work_of<'a>(request: &Request<'a>) -> Option<&'a str>
 {
     match request {
         Request::Explore(options) => Some(options.input),
+        Request::ExploreRest(options) => Some(options.explore.input),
         Request::Run(options) => if_asked(options.why, options.input),
         Request::Replay(options) => if_asked(options.run.why, options.run.input),
         _ => None,

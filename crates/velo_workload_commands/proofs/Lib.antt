@@ -1,5 +1,6 @@
 mod OnTurns
 pub mod OnFindings
+pub mod OnRests
 mod OnPlaying
 mod OnReports
 mod OnSaving

@@ -10,6 +10,7 @@ use Rattle.std.specs.List.Sorted.{IsNonDecreasingBy}
 use Rattle.velo_events.specs.declared.config.Config.{Config}
 use Rattle.velo_events.specs.declared.event.ThreadId.{ThreadId}
 use Rattle.velo_events.specs.declared.refusal.Refusal.TheVariants as refusal
+use Rattle.velo_search.specs.Parts.{whole_log}
 use Rattle.velo_search.specs.declared.fault.Fault.{Fault}
 use Rattle.velo_explore.specs.declared.finding.Finding.{Finding}
 use Rattle.velo_explore.specs.declared.finding.Finding.TheVariants.{Shown, Never, Open}
@@ -60,7 +61,7 @@ take_least most schedules =
 module _ (program : Program) (config : Config) where
   -- ---- what is told is so
 
-  told-simple : (fault : Fault) (found told : Finding) → IsTold program config fault found → SimplifiesFinding program config found told → IfShown told (Shows program config) → IsTold program config fault told
+  told-simple : (fault : Fault) (found told : Finding) → IsTold whole_log program config fault found → SimplifiesFinding program config found told → IfShown told (Shows program config) → IsTold whole_log program config fault told
   told-simple fault (Shown f) (Shown t) is short shows = (shows, ap fault_of short.0 ∙ is.1)
   told-simple fault found Open is short shows = tt
   told-simple fault Never Never is short shows = is
@@ -81,8 +82,8 @@ module _ (program : Program) (config : Config) where
       unlike : (w : Witness) → Never ≡ Shown w → ⊥
       unlike w h = cc
 
-  pub all_told : (found : Findings) (shrunk : Shrunk) → ((fault : Fault) → IsTold program config fault (finding_of found fault)) → IsShrunkFrom program config found shrunk
-      → (fault : Fault) → IsTold program config fault (finding_of shrunk.findings fault)
+  pub all_told : (found : Findings) (shrunk : Shrunk) → ((fault : Fault) → IsTold whole_log program config fault (finding_of found fault)) → IsShrunkFrom program config found shrunk
+      → (fault : Fault) → IsTold whole_log program config fault (finding_of shrunk.findings fault)
   all_told found shrunk is from fault = told-simple fault (finding_of found fault) (finding_of shrunk.findings fault) (is fault) (from.simple fault) (from.shows fault)
 
   -- ---- who is to blame
@@ -116,12 +117,12 @@ module _ (program : Program) (config : Config) where
   -- ---- out of memory
 
   -- a run with memory
-  has_memory : (ended : Ending) → lacks_memory ended ≡ false → EndsByGrowth ended
+  pub has_memory : (ended : Ending) → lacks_memory ended ≡ false → EndsByGrowth ended
   has_memory (ending.Refused t refusal.Memory) h = absurd (false≢true (sym h))
   has_memory (ending.Refused t refusal.RuntimeMemory) h = absurd (false≢true (sym h))
   has_memory ended h = tt
 
-  caused_rest : (all : Bool) → ComesByRefusal Growths (if all then fate.Finished ending.Done false else fate.Open)
+  pub caused_rest : (all : Bool) → ComesByRefusal Growths (if all then fate.Finished ending.Done false else fate.Open)
   caused_rest true = tt
   caused_rest false = tt
 

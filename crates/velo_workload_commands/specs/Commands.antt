@@ -5,18 +5,25 @@
 -- after, and f is the command's fate. Each command names in parentheses the page that says what it
 -- answers to the bytes of its input. (--why and --progress concern standard error alone: `EndsInWords`
 -- of `velo_words`.)
-use Rattle.std.specs.Prelude.{◌⊎◌, ℕ, List, Option}
+use Rattle.std.specs.Prelude.{◌⊎◌, ℕ, List, Ok, Option}
 use Rattle.std.specs.Borrow.{Bor}
 use Rattle.velo_events.specs.declared.event.ThreadId.{ThreadId}
+use Rattle.velo_names.specs.Names.{NameLists, Stands}
+use Rattle.velo_filter.specs.Left.{Omitted}
+use Rattle.velo_workload.specs.Program.{Program}
 use Rattle.velo_fate.specs.declared.fate.Fate.{Fate}
 use Rattle.velo_request.specs.declared.request.ExploreOptions.{ExploreOptions}
+use Rattle.velo_request.specs.declared.request.ExploreRestOptions.{ExploreRestOptions}
 use Rattle.velo_request.specs.declared.request.ReplayOptions.{ReplayOptions}
 use Rattle.velo_request.specs.declared.request.RunOptions.{RunOptions}
-use Rattle.velo_fate.specs.Delivery.{CommandAnswer, IsDeliveredInTurn}
+use Rattle.velo_fate.specs.Delivery.{CommandAnswer, IsDeliveredInTurn, LacksMemory}
+use Rattle.velo_fate.specs.Format.{Reads, ReadsNone}
+use Rattle.velo_inputs.specs.Asking.{IsLeftOutBy, LacksLeftOut}
 use Rattle.velo_fate.specs.Barred.{IsBarredRun, WritesNowhere}
 use Rattle.velo_delivery.specs.Disk.{Store}
 use Rattle.velo_workload_commands.specs.Exploring.{IsExploreAnswer}
-use Rattle.velo_workload_commands.specs.Playing.{ByThreads, ByTurns, IsPlayAnswer, Play}
+use Rattle.velo_workload_commands.specs.ExploringRest.{IsRestExplored, LacksOwnNames}
+use Rattle.velo_workload_commands.specs.Playing.{ByThreads, ByTurns, IsPlayAnswer, Play, text_of_names, workload_file}
 use Rattle.velo_fate.specs.Failures.{FailuresAsTold}
 use Rattle.velo_delivery.specs.Reading.{Reading}
 use Rattle.velo_workload_commands.specs.Scheduling.{IsScheduleOf, LacksSchedule}
@@ -74,3 +81,39 @@ DoesExplore options store stdout f =
     × store.disk.gives options.input.now read × FailuresAsTold read f
     × IsExploreAnswer options read.bytes answer names
     × IsDeliveredInTurn store options.target options.names_target names stdout answer f)
+
+-- ---- velodrome explore FILE with --not-atomic LIST, --ignore LIST, --ignore-label LABEL,
+-- ---- --ignore-lock LOCK, --ignore-locks, --ignore-variable VARIABLE, and without --random and
+-- ---- --certificate
+
+-- All schedules of the program are tried, and the log of each is judged by what is left of it. The log of
+-- the first finding is saved at OUT, then the names at NAMES, and what was found goes to standard output;
+-- or nothing, for a reason (`ExploringRest`).
+abbrev pub ExploresLeft : Omitted → ExploreOptions → Program → Store → Writing → Fate → Type 0
+ExploresLeft omitted options program store stdout f =
+    (answer : CommandAnswer) × (IsRestExplored omitted options program answer ⊎ LacksMemory answer)
+    × IsDeliveredInTurn store options.target options.names_target (text_of_names program) stdout answer f
+
+-- by these names LIST is read, and the words are judged
+abbrev pub ExploresNamed : ExploreRestOptions → Program → NameLists → Store → Writing → Fate → Type 0
+ExploresNamed options program names store stdout f =
+    (LacksLeftOut names store.disk options.ignored f × WritesNowhere store stdout)
+    ⊎ ((omitted : Omitted) × IsLeftOutBy names store.disk options.ignored omitted
+    × ExploresLeft omitted options.explore program store stdout f)
+
+-- the names are those of the workload
+abbrev pub ExploresRest : ExploreRestOptions → Program → Store → Writing → Fate → Type 0
+ExploresRest options program store stdout f =
+    (LacksOwnNames program f × WritesNowhere store stdout)
+    ⊎ ((names : NameLists) × Stands (text_of_names program) (Ok names)
+    × ExploresNamed options program names store stdout f)
+
+-- FILE is read whole
+abbrev pub DoesExploreRest : ExploreRestOptions → Store → Writing → Fate → Type 0
+DoesExploreRest options store stdout f =
+    ((ReadsNone workload_file store.disk options.explore.input.now f
+    ⊎ IsBarredRun store.disk options.explore.input.now options.explore.target
+    options.explore.names_target f)
+    × WritesNowhere store stdout)
+    ⊎ ((program : Program) × Reads workload_file store.disk options.explore.input.now program
+    × ExploresRest options program store stdout f)

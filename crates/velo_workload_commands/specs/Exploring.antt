@@ -6,6 +6,7 @@ use Rattle.velo_random.specs.declared.tally.BlamedLabel.{BlamedLabel}
 use Rattle.velo_events.specs.declared.config.Config.{Config}
 use Rattle.velo_events.specs.declared.event.Event.{Event}
 use Rattle.velo_events.specs.declared.event.ThreadId.{ThreadId}
+use Rattle.velo_search.specs.Parts.{whole_log}
 use Rattle.velo_search.specs.declared.fault.Fault.{Fault}
 use Rattle.velo_explore.specs.declared.exploration.Exploration.{Exploration}
 use Rattle.velo_explore.specs.declared.finding.Finding.{Finding}
@@ -50,22 +51,22 @@ use Rattle.velo_schedule_text.specs.Short.{stretches_of}
 abbrev pub most_to_blame : Bool → ℕ
 most_to_blame first = if first then 0 else MAX_BLAMING
 
--- What a search may say of the program's schedules. `over`: whether it was told that its time is
--- over. What is shown is so, by the turns of a run of the bodies' operations; what is never shown is so
--- by no schedule; what is open is so for a cause.
+-- What a search may say of the program's schedules, where a log is judged by what `rest` leaves of it.
+-- `over`: whether it was told that its time is over. What is shown is so, by the turns of a run of the
+-- bodies' operations; what is never shown is so by no schedule; what is open is so for a cause.
 -- If the bodies have more events than a log may have, nothing is tried. Each schedule that it hands out
 -- leads to an alarm.
-pub record IsSearchOf (program : Program) (config : Config) (options : ExploreOptions) (over : Bool)
-    (search : Exploration) : Type 0 where
+pub record IsSearchOf (rest : List Event → List Event) (program : Program) (config : Config)
+    (options : ExploreOptions) (over : Bool) (search : Exploration) : Type 0 where
   pub events : search.events ≡ min (sum_by body_events program.bodies) (2 ^ 64 - 1)
   pub states : search.states ≤ options.states
-  pub told : (fault : Fault) → IsTold program config fault (finding_of search.findings fault)
-  pub follows : (fault : Fault) → IfShown (finding_of search.findings fault) (FollowsRun program fault)
+  pub told : (fault : Fault) → IsTold rest program config fault (finding_of search.findings fault)
+  pub follows : (fault : Fault) → IfShown (finding_of search.findings fault) (FollowsRun rest program fault)
   pub left_open : (fault : Fault) → OnOpen (finding_of search.findings fault)
-      (IsLeftOpen program config options.states options.first over search.states search.findings fault)
+      (IsLeftOpen rest program config options.states options.first over search.states search.findings fault)
   pub untried : config.events < sum_by body_events program.bodies → IsUntried search.states search.findings
       (map (λ schedule. schedule.items) search.alarms.items)
-  pub alarms : AreAlarms program config options.first search.findings.alarm
+  pub alarms : AreAlarms rest program config options.first search.findings.alarm
       (map (λ schedule. schedule.items) search.alarms.items)
 
 -- All schedules of the program are tried, and what was found is told by simple schedules. Whom the
@@ -73,10 +74,10 @@ pub record IsSearchOf (program : Program) (config : Config) (options : ExploreOp
 pub record IsExplorationOf (program : Program) (config : Config) (options : ExploreOptions) (over : Bool)
     (survey : Survey) : Type 0 where
   pub search : Exploration
-  pub is_search : IsSearchOf program config options over search
+  pub is_search : IsSearchOf whole_log program config options over search
   pub tried : survey.tried ≡ how.All search.events search.states
   pub findings : IsShrunkFrom program config search.findings survey.shrunk
-  pub is_so : (fault : Fault) → IsTold program config fault (finding_of survey.shrunk.findings fault)
+  pub is_so : (fault : Fault) → IsTold whole_log program config fault (finding_of survey.shrunk.findings fault)
   pub blame : IsBlameOf program config
       (map (λ schedule. schedule.items) (take (most_to_blame options.first) search.alarms.items)) survey.blame
 

@@ -11,6 +11,7 @@ use Rattle.velo_request.specs.declared.request.TextOrJson.{TextOrJson}
 use Rattle.velo_shrink.specs.declared.findings.Replay.{Replay}
 use Rattle.velo_explore_forms.specs.declared.survey.Survey.{Survey}
 use Rattle.velo_workload_commands.specs.Exploring.{IsExplored, IsSaidOf, waits_after}
+use Rattle.velo_workload_commands.specs.ExploringRest.{IsSaidAlone}
 use Rattle.velo_workload_commands.specs.declared.page.Said.{Said}
 use Rattle.velo_fate.specs.Verdict.{KnowsAlarm}
 use Rattle.velo_fate.specs.Delivery.{CommandAnswer, IsDeliveredInTurn, LacksMemory}
@@ -72,4 +73,13 @@ SaysSurvey form program survey options store stdout f =
 abbrev pub Explores : ExploreOptions → Program → Store → Writing → Fate → Type 0
 Explores options program store stdout f =
     (answer : CommandAnswer) × (IsExplored options program answer ⊎ LacksMemory answer)
+    × IsDeliveredInTurn store options.target options.names_target (text_of_names program) stdout answer f
+
+-- ---- an exploration where something is left out
+
+-- what saving and printing a survey came to
+abbrev pub SavesSurvey : TextOrJson → Program → Survey → RunOptions → Store → Writing → Fate → Type 0
+SavesSurvey form program survey options store stdout f =
+    (answer : CommandAnswer)
+    × (IsSaidAlone form program options survey survey.shrunk.first answer ⊎ LacksMemory answer)
     × IsDeliveredInTurn store options.target options.names_target (text_of_names program) stdout answer f

@@ -27,7 +27,7 @@ use velo_worker::Ending;
 use velo_workload::Workload;
 
 /// What the replays were asked for.
-fn run_of<'a>(options: &ExploreOptions<'a>) -> RunOptions<'a>
+pub(crate) fn run_of<'a>(options: &ExploreOptions<'a>) -> RunOptions<'a>
     ensures { result ≡ run_of options.now }
 {
     RunOptions {
@@ -86,7 +86,7 @@ fn fate_of_rest(findings: &Findings) -> Fate
 }
 
 /// What the findings come to.
-fn fate_of(findings: &Findings) -> Fate
+pub(crate) fn fate_of(findings: &Findings) -> Fate
     ensures { result ≡ fate_of_findings findings.now }
 {
     match findings.first() {
@@ -108,13 +108,13 @@ fn waits_after(alloc: Global, workload: &Workload, replay: &Replay) -> Result<Ve
 
 /// The page of a survey in the form that was asked for.
 #[derive(Clone, Copy)]
-struct SurveyPage<'s> {
+pub(crate) struct SurveyPage<'s> {
     /// The survey.
-    survey: &'s Survey,
+    pub survey: &'s Survey,
     /// The form.
-    form: TextOrJson,
+    pub form: TextOrJson,
     /// The page.
-    text: &'s [u8],
+    pub text: &'s [u8],
 }
 
 /// Reports a replay behind a text, and for a deadlock who waits for what.

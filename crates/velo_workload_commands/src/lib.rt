@@ -4,6 +4,7 @@
 mod blaming;
 mod exploration_text;
 mod exploring;
+mod exploring_rest;
 mod findings;
 mod laws;
 mod page;
@@ -16,6 +17,7 @@ mod work;
 
 pub use blaming::MAX_BLAMING;
 pub use exploring::explore_file;
+pub use exploring_rest::explore_rest_file;
 pub use laws::names_read_back;
 pub use progress::ExploreProgress;
 pub use replaying::replay_file;

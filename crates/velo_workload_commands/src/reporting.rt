@@ -44,7 +44,7 @@ struct Made {
 }
 
 /// The file of names of a workload.
-fn list_names(alloc: Global, workload: &Workload) -> Result<Vec<u8>, Memory>
+pub(crate) fn list_names(alloc: Global, workload: &Workload) -> Result<Vec<u8>, Memory>
     ensures { IfOk result (λ text. text.items ≡ text_of_names workload.now) }
 {
     let mut text = Vec::new(alloc);

@@ -8,6 +8,7 @@ mod compaction;
 mod devices;
 mod endless;
 mod explored;
+mod explored_rest;
 mod growths;
 mod hostile;
 mod ignored;

@@ -2,6 +2,7 @@ use Rattle.std.proofs.Common.{◌≡◌, Some, refl, sym, ap, ◌∙◌}
 use Rattle.std.specs.Prelude.{slice_get}
 use Rattle.velo_events.specs.Tally.{events_of}
 use Rattle.velo_heap.specs.Contents.{bounds_of}
+use Rattle.velo_search.specs.Parts.{rest_by, part_at}
 use Rattle.velo_search.specs.Runs.{script_of}
 use Rattle.velo_search.proofs.OnFaults.{wait-born}
 use Rattle.velo_search.proofs.OnSearch.{due-next}
@@ -13,8 +14,8 @@ returns-in_default-refusal c = λ log run stands.
     let scripts = c.args.scripts.now.kinds in
     let t = c.args.thread in
     let k = c.in-Some.kind in
-    let due : slice_get (script_of scripts t.0) (events_of log t.0) ≡ Some k = ap (slice_get (script_of scripts t.0)) (sym (c.done_by.ensures log stands)) ∙ sym c.in-Some.ensures in
-    (refl, due-next bounds scripts c.requires.plain log t k run due (sym (c.refusal.ensures log stands) ∙ c.in_default-refusal.is))
+    let due : slice_get (script_of scripts t.0) (events_of log t.0) ≡ Some k = ap (slice_get (script_of scripts t.0)) (sym (c.done_by.ensures (rest_by (part_at c.args.scripts.now.parts)) log stands)) ∙ sym c.in-Some.ensures in
+    (refl, due-next bounds scripts c.requires.plain log t k run due (sym (c.refusal.ensures (rest_by (part_at c.args.scripts.now.parts)) log stands) ∙ c.in_default-refusal.is))
 
 pub returns-then-is_wait : goal.returns-then-is_wait
 returns-then-is_wait c = λ log run stands.
@@ -22,8 +23,8 @@ returns-then-is_wait c = λ log run stands.
     let scripts = c.args.scripts.now.kinds in
     let t = c.args.thread.0 in
     let k = c.in-Some.kind in
-    let due : slice_get (script_of scripts t) (events_of log t) ≡ Some k = ap (slice_get (script_of scripts t)) (sym (c.done_by.ensures log stands)) ∙ sym c.in-Some.ensures in
-    let refused = sym (c.refusal.ensures log stands) ∙ c.in-Some-refusal.is in
+    let due : slice_get (script_of scripts t) (events_of log t) ≡ Some k = ap (slice_get (script_of scripts t)) (sym (c.done_by.ensures (rest_by (part_at c.args.scripts.now.parts)) log stands)) ∙ sym c.in-Some.ensures in
+    let refused = sym (c.refusal.ensures (rest_by (part_at c.args.scripts.now.parts)) log stands) ∙ c.in-Some-refusal.is in
     let waits = sym c.is_wait.ensures ∙ c.if-is_wait.true in
     record {
       refusal = c.in-Some-refusal.refusal;

@@ -1,6 +1,7 @@
 use Rattle.std.proofs.Common.{◌≡◌, ◌+◌, ◌*◌, ◌≤◌, ◌&&◌, true, false, [], length, refl, subst, sym, ◌∙◌, arith, rules}
 use Rattle.std.proofs.lemmas.Bool.{eqb-false, or_parts}
 use Rattle.std.specs.Prelude.{All, IfSome, IsTrue, is_some}
+use Rattle.velo_search.specs.Parts.{rest_by, part_at}
 use Rattle.velo_search.specs.Faults.{IsFault}
 use Rattle.velo_search.specs.Runs.{NeverWithin}
 use Rattle.velo_search.specs.declared.found.Found.{Found}
@@ -18,16 +19,17 @@ pub loop-states-init : goal.loop-states-init
 loop-states-init g c =
     let bounds = c.args.config.now.bounds in
     let scripts = c.args.scripts.now.kinds in
+    let rest = rest_by (part_at c.args.scripts.now.parts) in
     let begun = c.in_ok-level.ensures in
     record {
       some = begun.some;
       most = omega arith;
-      true_of = subst (λ (f : Found). IsTrueOf bounds scripts f) (sym c.none-found.ensures) (nothing-true bounds scripts);
+      true_of = subst (λ (f : Found). IsTrueOf bounds scripts rest f) (sym c.none-found.ensures) (nothing-true bounds scripts rest);
       others = begun.reached;
-      shown = shown-goes_on bounds scripts c.args.first c.none-found.result c.new-trail.result c.first_level.new.trail begun.goes_on begun.alarms
-          (shown-nothing bounds scripts c.args.first c.none-found.result c.new-trail.result c.none-found.ensures c.new-trail.ensures.first c.new-trail.ensures.shown c.new-trail.ensures.alarms);
+      shown = shown-goes_on bounds scripts rest c.args.first c.none-found.result c.new-trail.result c.first_level.new.trail begun.goes_on begun.alarms
+          (shown-nothing bounds scripts rest c.args.first c.none-found.result c.new-trail.result c.none-found.ensures c.new-trail.ensures.first c.new-trail.ensures.shown c.new-trail.ensures.alarms);
       levels = omega arith;
-      leads = λ n fault h clean. subst (λ m. NeverWithin m (IsFault bounds scripts fault) bounds scripts []) (let same : n ≡ 0 + n = omega arith in same) (begun.leads n fault clean);
+      leads = λ n fault h clean. subst (λ m. NeverWithin m (IsFault bounds scripts rest fault) bounds scripts []) (let same : n ≡ 0 + n = omega arith in same) (begun.leads n fault clean);
       noted = begun.noted;
       depth = omega arith;
       kept = omega (arith, begun.one);
@@ -43,11 +45,12 @@ pub returns-then-is_empty-clause-whole : goal.returns-then-is_empty-clause-whole
 returns-then-is_empty-clause-whole g c = λ _ fault h.
     let bounds = c.args.config.now.bounds in
     let scripts = c.args.scripts.now.kinds in
+    let rest = rest_by (part_at c.args.scripts.now.parts) in
     let goes_on = sym c.has_ended.ensures ∙ c.if-has_ended.false in
     let none = subst (λ (f : Found). has_fault f fault ≡ false) c.into_searched-then-is_empty.ensures.found h in
     let empty : length c.in_ok-looked.looked.next.states.items ≡ 0 = search rules in
-    never-any bounds scripts (IsFault bounds scripts fault) [] (λ n.
-    let all : All (IsClean bounds scripts n fault) c.in_ok-looked.looked.next.states.items = λ k d l. absurd (omega (arith, l, empty)) in
+    never-any bounds scripts (IsFault bounds scripts rest fault) [] (λ n.
+    let all : All (IsClean bounds scripts rest n fault) c.in_ok-looked.looked.next.states.items = λ k d l. absurd (omega (arith, l, empty)) in
     let never = c.loop-states.invariant.leads (n + 1) fault (c.in_ok-looked.ensures.more fault none) (c.in_ok-looked.ensures.leads goes_on n fault none all) in
     λ more few. never more (omega (arith, few)))
 
@@ -81,19 +84,19 @@ loop-states-preserved g c =
 
 pub returns-clause-found : goal.returns-clause-found
 returns-clause-found g c =
-    subst (λ (f : Found). IsTrueOf c.args.config.now.bounds c.args.scripts.now.kinds f) (sym c.into_searched-2.ensures.found) c.loop-states.invariant.true_of
+    subst (λ (f : Found). IsTrueOf c.args.config.now.bounds c.args.scripts.now.kinds (rest_by (part_at c.args.scripts.now.parts)) f) (sym c.into_searched-2.ensures.found) c.loop-states.invariant.true_of
 
 pub returns-then-has_ended-clause-found : goal.returns-then-has_ended-clause-found
 returns-then-has_ended-clause-found g c =
-    subst (λ (f : Found). IsTrueOf c.args.config.now.bounds c.args.scripts.now.kinds f) (sym c.into_searched.ensures.found) c.in_ok-looked.ensures.found
+    subst (λ (f : Found). IsTrueOf c.args.config.now.bounds c.args.scripts.now.kinds (rest_by (part_at c.args.scripts.now.parts)) f) (sym c.into_searched.ensures.found) c.in_ok-looked.ensures.found
 
 pub returns-then-is_empty-clause-found : goal.returns-then-is_empty-clause-found
 returns-then-is_empty-clause-found g c =
-    subst (λ (f : Found). IsTrueOf c.args.config.now.bounds c.args.scripts.now.kinds f) (sym c.into_searched-then-is_empty.ensures.found) c.in_ok-looked.ensures.found
+    subst (λ (f : Found). IsTrueOf c.args.config.now.bounds c.args.scripts.now.kinds (rest_by (part_at c.args.scripts.now.parts)) f) (sym c.into_searched-then-is_empty.ensures.found) c.in_ok-looked.ensures.found
 
 pub returns-then-has_ended-clause-shown : goal.returns-then-has_ended-clause-shown
 returns-then-has_ended-clause-shown g c = λ fault.
-    subst (λ (s : Schedules). IfSome (turns_for s fault) (LeadsTo c.args.config.now.bounds c.args.scripts.now.kinds fault)) (sym c.into_searched.ensures.schedules) (c.in_ok-looked.ensures.shown.leads fault)
+    subst (λ (s : Schedules). IfSome (turns_for s fault) (LeadsTo c.args.config.now.bounds c.args.scripts.now.kinds (rest_by (part_at c.args.scripts.now.parts)) fault)) (sym c.into_searched.ensures.schedules) (c.in_ok-looked.ensures.shown.leads fault)
 
 pub returns-then-has_ended-clause-each : goal.returns-then-has_ended-clause-each
 returns-then-has_ended-clause-each g c = λ fault found.
@@ -101,7 +104,7 @@ returns-then-has_ended-clause-each g c = λ fault found.
 
 pub returns-then-is_empty-clause-shown : goal.returns-then-is_empty-clause-shown
 returns-then-is_empty-clause-shown g c = λ fault.
-    subst (λ (s : Schedules). IfSome (turns_for s fault) (LeadsTo c.args.config.now.bounds c.args.scripts.now.kinds fault)) (sym c.into_searched-then-is_empty.ensures.schedules) (c.in_ok-looked.ensures.shown.leads fault)
+    subst (λ (s : Schedules). IfSome (turns_for s fault) (LeadsTo c.args.config.now.bounds c.args.scripts.now.kinds (rest_by (part_at c.args.scripts.now.parts)) fault)) (sym c.into_searched-then-is_empty.ensures.schedules) (c.in_ok-looked.ensures.shown.leads fault)
 
 pub returns-then-is_empty-clause-each : goal.returns-then-is_empty-clause-each
 returns-then-is_empty-clause-each g c = λ fault found.
@@ -109,7 +112,7 @@ returns-then-is_empty-clause-each g c = λ fault found.
 
 pub returns-clause-shown : goal.returns-clause-shown
 returns-clause-shown g c = λ fault.
-    subst (λ (s : Schedules). IfSome (turns_for s fault) (LeadsTo c.args.config.now.bounds c.args.scripts.now.kinds fault)) (sym c.into_searched-2.ensures.schedules) (c.loop-states.invariant.shown.leads fault)
+    subst (λ (s : Schedules). IfSome (turns_for s fault) (LeadsTo c.args.config.now.bounds c.args.scripts.now.kinds (rest_by (part_at c.args.scripts.now.parts)) fault)) (sym c.into_searched-2.ensures.schedules) (c.loop-states.invariant.shown.leads fault)
 
 pub returns-clause-each : goal.returns-clause-each
 returns-clause-each g c = λ fault found.
@@ -117,36 +120,38 @@ returns-clause-each g c = λ fault found.
 
 pub returns-then-has_ended-clause-alarms : goal.returns-then-has_ended-clause-alarms
 returns-then-has_ended-clause-alarms g c =
-    subst (λ (s : Schedules). LeadToCycles c.args.config.now.bounds c.args.scripts.now.kinds c.args.first s) (sym c.into_searched.ensures.schedules) c.in_ok-looked.ensures.shown.alarms
+    subst (λ (s : Schedules). LeadToCycles c.args.config.now.bounds c.args.scripts.now.kinds (rest_by (part_at c.args.scripts.now.parts)) c.args.first s) (sym c.into_searched.ensures.schedules) c.in_ok-looked.ensures.shown.alarms
 
 pub returns-then-is_empty-clause-alarms : goal.returns-then-is_empty-clause-alarms
 returns-then-is_empty-clause-alarms g c =
-    subst (λ (s : Schedules). LeadToCycles c.args.config.now.bounds c.args.scripts.now.kinds c.args.first s) (sym c.into_searched-then-is_empty.ensures.schedules) c.in_ok-looked.ensures.shown.alarms
+    subst (λ (s : Schedules). LeadToCycles c.args.config.now.bounds c.args.scripts.now.kinds (rest_by (part_at c.args.scripts.now.parts)) c.args.first s) (sym c.into_searched-then-is_empty.ensures.schedules) c.in_ok-looked.ensures.shown.alarms
 
 pub returns-clause-alarms : goal.returns-clause-alarms
 returns-clause-alarms g c =
-    subst (λ (s : Schedules). LeadToCycles c.args.config.now.bounds c.args.scripts.now.kinds c.args.first s) (sym c.into_searched-2.ensures.schedules) c.loop-states.invariant.shown.alarms
+    subst (λ (s : Schedules). LeadToCycles c.args.config.now.bounds c.args.scripts.now.kinds (rest_by (part_at c.args.scripts.now.parts)) c.args.first s) (sym c.into_searched-2.ensures.schedules) c.loop-states.invariant.shown.alarms
 
 pub returns-clause-cut : goal.returns-clause-cut
 returns-clause-cut g c = λ _.
     let bounds = c.args.config.now.bounds in
     let scripts = c.args.scripts.now.kinds in
+    let rest = rest_by (part_at c.args.scripts.now.parts) in
     let inv = c.loop-states.invariant in
     let over = g.P.Progress.may_end c.args.progress.now && g.P.Progress.says_over c.loop-states.progress in
     let most : c.args.most_states ≤ c.loop-states.states * bounds.threads = omega (arith, inv.kept, inv.most, c.loop-states-test.false, c.len.ensures) in
-    subst (λ (f : Found). IsSearchCut bounds scripts c.args.most_states c.args.first over f c.into_searched-2.result.states) (sym c.into_searched-2.ensures.found)
-    (subst (λ n. IsSearchCut bounds scripts c.args.most_states c.args.first over c.loop-states.found n) (sym c.into_searched-2.ensures.states)
-    (spent-cut bounds scripts c.args.most_states c.args.first over c.loop-states.found c.loop-states.states c.loop-states.levels c.loop-states.level.states.items most inv.depth inv.leads))
+    subst (λ (f : Found). IsSearchCut bounds scripts rest c.args.most_states c.args.first over f c.into_searched-2.result.states) (sym c.into_searched-2.ensures.found)
+    (subst (λ n. IsSearchCut bounds scripts rest c.args.most_states c.args.first over c.loop-states.found n) (sym c.into_searched-2.ensures.states)
+    (spent-cut bounds scripts rest c.args.most_states c.args.first over c.loop-states.found c.loop-states.states c.loop-states.levels c.loop-states.level.states.items most inv.depth inv.leads))
 
 pub returns-then-has_ended-clause-cut : goal.returns-then-has_ended-clause-cut
 returns-then-has_ended-clause-cut g c = λ _.
     let bounds = c.args.config.now.bounds in
     let scripts = c.args.scripts.now.kinds in
+    let rest = rest_by (part_at c.args.scripts.now.parts) in
     let looked = c.in_ok-looked.looked in
     let may = g.P.Progress.may_end in
     let over = may c.args.progress.now && g.P.Progress.says_over c.level_done.new.self in
     let said : looked.over ≡ true → over ≡ true = λ says.
     subst (λ b. (b && g.P.Progress.says_over c.level_done.new.self) ≡ true) c.loop-states.invariant.may
     (subst (λ b. (may c.loop-states.progress && b) ≡ true) (sym c.level_done.ensures.says) (c.in_ok-looked.ensures.over says)) in
-    subst (λ (f : Found). IsSearchCut bounds scripts c.args.most_states c.args.first over f c.into_searched.result.states) (sym c.into_searched.ensures.found)
-    (ended-cut bounds scripts c.args.most_states c.args.first over looked.over looked.found c.into_searched.result.states (sym c.has_ended.ensures ∙ c.if-has_ended.true) said)
+    subst (λ (f : Found). IsSearchCut bounds scripts rest c.args.most_states c.args.first over f c.into_searched.result.states) (sym c.into_searched.ensures.found)
+    (ended-cut bounds scripts rest c.args.most_states c.args.first over looked.over looked.found c.into_searched.result.states (sym c.has_ended.ensures ∙ c.if-has_ended.true) said)

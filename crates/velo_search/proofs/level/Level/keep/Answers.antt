@@ -11,7 +11,7 @@ returns-clause-there c =
     record {
       member = c.args.state;
       there = subst (λ xs. Contains xs c.args.state) (sym items) (Contains-push old c.args.state);
-      logs = λ log stands. stands;
+      logs = λ rest log stands. stands;
     }
 
 pub returns-then-has_at-clause-there : goal.returns-then-has_at-clause-there
