@@ -7,12 +7,16 @@ use Rattle.std.specs.Str.Parse.{ParsesUnsigned}
 use Rattle.clap.specs.Words.{ReadsOne, Row, Text, all_of, first_of, first_value, matched_of, one_of, one_text, raw_values, rows_of}
 use Rattle.clap.specs.declared.parser.matches.Found.{Found}
 use Rattle.clap.proofs.WalkLemmas.{first_value-rows, one_text-rows, raw_values-rows}
+use Rattle.std.specs.Str.{bytes_eq}
+use Rattle.std.proofs.lemmas.Slice.Eq.{bytes_eq-Decides}
+use Rattle.velo_request.specs.declared.request.ExploreOptions.{ExploreOptions}
 use Rattle.velo_request.specs.declared.request.Ignored.{Ignored}
 use Rattle.velo_request.specs.declared.request.OutputFormat.{OutputFormat}
 use Rattle.velo_request.specs.declared.request.TextOrJson.{TextOrJson}
 use Rattle.velo_request.specs.declared.request.RandomRuns.{RandomRuns}
 use Rattle.velo_request.specs.declared.request.TheConstants.{MAX_SECONDS}
-use Rattle.velo_arguments.specs.Asked.{AreLeftOut, AreRandomRuns, AreSeconds, IsFlag, IsList, IsSeed, LeaveNothingOut, WritesNumber, form_of, is_auto, leaves_out, text_or_json_of}
+use Rattle.velo_request.specs.declared.request.Request.TheVariants.{Audit, AuditMany, Carry, Check, CheckRest, Explain, Explore, ExploreRest, MergeAudits, Predict, Replay, Run, Thin, Verify, Watch, WatchEndless, WatchRest}
+use Rattle.velo_arguments.specs.Asked.{AreLeftOut, AreRandomRuns, AreSeconds, AsksExplore, AsksForNothing, IsFlag, IsList, IsSeed, LeaveNothingOut, WritesNumber, form_of, is_auto, leaves_out, text_or_json_of}
 
 pub option_read : (f : Found) (id : Text) (r : Option (Bor Text)) → option_map (λ s. s.now) r ≡ first_value f id
     → first_of id (rows_of f) ≡ option_map (λ s. s.now) r
@@ -209,3 +213,27 @@ no_runs rows word given none None absent =
     let bad : None ≡ Some word = sym absent ∙ given in
     cc
 no_runs rows word given none (Some random) asks = none random asks
+
+-- the name of an exploration is no other one
+another : (name : Text) → bytes_eq (codes "explore") name ≡ false → ¬ (codes "explore" ≡ name)
+another name apart same = true≢false (sym ((bytes_eq-Decides (codes "explore") name).1 same) ∙ apart)
+
+-- where no exploration is asked for, its name asks for nothing
+pub no_exploration : (rows : List Row) → ((options : ExploreOptions) → ¬ AsksExplore rows options) → AsksForNothing (Some (codes "explore", rows))
+no_exploration rows none (Explore options) asks = none options asks.1
+no_exploration rows none (ExploreRest options) asks = none options.explore asks.1.0
+no_exploration rows none (Check options) asks = another (codes "check") refl asks.0
+no_exploration rows none (CheckRest options) asks = another (codes "check") refl asks.0
+no_exploration rows none (Replay options) asks = another (codes "replay") refl asks.0
+no_exploration rows none (Run options) asks = another (codes "run") refl asks.0
+no_exploration rows none (Explain options) asks = another (codes "explain") refl asks.0
+no_exploration rows none (Carry options) asks = another (codes "carry") refl asks.0
+no_exploration rows none (Watch options) asks = another (codes "watch") refl asks.0
+no_exploration rows none (WatchRest options) asks = another (codes "watch") refl asks.0
+no_exploration rows none (WatchEndless options) asks = another (codes "watch") refl asks.0
+no_exploration rows none (Audit options) asks = another (codes "audit") refl asks.0
+no_exploration rows none (AuditMany options) asks = another (codes "audit") refl asks.0
+no_exploration rows none (MergeAudits options) asks = another (codes "audit") refl asks.0
+no_exploration rows none (Thin options) asks = another (codes "thin") refl asks.0
+no_exploration rows none (Predict options) asks = another (codes "predict") refl asks.0
+no_exploration rows none (Verify options) asks = another (codes "verify") refl asks.0

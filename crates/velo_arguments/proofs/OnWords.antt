@@ -35,7 +35,7 @@ use Rattle.velo_request.specs.declared.request.Request.TheVariants.{Audit, Audit
 use Rattle.velo_arguments.specs.Asked.{AreTurns, AsksFor, IsFlag, IsScheduleSource, WritesNumber, leaves_out}
 use Rattle.velo_arguments.specs.CommandLine.{asked_by, faults_of}
 use Rattle.velo_arguments.specs.Together.{given_by}
-use Rattle.velo_arguments.specs.declared.together.Given.{Given}
+use Rattle.velo_arguments.specs.declared.given.Given.{Given}
 
 -- ---- right words
 

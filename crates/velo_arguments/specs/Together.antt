@@ -26,9 +26,9 @@ use Rattle.velo_request.specs.declared.request.TextOrJson.TheVariants.{Json, Tex
 use Rattle.velo_request.specs.declared.request.ThinOptions.{ThinOptions}
 use Rattle.velo_request.specs.declared.request.WatchRestOptions.{WatchRestOptions}
 use Rattle.velo_arguments.specs.Asked.{Matches, AsksFor, form_named, is_auto, text_or_json_named}
-use Rattle.velo_arguments.specs.declared.together.Clash.{Clash}
-use Rattle.velo_arguments.specs.declared.together.Clash.TheVariants.{DrawingIsPicture, EndlessCertificate, EndlessRest, FileOfOneLog, InputTwice, JsonCertificate, MapIsLog, MergeAlone, NamesWithoutLog, NeitherTextNorJson, NoSuchForm, OneLogAlone, OnePath, RestByChance, RestCertificate, SearchByChance, SeedAlone, SourceWithoutSites, TwoLists, TwoSchedules}
-use Rattle.velo_arguments.specs.declared.together.Given.{Given}
+use Rattle.velo_arguments.specs.declared.clash.Clash.{Clash}
+use Rattle.velo_arguments.specs.declared.clash.Clash.TheVariants.{DrawingIsPicture, EndlessCertificate, EndlessRest, FileOfOneLog, InputTwice, JsonCertificate, MapIsLog, MergeAlone, NamesWithoutLog, NeitherTextNorJson, NoSuchForm, OneLogAlone, OnePath, RestByChance, RestCertificate, SearchByChance, SeedAlone, SourceWithoutSites, TwoLists, TwoSchedules}
+use Rattle.velo_arguments.specs.declared.given.Given.{Given}
 
 -- ---- paths
 

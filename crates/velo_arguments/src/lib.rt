@@ -2,13 +2,16 @@
 #![tactic(auto)]
 
 mod arguments;
+mod clash;
 mod given;
 mod growth;
 pub mod help;
 mod options;
+mod paths;
 mod requests;
 mod together;
 
 pub use arguments::command;
+pub use clash::{Clash, line_of_clash};
 pub use growth::{matches_of, text_of};
-pub use together::{Clash, line_of_clash, read_request};
+pub use together::read_request;

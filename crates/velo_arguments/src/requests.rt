@@ -267,8 +267,8 @@ fn explore_options<'a>(found: &ArgMatches<'a>) -> Option<ExploreOptions<'a>>
 /// missing or a number is out of its range.
 fn explore_request<'a>(found: &'a ArgMatches) -> Option<Request<'a>>
     ensures some { IfSome result (AsksFor (Some (codes "explore", rows_of (found_of found.now)))) }
-    ensures none { IfNone result ((options : ExploreOptions)
-        → ¬ AsksExplore (rows_of (found_of found.now)) options) }
+    ensures none { IfNone result
+        (AsksForNothing (Some (codes "explore", rows_of (found_of found.now)))) }
 {
     let explore = explore_options(found)?;
     let ignored = left_out(found);

@@ -14,7 +14,7 @@ use Rattle.velo_arguments.specs.Together.{IsApart, IsTogether, line_of_clash}
 use Rattle.velo_cli.specs.Usage.{Console, LacksMemoryOn, TellsError, bad_usage}
 use Rattle.velo_words.specs.declared.failing.SystemReason.{SystemReason}
 use Rattle.velo_words.specs.Saying.{EndsInWords}
-use Rattle.velo_arguments.specs.declared.together.Clash.{Clash}
+use Rattle.velo_arguments.specs.declared.clash.Clash.{Clash}
 
 -- A request that was asked for, whose options go together, was done, and the end is that of its fate.
 -- Standard error may have words before the line: by an input that is read once more, as it was left,

@@ -2,7 +2,7 @@ use Rattle.std.proofs.Common.{◌≡◌, ◌∙◌, ap, codes, refl, sym}
 use Rattle.clap.specs.Words.{first_of, found_of, rows_of}
 use Rattle.velo_arguments.specs.Together.{is_other_form, is_neither_text_nor_json}
 use Rattle.velo_arguments.proofs.OnAsked.{option_read}
-use Rattle.velo_arguments.proofs.together.given_in.Goals as goal
+use Rattle.velo_arguments.proofs.given.given_in.Goals as goal
 
 pub returns : goal.returns
 returns c =

@@ -2,7 +2,7 @@ use Rattle.std.proofs.Common.{◌≡◌, ◌∙◌, ◌||◌, ap, codes, sym}
 use Rattle.clap.specs.Words.{first_of, found_of, rows_of}
 use Rattle.velo_arguments.specs.Together.{is_file}
 use Rattle.velo_arguments.proofs.OnAsked.{option_read}
-use Rattle.velo_arguments.proofs.together.has_file_of_one_log.Goals as goal
+use Rattle.velo_arguments.proofs.given.has_file_of_one_log.Goals as goal
 
 pub returns-then-is_file : goal.returns-then-is_file
 returns-then-is_file c =
