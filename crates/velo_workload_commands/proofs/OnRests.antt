@@ -1,6 +1,6 @@
 -- What is said of an exploration where something is left out.
 use Rattle.std.proofs.Common.{◌≡◌, ◌∙◌, ap, inl, inr, refl, subst, sym}
-use Rattle.std.specs.Prelude.{◌⊎◌, ℕ, Bool, true, List, is_some, Option, Some, None, Ok, Err}
+use Rattle.std.specs.Prelude.{◌⊎◌, ℕ, Bool, true, false, List, is_some, Option, Some, None, Ok, Err}
 use Rattle.velo_events.specs.declared.config.Config.{Config}
 use Rattle.velo_events.specs.declared.event.Event.{Event}
 use Rattle.velo_filter.specs.Left.{Omitted, rest_of}
@@ -92,14 +92,14 @@ module _ (rest : List Event → List Event) (program : Program) (config : Config
   caused_told Never Open (Shown w) a s r = caused_goal w r.0
   caused_told Open Never (Shown w) a s r = caused_goal w r.0
   caused_told Open Open (Shown w) a s r = caused_goal w r.0
-  caused_told Never Never Never a s r = caused_rest program config _
-  caused_told Never Never Open a s r = caused_rest program config _
-  caused_told Never Open Never a s r = caused_rest program config _
-  caused_told Never Open Open a s r = caused_rest program config _
-  caused_told Open Never Never a s r = caused_rest program config _
-  caused_told Open Never Open a s r = caused_rest program config _
-  caused_told Open Open Never a s r = caused_rest program config _
-  caused_told Open Open Open a s r = caused_rest program config _
+  caused_told Never Never Never a s r = caused_rest program config true
+  caused_told Never Never Open a s r = caused_rest program config false
+  caused_told Never Open Never a s r = caused_rest program config false
+  caused_told Never Open Open a s r = caused_rest program config false
+  caused_told Open Never Never a s r = caused_rest program config false
+  caused_told Open Never Open a s r = caused_rest program config false
+  caused_told Open Open Never a s r = caused_rest program config false
+  caused_told Open Open Open a s r = caused_rest program config false
 
 said_rest_fate : (form : TextOrJson) (program : Program) (options : RunOptions) (survey : Survey) (first : Option Replay) (answer : CommandAnswer) → IsSaidAlone form program options survey first answer → answer.fate ≡ fate_of_survey survey
 said_rest_fate form program options survey None answer says = ap (λ (a : CommandAnswer). a.fate) says

@@ -1,6 +1,6 @@
 -- What an exploration has to say where something is left out: the log of each run is judged by what is
 -- left of it.
-use Rattle.std.specs.Prelude.{◌≡◌, ⊤, ℕ, Bool, true, [], List, Option, Some, None, is_some}
+use Rattle.std.specs.Prelude.{◌≡◌, ⊤, Bool, true, [], Option, Some, None, is_some}
 use Rattle.velo_events.specs.declared.config.Config.{Config}
 use Rattle.velo_events.specs.Refusals.{GrowthRefused}
 use Rattle.velo_filter.specs.Left.{Omitted, rest_of}

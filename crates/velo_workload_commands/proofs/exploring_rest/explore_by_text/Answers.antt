@@ -1,6 +1,4 @@
-use Rattle.std.proofs.Common.{ℕ, List, inl, inr, refl, subst}
-use Rattle.std.specs.Prelude.{Ok}
-use Rattle.velo_names.specs.Names.{Stands}
+use Rattle.std.proofs.Common.{inl, inr, refl}
 use Rattle.velo_workload_commands.proofs.OnRests.{own_names_by, lacks_own_names}
 use Rattle.velo_workload_commands.proofs.exploring_rest.explore_by_text.Goals as goal
 

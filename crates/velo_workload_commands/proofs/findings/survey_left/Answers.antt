@@ -9,5 +9,5 @@ returns g c = record {
   findings = refl;
   first = c.in_ok-first.ensures;
   no_alarm = refl;
-  nobody = c.new.ensures;
+  nobody = c.new.ensures.items;
 }
