@@ -1,8 +1,9 @@
 //! What is said of a run of a workload: of turns of threads that it does not have, and of why it
 //! could not go on.
-ghost use Rattle.std.specs.Prelude.{◌≡◌, ◌++◌, List, ℕ, map, IfSome, OnOk, OnSome};
+ghost use Rattle.std.specs.Prelude.{◌≡◌, ◌++◌, List, ℕ, codes, map, IfSome, OnOk, OnSome};
 ghost use Rattle.std.specs.String.{string_bytes};
 ghost use Rattle.velo_deadlock.specs.Waits.{name_or_number, waits_text};
+ghost use Rattle.velo_fault_words.specs.Place.{whole_words};
 ghost use Rattle.velo_request.specs.declared.request.ScheduleSource.TheVariants.{File as FileOf};
 ghost use Rattle.velo_worker.specs.declared.ending.Ending.TheVariants.{Refused as RefusedOf, Stuck};
 ghost use Rattle.velo_words.specs.Ended.{IsScheduleAt, IsStuckReplay, IsWorkloadAt, SaysEnd, SaysOpen, SaysReplay, SaysRun, SaysStop, act_words, foreign_in, foreign_words, none_of_words, place_of, refused_act, refused_help, stuck_words};
@@ -358,7 +359,8 @@ pub(crate) fn words_of_end<F: Files>(
 
 /// What is said of a search of the workload at a path that is undecided, with what to do.
 fn undecided(alloc: Global, path: &str, help: &str) -> Option<Page>
-    ensures { IfSome result (λ page. page ≡ whole_words path.now (codes "some findings are undecided") help.now) }
+    ensures { IfSome result (λ page. page ≡ whole_words path.now
+        (codes "some findings are undecided") help.now) }
 {
     let complaint = Complaint {
         line: 0,
