@@ -1,6 +1,6 @@
 -- Why the program comes to want of memory.
-use Rattle.std.proofs.Common.{◌≡◌, ◌+◌, ⊎_elim, inl, inr, refl, subst, sym}
-use Rattle.std.specs.Prelude.{◌⊎◌, ℕ, Bool, true, false, List, Option, Some, None, IfSome, if◌then◌else◌}
+use Rattle.std.proofs.Common.{◌≡◌, ◌+◌, ⊎_elim, inl, inr, subst, sym}
+use Rattle.std.specs.Prelude.{◌⊎◌, ℕ, Bool, true, false, List, Option, Some, None, if◌then◌else◌}
 use Rattle.std.specs.Borrow.{Bor}
 use Rattle.velo_events.specs.declared.config.Bounds.{Bounds}
 use Rattle.velo_events.specs.declared.event.Event.{Event}
@@ -374,7 +374,7 @@ of_rest_exploration options store stdout f (inl (inl broken, nowhere)) = of_unre
 of_rest_exploration options store stdout f (inl (inr barred, nowhere)) = unplayed Growths store.disk options.explore.input.now options.explore.target options.explore.names_target f barred
 of_rest_exploration options store stdout f (inr (program, is, inl (lacks, nowhere))) = of_own_names program f lacks
 of_rest_exploration options store stdout f (inr (program, is, inr (names, are, inl (lacks, nowhere)))) = of_nothing_left_out names store.disk options.ignored f lacks
-of_rest_exploration options store stdout f (inr (program, is, inr (names, are, inr (omitted, left, answer, explored, put)))) =
+of_rest_exploration options store stdout f (inr (program, is, inr (names, are, inr (omitted, left, (answer, explored, put))))) =
     of_in_turn Growths store options.explore.target options.explore.names_target (text_of_names program) stdout answer f (of_either answer (rest_caused omitted options.explore program answer) explored) put
 
 -- of a workload that was played
