@@ -1,9 +1,8 @@
 -- What is noted of all operations tells which are free.
 use Rattle.std.proofs.Common.{◌≡◌, ◌≢◌, ℕ, ◌+◌, ◌*◌, ◌%◌, ◌<◌, Bool, true, false, not, List, [], ◌∷◌, ◌++◌, length, take, Option, Some, None, refl, sym, ap, ◌∙◌, subst, ⊎_elim}
-use Rattle.std.specs.Prelude.{◌&&◌, ◌||◌, ◌==◌, if◌then◌else◌, nat_le, slice_get, slice_index_or, Contains, IsTrue, IsFalse}
+use Rattle.std.specs.Prelude.{◌&&◌, ◌||◌, if◌then◌else◌, nat_le, slice_get, slice_index_or, Contains, IsTrue, IsFalse}
 use Rattle.std.specs.Option.{option_map_or}
 use Rattle.std.specs.Cmp.{both_ways as imply_each_other}
-use Rattle.std.specs.List.{list_all}
 use Rattle.std.proofs.Math.Dec.{leb-zero}
 use Rattle.std.proofs.lemmas.Bool.{cases_Bool, cases_eq, cases_lt, and_from, and_parts, or_cases, or_from, or_left, or_right, not_from_false, not_from_true, eqb-true, eq-eqb, ne_eqb, false≢true, false_from_ne_true, both_ways}
 use Rattle.std.proofs.lemmas.List.{get_or_past}

@@ -1,12 +1,12 @@
 -- Where nothing is left out, the whole log is left.
-use Rattle.std.proofs.Common.{◌≡◌, ℕ, zero, suc, ◌+◌, ◌<◌, ◌≤◌, Bool, false, not, List, [], ◌∷◌, ◌++◌, length, take, Option, Some, None, refl, sym, ap, ◌∙◌, arith}
-use Rattle.std.specs.Prelude.{◌&&◌, ◌||◌, slice_get, IsFalse}
+use Rattle.std.proofs.Common.{◌≡◌, ℕ, zero, suc, ◌+◌, ◌≤◌, Bool, false, not, List, [], ◌∷◌, ◌++◌, length, take, Option, Some, None, refl, sym, ap, ◌∙◌, arith}
+use Rattle.std.specs.Prelude.{◌&&◌, slice_get}
 use Rattle.std.specs.Option.{option_map_or}
 use Rattle.std.proofs.Math.Seq.{take-length}
 use Rattle.std.proofs.lemmas.Bool.{or_from}
 use Rattle.velo_events.specs.declared.event.Event.{Event}
 use Rattle.velo_events.specs.Event.{lock_of, variable_of}
-use Rattle.velo_events.specs.Block.{any_below, passes_at}
+use Rattle.velo_events.specs.Block.{passes_at}
 use Rattle.velo_events.proofs.OnScans.{event_at, take-next}
 use Rattle.velo_events.proofs.OnWellFormed.{any_below-never}
 use Rattle.velo_filter.specs.Left.{nothing, is_among, label_begun, begins_such, is_on_such, is_dissolved, ends_at, is_left_out, rest_of}

@@ -9,7 +9,6 @@ use Rattle.velo_events.specs.declared.event.Kind.{Kind}
 use Rattle.velo_events.specs.Conflict.{conflict}
 use Rattle.velo_events.specs.Event.{thread_of, is_by}
 use Rattle.velo_events.specs.Graph.{HasCycle}
-use Rattle.velo_events.specs.Heap.{times}
 use Rattle.velo_events.specs.Tally.{events_of}
 use Rattle.velo_events.specs.WellFormed.{IsWellFormed}
 use Rattle.velo_events.proofs.OnGraphs.{HasCycle-append}

@@ -1,7 +1,7 @@
 -- The parts that operations have by what is left out are those of the events of each run.
-use Rattle.std.proofs.Common.{◌≡◌, ◌≢◌, ℕ, zero, suc, ◌+◌, ◌<◌, ◌≤◌, Bool, true, false, not, cond, List, [], ◌∷◌, ◌++◌, length, length-append, take, drop, map, Some, refl, sym, ap, ◌∙◌, subst, arith, ⊎_elim, append-nil}
+use Rattle.std.proofs.Common.{◌≡◌, ◌≢◌, ℕ, zero, suc, ◌+◌, ◌<◌, ◌≤◌, Bool, true, false, not, cond, List, [], ◌∷◌, ◌++◌, length, take, drop, map, Some, refl, sym, ap, ◌∙◌, subst, arith, ⊎_elim, append-nil}
 use Rattle.std.proofs.Math.Dec.{eqb-suc-zero}
-use Rattle.std.specs.Prelude.{◌&&◌, ◌||◌, ◌==◌, if◌then◌else◌, filter, slice_get, IsTrue, IsFalse}
+use Rattle.std.specs.Prelude.{◌||◌, ◌==◌, if◌then◌else◌, filter, slice_get, IsTrue, IsFalse}
 use Rattle.std.specs.List.{list_any}
 use Rattle.std.proofs.Math.Seq.{take-length}
 use Rattle.std.proofs.lemmas.Bool.{cases_Bool, cases_eq, and_from, and_left, and_right, and_parts, eq-eqb, ne_eqb}
@@ -12,7 +12,6 @@ use Rattle.velo_events.specs.declared.event.Kind.{Kind}
 use Rattle.velo_events.specs.declared.event.Kind.TheVariants.{Read, Write, Acquire, Release, AcquireShared, ReleaseShared, Begin, End, Fork, Join, Exit}
 use Rattle.velo_events.specs.Event.{thread_of, is_by, is_begin, is_end, is_begin_by, is_end_by, lock_of, variable_of}
 use Rattle.velo_events.specs.Heap.{depth_in, times}
-use Rattle.velo_events.specs.Scan.{begins, ends, IsOpenAt}
 use Rattle.velo_events.specs.Tally.{events_of}
 use Rattle.velo_events.specs.WellFormed.{IsWellFormed}
 use Rattle.velo_events.proofs.OnScans.{event_at, take-next, passes_at-event}
@@ -23,8 +22,8 @@ use Rattle.velo_filter.proofs.OnRanks.{rank, events_staying, events_staying-stay
 use Rattle.velo_filter.proofs.OnStacks.{Stands, IsStack-stack, stack-begin, stack-end, stack-other}
 use Rattle.velo_filter.proofs.OnLeft.{stays, sub, length-sub, rest_of-is, stack-rest, is_dissolved-is, is_left_out-begin, is_left_out-end, is_left_out-end_alone, is_left_out-other}
 use Rattle.velo_filter.proofs.OnTurns.{height, IsWellFormed-rest}
-use Rattle.velo_search.specs.Parts.{Part, LeftOut, Outside, Inside, does_stay, innermost, without_innermost, is_out, open_after, open_from, open_behind, part_of, rest_behind, rest_by, Stays, IsPart, AreParts, ArePartsOf}
-use Rattle.velo_search.specs.Runs.{script_of, kinds_by, IsRunOf, IsNext}
+use Rattle.velo_search.specs.Parts.{Part, LeftOut, Outside, Inside, does_stay, innermost, without_innermost, is_out, open_after, open_from, open_behind, part_of, rest_by, Stays, IsPart, AreParts, ArePartsOf}
+use Rattle.velo_search.specs.Runs.{kinds_by, IsRunOf}
 use Rattle.velo_search.specs.Summary.{is_inside}
 use Rattle.velo_search.proofs.OnParts.{rest_by-nil, rest_by-stays, rest_by-goes}
 use Rattle.velo_search.proofs.OnRuns.{kinds_by-append, kinds_by-own, kinds_by-other, IsRunOf-before, IsNext-last}

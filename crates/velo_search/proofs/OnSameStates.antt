@@ -1,6 +1,6 @@
 -- States that are the same stand for the same logs.
-use Rattle.std.proofs.Common.{◌≡◌, ℕ, ◌∙◌, List, Some, sym, subst}
-use Rattle.std.specs.Prelude.{slice_index_or, Contains}
+use Rattle.std.proofs.Common.{ℕ, ◌∙◌, List, sym, subst}
+use Rattle.std.specs.Prelude.{slice_index_or}
 use Rattle.std.proofs.lemmas.Option.{same_Some, slice_get-get_or, slice_get_within}
 use Rattle.velo_events.specs.declared.event.Event.{Event}
 use Rattle.velo_events.specs.Tally.{events_of}

@@ -18,3 +18,4 @@ pub mod Steps
 pub mod Search
 pub mod Told
 pub mod Trail
+pub mod Judged

@@ -40,7 +40,8 @@ rest_by parts log = rest_behind parts [] log
 -- ---- the part of an event
 
 -- it follows what is left of the log, and behind it its thread has a block open or not
-pub record Stays (rest : List Event → List Event) (bounds : Bounds) (log : List Event) (e : Event) (inside : Bool) : Type 0 where
+pub record Stays (rest : List Event → List Event) (bounds : Bounds) (log : List Event) (e : Event)
+    (inside : Bool) : Type 0 where
   pub longer : rest (log ++ e ∷ []) ≡ rest log ++ e ∷ []
   pub well_formed : IsWellFormed bounds (rest log)
   pub follows : MayFollow bounds (rest log) e

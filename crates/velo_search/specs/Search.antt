@@ -25,23 +25,27 @@ AreShort scripts = (t : ℕ) → length (script_of scripts t) < 2 ^ 32
 -- ---- one state
 
 -- the state stands for a run
-pub record IsReached (bounds : Bounds) (scripts : List (List Kind)) (rest : List Event → List Event) (state : State) : Type 0 where
+pub record IsReached (bounds : Bounds) (scripts : List (List Kind)) (rest : List Event → List Event)
+    (state : State) : Type 0 where
   pub log : List Event
   pub run : IsRunOf bounds scripts log
   pub stands : IsStateOf rest log state
   pub same : bounds_of state.heap ≡ bounds
 
 -- no run that goes on from one for which the state stands, by fewer than n events, has the fault
-pub record IsClean (bounds : Bounds) (scripts : List (List Kind)) (rest : List Event → List Event) (n : ℕ) (fault : Fault) (state : State) : Type 0 where
+pub record IsClean (bounds : Bounds) (scripts : List (List Kind)) (rest : List Event → List Event)
+    (n : ℕ) (fault : Fault) (state : State) : Type 0 where
   pub each : (log : List Event) → IsRunOf bounds scripts log → IsStateOf rest log state →
       NeverWithin n (IsFault bounds scripts rest fault) bounds scripts log
 
 -- the event is next after each run for which the state stands
 abbrev pub IsNextAt : Bounds → List (List Kind) → (List Event → List Event) → State → Event → Type 0
-IsNextAt bounds scripts rest state e = (log : List Event) → IsRunOf bounds scripts log → IsStateOf rest log state → IsNext bounds scripts log e
+IsNextAt bounds scripts rest state e =
+    (log : List Event) → IsRunOf bounds scripts log → IsStateOf rest log state → IsNext bounds scripts log e
 
 -- none that goes on with an event of thread t, and then by fewer than n events, has it
-pub record IsCleanBy (bounds : Bounds) (scripts : List (List Kind)) (rest : List Event → List Event) (n : ℕ) (fault : Fault) (state : State) (t : ℕ) : Type 0 where
+pub record IsCleanBy (bounds : Bounds) (scripts : List (List Kind)) (rest : List Event → List Event)
+    (n : ℕ) (fault : Fault) (state : State) (t : ℕ) : Type 0 where
   pub each : (log : List Event) (e : Event) → IsRunOf bounds scripts log → IsStateOf rest log state → thread_of e ≡ t →
       IsNext bounds scripts log e → NeverWithin n (IsFault bounds scripts rest fault) bounds scripts (log ++ e ∷ [])
 
@@ -58,7 +62,8 @@ pub record StandsAmong (states : List State) (state : State) : Type 0 where
   pub logs : (rest : List Event → List Event) (log : List Event) → IsStateOf rest log state → IsStateOf rest log member
 
 -- the second state is reached where the first is, and where it is clean the first is
-pub record Settles (bounds : Bounds) (scripts : List (List Kind)) (rest : List Event → List Event) (before after : State) : Type 0 where
+pub record Settles (bounds : Bounds) (scripts : List (List Kind)) (rest : List Event → List Event)
+    (before after : State) : Type 0 where
   pub reached : IsReached bounds scripts rest before → IsReached bounds scripts rest after
   pub clean : (n : ℕ) (fault : Fault) → IsClean bounds scripts rest n fault after → IsClean bounds scripts rest n fault before
 
@@ -77,7 +82,8 @@ pub record IsSeen (bounds : Bounds) (scripts : List (List Kind)) (log : List Eve
   pub others : seen.acts ≡ false → seen.refused ≡ false → (u : ℕ) → u < t → IsIdle scripts log u ⊎ IsWaiting bounds scripts log u
 
 -- the states after the next events of the threads before t were kept
-pub record IsTried (bounds : Bounds) (scripts : List (List Kind)) (rest : List Event → List Event) (state : State) (start now : List State) (seen : ThreadsSeen) (t : ℕ) : Type 0 where
+pub record IsTried (bounds : Bounds) (scripts : List (List Kind)) (rest : List Event → List Event)
+    (state : State) (start now : List State) (seen : ThreadsSeen) (t : ℕ) : Type 0 where
   pub reached : All (IsReached bounds scripts rest) now
   pub leads : (n : ℕ) (fault : Fault) → All (IsClean bounds scripts rest n fault) now →
       (All (IsClean bounds scripts rest n fault) start × ((u : ℕ) → u < t → IsCleanBy bounds scripts rest n fault state u))
@@ -91,7 +97,8 @@ has_fault found Stuck = found.stuck
 has_fault found Refusing = found.refused
 
 -- some run has the fault
-pub record SomeRun (bounds : Bounds) (scripts : List (List Kind)) (rest : List Event → List Event) (fault : Fault) : Type 0 where
+pub record SomeRun (bounds : Bounds) (scripts : List (List Kind)) (rest : List Event → List Event)
+    (fault : Fault) : Type 0 where
   pub log : List Event
   pub run : IsRunOf bounds scripts log
   pub bad : IsFault bounds scripts rest fault log
@@ -108,12 +115,14 @@ ways threads zero = 0
 ways threads (suc n) = 1 + ways threads n * threads
 
 -- all runs of fewer than n events were tried: none has what was not found, and the states are no more than such runs can have
-pub record IsTriedBelow (bounds : Bounds) (scripts : List (List Kind)) (rest : List Event → List Event) (found : Found) (states : ℕ) (n : ℕ) : Type 0 where
+pub record IsTriedBelow (bounds : Bounds) (scripts : List (List Kind)) (rest : List Event → List Event)
+    (found : Found) (states : ℕ) (n : ℕ) : Type 0 where
   pub none : (fault : Fault) → has_fault found fault ≡ false → NeverWithin n (IsFault bounds scripts rest fault) bounds scripts []
   pub few : states ≤ ways bounds.threads n
 
 -- The states next to those that were looked at, one a thread, are as many as may be looked at
-pub record AreStatesSpent (bounds : Bounds) (scripts : List (List Kind)) (rest : List Event → List Event) (most : ℕ) (found : Found) (states : ℕ) : Type 0 where
+pub record AreStatesSpent (bounds : Bounds) (scripts : List (List Kind)) (rest : List Event → List Event)
+    (most : ℕ) (found : Found) (states : ℕ) : Type 0 where
   pub all : most ≤ states * bounds.threads
   pub events : ℕ
   pub tried : IsTriedBelow bounds scripts rest found states events

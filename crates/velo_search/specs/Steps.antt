@@ -10,7 +10,8 @@ AreEarlier steps = (i : ℕ) (s : Step) → slice_get steps i ≡ Some s → s.b
 -- the turns up to a place: none up to the first; behind an event, those up to the one before it and its own
 pub data IsWay : List Step → ℕ → List ThreadId → Type 0 where
   none : (steps : List Step) (place : ℕ) (turns : List ThreadId) → place ≡ 0 → turns ≡ [] → IsWay steps place turns
-  more : (steps : List Step) (place i : ℕ) (s : Step) (earlier turns : List ThreadId) → place ≡ i + 1 → slice_get steps i ≡ Some s → IsWay steps s.before earlier → turns ≡ earlier ++ s.thread ∷ [] → IsWay steps place turns
+  more : (steps : List Step) (place i : ℕ) (s : Step) (earlier turns : List ThreadId) → place ≡ i + 1 →
+      slice_get steps i ≡ Some s → IsWay steps s.before earlier → turns ≡ earlier ++ s.thread ∷ [] → IsWay steps place turns
 
 -- there are the same events, and maybe more behind them
 pub record IsLonger (old new : List Step) : Type 0 where

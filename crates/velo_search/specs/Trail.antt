@@ -24,7 +24,8 @@ abbrev pub turns_of : List Event → List ThreadId
 turns_of log = map (λ (e : Event). e.thread) log
 
 -- the state stands for a run whose turns lead to its place
-pub record IsReachedBy (bounds : Bounds) (scripts : List (List Kind)) (rest : List Event → List Event) (steps : List Step) (state : State) : Type 0 where
+pub record IsReachedBy (bounds : Bounds) (scripts : List (List Kind)) (rest : List Event → List Event)
+    (steps : List Step) (state : State) : Type 0 where
   pub log : List Event
   pub run : IsRunOf bounds scripts log
   pub stands : IsStateOf rest log state
@@ -32,7 +33,8 @@ pub record IsReachedBy (bounds : Bounds) (scripts : List (List Kind)) (rest : Li
   pub way : IsWay steps state.place (turns_of log)
 
 -- by these turns some run comes to the fault
-pub record LeadsTo (bounds : Bounds) (scripts : List (List Kind)) (rest : List Event → List Event) (fault : Fault) (turns : List ThreadId) : Type 0 where
+pub record LeadsTo (bounds : Bounds) (scripts : List (List Kind)) (rest : List Event → List Event)
+    (fault : Fault) (turns : List ThreadId) : Type 0 where
   pub log : List Event
   pub run : IsRunOf bounds scripts log
   pub by : turns_of log ≡ turns
@@ -49,7 +51,8 @@ abbrev pub alarms_of : Schedules → List (List ThreadId)
 alarms_of shown = map (λ v. v.items) shown.alarms.items
 
 -- By each of them some run comes to a cycle. With `first` there is none; else there is one where turns are kept for an alarm
-pub record LeadToCycles (bounds : Bounds) (scripts : List (List Kind)) (rest : List Event → List Event) (first : Bool) (shown : Schedules) : Type 0 where
+pub record LeadToCycles (bounds : Bounds) (scripts : List (List Kind)) (rest : List Event → List Event)
+    (first : Bool) (shown : Schedules) : Type 0 where
   pub lead : All (LeadsTo bounds scripts rest Cycle) (alarms_of shown)
   pub few : length (alarms_of shown) ≤ MAX_ALARMS
   pub none : first ≡ true → alarms_of shown ≡ []
@@ -71,8 +74,10 @@ pub record NotesAlarm (old : Trail) (place : ℕ) (now : Trail) : Type 0 where
   pub some : old.first ≡ false → 0 < length (alarms_of now.shown)
 
 -- the alarms that are kept stay, and those that come to them lead to a cycle
-pub record AlarmsGoOn (bounds : Bounds) (scripts : List (List Kind)) (rest : List Event → List Event) (old now : Trail) : Type 0 where
-  pub lead : All (LeadsTo bounds scripts rest Cycle) (alarms_of old.shown) → All (LeadsTo bounds scripts rest Cycle) (alarms_of now.shown)
+pub record AlarmsGoOn (bounds : Bounds) (scripts : List (List Kind)) (rest : List Event → List Event)
+    (old now : Trail) : Type 0 where
+  pub lead : All (LeadsTo bounds scripts rest Cycle) (alarms_of old.shown) →
+      All (LeadsTo bounds scripts rest Cycle) (alarms_of now.shown)
   pub more : length (alarms_of old.shown) ≤ length (alarms_of now.shown)
   pub few : length (alarms_of old.shown) ≤ MAX_ALARMS → length (alarms_of now.shown) ≤ MAX_ALARMS
   pub none : old.first ≡ true → alarms_of now.shown ≡ alarms_of old.shown
@@ -84,7 +89,8 @@ pub record GoesOn (old now : Trail) : Type 0 where
   pub first : now.first ≡ old.first
 
 -- the second state comes behind the first, is reached as the trail says, and where it is clean the first is
-pub record SettlesBy (bounds : Bounds) (scripts : List (List Kind)) (rest : List Event → List Event) (old : Trail) (before : State) (now : Trail) (after : State) : Type 0 where
+pub record SettlesBy (bounds : Bounds) (scripts : List (List Kind)) (rest : List Event → List Event)
+    (old : Trail) (before : State) (now : Trail) (after : State) : Type 0 where
   pub settles : Settles bounds scripts rest before after
   pub reached : IsReachedBy bounds scripts rest now.steps.items after
   pub goes_on : GoesOn old now
@@ -96,11 +102,14 @@ pub record NotesTurns (old : Trail) (place : ℕ) (before after : Found) (now : 
   pub first : now.first ≡ old.first
   pub alarms : alarms_of now.shown ≡ alarms_of old.shown
   pub turns : (fault : Fault) → (turns_for now.shown fault ≡ turns_for old.shown fault)
-      ⊎ ((has_fault before fault ≡ false) × (has_fault after fault ≡ true) × IfSome (turns_for now.shown fault) (IsWay now.steps.items place))
-  pub each : (fault : Fault) → has_fault before fault ≡ false → has_fault (shown_of old.first after) fault ≡ true → IsTrue (is_some (turns_for now.shown fault))
+      ⊎ ((has_fault before fault ≡ false) × (has_fault after fault ≡ true)
+      × IfSome (turns_for now.shown fault) (IsWay now.steps.items place))
+  pub each : (fault : Fault) → has_fault before fault ≡ false → has_fault (shown_of old.first after) fault ≡ true →
+      IsTrue (is_some (turns_for now.shown fault))
 
 -- what the trail shows leads to what was found; and each that was found is shown, or the foremost with `first`
-pub record AreShown (bounds : Bounds) (scripts : List (List Kind)) (rest : List Event → List Event) (first : Bool) (found : Found) (trail : Trail) : Type 0 where
+pub record AreShown (bounds : Bounds) (scripts : List (List Kind)) (rest : List Event → List Event)
+    (first : Bool) (found : Found) (trail : Trail) : Type 0 where
   pub same : trail.first ≡ first
   pub leads : (fault : Fault) → IfSome (turns_for trail.shown fault) (LeadsTo bounds scripts rest fault)
   pub each : (fault : Fault) → has_fault (shown_of first found) fault ≡ true → IsTrue (is_some (turns_for trail.shown fault))

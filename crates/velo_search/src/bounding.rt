@@ -54,10 +54,13 @@ pub fn search<P: Progress>(
 ) -> Result<Searched, Memory>
     requires plain { ArePlain scripts.now.kinds }
     requires short { AreShort scripts.now.kinds }
-    ensures found { IfOk result (λ x. IsTrueOf config.now.bounds scripts.now.kinds (rest_of (left_of left.now)) x.found) }
+    ensures found { IfOk result (λ x.
+        IsTrueOf config.now.bounds scripts.now.kinds (rest_of (left_of left.now)) x.found) }
     ensures whole { IfOk result (λ x. x.whole ≡ true → (fault : Fault) → has_fault x.found fault ≡ false →
-        Never (IsFault config.now.bounds scripts.now.kinds (rest_of (left_of left.now)) fault) config.now.bounds scripts.now.kinds []) }
-    ensures first { IfOk result (λ x. first ≡ true → x.whole ≡ true → (fault : Fault) → has_fault x.found fault ≡ false) }
+        Never (IsFault config.now.bounds scripts.now.kinds (rest_of (left_of left.now)) fault)
+        config.now.bounds scripts.now.kinds []) }
+    ensures first { IfOk result (λ x. first ≡ true → x.whole ≡ true → (fault : Fault) →
+        has_fault x.found fault ≡ false) }
     ensures states { IfOk result (λ x. x.states ≤ most_states) }
     ensures cut { IfOk result (λ x. x.whole ≡ false →
         IsSearchCut config.now.bounds scripts.now.kinds (rest_of (left_of left.now)) most_states first

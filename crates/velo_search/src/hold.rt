@@ -1,5 +1,5 @@
 //! How a thread has one lock by its own operations.
-ghost use Rattle.std.specs.Prelude.{◌≡◌, ℕ};
+ghost use Rattle.std.specs.Prelude.{◌≡◌};
 
 use velo_events::Kind;
 

@@ -36,8 +36,10 @@ impl Level {
     /// # Errors
     /// `Memory` where a growth was refused.
     pub fn keep(&mut self, state: State) -> Result<bool, Memory>
-        ensures members { OnOk result ((s : State) → Contains self.new.states.items s → (Contains self.old.states.items s ⊎ (state ≡ s))) }
-        ensures before { OnOk result ((s : State) → Contains self.old.states.items s → Contains self.new.states.items s) }
+        ensures members { OnOk result ((s : State) → Contains self.new.states.items s →
+            (Contains self.old.states.items s ⊎ (state ≡ s))) }
+        ensures before { OnOk result ((s : State) → Contains self.old.states.items s →
+            Contains self.new.states.items s) }
         ensures there { OnOk result (StandsAmong self.new.states.items state) }
         ensures count { OnOk result (length self.new.states.items ≤ length self.old.states.items +
             1) }

@@ -28,8 +28,10 @@ impl Mark {
 
     /// The threads that reach one group or the other.
     pub fn union(self, other: Mark) -> Mark
-        ensures reached { (u : ℕ) → has_thread result.reached u ≡ (has_thread self.reached u || has_thread other.reached u) }
-        ensures beyond { (u : ℕ) → has_thread result.beyond u ≡ (has_thread self.beyond u || has_thread other.beyond u) }
+        ensures reached { (u : ℕ) → has_thread result.reached u ≡
+            (has_thread self.reached u || has_thread other.reached u) }
+        ensures beyond { (u : ℕ) → has_thread result.beyond u ≡
+            (has_thread self.beyond u || has_thread other.beyond u) }
     {
         Mark {
             reached: self.reached.union(other.reached),
@@ -53,9 +55,11 @@ impl Mark {
     fn spread(self, thread: ThreadId, behind: ThreadSet) -> Mark
         requires { thread.0 < 64 }
         ensures reached { (u : ℕ) → has_thread result.reached u ≡
-            (has_thread self.reached u || (has_thread self.reached thread.0 && (thread.0 == u || has_thread behind u))) }
+            (has_thread self.reached u ||
+            (has_thread self.reached thread.0 && (thread.0 == u || has_thread behind u))) }
         ensures beyond { (u : ℕ) → has_thread result.beyond u ≡
-            (has_thread self.beyond u || (has_thread self.reached thread.0 && (not (thread.0 == u) && has_thread behind u))) }
+            (has_thread self.beyond u ||
+            (has_thread self.reached thread.0 && (not (thread.0 == u) && has_thread behind u))) }
     {
         if self.reached.has(thread) {
             Mark {

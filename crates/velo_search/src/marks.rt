@@ -87,9 +87,12 @@ impl Marks {
         requires thread { thread.0 < 64 }
         ensures bounds { self.new.bounds ≡ self.old.bounds }
         ensures alarmed { self.new.alarmed ≡ self.old.alarmed }
-        ensures reached { (g : Group) (u : ℕ) → has_thread (mark_of self.old.bounds self.new.marks.items g).reached u ≡
-            ((same_group group g && thread.0 == u) || has_thread (mark_of self.old.bounds self.old.marks.items g).reached u) }
-        ensures beyond { (g : Group) → (mark_of self.old.bounds self.new.marks.items g).beyond ≡ (mark_of self.old.bounds self.old.marks.items g).beyond }
+        ensures reached { (g : Group) (u : ℕ) →
+            has_thread (mark_of self.old.bounds self.new.marks.items g).reached u ≡
+            ((same_group group g && thread.0 == u) ||
+            has_thread (mark_of self.old.bounds self.old.marks.items g).reached u) }
+        ensures beyond { (g : Group) → (mark_of self.old.bounds self.new.marks.items g).beyond ≡
+            (mark_of self.old.bounds self.old.marks.items g).beyond }
     {
         let number = self.number(group);
         self.marks[number].reached = self.marks[number].reached.with(thread);
@@ -99,8 +102,10 @@ impl Marks {
     fn looked_at(&self, thread: ThreadId, access: Access) -> Mark
         requires thread { thread.0 < self.now.bounds.threads }
         requires known { AccessKnown self.now.bounds access }
-        ensures reached { (u : ℕ) → has_thread result.reached u ≡ list_any (λ g. (summary_of self.now).reached g u) (OfThread thread ∷ also_looks_at access) }
-        ensures beyond { (u : ℕ) → has_thread result.beyond u ≡ list_any (λ g. (summary_of self.now).beyond g u) (OfThread thread ∷ also_looks_at access) }
+        ensures reached { (u : ℕ) → has_thread result.reached u ≡
+            list_any (λ g. (summary_of self.now).reached g u) (OfThread thread ∷ also_looks_at access) }
+        ensures beyond { (u : ℕ) → has_thread result.beyond u ≡
+            list_any (λ g. (summary_of self.now).beyond g u) (OfThread thread ∷ also_looks_at access) }
     {
         let own = self.mark(Group::OfThread(thread));
         match access {
@@ -119,9 +124,12 @@ impl Marks {
         requires known { AccessKnown self.old.bounds access }
         ensures bounds { self.new.bounds ≡ self.old.bounds }
         ensures alarmed { self.new.alarmed ≡ self.old.alarmed }
-        ensures reached { (g : Group) (u : ℕ) → has_thread (mark_of self.old.bounds self.new.marks.items g).reached u ≡
-            ((is_member thread access g && thread.0 == u) || has_thread (mark_of self.old.bounds self.old.marks.items g).reached u) }
-        ensures beyond { (g : Group) → (mark_of self.old.bounds self.new.marks.items g).beyond ≡ (mark_of self.old.bounds self.old.marks.items g).beyond }
+        ensures reached { (g : Group) (u : ℕ) →
+            has_thread (mark_of self.old.bounds self.new.marks.items g).reached u ≡
+            ((is_member thread access g && thread.0 == u) ||
+            has_thread (mark_of self.old.bounds self.old.marks.items g).reached u) }
+        ensures beyond { (g : Group) → (mark_of self.old.bounds self.new.marks.items g).beyond ≡
+            (mark_of self.old.bounds self.old.marks.items g).beyond }
     {
         self.put(Group::OfThread(thread), thread);
         match access {
@@ -138,7 +146,8 @@ impl Marks {
         ensures bounds { self.new.bounds ≡ self.old.bounds }
         ensures alarmed { self.new.alarmed ≡ self.old.alarmed }
         ensures each { (k : ℕ) → k < length self.old.marks.items →
-            IsMarkAfter thread.0 behind inside (slice_index_or self.old.marks.items k blank_mark) (slice_index_or self.new.marks.items k blank_mark) }
+            IsMarkAfter thread.0 behind inside (slice_index_or self.old.marks.items k blank_mark)
+            (slice_index_or self.new.marks.items k blank_mark) }
     {
         for i in 0..self.marks.len() {
             self.marks[i] = self.marks[i].after(thread, behind, inside);
@@ -228,7 +237,8 @@ impl Marks {
         requires thread { thread_of event.now < self.old.bounds.threads }
         requires names { NamesKnown self.old.bounds event.now.kind }
         ensures bounds { self.new.bounds ≡ self.old.bounds }
-        ensures next { (log : List Event) → IsWellFormed self.old.bounds log → MayFollow self.old.bounds log event.now → inside ≡ is_inside log event.now →
+        ensures next { (log : List Event) → IsWellFormed self.old.bounds log →
+            MayFollow self.old.bounds log event.now → inside ≡ is_inside log event.now →
             IsSummaryOf log (summary_of self.old) → IsSummaryOf (log ++ event.now ∷ []) (summary_of self.new) }
     {
         let access = event.kind.access();
@@ -247,8 +257,10 @@ impl Marks {
         requires thread { thread_of event.now < self.old.bounds.threads }
         requires names { NamesKnown self.old.bounds event.now.kind }
         ensures bounds { self.new.bounds ≡ self.old.bounds }
-        ensures next { (rest : List Event → List Event) (log : List Event) → IsPart rest self.old.bounds log event.now part →
-            IsSummaryOf (rest log) (summary_of self.old) → IsSummaryOf (rest (log ++ event.now ∷ [])) (summary_of self.new) }
+        ensures next { (rest : List Event → List Event) (log : List Event) →
+            IsPart rest self.old.bounds log event.now part →
+            IsSummaryOf (rest log) (summary_of self.old) →
+            IsSummaryOf (rest (log ++ event.now ∷ [])) (summary_of self.new) }
     {
         match part {
             Part::LeftOut => {}

@@ -39,8 +39,10 @@ impl Notes {
 
     /// Notes an operation of a thread, unless it can hinder no other.
     fn note(&mut self, alloc: Global, thread: usize, kind: Kind, held: &Held) -> Result<(), Memory>
-        ensures before { OnOk result ((n : ℕ) (note : Note) → Contains (list_at self.old n) note → Contains (list_at self.new n) note) }
-        ensures there { OnOk result (is_private kind ≡ false → IsAmong (list_at self.new (list_of kind)) thread kind held.now.locks.items) }
+        ensures before { OnOk result ((n : ℕ) (note : Note) → Contains (list_at self.old n) note →
+            Contains (list_at self.new n) note) }
+        ensures there { OnOk result (is_private kind ≡ false →
+            IsAmong (list_at self.new (list_of kind)) thread kind held.now.locks.items) }
         ensures only { OnOk result ((n : ℕ) (note : Note) → Contains (list_at self.new n) note →
             (Contains (list_at self.old n) note ⊎ IsNoteOf thread kind held.now.locks.items note)) }
     {
@@ -59,7 +61,8 @@ impl Notes {
         script: &[Kind],
         locks: usize,
     ) -> Result<(), Memory>
-        ensures before { OnOk result ((n : ℕ) (note : Note) → Contains (list_at self.old n) note → Contains (list_at self.new n) note) }
+        ensures before { OnOk result ((n : ℕ) (note : Note) → Contains (list_at self.old n) note →
+            Contains (list_at self.new n) note) }
         ensures there { OnOk result ((i : ℕ) (k : Kind) → slice_get script.now i ≡ Some k → is_private k ≡ false →
             IsNoted (list_at self.new (list_of k)) locks thread (take i script.now) k) }
         ensures only { OnOk result ((n : ℕ) (note : Note) → Contains (list_at self.new n) note →

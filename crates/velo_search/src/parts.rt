@@ -15,7 +15,8 @@ use velo_filter::LeftOut;
 fn parts_of_script(alloc: Global, script: &[Kind], left: &LeftOut) -> Result<Vec<Part>, Memory>
     ensures count { IfOk result (λ parts. length parts.items ≡ length script.now) }
     ensures each { IfOk result (λ parts. (i : ℕ) (k : Kind) → slice_get script.now i ≡ Some k →
-        slice_get parts.items i ≡ Some (part_of (left_of left.now) (open_behind (left_of left.now) (take i script.now)) k)) }
+        slice_get parts.items i ≡
+        Some (part_of (left_of left.now) (open_behind (left_of left.now) (take i script.now)) k)) }
 {
     let mut parts = with_capacity(alloc, script.len())?;
     let mut blocks = OpenBlocks::none(alloc);

@@ -1,19 +1,19 @@
 //! A search of all states that the runs of some scripts can be in.
-ghost use Rattle.std.specs.Prelude.{◌≡◌, ◌+◌, ◌*◌, ◌<◌, ◌≤◌, ◌^◌, ◌&&◌, ◌||◌, List, ℕ, true, false, [], ◌⊎◌, All, Contains, take, slice_get, length, is_some, IfOk, IfSome, IsTrue, OnOk};
+ghost use Rattle.std.specs.Prelude.{◌≡◌, ◌+◌, ◌*◌, ◌<◌, ◌≤◌, ◌&&◌, ◌||◌, List, ℕ, true, false, [], ◌⊎◌, All, Contains, take, length, is_some, IfOk, IfSome, IsTrue, OnOk};
 ghost use Rattle.velo_events.specs.declared.config.Bounds.{Bounds};
 ghost use Rattle.velo_events.specs.declared.event.Event.{Event};
 ghost use Rattle.velo_events.specs.declared.event.Kind.{Kind};
 ghost use Rattle.velo_events.specs.Event.{thread_of};
-ghost use Rattle.velo_events.specs.Tally.{events_of};
 ghost use Rattle.velo_heap.specs.Contents.{bounds_of};
 ghost use Rattle.velo_search.specs.declared.state.State.{State};
-ghost use Rattle.velo_search.specs.Faults.{Fault, IsFault, NextIs, is_wait};
-ghost use Rattle.velo_search.specs.Parts.{rest_by, AreParts, part_at};
-ghost use Rattle.velo_search.specs.Runs.{script_of, IsRunOf, Never, NeverWithin};
+ghost use Rattle.velo_search.specs.Faults.{Fault, NextIs, is_wait};
+ghost use Rattle.velo_search.specs.Judged.{AlarmsGoOnIn, ArePartsIn, AreShownIn, IsCleanIn, IsFaultIn, IsReachedIn};
+ghost use Rattle.velo_search.specs.Judged.{IsTriedIn, IsTrueIn, rest_in};
+ghost use Rattle.velo_search.specs.Runs.{IsRunOf, Never, NeverWithin};
 ghost use Rattle.velo_search.specs.States.{IsStateOf};
-ghost use Rattle.velo_search.specs.Search.{ArePlain, AreShort, IsClean, StandsAmong, IsCleanBy, IsNextAt, IsTried, IsTrueOf, IsSearchCut, has_fault};
+ghost use Rattle.velo_search.specs.Search.{ArePlain, AreShort, StandsAmong, IsCleanBy, IsNextAt, IsSearchCut, has_fault};
 ghost use Rattle.velo_search.specs.Told.{has_ended, shown_of};
-ghost use Rattle.velo_search.specs.Trail.{AlarmsGoOn, LeadToCycles, AreShown, GoesOn, IsNoted, IsReachedBy, LeadsTo};
+ghost use Rattle.velo_search.specs.Trail.{AlarmsGoOn, LeadToCycles, GoesOn, IsNoted, IsReachedBy, LeadsTo};
 ghost use Rattle.velo_search.specs.Trail.{alarms_of, turns_for};
 
 use crate::found::Found;
@@ -42,7 +42,8 @@ fn is_wait(refusal: Refusal) -> bool
 pub(crate) fn next_of(scripts: &MarkedScripts, state: &State, thread: ThreadId) -> Next
     requires plain { ArePlain scripts.now.kinds }
     requires thread { thread.0 < (bounds_of state.now.heap).threads }
-    ensures { (log : List Event) → IsRunOf (bounds_of state.now.heap) scripts.now.kinds log → IsStateOf (rest_by (part_at scripts.now.parts)) log state.now →
+    ensures { (log : List Event) → IsRunOf (bounds_of state.now.heap) scripts.now.kinds log →
+        IsStateOf (rest_in scripts.now) log state.now →
         NextIs (bounds_of state.now.heap) scripts.now.kinds log thread.0 result }
 {
     let Some(kind) = scripts.kind(thread, state.done_by(thread)) else {
@@ -71,17 +72,16 @@ fn follow(
 ) -> Result<State, Memory>
     requires plain { ArePlain scripts.now.kinds }
     requires short { AreShort scripts.now.kinds }
-    requires parts { AreParts (bounds_of state.now.heap) scripts.now.kinds (part_at scripts.now.parts) }
-    requires reached { IsReachedBy (bounds_of state.now.heap) scripts.now.kinds (rest_by (part_at scripts.now.parts)) trail.old.steps.items
-        state.now }
-    requires next { IsNextAt (bounds_of state.now.heap) scripts.now.kinds (rest_by (part_at scripts.now.parts)) state.now event.now }
-    ensures reached { IfOk result
-        (IsReachedBy (bounds_of state.now.heap) scripts.now.kinds (rest_by (part_at scripts.now.parts)) trail.new.steps.items) }
+    requires parts { ArePartsIn (bounds_of state.now.heap) scripts.now }
+    requires reached { IsReachedIn (bounds_of state.now.heap) scripts.now trail.old.steps.items state.now }
+    requires next { IsNextAt (bounds_of state.now.heap) scripts.now.kinds (rest_in scripts.now) state.now event.now }
+    ensures reached { IfOk result (IsReachedIn (bounds_of state.now.heap) scripts.now trail.new.steps.items) }
     ensures goes_on { OnOk result (GoesOn trail.old trail.new) }
     ensures alarms { OnOk result (alarms_of trail.new.shown ≡ alarms_of trail.old.shown) }
     ensures leads { IfOk result (λ s. (n : ℕ) (fault : Fault) →
-        IsClean (bounds_of state.now.heap) scripts.now.kinds (rest_by (part_at scripts.now.parts)) n fault s →
-        IsCleanBy (bounds_of state.now.heap) scripts.now.kinds (rest_by (part_at scripts.now.parts)) n fault state.now (thread_of event.now)) }
+        IsCleanIn (bounds_of state.now.heap) scripts.now n fault s →
+        IsCleanBy (bounds_of state.now.heap) scripts.now.kinds (rest_in scripts.now) n fault state.now
+        (thread_of event.now)) }
 {
     let mut after = state.copy(alloc)?;
     advance(scripts, &mut after, event, trail)?;
@@ -144,24 +144,22 @@ fn look(
 ) -> Result<(), Memory>
     requires plain { ArePlain scripts.now.kinds }
     requires short { AreShort scripts.now.kinds }
-    requires parts { AreParts (bounds_of state.now.heap) scripts.now.kinds (part_at scripts.now.parts) }
+    requires parts { ArePartsIn (bounds_of state.now.heap) scripts.now }
     requires thread { thread.0 < (bounds_of state.now.heap).threads }
-    requires reached { IsReachedBy (bounds_of state.now.heap) scripts.now.kinds (rest_by (part_at scripts.now.parts)) trail.old.steps.items
-        state.now }
+    requires reached { IsReachedIn (bounds_of state.now.heap) scripts.now trail.old.steps.items state.now }
     ensures goes_on { OnOk result (GoesOn trail.old trail.new) }
-    ensures alarms { OnOk result
-        (AlarmsGoOn (bounds_of state.now.heap) scripts.now.kinds (rest_by (part_at scripts.now.parts)) trail.old trail.new) }
+    ensures alarms { OnOk result (AlarmsGoOnIn (bounds_of state.now.heap) scripts.now trail.old trail.new) }
     ensures noted { OnOk result (IsNoted trail.old state.now →
         All (IsNoted trail.old) next.old.states.items →
         All (IsNoted trail.new) next.new.states.items) }
-    ensures reached { OnOk result (All
-        (IsReachedBy (bounds_of state.now.heap) scripts.now.kinds (rest_by (part_at scripts.now.parts)) trail.old.steps.items)
-        next.old.states.items →
-        All (IsReachedBy (bounds_of state.now.heap) scripts.now.kinds (rest_by (part_at scripts.now.parts)) trail.new.steps.items)
-        next.new.states.items) }
+    ensures reached { OnOk result (
+        All (IsReachedIn (bounds_of state.now.heap) scripts.now trail.old.steps.items) next.old.states.items →
+        All (IsReachedIn (bounds_of state.now.heap) scripts.now trail.new.steps.items) next.new.states.items) }
     ensures tried { OnOk result ((start : List State) →
-        IsTried (bounds_of state.now.heap) scripts.now.kinds (rest_by (part_at scripts.now.parts)) state.now start next.old.states.items seen.old thread.0 →
-        IsTried (bounds_of state.now.heap) scripts.now.kinds (rest_by (part_at scripts.now.parts)) state.now start next.new.states.items seen.new (thread.0 + 1)) }
+        IsTriedIn (bounds_of state.now.heap) scripts.now state.now start next.old.states.items seen.old
+        thread.0 →
+        IsTriedIn (bounds_of state.now.heap) scripts.now state.now start next.new.states.items seen.new
+        (thread.0 + 1)) }
     ensures count { OnOk result (length next.new.states.items ≤ length next.old.states.items + 1) }
 {
     match next_of(scripts, state, thread) {
@@ -196,36 +194,32 @@ fn put_next(
 ) -> Result<Found, Memory>
     requires plain { ArePlain terms.now.scripts.now.kinds }
     requires short { AreShort terms.now.scripts.now.kinds }
-    requires parts { AreParts terms.now.bounds terms.now.scripts.now.kinds
-        (part_at terms.now.scripts.now.parts) }
-    requires state { IsReachedBy terms.now.bounds terms.now.scripts.now.kinds (rest_by (part_at terms.now.scripts.now.parts))
-        trail.old.steps.items state.now }
-    requires others { All
-        (IsReachedBy terms.now.bounds terms.now.scripts.now.kinds (rest_by (part_at terms.now.scripts.now.parts)) trail.old.steps.items)
+    requires parts { ArePartsIn terms.now.bounds terms.now.scripts.now }
+    requires state { IsReachedIn terms.now.bounds terms.now.scripts.now trail.old.steps.items state.now }
+    requires others { All (IsReachedIn terms.now.bounds terms.now.scripts.now trail.old.steps.items)
         next.old.states.items }
     requires noted { IsNoted trail.old state.now }
     requires noted_others { All (IsNoted trail.old) next.old.states.items }
-    requires found { IsTrueOf terms.now.bounds terms.now.scripts.now.kinds (rest_by (part_at terms.now.scripts.now.parts)) found }
-    ensures found { IfOk result (IsTrueOf terms.now.bounds terms.now.scripts.now.kinds (rest_by (part_at terms.now.scripts.now.parts))) }
-    ensures more { IfOk result (λ after. (fault : Fault) → has_fault after fault ≡ false → has_fault found fault ≡ false) }
-    ensures others { OnOk result (All
-        (IsReachedBy terms.now.bounds terms.now.scripts.now.kinds (rest_by (part_at terms.now.scripts.now.parts)) trail.new.steps.items)
+    requires found { IsTrueIn terms.now.bounds terms.now.scripts.now found }
+    ensures found { IfOk result (IsTrueIn terms.now.bounds terms.now.scripts.now) }
+    ensures more { IfOk result (λ after. (fault : Fault) → has_fault after fault ≡ false →
+        has_fault found fault ≡ false) }
+    ensures others { OnOk result (All (IsReachedIn terms.now.bounds terms.now.scripts.now trail.new.steps.items)
         next.new.states.items) }
     ensures goes_on { OnOk result (GoesOn trail.old trail.new) }
-    ensures alarms { OnOk result
-        (AlarmsGoOn terms.now.bounds terms.now.scripts.now.kinds (rest_by (part_at terms.now.scripts.now.parts)) trail.old trail.new) }
+    ensures alarms { OnOk result (AlarmsGoOnIn terms.now.bounds terms.now.scripts.now trail.old trail.new) }
     ensures noted { OnOk result (All (IsNoted trail.new) next.new.states.items) }
     ensures alarm { IfOk result (λ after. trail.old.first ≡ false → found.alarm ≡ false →
         after.alarm ≡ true → 0 < length (alarms_of trail.new.shown)) }
     ensures shows { IfOk result (λ after. (fault : Fault) → has_fault found fault ≡ false →
         has_fault after fault ≡ true →
         (log : List Event) → IsRunOf terms.now.bounds terms.now.scripts.now.kinds log →
-        IsStateOf (rest_by (part_at terms.now.scripts.now.parts)) log state.now →
-        IsFault terms.now.bounds terms.now.scripts.now.kinds (rest_by (part_at terms.now.scripts.now.parts)) fault log) }
+        IsStateOf (rest_in terms.now.scripts.now) log state.now →
+        IsFaultIn terms.now.bounds terms.now.scripts.now fault log) }
     ensures leads { IfOk result (λ after. (n : ℕ) (fault : Fault) → has_fault after fault ≡ false →
-        All (IsClean terms.now.bounds terms.now.scripts.now.kinds (rest_by (part_at terms.now.scripts.now.parts)) n fault) next.new.states.items →
-        (All (IsClean terms.now.bounds terms.now.scripts.now.kinds (rest_by (part_at terms.now.scripts.now.parts)) n fault) next.old.states.items
-        × IsClean terms.now.bounds terms.now.scripts.now.kinds (rest_by (part_at terms.now.scripts.now.parts)) (n + 1) fault state.now)) }
+        All (IsCleanIn terms.now.bounds terms.now.scripts.now n fault) next.new.states.items →
+        (All (IsCleanIn terms.now.bounds terms.now.scripts.now n fault) next.old.states.items
+        × IsCleanIn terms.now.bounds terms.now.scripts.now (n + 1) fault state.now)) }
     ensures count { OnOk result (length next.new.states.items ≤ length next.old.states.items +
         terms.now.bounds.threads) }
 {
@@ -261,29 +255,24 @@ fn next_level<P: Progress>(
 ) -> Result<Looked, Memory>
     requires plain { ArePlain terms.now.scripts.now.kinds }
     requires short { AreShort terms.now.scripts.now.kinds }
-    requires parts { AreParts terms.now.bounds terms.now.scripts.now.kinds
-        (part_at terms.now.scripts.now.parts) }
-    requires level { All
-        (IsReachedBy terms.now.bounds terms.now.scripts.now.kinds (rest_by (part_at terms.now.scripts.now.parts)) trail.old.steps.items)
+    requires parts { ArePartsIn terms.now.bounds terms.now.scripts.now }
+    requires level { All (IsReachedIn terms.now.bounds terms.now.scripts.now trail.old.steps.items)
         level.old.states.items }
     requires noted { All (IsNoted trail.old) level.old.states.items }
-    requires found { IsTrueOf terms.now.bounds terms.now.scripts.now.kinds (rest_by (part_at terms.now.scripts.now.parts)) before }
-    requires shown { AreShown terms.now.bounds terms.now.scripts.now.kinds (rest_by (part_at terms.now.scripts.now.parts)) terms.now.first before
-        trail.old }
-    ensures found { IfOk result
-        (λ x. IsTrueOf terms.now.bounds terms.now.scripts.now.kinds (rest_by (part_at terms.now.scripts.now.parts)) x.found) }
-    ensures more { IfOk result (λ x. (fault : Fault) → has_fault x.found fault ≡ false → has_fault before fault ≡ false) }
-    ensures others { IfOk result (λ x. All
-        (IsReachedBy terms.now.bounds terms.now.scripts.now.kinds (rest_by (part_at terms.now.scripts.now.parts)) trail.new.steps.items)
-        x.next.states.items) }
+    requires found { IsTrueIn terms.now.bounds terms.now.scripts.now before }
+    requires shown { AreShownIn terms.now.bounds terms.now.scripts.now terms.now.first before trail.old }
+    ensures found { IfOk result (λ x. IsTrueIn terms.now.bounds terms.now.scripts.now x.found) }
+    ensures more { IfOk result (λ x. (fault : Fault) → has_fault x.found fault ≡ false →
+        has_fault before fault ≡ false) }
+    ensures others { IfOk result (λ x.
+        All (IsReachedIn terms.now.bounds terms.now.scripts.now trail.new.steps.items) x.next.states.items) }
     ensures noted { IfOk result (λ x. All (IsNoted trail.new) x.next.states.items) }
-    ensures shown { IfOk result (λ x. AreShown terms.now.bounds terms.now.scripts.now.kinds (rest_by (part_at terms.now.scripts.now.parts))
-        terms.now.first x.found trail.new) }
+    ensures shown { IfOk result (λ x.
+        AreShownIn terms.now.bounds terms.now.scripts.now terms.now.first x.found trail.new) }
     ensures leads { IfOk result (λ x. (x.over || has_ended terms.now.first x.found) ≡ false →
         (n : ℕ) (fault : Fault) → has_fault x.found fault ≡ false →
-        All (IsClean terms.now.bounds terms.now.scripts.now.kinds (rest_by (part_at terms.now.scripts.now.parts)) n fault) x.next.states.items →
-        All (IsClean terms.now.bounds terms.now.scripts.now.kinds (rest_by (part_at terms.now.scripts.now.parts)) (n + 1) fault)
-        level.old.states.items) }
+        All (IsCleanIn terms.now.bounds terms.now.scripts.now n fault) x.next.states.items →
+        All (IsCleanIn terms.now.bounds terms.now.scripts.now (n + 1) fault) level.old.states.items) }
     ensures most { IfOk result (λ x. x.states ≤ length level.old.states.items) }
     ensures all { IfOk result (λ x. (x.over || has_ended terms.now.first x.found) ≡ false →
         x.states ≡ length level.old.states.items) }
@@ -336,17 +325,16 @@ fn first_level(
 ) -> Result<Level, Memory>
     requires plain { ArePlain scripts.now.kinds }
     requires short { AreShort scripts.now.kinds }
-    requires parts { AreParts config.now.bounds scripts.now.kinds (part_at scripts.now.parts) }
+    requires parts { ArePartsIn config.now.bounds scripts.now }
     ensures some { IfOk result (λ level. 0 < length level.states.items) }
     ensures one { IfOk result (λ level. length level.states.items ≤ 1) }
-    ensures reached { IfOk result (λ level. All
-        (IsReachedBy config.now.bounds scripts.now.kinds (rest_by (part_at scripts.now.parts)) trail.new.steps.items) level.states.items) }
-    ensures leads { IfOk result (λ level. (n : ℕ) (fault : Fault) → All
-        (IsClean config.now.bounds scripts.now.kinds (rest_by (part_at scripts.now.parts)) n fault) level.states.items →
-        NeverWithin n (IsFault config.now.bounds scripts.now.kinds (rest_by (part_at scripts.now.parts)) fault) config.now.bounds scripts.now.kinds []) }
+    ensures reached { IfOk result (λ level.
+        All (IsReachedIn config.now.bounds scripts.now trail.new.steps.items) level.states.items) }
+    ensures leads { IfOk result (λ level. (n : ℕ) (fault : Fault) →
+        All (IsCleanIn config.now.bounds scripts.now n fault) level.states.items →
+        NeverWithin n (IsFaultIn config.now.bounds scripts.now fault) config.now.bounds scripts.now.kinds []) }
     ensures goes_on { OnOk result (GoesOn trail.old trail.new) }
-    ensures alarms { OnOk result
-        (AlarmsGoOn config.now.bounds scripts.now.kinds (rest_by (part_at scripts.now.parts)) trail.old trail.new) }
+    ensures alarms { OnOk result (AlarmsGoOnIn config.now.bounds scripts.now trail.old trail.new) }
     ensures noted { IfOk result (λ level. All (IsNoted trail.new) level.states.items) }
 {
     let mut start = State::new(alloc, config)?;
@@ -371,21 +359,22 @@ pub(crate) fn search_states<P: Progress>(
 ) -> Result<Searched, Memory>
     requires plain { ArePlain scripts.now.kinds }
     requires short { AreShort scripts.now.kinds }
-    requires parts { AreParts config.now.bounds scripts.now.kinds (part_at scripts.now.parts) }
-    ensures found { IfOk result (λ x. IsTrueOf config.now.bounds scripts.now.kinds (rest_by (part_at scripts.now.parts)) x.found) }
+    requires parts { ArePartsIn config.now.bounds scripts.now }
+    ensures found { IfOk result (λ x. IsTrueIn config.now.bounds scripts.now x.found) }
     ensures whole { IfOk result (λ x. x.whole ≡ true → (fault : Fault) → has_fault x.found fault ≡ false →
-        Never (IsFault config.now.bounds scripts.now.kinds (rest_by (part_at scripts.now.parts)) fault) config.now.bounds scripts.now.kinds []) }
-    ensures first { IfOk result (λ x. first ≡ true → x.whole ≡ true → (fault : Fault) → has_fault x.found fault ≡ false) }
+        Never (IsFaultIn config.now.bounds scripts.now fault) config.now.bounds scripts.now.kinds []) }
+    ensures first { IfOk result (λ x. first ≡ true → x.whole ≡ true → (fault : Fault) →
+        has_fault x.found fault ≡ false) }
     ensures states { IfOk result (λ x. x.states ≤ most_states) }
     ensures cut { IfOk result (λ x. x.whole ≡ false →
-        IsSearchCut config.now.bounds scripts.now.kinds (rest_by (part_at scripts.now.parts)) most_states first
+        IsSearchCut config.now.bounds scripts.now.kinds (rest_in scripts.now) most_states first
         (P.may_end progress.old && P.says_over progress.new) x.found x.states) }
     ensures shown { IfOk result (λ x. (fault : Fault) → IfSome (turns_for x.schedules fault)
-        (LeadsTo config.now.bounds scripts.now.kinds (rest_by (part_at scripts.now.parts)) fault)) }
+        (LeadsTo config.now.bounds scripts.now.kinds (rest_in scripts.now) fault)) }
     ensures each { IfOk result (λ x. (fault : Fault) → has_fault (shown_of first x.found) fault ≡
         true → IsTrue (is_some (turns_for x.schedules fault))) }
     ensures alarms { IfOk result
-        (λ x. LeadToCycles config.now.bounds scripts.now.kinds (rest_by (part_at scripts.now.parts)) first x.schedules) }
+        (λ x. LeadToCycles config.now.bounds scripts.now.kinds (rest_in scripts.now) first x.schedules) }
 {
     let terms = Terms {
         bounds: config.bounds,

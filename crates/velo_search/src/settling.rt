@@ -4,11 +4,11 @@ ghost use Rattle.velo_events.specs.declared.event.Event.{Event};
 ghost use Rattle.velo_events.specs.Event.{thread_of};
 ghost use Rattle.velo_heap.specs.Contents.{bounds_of, IsAdmitted};
 ghost use Rattle.velo_search.specs.declared.step.Step.{Step};
-ghost use Rattle.velo_search.specs.Parts.{rest_by, AreParts, part_at};
+ghost use Rattle.velo_search.specs.Judged.{ArePartsIn, IsReachedIn, SettlesIn, rest_in};
 ghost use Rattle.velo_search.specs.Runs.{IsRunOf};
 ghost use Rattle.velo_search.specs.States.{IsStateOf};
 ghost use Rattle.velo_search.specs.Search.{ArePlain, AreShort};
-ghost use Rattle.velo_search.specs.Trail.{alarms_of, GoesOn, IsReachedBy, SettlesBy};
+ghost use Rattle.velo_search.specs.Trail.{alarms_of, GoesOn};
 
 use crate::marked::MarkedScripts;
 use crate::next::Next;
@@ -24,15 +24,15 @@ pub(crate) fn advance(
     event: &Event,
     trail: &mut Trail,
 ) -> Result<(), Memory>
-    requires parts { AreParts (bounds_of state.old.heap) scripts.now.kinds (part_at scripts.now.parts) }
+    requires parts { ArePartsIn (bounds_of state.old.heap) scripts.now }
     requires admitted { IsAdmitted state.old.heap event.now }
     requires room { slice_index_or state.old.next.items (thread_of event.now) 0 + 1 < 2 ^ 32 }
     requires within { state.old.place ≤ length trail.old.steps.items }
     ensures bounds { OnOk result (bounds_of state.new.heap ≡ bounds_of state.old.heap) }
     ensures next { OnOk result ((log : List Event) →
         IsRunOf (bounds_of state.old.heap) scripts.now.kinds (log ++ event.now ∷ []) →
-        IsStateOf (rest_by (part_at scripts.now.parts)) log state.old →
-        IsStateOf (rest_by (part_at scripts.now.parts)) (log ++ event.now ∷ []) state.new) }
+        IsStateOf (rest_in scripts.now) log state.old →
+        IsStateOf (rest_in scripts.now) (log ++ event.now ∷ []) state.new) }
     ensures place { OnOk result (state.new.place ≡ length trail.old.steps.items + 1) }
     ensures steps { OnOk result (trail.new.steps.items ≡
         trail.old.steps.items ++ record { before = state.old.place; thread = event.now.thread } ∷
@@ -55,12 +55,11 @@ fn settle_once(
 ) -> Result<bool, Memory>
     requires plain { ArePlain scripts.now.kinds }
     requires short { AreShort scripts.now.kinds }
-    requires parts { AreParts (bounds_of state.old.heap) scripts.now.kinds (part_at scripts.now.parts) }
+    requires parts { ArePartsIn (bounds_of state.old.heap) scripts.now }
     requires thread { thread.0 < (bounds_of state.old.heap).threads }
-    requires reached { IsReachedBy (bounds_of state.old.heap) scripts.now.kinds (rest_by (part_at scripts.now.parts)) trail.old.steps.items
-        state.old }
+    requires reached { IsReachedIn (bounds_of state.old.heap) scripts.now trail.old.steps.items state.old }
     ensures { OnOk result
-        (SettlesBy (bounds_of state.old.heap) scripts.now.kinds (rest_by (part_at scripts.now.parts)) trail.old state.old trail.new state.new) }
+        (SettlesIn (bounds_of state.old.heap) scripts.now trail.old state.old trail.new state.new) }
 {
     if !scripts.is_free(thread, state.done_by(thread)) {
         return Ok(false);
@@ -81,12 +80,11 @@ fn settle_thread(
 ) -> Result<bool, Memory>
     requires plain { ArePlain scripts.now.kinds }
     requires short { AreShort scripts.now.kinds }
-    requires parts { AreParts (bounds_of state.old.heap) scripts.now.kinds (part_at scripts.now.parts) }
+    requires parts { ArePartsIn (bounds_of state.old.heap) scripts.now }
     requires thread { thread.0 < (bounds_of state.old.heap).threads }
-    requires reached { IsReachedBy (bounds_of state.old.heap) scripts.now.kinds (rest_by (part_at scripts.now.parts)) trail.old.steps.items
-        state.old }
+    requires reached { IsReachedIn (bounds_of state.old.heap) scripts.now trail.old.steps.items state.old }
     ensures { OnOk result
-        (SettlesBy (bounds_of state.old.heap) scripts.now.kinds (rest_by (part_at scripts.now.parts)) trail.old state.old trail.new state.new) }
+        (SettlesIn (bounds_of state.old.heap) scripts.now trail.old state.old trail.new state.new) }
 {
     for step in 0..u32::MAX {
         if !settle_once(scripts, state, thread, trail)? {
@@ -100,11 +98,10 @@ fn settle_thread(
 fn settle_all(scripts: &MarkedScripts, state: &mut State, trail: &mut Trail) -> Result<bool, Memory>
     requires plain { ArePlain scripts.now.kinds }
     requires short { AreShort scripts.now.kinds }
-    requires parts { AreParts (bounds_of state.old.heap) scripts.now.kinds (part_at scripts.now.parts) }
-    requires reached { IsReachedBy (bounds_of state.old.heap) scripts.now.kinds (rest_by (part_at scripts.now.parts)) trail.old.steps.items
-        state.old }
+    requires parts { ArePartsIn (bounds_of state.old.heap) scripts.now }
+    requires reached { IsReachedIn (bounds_of state.old.heap) scripts.now trail.old.steps.items state.old }
     ensures { OnOk result
-        (SettlesBy (bounds_of state.old.heap) scripts.now.kinds (rest_by (part_at scripts.now.parts)) trail.old state.old trail.new state.new) }
+        (SettlesIn (bounds_of state.old.heap) scripts.now trail.old state.old trail.new state.new) }
 {
     let mut any = false;
     for thread in 0..state.threads() {
@@ -124,11 +121,10 @@ pub(crate) fn settle(
 ) -> Result<(), Memory>
     requires plain { ArePlain scripts.now.kinds }
     requires short { AreShort scripts.now.kinds }
-    requires parts { AreParts (bounds_of state.old.heap) scripts.now.kinds (part_at scripts.now.parts) }
-    requires reached { IsReachedBy (bounds_of state.old.heap) scripts.now.kinds (rest_by (part_at scripts.now.parts)) trail.old.steps.items
-        state.old }
+    requires parts { ArePartsIn (bounds_of state.old.heap) scripts.now }
+    requires reached { IsReachedIn (bounds_of state.old.heap) scripts.now trail.old.steps.items state.old }
     ensures { OnOk result
-        (SettlesBy (bounds_of state.old.heap) scripts.now.kinds (rest_by (part_at scripts.now.parts)) trail.old state.old trail.new state.new) }
+        (SettlesIn (bounds_of state.old.heap) scripts.now trail.old state.old trail.new state.new) }
 {
     for _round in 0..u32::MAX {
         if !settle_all(scripts, state, trail)? {

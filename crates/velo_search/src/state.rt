@@ -69,7 +69,8 @@ impl State {
         ensures bounds { IfOk result (λ s. bounds_of s.heap ≡ bounds_of self.now.heap) }
         ensures next { IfOk result (λ s. s.next.items ≡ self.now.next.items) }
         ensures place { IfOk result (λ s. s.place ≡ self.now.place) }
-        ensures same { IfOk result (λ s. (rest : List Event → List Event) (log : List Event) → IsStateOf rest log self.now → IsStateOf rest log s) }
+        ensures same { IfOk result (λ s. (rest : List Event → List Event) (log : List Event) →
+            IsStateOf rest log self.now → IsStateOf rest log s) }
     {
         let next = copied(alloc, &self.next)?;
         let heap = self.heap.copy(alloc)?;
@@ -117,7 +118,8 @@ impl State {
     /// How many events the thread has done.
     pub fn done_by(&self, thread: ThreadId) -> u32
         requires { thread.0 < (bounds_of self.now.heap).threads }
-        ensures { (rest : List Event → List Event) (log : List Event) → IsStateOf rest log self.now → result ≡ events_of log thread.0 }
+        ensures { (rest : List Event → List Event) (log : List Event) → IsStateOf rest log self.now →
+            result ≡ events_of log thread.0 }
     {
         self.next[usize::from(thread.0)]
     }
@@ -125,7 +127,8 @@ impl State {
     /// Whether nobody has forked the thread yet, and it is not thread 0.
     pub fn is_unborn(&self, thread: ThreadId) -> bool
         requires { thread.0 < (bounds_of self.now.heap).threads }
-        ensures { (rest : List Event → List Event) (log : List Event) → IsStateOf rest log self.now → result ≡ is_unborn (status_in log thread.0) }
+        ensures { (rest : List Event → List Event) (log : List Event) → IsStateOf rest log self.now →
+            result ≡ is_unborn (status_in log thread.0) }
     {
         self.heap.status(thread).is_unborn()
     }
@@ -141,7 +144,8 @@ impl State {
     /// Whether what is left of the log has a cycle.
     pub fn is_alarmed(&self) -> bool
         ensures value { result ≡ self.now.marks.alarmed }
-        ensures cycle { (rest : List Event → List Event) (log : List Event) → IsStateOf rest log self.now → (IsTrue result ↔ HasCycle (rest log)) }
+        ensures cycle { (rest : List Event → List Event) (log : List Event) →
+            IsStateOf rest log self.now → (IsTrue result ↔ HasCycle (rest log)) }
     {
         self.marks.is_alarmed()
     }

@@ -1,5 +1,5 @@
 //! The events that lead to the states of a search.
-ghost use Rattle.std.specs.Prelude.{◌≡◌, ◌+◌, ◌≤◌, ◌&&◌, not, nat_lt, true, false, [], ◌∷◌, ◌++◌, length, take, None, IfOk, OnOk};
+ghost use Rattle.std.specs.Prelude.{◌≡◌, ◌+◌, ◌≤◌, ◌&&◌, not, nat_lt, [], ◌∷◌, ◌++◌, length, take, None, IfOk, OnOk};
 ghost use Rattle.std.specs.Option.{option_map};
 ghost use Rattle.velo_search.specs.Steps.{AreEarlier, IsWay, Notes};
 

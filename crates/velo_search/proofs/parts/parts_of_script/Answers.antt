@@ -1,8 +1,7 @@
-use Rattle.std.proofs.Common.{◌≡◌, ◌<◌, ◌≤◌, ◌+◌, [], ◌∷◌, ◌++◌, length, length-append, reverse, take, Some, refl, sym, ap, ◌∙◌, subst, arith, rules, ℕ, ⊎_elim}
+use Rattle.std.proofs.Common.{◌≡◌, ◌<◌, ◌+◌, [], ◌∷◌, ◌++◌, length, length-append, reverse, take, Some, sym, ap, ◌∙◌, subst, arith, rules, ℕ}
 use Rattle.std.specs.Prelude.{slice_get, slice_index_or}
-use Rattle.std.proofs.lemmas.Bool.{cases_lt}
 use Rattle.std.proofs.lemmas.List.{get_or_default}
-use Rattle.std.proofs.lemmas.Option.{same_Some, slice_get-get_or, slice_get_within}
+use Rattle.std.proofs.lemmas.Option.{slice_get_within}
 use Rattle.velo_events.specs.declared.event.Kind.{Kind}
 use Rattle.velo_events.proofs.OnTraces.{slice_get-append, slice_get-push}
 use Rattle.velo_filter.specs.Tables.{left_of}

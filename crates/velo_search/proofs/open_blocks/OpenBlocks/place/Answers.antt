@@ -1,7 +1,7 @@
 use Rattle.std.proofs.Common.{◌≡◌, ◌<◌, not, sym, ap, ◌∙◌, arith}
 use Rattle.std.specs.Prelude.{count_by, nat_lt, if◌then◌else◌}
 use Rattle.std.proofs.lemmas.Bool.{lt-ltb}
-use Rattle.velo_search.specs.Parts.{Part, Inside, Outside}
+use Rattle.velo_search.specs.Parts.{Inside, Outside}
 use Rattle.velo_search.proofs.OnOpenBlocks.{any-count}
 use Rattle.velo_search.proofs.open_blocks.OpenBlocks.place.Goals as goal
 
