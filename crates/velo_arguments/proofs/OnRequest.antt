@@ -30,11 +30,12 @@ use Rattle.velo_request.specs.declared.request.TheConstants.{DEFAULT_SEED, MAX_R
 use Rattle.velo_request.specs.declared.request.ThinOptions.{ThinOptions}
 use Rattle.velo_request.specs.declared.request.VerifyOptions.{VerifyOptions}
 use Rattle.velo_request.specs.declared.request.WatchOptions.{WatchOptions}
+use Rattle.velo_request.specs.declared.request.WatchRestOptions.{WatchRestOptions}
 use Rattle.velo_request.specs.declared.request.Request.{Request}
 use Rattle.velo_request.specs.declared.request.Request.TheVariants.{Audit, AuditMany, Carry, Check, CheckRest, Explain, Explore, ExploreRest, MergeAudits, Predict, Replay, Run, Thin, Verify, Watch, WatchEndless, WatchRest}
-use Rattle.velo_arguments.specs.Asked.{AreLeftOut, AreLimits, AreRandomRuns, AreSeconds, AreTurns, AsksFor, AsksForNothing, AsksAudit, AsksAuditMany, AsksCarry, AsksCheck, AsksExplain, AsksExplore, IsFlag, IsList, AsksPredict, AsksReplay, AsksRun, IsScheduleSource, IsSeed, AsksThin, AsksVerify, AsksWatch, WritesNumber, form_of, has_summary, is_auto, is_merge, leaves_out, text_or_json_of}
+use Rattle.velo_arguments.specs.Asked.{AreLeftOut, AreLimits, AreRandomRuns, AreSeconds, AreTurns, AsksFor, AsksForNothing, AsksAudit, AsksAuditMany, AsksCarry, AsksCheck, AsksExplain, AsksExplore, IsFlag, IsList, IsPath, AsksPredict, AsksReplay, AsksRun, IsScheduleSource, IsSeed, AsksThin, AsksVerify, AsksWatch, WritesNumber, asks_more, form_of, has_summary, is_auto, is_merge, leaves_out, text_or_json_of}
 use Rattle.velo_arguments.specs.CommandLine.{asked_by, audit, carry, check, command_line, explain, explore, faults_of, predict, replay, run, thin, verify, watch}
-use Rattle.velo_arguments.proofs.OnAsked.{nothing_left}
+use Rattle.velo_arguments.proofs.OnAsked.{nothing_left, whole_asked}
 use Rattle.velo_arguments.proofs.OnLimits.{HasLimit, HasWide, HasWord, MayHave}
 use Rattle.velo_arguments.proofs.OnWalk.{Each, found_has}
 use Rattle.velo_arguments.proofs.OnRight.{AreFaultless, HasDelays, HasLimits, HasSearch, audit_right, carry_right, check_right, explain_right, explore_right, faultless_enters, predict_right, replay_right, rows_of_leaf, run_right, thin_right, verify_right, watch_right}
@@ -316,7 +317,7 @@ a_watch rows endless word has =
       (endless, is_flag (one_of (codes "certificate") rows), (word.1, is_flag (one_of (codes "stop") rows), limits.1, path_of (first_of (codes "names") rows))),
     )
 
--- what the word `watch` asks for: a log of any length, the whole log, or what is left of it
+-- what the word `watch` asks for: a log of any length, the whole log, or what is left of it, and its places
 asks_watch : (rows : List Row) (endless : Bool) → IsFlag (one_of (codes "endless") rows) endless → HasWord (codes "LOG") rows → HasLimits rows
     → (request : Request) × AsksFor (Some (codes "watch", rows)) request
 unfolding a_path
@@ -327,7 +328,7 @@ asks_watch rows true endless word has =
       WatchEndless (record { input = a_path word.0; stop = stop; limits = limits.0; names = names }),
       (refl, (endless, (word.1, is_flag (one_of (codes "stop") rows), limits.1, path_of (first_of (codes "names") rows)))),
     )
-asks_watch rows false endless word has = go (leaves_out left.0) refl
+asks_watch rows false endless word has = go (asks_more rest) refl
   where
     watch : (options : WatchOptions) × AsksWatch rows options
     watch = a_watch rows endless word has
@@ -335,9 +336,26 @@ asks_watch rows false endless word has = go (leaves_out left.0) refl
     left : (ignored : Ignored) × AreLeftOut rows ignored
     left = left_out rows
 
-    go : (b : Bool) → leaves_out left.0 ≡ b → (request : Request) × AsksFor (Some (codes "watch", rows)) request
-    go true is = (WatchRest (record { watch = watch.0; ignored = left.0 }), (refl, (watch.1, left.1, is)))
-    go false is = (Watch watch.0, (refl, watch.1, nothing_left rows left.0 left.1 is))
+    rest : WatchRestOptions
+    rest =
+        record {
+          watch = watch.0;
+          sites = a_path_if (first_of (codes "sites") rows);
+          source = a_path_if (first_of (codes "source") rows);
+          ignored = left.0;
+        }
+
+    sites : IsPath (codes "sites") rows rest.sites
+    sites = path_of (first_of (codes "sites") rows)
+
+    source : IsPath (codes "source") rows rest.source
+    source = path_of (first_of (codes "source") rows)
+
+    go : (b : Bool) → asks_more rest ≡ b → (request : Request) × AsksFor (Some (codes "watch", rows)) request
+    go true is = (WatchRest rest, (refl, (watch.1, sites, source, left.1, is)))
+    go false is =
+        let whole = whole_asked rows rest sites source left.1 is in
+        (Watch watch.0, (refl, watch.1, whole.0, whole.1))
 
 an_audit : (rows : List Row) → HasWord (codes "LOG") rows → HasLimits rows → (options : AuditOptions) × AsksAudit rows options
 unfolding a_path

@@ -32,7 +32,7 @@ use Rattle.velo_request.specs.declared.request.VerifyOptions.{VerifyOptions}
 use Rattle.velo_request.specs.declared.request.WatchOptions.{WatchOptions}
 use Rattle.velo_request.specs.declared.request.WatchRestOptions.{WatchRestOptions}
 use Rattle.velo_request.specs.declared.request.Request.TheVariants.{Audit, AuditMany, Carry, Check, CheckRest, Explain, Explore, ExploreRest, MergeAudits, Predict, Replay, Run, Thin, Verify, Watch, WatchEndless, WatchRest}
-use Rattle.velo_arguments.specs.Asked.{AreTurns, AsksFor, IsFlag, IsScheduleSource, WritesNumber, leaves_out}
+use Rattle.velo_arguments.specs.Asked.{AreTurns, AsksFor, IsFlag, IsScheduleSource, WritesNumber, asks_more, leaves_out}
 use Rattle.velo_arguments.specs.CommandLine.{asked_by, faults_of}
 use Rattle.velo_arguments.specs.Together.{given_by}
 use Rattle.velo_arguments.specs.declared.given.Given.{Given}
@@ -309,7 +309,7 @@ watch_asks : (options : WatchOptions) → options.input.now ≡ codes "-" → op
     → options.certificate ≡ false → options.names ≡ None → AsksFor (asked_by watch_words) (Watch options)
 unfolding asked_by walked
 watch_asks options log stop events nodes certificate names =
-    (refl, (search rules, search rules, (ap Some (sym log), search rules, search rules, ap (option_map (λ path. path.now)) (sym names))), (refl, refl, refl, refl, refl, is_unset false refl))
+    (refl, (search rules, search rules, (ap Some (sym log), search rules, search rules, ap (option_map (λ path. path.now)) (sym names))), (refl, refl, refl, refl, refl, is_unset false refl), (refl, refl))
 
 -- a log that is watched without its locks, and without the labels of a list
 abbrev watch_rest_words : List Text
@@ -320,18 +320,57 @@ unfolding faults_of walk_fault walked defaults_fault
 watch_rest_is_right = refl
 
 watch_rest_asks : (options : WatchRestOptions) → options.watch.input.now ≡ codes "a" → options.watch.stop ≡ false → options.watch.limits.events ≡ 1048576
-    → options.watch.limits.nodes ≡ 1024 → options.watch.certificate ≡ false → options.watch.names ≡ None → option_map (λ path. path.now) options.ignored.known ≡ Some (codes "l")
+    → options.watch.limits.nodes ≡ 1024 → options.watch.certificate ≡ false → options.watch.names ≡ None → options.sites ≡ None → options.source ≡ None → option_map (λ path. path.now) options.ignored.known ≡ Some (codes "l")
     → options.ignored.is_wide ≡ false → map (λ w. w.now) options.ignored.labels.now ≡ [] → map (λ w. w.now) options.ignored.locks.now ≡ []
-    → map (λ w. w.now) options.ignored.variables.now ≡ [] → options.ignored.all_locks ≡ true → IsTrue (leaves_out options.ignored) → AsksFor (asked_by watch_rest_words) (WatchRest options)
+    → map (λ w. w.now) options.ignored.variables.now ≡ [] → options.ignored.all_locks ≡ true → IsTrue (asks_more options) → AsksFor (asked_by watch_rest_words) (WatchRest options)
 unfolding asked_by walked
-watch_rest_asks options log stop events nodes certificate names known wide labels locks variables all leaves = (
+watch_rest_asks options log stop events nodes certificate names sites source known wide labels locks variables all more = (
   refl,
   (
     (search rules, search rules, (ap Some (sym log), search rules, search rules, ap (option_map (λ path. path.now)) (sym names))),
+    ap (option_map (λ path. path.now)) (sym sites),
+    ap (option_map (λ path. path.now)) (sym source),
     ((sym known, wide), sym labels, sym locks, sym variables, search rules),
-    leaves,
+    more,
   ),
 )
+
+-- a log whose places are told
+abbrev watch_sites_words : List Text
+watch_sites_words = codes "velodrome" ∷ codes "watch" ∷ codes "a" ∷ codes "--sites=s" ∷ codes "--source" ∷ codes "f" ∷ []
+
+watch_sites_is_right : faults_of watch_sites_words ≡ []
+unfolding faults_of walk_fault walked defaults_fault
+watch_sites_is_right = refl
+
+watch_sites_asks : (options : WatchRestOptions) → options.watch.input.now ≡ codes "a" → options.watch.stop ≡ false → options.watch.limits.events ≡ 1048576
+    → options.watch.limits.nodes ≡ 1024 → options.watch.certificate ≡ false → options.watch.names ≡ None → option_map (λ path. path.now) options.sites ≡ Some (codes "s")
+    → option_map (λ path. path.now) options.source ≡ Some (codes "f") → options.ignored.known ≡ None → options.ignored.is_wide ≡ false
+    → map (λ w. w.now) options.ignored.labels.now ≡ [] → map (λ w. w.now) options.ignored.locks.now ≡ []
+    → map (λ w. w.now) options.ignored.variables.now ≡ [] → options.ignored.all_locks ≡ false → IsTrue (asks_more options) → AsksFor (asked_by watch_sites_words) (WatchRest options)
+unfolding asked_by walked
+watch_sites_asks options log stop events nodes certificate names sites source known wide labels locks variables all more = (
+  refl,
+  (
+    (search rules, search rules, (ap Some (sym log), search rules, search rules, ap (option_map (λ path. path.now)) (sym names))),
+    sym sites,
+    sym source,
+    ((ap (option_map (λ path. path.now)) (sym known), wide), sym labels, sym locks, sym variables, is_unset options.ignored.all_locks all),
+    more,
+  ),
+)
+
+-- a log of any length, and sites beside it
+abbrev endless_sites_words : List Text
+endless_sites_words = codes "velodrome" ∷ codes "watch" ∷ codes "-" ∷ codes "--sites=s" ∷ codes "--endless" ∷ []
+
+endless_sites_is_right : faults_of endless_sites_words ≡ []
+unfolding faults_of walk_fault walked defaults_fault
+endless_sites_is_right = refl
+
+endless_sites_gives : given_by (asked_by endless_sites_words) ≡ record nothing_given { tells_places = true; of_logs = true; file_of_one_log = true }
+unfolding asked_by walked
+endless_sites_gives = refl
 
 -- a log of any length, and a certificate beside it
 abbrev endless_words : List Text
@@ -464,7 +503,7 @@ audit_asks options log names sites source known wide labels locks variables all 
   refl,
 )
 
-audit_gives : given_by (asked_by audit_words) ≡ record nothing_given { not_atomic = true; leaves_out = true; of_logs = true; of_one_log = true; file_of_one_log = true }
+audit_gives : given_by (asked_by audit_words) ≡ record nothing_given { not_atomic = true; leaves_out = true; tells_places = true; of_logs = true; of_one_log = true; file_of_one_log = true }
 unfolding asked_by walked
 audit_gives = refl
 

@@ -132,6 +132,11 @@ LeaveNothingOut rows =
     × (unwrap_or (all_of (codes "ignore-variable") rows) [] ≡ [])
     × IsFlag (one_of (codes "ignore-locks") rows) false
 
+-- no option is given that tells places
+abbrev pub TellNoPlaces : List Row → Type 0
+TellNoPlaces rows =
+    (first_of (codes "sites") rows ≡ None) × (first_of (codes "source") rows ≡ None)
+
 abbrev pub AsksCheckRest : List Row → CheckRestOptions → Type 0
 AsksCheckRest rows options =
     AsksCheck rows options.check × AreLeftOut rows options.ignored
@@ -220,10 +225,16 @@ AsksEndless rows options =
     IsFlag (one_of (codes "endless") rows) true
     × AsksWatchOf rows options.input options.stop options.limits options.names
 
+-- something is left out, or places are told
+abbrev pub asks_more : WatchRestOptions → Bool
+asks_more options =
+    leaves_out options.ignored || (is_some options.sites || is_some options.source)
+
 abbrev pub AsksWatchRest : List Row → WatchRestOptions → Type 0
 AsksWatchRest rows options =
-    AsksWatch rows options.watch × AreLeftOut rows options.ignored
-    × IsTrue (leaves_out options.ignored)
+    AsksWatch rows options.watch × IsPath (codes "sites") rows options.sites
+    × IsPath (codes "source") rows options.source × AreLeftOut rows options.ignored
+    × IsTrue (asks_more options)
 
 -- the form of an answer that a word names, if it names one
 abbrev pub form_named : Text → Option OutputFormat
@@ -334,6 +345,7 @@ AsksFor (Some found) (ExploreRest options) =
     (found.0 ≡ codes "explore") × AsksExploreRest found.1 options
 AsksFor (Some found) (Watch options) =
     (found.0 ≡ codes "watch") × AsksWatch found.1 options × LeaveNothingOut found.1
+    × TellNoPlaces found.1
 AsksFor (Some found) (WatchRest options) =
     (found.0 ≡ codes "watch") × AsksWatchRest found.1 options
 AsksFor (Some found) (WatchEndless options) = (found.0 ≡ codes "watch") × AsksEndless found.1 options

@@ -140,8 +140,8 @@ explore = subcommand (codes "explore") (word (codes "FILE") ∷ search_options)
 
 abbrev pub watch : Shape
 watch = subcommand (codes "watch")
-    (word (codes "LOG") ∷ valued (codes "names") ∷ flag (codes "stop") ∷ flag (codes "endless")
-    ∷ left_out_options ++ graph_options)
+    (word (codes "LOG") ∷ valued (codes "names") ∷ valued (codes "sites") ∷ valued (codes "source")
+    ∷ flag (codes "stop") ∷ flag (codes "endless") ∷ left_out_options ++ graph_options)
 
 abbrev pub audit : Shape
 audit =

@@ -25,9 +25,9 @@ use Rattle.velo_request.specs.declared.request.TextOrJson.{TextOrJson}
 use Rattle.velo_request.specs.declared.request.TextOrJson.TheVariants.{Json, Text}
 use Rattle.velo_request.specs.declared.request.ThinOptions.{ThinOptions}
 use Rattle.velo_request.specs.declared.request.WatchRestOptions.{WatchRestOptions}
-use Rattle.velo_arguments.specs.Asked.{Matches, AsksFor, form_named, is_auto, text_or_json_named}
+use Rattle.velo_arguments.specs.Asked.{Matches, AsksFor, form_named, is_auto, leaves_out, text_or_json_named}
 use Rattle.velo_arguments.specs.declared.clash.Clash.{Clash}
-use Rattle.velo_arguments.specs.declared.clash.Clash.TheVariants.{DrawingIsPicture, EndlessCertificate, EndlessRest, FileOfOneLog, InputTwice, JsonCertificate, MapIsLog, MergeAlone, NamesWithoutLog, NeitherTextNorJson, NoSuchForm, OneLogAlone, OnePath, RestByChance, RestCertificate, SearchByChance, SeedAlone, SourceWithoutSites, TwoLists, TwoSchedules}
+use Rattle.velo_arguments.specs.declared.clash.Clash.TheVariants.{DrawingIsPicture, EndlessCertificate, EndlessRest, EndlessSites, FileOfOneLog, InputTwice, JsonCertificate, MapIsLog, MergeAlone, NamesWithoutLog, NeitherTextNorJson, NoSuchForm, OneLogAlone, OnePath, RestByChance, RestCertificate, SearchByChance, SeedAlone, SitesCertificate, SourceWithoutSites, TwoLists, TwoSchedules}
 use Rattle.velo_arguments.specs.declared.given.Given.{Given}
 
 -- ---- paths
@@ -116,6 +116,10 @@ has_option_of_logs rows =
     || (is_given (codes "nodes") rows
     || (has_option_of_one_log rows || has_option_that_leaves_out rows)))))
 
+-- an option is given that tells places
+abbrev pub has_option_that_tells_places : List Row → Bool
+has_option_that_tells_places rows = is_given (codes "sites") rows || is_given (codes "source") rows
+
 -- which of the options that a request does not show are given by the values of a subcommand
 abbrev pub given_in : List Row → Given
 given_in rows = record {
@@ -125,6 +129,7 @@ given_in rows = record {
   certificate = is_given (codes "certificate") rows;
   not_atomic = is_given (codes "not-atomic") rows;
   leaves_out = has_option_that_leaves_out rows;
+  tells_places = has_option_that_tells_places rows;
   of_logs = has_option_of_logs rows;
   of_one_log = has_option_of_one_log rows;
   file_of_one_log = has_file_of_one_log rows;
@@ -140,6 +145,7 @@ given_by None = record {
   certificate = false;
   not_atomic = false;
   leaves_out = false;
+  tells_places = false;
   of_logs = false;
   of_one_log = false;
   file_of_one_log = false;
@@ -320,29 +326,36 @@ clash_of_thin options has_known =
     (clash_of_lists options.ignored has_known))
     (clash_of_map options.target.now options.map)
 
--- ---- a watch of what is left
+-- ---- a watch of what is left, or with places
 
--- it has a certificate; or standard input is read twice, or there are two lists
+-- it has a certificate; or standard input is read twice, there are no sites for sources, or two lists
 abbrev pub clash_of_watch_rest : WatchRestOptions → Bool → Option Clash
 clash_of_watch_rest options has_known =
-    if options.watch.certificate
+    if options.watch.certificate && leaves_out options.ignored
     then Some RestCertificate
+    else (if options.watch.certificate
+    then Some SitesCertificate
     else option_or
+    (option_or
     (clash_of_inputs
-    (options.watch.input.now ∷ path_if options.watch.names ++ path_if options.ignored.known))
-    (clash_of_lists options.ignored has_known)
+    (options.watch.input.now ∷ path_if options.watch.names ++ path_if options.sites
+    ++ path_if options.ignored.known))
+    (clash_of_source options.sites options.source))
+    (clash_of_lists options.ignored has_known))
 
 -- ---- an endless watch
 
--- it has a certificate, for which the whole log is needed, or leaves something out; or standard input
--- is read twice
+-- it has a certificate, for which the whole log is needed, leaves something out, or tells places; or
+-- standard input is read twice
 abbrev pub clash_of_endless : EndlessOptions → Given → Option Clash
 clash_of_endless options given =
     if given.certificate
     then Some EndlessCertificate
     else (if given.leaves_out
     then Some EndlessRest
-    else clash_of_inputs (options.input.now ∷ path_if options.names))
+    else (if given.tells_places
+    then Some EndlessSites
+    else clash_of_inputs (options.input.now ∷ path_if options.names)))
 
 -- ---- any request
 
@@ -385,6 +398,8 @@ line_of_clash NeitherTextNorJson = codes "error: --format takes text or json\n"
 line_of_clash NoSuchForm = codes "error: --format takes text, json, sarif or junit\n"
 line_of_clash OneLogAlone =
     codes "error: a summary goes with no option but --format, --names, --sites, --events, --nodes and what leaves events out\n"
+line_of_clash EndlessSites =
+    codes "error: --endless goes with neither --sites nor --source\n"
 line_of_clash FileOfOneLog = codes "error: for a summary --names and --sites take auto alone\n"
 line_of_clash MergeAlone = codes "error: --merge goes with no option but --format\n"
 line_of_clash OnePath = codes "error: OUT and NAMES are one file\n"
@@ -392,6 +407,8 @@ line_of_clash RestByChance =
     codes "error: --random does not go with what leaves events out of the log\n"
 line_of_clash RestCertificate =
     codes "error: --certificate does not go with what leaves events out of the log\n"
+line_of_clash SitesCertificate =
+    codes "error: for a watch --certificate goes with neither --sites nor --source\n"
 line_of_clash SourceWithoutSites = codes "error: --source goes only with --sites\n"
 line_of_clash TwoLists = codes "error: --ignore does not go with --not-atomic\n"
 line_of_clash SearchByChance =

@@ -181,6 +181,8 @@ fn watch<'a>(alloc: Global) -> Result<Command<'a>, Memory>
     let arguments = [
         LOG,
         NAMES,
+        SITES,
+        SOURCE,
         STOP_WATCH,
         ENDLESS,
         NOT_ATOMIC,

@@ -11,6 +11,8 @@ pub enum Clash {
     EndlessCertificate,
     /// An endless watch is to leave something out of the log.
     EndlessRest,
+    /// An endless watch is to tell places.
+    EndlessSites,
     /// Logs are to have one summary, with the names or the sites of one.
     FileOfOneLog,
     /// Both inputs are standard input.
@@ -40,6 +42,8 @@ pub enum Clash {
     SearchByChance,
     /// A seed is given, and no random runs are asked for.
     SeedAlone,
+    /// A watch is to tell places and to have a certificate.
+    SitesCertificate,
     /// A folder of sources is given, and no sites.
     SourceWithoutSites,
     /// Two lists of what is known are given.
@@ -58,6 +62,7 @@ pub fn line_of_clash(clash: Clash) -> &'static [u8]
         Clash::EndlessRest => {
             b"error: --endless does not go with what leaves events out of the log\n"
         }
+        Clash::EndlessSites => b"error: --endless goes with neither --sites nor --source\n",
         Clash::FileOfOneLog => b"error: for a summary --names and --sites take auto alone\n",
         Clash::InputTwice => b"error: standard input can be read once\n",
         Clash::JsonCertificate => b"error: --format json does not go with --certificate\n",
@@ -80,6 +85,9 @@ pub fn line_of_clash(clash: Clash) -> &'static [u8]
             b"error: --random goes with neither --states nor --seconds nor --first nor --progress\n"
         }
         Clash::SeedAlone => b"error: --seed goes only with --random\n",
+        Clash::SitesCertificate => {
+            b"error: for a watch --certificate goes with neither --sites nor --source\n"
+        }
         Clash::SourceWithoutSites => b"error: --source goes only with --sites\n",
         Clash::TwoLists => b"error: --ignore does not go with --not-atomic\n",
         Clash::TwoSchedules => b"error: --schedule does not go with --turns\n",

@@ -2,7 +2,7 @@
 ghost use Rattle.std.specs.Prelude.{◌≡◌, option_map};
 ghost use Rattle.clap.specs.Takes.{is_given};
 ghost use Rattle.clap.specs.Words.{found_of, rows_of, subcommand_rows_of};
-ghost use Rattle.velo_arguments.specs.Together.{given_by, given_in, has_file_of_one_log, has_option_of_logs, has_option_of_one_log, has_option_that_leaves_out, is_file, is_neither_text_nor_json, is_other_form};
+ghost use Rattle.velo_arguments.specs.Together.{given_by, given_in, has_file_of_one_log, has_option_of_logs, has_option_of_one_log, has_option_that_leaves_out, has_option_that_tells_places, is_file, is_neither_text_nor_json, is_other_form};
 
 use crate::requests::{form_named, is_auto, text_or_json_named};
 use clap::ArgMatches;
@@ -42,6 +42,13 @@ pub fn has_option_that_leaves_out(found: &ArgMatches) -> bool
         || is_given(found, "ignore-variable")
 }
 
+/// Whether an option is given that tells places.
+fn has_option_that_tells_places(found: &ArgMatches) -> bool
+    ensures { result ≡ has_option_that_tells_places (rows_of (found_of found.now)) }
+{
+    is_given(found, "sites") || is_given(found, "source")
+}
+
 /// Whether an option is given that an audit of logs has, and a merge of summaries has not.
 pub fn has_option_of_logs(found: &ArgMatches) -> bool
     ensures { result ≡ has_option_of_logs (rows_of (found_of found.now)) }
@@ -70,6 +77,8 @@ pub struct Given {
     pub not_atomic: bool,
     /// An option that leaves something out of a log.
     pub leaves_out: bool,
+    /// `--sites` or `--source`.
+    pub tells_places: bool,
     /// An option that an audit of logs has, and a merge of summaries has not.
     pub of_logs: bool,
     /// An option that the audit of one log alone has.
@@ -127,6 +136,7 @@ fn given_in(found: &ArgMatches) -> Given
         certificate: is_given(found, "certificate"),
         not_atomic: is_given(found, "not-atomic"),
         leaves_out: has_option_that_leaves_out(found),
+        tells_places: has_option_that_tells_places(found),
         of_logs: has_option_of_logs(found),
         of_one_log: has_option_of_one_log(found),
         file_of_one_log: has_file_of_one_log(found),
@@ -148,6 +158,7 @@ pub fn given_by(matches: &ArgMatches) -> Given
             certificate: false,
             not_atomic: false,
             leaves_out: false,
+            tells_places: false,
             of_logs: false,
             of_one_log: false,
             file_of_one_log: false,

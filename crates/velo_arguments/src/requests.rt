@@ -16,7 +16,7 @@ ghost use Rattle.velo_request.specs.declared.request.RunOptions.{RunOptions};
 ghost use Rattle.velo_request.specs.declared.request.ThinOptions.{ThinOptions};
 ghost use Rattle.velo_request.specs.declared.request.VerifyOptions.{VerifyOptions};
 ghost use Rattle.velo_request.specs.declared.request.WatchOptions.{WatchOptions};
-ghost use Rattle.velo_arguments.specs.Asked.{AreLeftOut, AreLimits, AreRandomRuns, AreSeconds, AreTurns, AreWords, AsksFor, AsksForNothing, AsksAudit, AsksAuditMany, AsksCarry, AsksCheck, AsksEndless, AsksExplain, AsksExplore, AsksMerge, AsksPredict, AsksReplay, AsksRun, IsScheduleSource, IsSeed, AsksThin, AsksVerify, AsksWatch, WritesNumber, form_named, form_of, has_summary, is_auto, leaves_out, text_or_json_named, text_or_json_of};
+ghost use Rattle.velo_arguments.specs.Asked.{AreLeftOut, AreLimits, AreRandomRuns, AreSeconds, AreTurns, AreWords, AsksFor, AsksForNothing, AsksAudit, AsksAuditMany, AsksCarry, AsksCheck, AsksEndless, AsksExplain, AsksExplore, AsksMerge, AsksPredict, AsksReplay, AsksRun, IsScheduleSource, IsSeed, AsksThin, AsksVerify, AsksWatch, WritesNumber, form_named, form_of, has_summary, is_auto, leaves_out, text_or_json_named, text_or_json_of, asks_more};
 
 use crate::given::is_given;
 use clap::ArgMatches;
@@ -72,7 +72,7 @@ fn check_options<'a>(found: &ArgMatches<'a>) -> Option<CheckOptions<'a>>
 }
 
 /// Whether something is left out.
-fn leaves_out(ignored: &Ignored) -> bool
+pub fn leaves_out(ignored: &Ignored) -> bool
     ensures { result ≡ leaves_out ignored.now }
 {
     ignored.known.is_some()
@@ -80,6 +80,14 @@ fn leaves_out(ignored: &Ignored) -> bool
         || !ignored.locks.is_empty()
         || !ignored.variables.is_empty()
         || ignored.all_locks
+}
+
+/// Whether a watch is asked for more than the report of the whole log: something is left out, or places are
+/// told.
+fn asks_more(options: &WatchRestOptions) -> bool
+    ensures { result ≡ asks_more options.now }
+{
+    leaves_out(&options.ignored) || options.sites.is_some() || options.source.is_some()
 }
 
 /// What a check is asked for, of the whole log or of what is left of it; none where its word is
@@ -278,8 +286,8 @@ fn explore_request<'a>(found: &'a ArgMatches) -> Option<Request<'a>>
     Some(Request::Explore(explore))
 }
 
-/// What a watch is asked for, endless or not, of the whole log or of what is left of it; none where
-/// its word is missing or a limit is out of its range.
+/// What a watch is asked for, endless or not, of the whole log or of what is left of it, with sites or
+/// without; none where its word is missing or a limit is out of its range.
 fn watch_request<'a>(found: &'a ArgMatches) -> Option<Request<'a>>
     ensures some { IfSome result (AsksFor (Some (codes "watch", rows_of (found_of found.now)))) }
     ensures none { IfNone result
@@ -305,9 +313,14 @@ fn watch_request<'a>(found: &'a ArgMatches) -> Option<Request<'a>>
         certificate: found.get_flag("certificate"),
         names,
     };
-    let ignored = left_out(found);
-    if leaves_out(&ignored) {
-        return Some(Request::WatchRest(WatchRestOptions { watch, ignored }));
+    let rest = WatchRestOptions {
+        watch,
+        sites: found.get_str("sites"),
+        source: found.get_str("source"),
+        ignored: left_out(found),
+    };
+    if asks_more(&rest) {
+        return Some(Request::WatchRest(rest));
     }
     Some(Request::Watch(watch))
 }

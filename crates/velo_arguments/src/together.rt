@@ -10,7 +10,7 @@ use crate::paths::{
     clash_of_drawing, clash_of_files, clash_of_inputs, clash_of_many_inputs, clash_of_map,
     clash_of_targets, path_of_schedule,
 };
-use crate::requests::request_of;
+use crate::requests::{leaves_out, request_of};
 use clap::ArgMatches;
 use velo_request::{
     AuditOptions, CheckRestOptions, EndlessOptions, ExplainOptions, ExploreOptions,
@@ -169,17 +169,21 @@ fn clash_of_check_rest(options: &CheckRestOptions, has_known: bool) -> Option<Cl
     ))
 }
 
-/// What is left of a log is watched without a certificate, and without a clash of its paths.
+/// What is left of a log is watched without a certificate, and without a clash of its paths; and so is a
+/// log whose places are told.
 fn clash_of_watch_rest(options: &WatchRestOptions, has_known: bool) -> Option<Clash>
     ensures { result ≡ clash_of_watch_rest options.now has_known }
 {
     let (watch, ignored) = (&options.watch, &options.ignored);
-    if watch.certificate {
+    if watch.certificate && leaves_out(ignored) {
         return Some(Clash::RestCertificate);
     }
-    clash_of_files(watch.input, watch.names, None, ignored.known).or(clash_of_lists(
-        ignored, has_known,
-    ))
+    if watch.certificate {
+        return Some(Clash::SitesCertificate);
+    }
+    clash_of_files(watch.input, watch.names, options.sites, ignored.known)
+        .or(clash_of_source(options.sites, options.source))
+        .or(clash_of_lists(ignored, has_known))
 }
 
 /// Lines of source are printed at sites.
@@ -203,7 +207,7 @@ fn clash_of_lists(ignored: &Ignored, has_known: bool) -> Option<Clash>
     }
 }
 
-/// An endless watch has no certificate, leaves nothing out, and has no clash of its paths.
+/// An endless watch has no certificate, leaves nothing out, tells no places, and has no clash of its paths.
 fn clash_of_endless(options: &EndlessOptions, given: Given) -> Option<Clash>
     ensures { result ≡ clash_of_endless options.now given }
 {
@@ -212,6 +216,9 @@ fn clash_of_endless(options: &EndlessOptions, given: Given) -> Option<Clash>
     }
     if given.leaves_out {
         return Some(Clash::EndlessRest);
+    }
+    if given.tells_places {
+        return Some(Clash::EndlessSites);
     }
     clash_of_inputs(options.input, options.names)
 }

@@ -426,9 +426,10 @@ module _ (terms : Terms) (so : RefusesByGrowth terms) where
 
   of_watch_answer : (names : Names) (read : Option (List ℕ)) (answer : CommandAnswer) → IsWatchAnswer names terms read answer → ComesByRefusal Growths answer.fate
   of_watch_answer names read answer (inl w) = said Growths answer _ w.said tt
-  of_watch_answer names read answer (inr (inl c)) =
+  of_watch_answer names read answer (inr (inl others)) = said Growths answer _ others.said tt
+  of_watch_answer names read answer (inr (inr (inl c))) =
       said Growths answer _ c.said (⊎_elim (λ h. of_end_after read c.bounds c.log c.fault h.1) (λ h. subst CheckByGrowth (sym h.0) h.1) c.reason)
-  of_watch_answer names read answer (inr (inr u)) = said Growths answer (silent (fate.Check u.0)) u.2 (of_header read u.0 u.1)
+  of_watch_answer names read answer (inr (inr (inr u))) = said Growths answer (silent (fate.Check u.0)) u.2 (of_header read u.0 u.1)
 
   of_watch : (names : Names) (read : Option (List ℕ)) (out : Writing) (f : Fate) → Watches names terms read out f → ComesByRefusal Growths f
   of_watch names read out f (inl h) = of_printed Growths out h.0 f (of_watch_answer names read h.0 h.1) h.2
@@ -516,7 +517,7 @@ of_done store (request.Watch options) stdout f h = of_watch_by (terms_of_watch o
 of_done store (request.WatchEndless options) stdout f h = of_watch_by (terms_of_endless options) (of_fault_of_whole options.limits) store stdout f h
 of_done store (request.WatchRest options) stdout f (inl h) = of_no_context Growths store.disk (context_of_watch options) f h.0
 of_done store (request.WatchRest options) stdout f (inr (names, asked, sites, are, inl h)) =
-    of_watch_named (terms_of_rest options.watch (left_out_at_first asked)) (of_fault_without asked options.watch.limits) names store stdout f h
+    of_watch_named (terms_of_rest options.watch sites (left_out_at_first asked)) (of_fault_without asked options.watch.limits) names store stdout f h
 of_done store (request.WatchRest options) stdout f (inr (names, asked, sites, are, inr h)) = subst (ComesByRefusal Growths) (sym h.1) h.0
 of_done store (request.Audit options) stdout f (inl h) = of_no_context Growths store.disk (context_of_audit options) f h.0
 of_done store (request.Audit options) stdout f (inr (names, asked, sites, are, h)) = of_audited names asked options store stdout f sites h

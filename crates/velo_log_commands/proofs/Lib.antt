@@ -2,6 +2,7 @@ mod OnCheckingRest
 mod OnChecks
 mod OnEndless
 mod OnExplaining
+mod OnPlaces
 mod OnRests
 pub mod OnThinning
 mod OnWatching

@@ -26,7 +26,8 @@ use Rattle.velo_world.specs.declared.log_replay.LogReplayFault.TheVariants as re
 use Rattle.velo_fate.specs.declared.fault.CheckFault.{CheckFault}
 use Rattle.velo_fate.specs.declared.fault.CheckFault.TheVariants.{Log, Refused, WrongValue, Write, Memory}
 use Rattle.velo_fate.specs.declared.verdict.Verdict.{Verdict}
-use Rattle.velo_fate.specs.declared.fate.Fate.TheVariants.{Check, Finished}
+use Rattle.velo_fate.specs.declared.fate.Fate.{Fate}
+use Rattle.velo_fate.specs.declared.fate.Fate.TheVariants.{Check, Finished, OtherSites}
 use Rattle.velo_request.specs.declared.request.WatchOptions.{WatchOptions}
 use Rattle.velo_fate.specs.Delivery.{printing, silent}
 use Rattle.velo_inputs.specs.Input.{IsInput}
@@ -35,7 +36,7 @@ use Rattle.velo_fate.specs.Verdict.{is_alarm}
 use Rattle.velo_fate.specs.Failures.{failures_told}
 use Rattle.velo_report.specs.declared.names.Names.{Names}
 use Rattle.velo_log_commands.specs.Steps.{ShowsText}
-use Rattle.velo_log_commands.specs.Watching.{check_fault_of_watching, EndsAfter, Follows, GoesOn, HasCome, HasWatched, HasLimits, StepsOn, Terms, Watches, terms_of_watch}
+use Rattle.velo_log_commands.specs.Watching.{check_fault_of_watching, EndsAfter, Follows, GoesOn, HasCome, HasWatched, HasLimits, Reports, StepsOn, Terms, Watches, terms_of_watch}
 use Rattle.velo_delivery.specs.Writing.{Writing, WritesNothing}
 
 -- ---- a log that is kept whole
@@ -155,7 +156,7 @@ module _ (terms : Terms) (read : Option (List ℕ)) (stdout : Writing) where
       → ((GoesOn terms log × EndsAfter terms read bounds log fault) ⊎ ((fault ≡ Memory) × GrowthRefused)) → (names : Names) → Watches names terms read stdout (Check fault)
   cut_short bounds log come kept fault reason names = inl (
     printing (told_text come.told.alarm) (Check fault),
-    inr (inl (record { bounds = bounds; log = log; so_far = come.so_far; alarm = come.told.alarm; exact = come.told.exact; fault = fault; reason = reason; said = refl })),
+    inr (inr (inl (record { bounds = bounds; log = log; so_far = come.so_far; alarm = come.told.alarm; exact = come.told.exact; fault = fault; reason = reason; said = refl }))),
     (refl, (come.told.appends, kept)),
   )
 
@@ -182,9 +183,9 @@ module _ (terms : Terms) (read : Option (List ℕ)) (stdout : Writing) where
 -- there is no log at all
 pub unopened : (names : Names) (terms : Terms) (read : Option (List ℕ)) (stdout : Writing) (fault : WatchFault) → IsFaultOfOpening read fault → WritesNothing stdout → Watches names terms read stdout (fate_of (Err (check_fault_of_watching fault)))
 unopened names terms read stdout (watch_fault.Log fault) (met, reads) nothing =
-    inl (silent (Check (Log fault)), inr (inr (Log fault, ((reads, λ is. subst IsMetInHeader is met), met), refl)), (refl, nothing))
+    inl (silent (Check (Log fault)), inr (inr (inr (Log fault, ((reads, λ is. subst IsMetInHeader is met), met), refl))), (refl, nothing))
 unopened names terms read stdout (watch_fault.Replay replay.Memory) growth nothing =
-    inl (silent (Check Memory), inr (inr (Memory, growth, refl)), (refl, nothing))
+    inl (silent (Check Memory), inr (inr (inr (Memory, growth, refl))), (refl, nothing))
 unopened names terms read stdout (watch_fault.Replay (replay.Refused p r)) is nothing = absurd is
 unopened names terms read stdout (watch_fault.Replay (replay.WrongValue p)) is nothing = absurd is
 unopened names terms read stdout watch_fault.Write is nothing = absurd is
@@ -206,10 +207,10 @@ reads_told X watch_fault.Write n = refl
 
 -- what is shown after the line of the alarm is the answer
 module _ (names : Names) (terms : Terms) (read : Option (List ℕ)) (bounds : Bounds) (log : List Event) (before after all : Writing) where
-  pub shown : (result : Result Verdict CheckFault) (has : HasWatched terms read before bounds log) → ShowsText (terms.IsReportOf names bounds.threads log) (terms.judged log) after result
+  shown : (result : Result Verdict CheckFault) (has : HasWatched terms read before bounds log) → terms.FitSites log → ShowsText (terms.IsReportOf names bounds.threads log) (terms.judged log) after result
       → all.old ≡ before.old → before.new ≡ after.old → all.new ≡ after.new → all.failures_before ≡ before.failures_before → before.failures_after ≡ after.failures_before → all.failures_after ≡ after.failures_after
       → Watches names terms read all (fate_of result)
-  shown (Ok verdict) has shows o m n fb fm fa =
+  shown (Ok verdict) has fits shows o m n fb fm fa =
       let told = told_text has.alarm in
       let text = shows.1.0 in
       inl (
@@ -219,6 +220,7 @@ module _ (names : Names) (terms : Terms) (read : Option (List ℕ)) (bounds : Bo
           log = log;
           so_far = has.so_far;
           read_to = has.read_to;
+          fits = fits;
           alarm = has.alarm;
           exact = has.exact;
           text = text;
@@ -235,7 +237,7 @@ module _ (names : Names) (terms : Terms) (read : Option (List ℕ)) (bounds : Bo
           ),
         ),
       )
-  shown (Err Write) has shows o m n fb fm fa =
+  shown (Err Write) has fits shows o m n fb fm fa =
       let told = told_text has.alarm in
       let text = shows.1.0 in
       inl (
@@ -245,6 +247,7 @@ module _ (names : Names) (terms : Terms) (read : Option (List ℕ)) (bounds : Bo
           log = log;
           so_far = has.so_far;
           read_to = has.read_to;
+          fits = fits;
           alarm = has.alarm;
           exact = has.exact;
           text = text;
@@ -258,9 +261,9 @@ module _ (names : Names) (terms : Terms) (read : Option (List ℕ)) (bounds : Bo
           fa ∙ (shows.1.2.1 ∙ ap with_failure (sym fm ∙ (has.told.1 ∙ sym fb))),
         ),
       )
-  shown (Err Memory) has shows o m n fb fm fa = inl (
+  shown (Err Memory) has fits shows o m n fb fm fa = inl (
     printing (told_text has.alarm) (Check Memory),
-    inr (inl (record { bounds = bounds; log = log; so_far = has.so_far; alarm = has.alarm; exact = has.exact; fault = Memory; reason = inr (refl, shows.0); said = refl })),
+    inr (inr (inl (record { bounds = bounds; log = log; so_far = has.so_far; alarm = has.alarm; exact = has.exact; fault = Memory; reason = inr (refl, shows.0); said = refl }))),
     (
       refl,
       (
@@ -269,4 +272,39 @@ module _ (names : Names) (terms : Terms) (read : Option (List ℕ)) (bounds : Bo
       ),
     ),
   )
-  shown (Err fault) has shows o m n fb fm fa = absurd shows
+  shown (Err fault) has fits shows o m n fb fm fa = absurd shows
+
+  other_sites : HasWatched terms read before bounds log → (¬ terms.FitSites log) → WritesNothing after
+      → all.old ≡ before.old → before.new ≡ after.old → all.new ≡ after.new → all.failures_before ≡ before.failures_before → before.failures_after ≡ after.failures_before → all.failures_after ≡ after.failures_after
+      → Watches names terms read all OtherSites
+  other_sites has others nothing o m n fb fm fa = inl (
+    printing (told_text has.alarm) OtherSites,
+    inr (inl (record { bounds = bounds; log = log; so_far = has.so_far; read_to = has.read_to; others = others; alarm = has.alarm; exact = has.exact; said = refl })),
+    (
+      refl,
+      (
+        rw (o, n ∙ (nothing.0 ∙ sym m)) has.told.0,
+        fa ∙ (nothing.1 ∙ (sym fm ∙ (has.told.1 ∙ sym fb))),
+      ),
+    ),
+  )
+
+  -- so is what is reported, or that the sites are others
+  pub reported : (f : Fate) → HasWatched terms read before bounds log → Reports names terms bounds log after f
+      → all.old ≡ before.old → before.new ≡ after.old → all.new ≡ after.new → all.failures_before ≡ before.failures_before → before.failures_after ≡ after.failures_before → all.failures_after ≡ after.failures_after
+      → Watches names terms read all f
+  reported f has (inl (fits, (result, is, shows))) o m n fb fm fa =
+      subst (λ (g : Fate). Watches names terms read all g) (sym is) (shown result has fits shows o m n fb fm fa)
+  reported f has (inr (others, is, nothing)) o m n fb fm fa =
+      subst (λ (g : Fate). Watches names terms read all g) (sym is) (other_sites has others nothing o m n fb fm fa)
+
+-- no report is told as a failed read
+pub report_reads : (names : Names) (terms : Terms) (bounds : Bounds) (log : List Event) (stdout : Writing) (f : Fate) (n : ℕ) → Reports names terms bounds log stdout f → failures_told f n ≡ n
+report_reads names terms bounds log stdout f n (inl (fits, (result, is, shows))) = subst (λ (g : Fate). failures_told g n ≡ n) (sym is) (by_result result shows)
+  where
+    by_result : (r : Result Verdict CheckFault) → ShowsText (terms.IsReportOf names bounds.threads log) (terms.judged log) stdout r → failures_told (fate_of r) n ≡ n
+    by_result (Ok verdict) shows = refl
+    by_result (Err Write) shows = refl
+    by_result (Err Memory) shows = refl
+    by_result (Err fault) shows = absurd shows
+report_reads names terms bounds log stdout f n (inr (others, is, nothing)) = subst (λ (g : Fate). failures_told g n ≡ n) (sym is) refl

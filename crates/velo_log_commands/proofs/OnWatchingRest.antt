@@ -1,5 +1,5 @@
 -- What a watch of what is left of a log came to.
-use Rattle.std.proofs.Common.{◌≡◌, ◌∙◌, ◌+◌, ◌-◌, ◌<◌, ◌≤◌, ℕ, Bool, true, false, List, [], ◌∷◌, ◌++◌, length, Option, None, Some, Result, Ok, Err, ap, arith, refl, subst, sym}
+use Rattle.std.proofs.Common.{◌≡◌, ◌∙◌, ◌+◌, ◌-◌, ◌<◌, ◌≤◌, ℕ, Bool, true, false, List, [], ◌∷◌, ◌++◌, length, Option, None, Some, Result, Ok, Err, ap, arith, refl, subst, sym, ◌≢◌}
 use Rattle.std.specs.Prelude.{IfOk, OnOk, if◌then◌else◌, option_map, slice_index}
 use Rattle.std.proofs.lemmas.Bool.{false≢true}
 use Rattle.velo_events.specs.declared.config.Bounds.{Bounds}
@@ -14,6 +14,7 @@ use Rattle.velo_logtext.specs.declared.fault.LogFault.{LogFault}
 use Rattle.velo_logtext.specs.declared.fault.LogFault.TheVariants as log_fault
 use Rattle.velo_logtext.specs.Reader.{IsMetBehind}
 use Rattle.velo_request.specs.declared.request.WatchOptions.{WatchOptions}
+use Rattle.velo_sites.specs.Sites.{Table}
 use Rattle.velo_rest_watch.specs.Alarm.{TellsRest, alarm_as_read}
 use Rattle.velo_rest_watch.specs.UnderWay.{CameAbout, CanGoOn, IsUnderWay, Steps}
 use Rattle.velo_rest_watch.specs.declared.rest.ClosedRest.{ClosedRest}
@@ -29,10 +30,9 @@ use Rattle.velo_delivery.specs.Writing.{Writing}
 use Rattle.velo_fate.specs.declared.fault.CheckFault.{CheckFault}
 use Rattle.velo_fate.specs.declared.verdict.Verdict.{Verdict}
 use Rattle.velo_report.specs.declared.names.Names.{Names}
-use Rattle.velo_log_commands.specs.CheckingRest.{IsRestReport}
 use Rattle.velo_log_commands.specs.Steps.{ShowsText}
 use Rattle.velo_log_commands.specs.Watching.{HasCome, HasLimits, StepsOn, Terms}
-use Rattle.velo_log_commands.specs.WatchingRest.{CanWatchRest, terms_of_rest}
+use Rattle.velo_log_commands.specs.WatchingRest.{CanWatchRest, FitRest, IsSitedReport, terms_of_rest}
 
 -- where an alarm is there, a cycle is
 alarm_cycle : (rest : List Event) (place : ℕ → ℕ) (own : Option Alarm) (alarm : Alarm) → AlarmOf rest own → Some alarm ≡ option_map (alarm_as_read place) own → HasCycle rest
@@ -42,9 +42,9 @@ alarm_cycle rest place (Some a) alarm exact is = HasCycle-from_closing rest a.po
 no_memory : (n : ℕ) (fault : LogFault) → IsMetBehind n fault → fault ≡ log_fault.Memory → GrowthRefused
 no_memory n fault met is = absurd (subst (IsMetBehind n) is met)
 
-module _ (options : WatchOptions) (omitted : Omitted) where
+module _ (options : WatchOptions) (sites : Option Table) (omitted : Omitted) where
   abbrev own : Terms
-  own = terms_of_rest options omitted
+  own = terms_of_rest options sites omitted
 
   -- ---- the state
 
@@ -142,20 +142,34 @@ module _ (options : WatchOptions) (omitted : Omitted) where
           tt,
         )
 
+-- ---- the sites
+
+-- with as many sites as events were read they fit
+pub fit_as_many : (stop : Bool) (sites : Table) (omitted : Omitted) (log : List Event) → length log ≡ length sites.events → FitRest stop (Some sites) omitted log
+fit_as_many stop sites omitted log same = (omega (arith, same), λ goes_on. sym same)
+
+-- with another number they do not, unless the alarm ended the watch
+pub other_number : (stop : Bool) (sites : Table) (omitted : Omitted) (log : List Event) → (stop ≡ true → ¬ HasCycle (rest_of omitted log)) → length log ≢ length sites.events → ¬ FitRest stop (Some sites) omitted log
+other_number stop sites omitted log goes_on other fits = other (sym (fits.1 goes_on))
+
+-- where the alarm ended it, no more events were read than there are sites
+pub fit_at_alarm : (stop : Bool) (sites : Table) (omitted : Omitted) (log : List Event) → stop ≡ true → HasCycle (rest_of omitted log) → length log ≤ length sites.events → FitRest stop (Some sites) omitted log
+fit_at_alarm stop sites omitted log on cycle room = (room, λ goes_on. absurd (goes_on on cycle))
+
 -- ---- the report
 
 -- what is shown of a rest is shown of the log
-pub shows_rest : (names : Names) (omitted : Omitted) (events rest : List Event) (places : List ℕ) (threads : ℕ) (stdout : Writing) (r : Result Verdict CheckFault) → rest ≡ rest_of omitted events → places ≡ places_of omitted events
-    → ShowsText (IsRestReport names threads rest (slice_index places)) rest stdout r → ShowsText (IsRestReport names threads (rest_of omitted events) (place_of omitted events)) (rest_of omitted events) stdout r
+pub shows_rest : (names : Names) (sites : Option Table) (omitted : Omitted) (events rest : List Event) (places : List ℕ) (threads : ℕ) (stdout : Writing) (r : Result Verdict CheckFault) → rest ≡ rest_of omitted events → places ≡ places_of omitted events
+    → ShowsText (IsSitedReport sites names threads rest (slice_index places)) rest stdout r → ShowsText (IsSitedReport sites names threads (rest_of omitted events) (place_of omitted events)) (rest_of omitted events) stdout r
 unfolding place_of
-shows_rest names omitted events rest places threads stdout r are stand shows =
-    subst (λ (ks : List ℕ). ShowsText (IsRestReport names threads (rest_of omitted events) (slice_index ks)) (rest_of omitted events) stdout r) stand
-    (subst (λ (es : List Event). ShowsText (IsRestReport names threads es (slice_index places)) es stdout r) are shows)
+shows_rest names sites omitted events rest places threads stdout r are stand shows =
+    subst (λ (ks : List ℕ). ShowsText (IsSitedReport sites names threads (rest_of omitted events) (slice_index ks)) (rest_of omitted events) stdout r) stand
+    (subst (λ (es : List Event). ShowsText (IsSitedReport sites names threads es (slice_index places)) es stdout r) are shows)
 
 -- so it is of a watch that ended
-pub shows_closed : (names : Names) (omitted : Omitted) (events : List Event) (watch : RestWatch) (rest : ClosedRest) (stdout : Writing) (r : Result Verdict CheckFault) → CanGoOn omitted watch → watch.whole.trace.events ≡ events → rest.closed ≡ watch.rest.world
-    → rest.places.items ≡ watch.rest.places.items → ShowsText (IsRestReport names rest.closed.config.bounds.threads rest.closed.log (slice_index rest.places.items)) rest.closed.log stdout r
-    → ShowsText (IsRestReport names watch.rest.world.config.bounds.threads (rest_of omitted events) (place_of omitted events)) (rest_of omitted events) stdout r
-shows_closed names omitted events watch rest stdout r can are closed places shows =
-    shows_rest names omitted events watch.rest.world.log rest.places.items watch.rest.world.config.bounds.threads stdout r (can.rest.events ∙ ap (rest_of omitted) are) (places ∙ (can.rest.places ∙ ap (places_of omitted) are))
-    (subst (λ (w : WorldState). ShowsText (IsRestReport names w.config.bounds.threads w.log (slice_index rest.places.items)) w.log stdout r) closed shows)
+pub shows_closed : (names : Names) (sites : Option Table) (omitted : Omitted) (events : List Event) (watch : RestWatch) (rest : ClosedRest) (stdout : Writing) (r : Result Verdict CheckFault) → CanGoOn omitted watch → watch.whole.trace.events ≡ events → rest.closed ≡ watch.rest.world
+    → rest.places.items ≡ watch.rest.places.items → ShowsText (IsSitedReport sites names rest.closed.config.bounds.threads rest.closed.log (slice_index rest.places.items)) rest.closed.log stdout r
+    → ShowsText (IsSitedReport sites names watch.rest.world.config.bounds.threads (rest_of omitted events) (place_of omitted events)) (rest_of omitted events) stdout r
+shows_closed names sites omitted events watch rest stdout r can are closed places shows =
+    shows_rest names sites omitted events watch.rest.world.log rest.places.items watch.rest.world.config.bounds.threads stdout r (can.rest.events ∙ ap (rest_of omitted) are) (places ∙ (can.rest.places ∙ ap (places_of omitted) are))
+    (subst (λ (w : WorldState). ShowsText (IsSitedReport sites names w.config.bounds.threads w.log (slice_index rest.places.items)) w.log stdout r) closed shows)

@@ -226,14 +226,16 @@ abbrev pub DoesWatchEndless : EndlessOptions → Store → Writing → Fate → 
 DoesWatchEndless options store stdout f = DoesWatchBy (terms_of_endless options) store stdout f
 
 -- ---- velodrome watch LOG [--names FILE] [--stop] [--events N] [--nodes N], without the certificate,
--- ---- where something is left out: [--not-atomic FILE] [--ignore FILE] [--ignore-label WORD]..
+-- ---- where sites are given or something is left out: [--sites FILE] [--source FOLDER]
+-- ---- [--not-atomic FILE] [--ignore FILE] [--ignore-label WORD]..
 -- ---- [--ignore-lock WORD].. [--ignore-locks] [--ignore-variable WORD]..
 
 -- Left out is what was asked for. The line of the alarm is that of what is left, by the positions of LOG,
--- and so is the report (`WatchingRest`); or memory was wanting.
-abbrev pub WatchesRestBy : NameLists → Asked → WatchRestOptions → Store → Writing → Fate → Type 0
-WatchesRestBy names asked options store stdout f =
-    WatchesBy names (terms_of_rest options.watch (left_out_at_first asked)) store stdout f
+-- and so is the report, with the places of the alarm after it (`WatchingRest`); or memory was wanting.
+abbrev pub WatchesRestBy : NameLists → Asked → Option Table → WatchRestOptions → Store → Writing
+    → Fate → Type 0
+WatchesRestBy names asked sites options store stdout f =
+    WatchesBy names (terms_of_rest options.watch sites (left_out_at_first asked)) store stdout f
     ⊎ LacksMemoryToDeliver store stdout f
 
 -- what it knows before is in `Context` of `velo_inputs`
@@ -242,8 +244,8 @@ context_of_watch options =
     record {
       names = options.watch.names;
       ignored = options.ignored;
-      sites = None;
-      source = None;
+      sites = options.sites;
+      source = options.source;
     }
 
 abbrev pub DoesWatchRest : WatchRestOptions → Store → Writing → Fate → Type 0
@@ -251,4 +253,4 @@ DoesWatchRest options store stdout f =
     KnowsNoContext store (context_of_watch options) stdout f
     ⊎ ((names : NameLists) × (asked : Asked) × (sites : Option Table)
     × IsContext store.disk (context_of_watch options) names asked sites
-    × WatchesRestBy names asked options store stdout f)
+    × WatchesRestBy names asked sites options store stdout f)

@@ -37,6 +37,7 @@ terms_of_endless options =
       IsMetInText = IsMetEndless;
       IsFaultOfNext = IsFaultOfWhole options.limits;
       judged = λ log. log;
+      FitSites = λ log. ⊤;
       IsAlarmOf = AlarmOf;
       IsReportOf = λ names. IsOutput names false;
     }

@@ -4,6 +4,7 @@ pub mod CheckingRest
 pub mod Commands
 pub mod Endless
 pub mod Explaining
+pub mod Places
 pub mod Steps
 pub mod Thinning
 pub mod Watching

@@ -28,14 +28,16 @@ use Rattle.velo_fate.specs.declared.fault.CheckFault.{CheckFault}
 use Rattle.velo_fate.specs.declared.fault.CheckFault.TheVariants.{Log, Refused, WrongValue, Write, Memory}
 use Rattle.velo_fate.specs.declared.verdict.Verdict.{Verdict}
 use Rattle.velo_fate.specs.declared.fate.Fate.{Fate}
-use Rattle.velo_fate.specs.declared.fate.Fate.TheVariants.{Check, Finished, WriteFailed}
+use Rattle.velo_fate.specs.declared.fate.Fate.TheVariants.{Check, Finished, OtherSites, WriteFailed}
 use Rattle.velo_request.specs.declared.request.Limits.{Limits}
 use Rattle.velo_request.specs.declared.request.WatchOptions.{WatchOptions}
 use Rattle.velo_inputs.specs.Input.{IsFaultOfLogText, IsFaultOfTextUpTo, IsInput}
 use Rattle.velo_fate.specs.Verdict.{IsOutput, IsVerdict, is_alarm}
 use Rattle.velo_fate.specs.Delivery.{CommandAnswer, IsPrinted, printing, silent}
 use Rattle.velo_inputs.specs.Faults.{check_fault_of}
-use Rattle.velo_delivery.specs.Writing.{BreaksOff, Writes, Writing}
+use Rattle.velo_delivery.specs.Writing.{BreaksOff, Writes, WritesNothing, Writing}
+use Rattle.velo_log_commands.specs.Check.{fate_of}
+use Rattle.velo_log_commands.specs.Steps.{ShowsText}
 
 -- ---- what is asked of a watch, what bounds it, and what it judges. `watch` and `watch --endless` judge
 -- all events, and differ in the two limits and the two reasons alone (`terms_of_watch`,
@@ -58,6 +60,9 @@ pub record Terms : Type 1 where
   pub IsFaultOfNext : Bounds → List Event → Event → LogReplayFault → Type 0
   -- the events that are judged, of these
   pub judged : List Event → List Event
+  -- the sites, if there are some, are those of a log that begins with these events, as far as this can be
+  -- seen
+  pub FitSites : List Event → Type 0
   -- this is the alarm of those that are judged of these events, if they have one; its positions are those
   -- of these events
   pub IsAlarmOf : List Event → Option Alarm → Type 0
@@ -117,7 +122,7 @@ IsFaultOfHeader read _ = ⊥
 -- ---- the answer
 
 -- the line of the alarm, if there is one, by numbers; then what is reported by these names of the
--- events that were read; the fate has the verdict of those that are judged
+-- events that were read, which the sites fit; the fate has the verdict of those that are judged
 pub record IsWatched (names : Names) (terms : Terms) (read : Option (List ℕ))
     (answer : CommandAnswer)
     : Type 0 where
@@ -125,6 +130,7 @@ pub record IsWatched (names : Names) (terms : Terms) (read : Option (List ℕ))
   pub log : List Event
   pub so_far : IsSoFar terms.event_limit read bounds log
   pub read_to : IsReadTo terms read bounds log
+  pub fits : terms.FitSites log
   pub alarm : Option Alarm
   pub exact : terms.IsAlarmOf log alarm
   pub text : List ℕ
@@ -132,6 +138,18 @@ pub record IsWatched (names : Names) (terms : Terms) (read : Option (List ℕ))
   pub verdict : Verdict
   pub is_verdict : IsVerdict (terms.judged log) verdict
   pub said : answer ≡ printing (told_text alarm ++ text) (Finished Done (is_alarm verdict))
+
+-- the line of the alarm, if there is one, and no report: the sites do not fit the events that were read
+pub record HasOtherSites (terms : Terms) (read : Option (List ℕ)) (answer : CommandAnswer)
+    : Type 0 where
+  pub bounds : Bounds
+  pub log : List Event
+  pub so_far : IsSoFar terms.event_limit read bounds log
+  pub read_to : IsReadTo terms read bounds log
+  pub others : ¬ terms.FitSites log
+  pub alarm : Option Alarm
+  pub exact : terms.IsAlarmOf log alarm
+  pub said : answer ≡ printing (told_text alarm) OtherSites
 
 -- the line of the alarm of the events so far, if they have one, and no report: the input goes no
 -- further, for a reason, or a growth was refused
@@ -155,7 +173,8 @@ LacksHeader read answer =
 -- What a watch has to say.
 abbrev pub IsWatchAnswer : Names → Terms → Option (List ℕ) → CommandAnswer → Type 0
 IsWatchAnswer names terms read answer =
-    IsWatched names terms read answer ⊎ EndsUnreported terms read answer ⊎ LacksHeader read answer
+    IsWatched names terms read answer ⊎ HasOtherSites terms read answer
+    ⊎ EndsUnreported terms read answer ⊎ LacksHeader read answer
 
 -- the sink failed within the line of the alarm, which the last of the events so far raised
 pub record FailsAtAlarm (terms : Terms) (read : Option (List ℕ)) (stdout : Writing) : Type 0 where
@@ -197,6 +216,7 @@ terms_of_watch options =
       IsMetInText = IsMetBehind;
       IsFaultOfNext = IsFaultWithin options.limits;
       judged = λ log. log;
+      FitSites = λ log. ⊤;
       IsAlarmOf = AlarmOf;
       IsReportOf = λ names. IsOutput names options.certificate;
     }
@@ -273,6 +293,13 @@ pub record HasWatched (terms : Terms) (read : Option (List ℕ)) (stdout : Writi
   pub alarm : Option Alarm
   pub exact : terms.IsAlarmOf log alarm
   pub told : Writes stdout (told_text alarm)
+
+-- the sites fit these events, and what is reported of them was written; or they do not, and nothing was
+abbrev pub Reports : Names → Terms → Bounds → List Event → Writing → Fate → Type 0
+Reports names terms bounds log stdout f =
+    (terms.FitSites log × ((result : Result Verdict CheckFault) × (f ≡ fate_of result)
+    × ShowsText (terms.IsReportOf names bounds.threads log) (terms.judged log) stdout result))
+    ⊎ ((¬ terms.FitSites log) × (f ≡ OtherSites) × WritesNothing stdout)
 
 -- the fault of a check where a watch ends early
 abbrev pub check_fault_of_watching : WatchFault → CheckFault

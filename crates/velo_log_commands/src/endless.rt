@@ -60,6 +60,10 @@ impl AskedWatch for EndlessOptions<'_> {
         watch.step(alloc, log, out)
     }
 
+    fn fits_sites(&self, _watch: &EndlessWatch) -> bool {
+        true
+    }
+
     fn has_told(&self, watch: &EndlessWatch) -> bool {
         watch.has_told()
     }

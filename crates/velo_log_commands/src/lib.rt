@@ -12,6 +12,7 @@ mod explaining_rest;
 mod explaining_whole;
 mod explaining_words;
 mod naming;
+mod places;
 mod rest_report;
 mod thinning;
 mod watching;

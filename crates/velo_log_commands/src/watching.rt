@@ -1,5 +1,5 @@
 //! `velodrome watch`: a log that is checked as it comes.
-ghost use Rattle.std.specs.Prelude.{◌≡◌, ◌<◌, ◌↔◌, ◌-◌, List, ℕ, Bool, Option, Err, IfOk, IfErr, IsTrue, OnOk, true, [], length};
+ghost use Rattle.std.specs.Prelude.{◌≡◌, ◌<◌, ◌↔◌, ◌-◌, List, ℕ, Bool, Option, Err, IfOk, IfErr, IsTrue, OnOk, false, true, [], length};
 ghost use Rattle.velo_delivery.specs.Disk.{store};
 ghost use Rattle.velo_delivery.specs.Writing.{writing};
 ghost use Rattle.velo_events.specs.declared.config.Bounds.{Bounds as BoundsOf};
@@ -10,7 +10,7 @@ ghost use Rattle.velo_log_commands.specs.Check.{fate_of};
 ghost use Rattle.velo_log_commands.specs.CheckingRest.{shown_of};
 ghost use Rattle.velo_log_commands.specs.Commands.{DoesWatch, WatchesBy, WatchesLog};
 ghost use Rattle.velo_log_commands.specs.Steps.{ShowsText};
-ghost use Rattle.velo_log_commands.specs.Watching.{check_fault_of_watching, CanWatch, Follows, HasWatched, StepsOn, Terms, Watches, terms_of_watch};
+ghost use Rattle.velo_log_commands.specs.Watching.{check_fault_of_watching, CanWatch, Follows, HasWatched, Reports, StepsOn, Terms, Watches, terms_of_watch};
 ghost use Rattle.velo_report.specs.declared.names.Names.{Names as Shown};
 ghost use Rattle.velo_watch.specs.UnderWay.{IsFaultOfOpening, IsUnderWay, read_failures, write_failures};
 
@@ -96,6 +96,13 @@ pub trait AskedWatch {
         ensures ends { IfOk result (λ more. more ≡ true → left watch.new < left watch.old) }
         ensures reads { I.failures log.new ≡ read_failures result (I.failures log.old) }
         ensures writes { O.failures out.new ≡ write_failures result (O.failures out.old) };
+
+    /// Whether the sites, if there are some, are those of the events that it has seen.
+    fn fits_sites(&self, watch: &Self::State) -> bool
+        ensures fit { (events : List EventOf) → has_seen self.now watch.now events
+            → IsTrue result → (terms self.now).FitSites events }
+        ensures others { (events : List EventOf) → has_seen self.now watch.now events
+            → result ≡ false → ¬ (terms self.now).FitSites events };
 
     /// Whether those that are judged of its events raised an alarm.
     fn has_told(&self, watch: &Self::State) -> bool
@@ -188,6 +195,26 @@ fn watch_input<A: AskedWatch, I: Source, O: Sink>(
     }
 }
 
+/// Writes what the events of a watch show by the names, where the sites are theirs.
+fn report<A: AskedWatch, O: Sink>(
+    alloc: Global,
+    asked: &A,
+    watch: A::State,
+    names: Option<&Names>,
+    out: &mut O,
+) -> Fate
+    requires { A.can_go_on asked.now watch }
+    ensures { (events : List EventOf) → A.has_seen asked.now watch events
+        → Reports (shown_of names.entry) (A.terms asked.now) (A.bounds watch) events
+        (writing O.contents O.failures out.old out.new) result }
+{
+    if !asked.fits_sites(&watch) {
+        drop(watch);
+        return Fate::OtherSites;
+    }
+    fate_of(asked.show(alloc, watch, names, out))
+}
+
 /// Watches a log: its alarm is printed at once, and what its events show by the names at the end.
 fn watch_log<A: AskedWatch, I: Source, O: Sink>(
     alloc: Global,
@@ -200,11 +227,10 @@ fn watch_log<A: AskedWatch, I: Source, O: Sink>(
         (writing O.contents O.failures out.old out.new) result }
     ensures failures { I.failures log.new ≡ failures_told result (I.failures log.old) }
 {
-    let answer = match watch_input(alloc, asked, log, out) {
-        Ok(watch) => asked.show(alloc, watch, names, out),
-        Err(fault) => Err(fault),
-    };
-    fate_of(answer)
+    match watch_input(alloc, asked, log, out) {
+        Ok(watch) => report(alloc, asked, watch, names, out),
+        Err(fault) => fate_of(Err(fault)),
+    }
 }
 
 /// Watches the log that was asked for, and reports it by the names.
@@ -260,6 +286,10 @@ impl AskedWatch for WatchOptions<'_> {
         out: &mut O,
     ) -> Result<bool, WatchFault> {
         watch.step(log, out)
+    }
+
+    fn fits_sites(&self, _watch: &Watch) -> bool {
+        true
     }
 
     fn has_told(&self, watch: &Watch) -> bool {

@@ -1,18 +1,19 @@
-//! `velodrome watch` where something is left out: a log is checked as it comes, and what is left of it is
-//! judged.
-ghost use Rattle.std.specs.Prelude.{◌≡◌, ◌-◌, length, slice_index};
+//! `velodrome watch` where something is left out or sites are given: a log is checked as it comes, what is
+//! left of it is judged, and the places of its alarm are told.
+ghost use Rattle.std.specs.Prelude.{◌≡◌, ◌-◌, IfOk, length, slice_index};
 ghost use Rattle.velo_delivery.specs.Disk.{store};
 ghost use Rattle.velo_delivery.specs.Writing.{writing};
 ghost use Rattle.velo_filter.specs.Left.{rest_of};
 ghost use Rattle.velo_filter.specs.Tables.{left_of};
-ghost use Rattle.velo_log_commands.specs.CheckingRest.{IsRestReport, shown_of};
+ghost use Rattle.velo_log_commands.specs.CheckingRest.{shown_of};
 ghost use Rattle.velo_log_commands.specs.Commands.{DoesWatchRest, WatchesRestBy};
 ghost use Rattle.velo_log_commands.specs.Steps.{ShowsText};
-ghost use Rattle.velo_log_commands.specs.WatchingRest.{CanWatchRest, terms_of_rest};
+ghost use Rattle.velo_log_commands.specs.WatchingRest.{CanWatchRest, IsSitedReport, terms_of_rest};
 ghost use Rattle.velo_rest_watch.specs.UnderWay.{IsUnderWay};
 
 use crate::command::Command;
 use crate::naming::names_given;
+use crate::places::add_places;
 use crate::rest_report::page_of_rest;
 use crate::watching::{AskedWatch, watch_named};
 use std::alloc::Global;
@@ -20,6 +21,7 @@ use velo_audit_text::Asked;
 use velo_bytes::{Sink, Source, WriteFault, write_all};
 use velo_delivery::Files;
 use velo_events::Memory;
+use velo_explain::Page;
 use velo_fate::{CheckFault, Fate, Verdict, verdict_of};
 use velo_filter::LeftOut;
 use velo_inputs::{ContextOptions, InContext, do_in_context, left_out};
@@ -29,17 +31,18 @@ use velo_rest_watch::{ClosedRest, RestWatch};
 use velo_sites::Sites;
 use velo_watch::WatchFault;
 
-/// A watch that was asked for, and what is left out of its log.
+/// A watch that was asked for, the sites of its log, and what is left out of it.
 #[derive(Clone, Copy)]
 struct RestAsked<'a> {
     options: &'a WatchOptions<'a>,
+    sites: &'a Option<Sites<'a>>,
     left: &'a LeftOut,
 }
 
 impl AskedWatch for RestAsked<'_> {
     type State = RestWatch;
 
-    ghost terms = { λ asked. terms_of_rest asked.options.now (left_of asked.left.now) };
+    ghost terms = { λ asked. terms_of_rest asked.options.now asked.sites.now (left_of asked.left.now) };
 
     ghost bounds = { λ watch. watch.rest.world.config.bounds };
 
@@ -76,6 +79,16 @@ impl AskedWatch for RestAsked<'_> {
         watch.step(alloc, self.left, log, out)
     }
 
+    fn fits_sites(&self, watch: &RestWatch) -> bool {
+        let Some(sites) = self.sites else {
+            return true;
+        };
+        if self.options.stop && watch.has_told() {
+            return watch.count_events() <= sites.count_events();
+        }
+        watch.count_events() == sites.count_events()
+    }
+
     fn has_told(&self, watch: &RestWatch) -> bool {
         watch.has_told()
     }
@@ -88,26 +101,48 @@ impl AskedWatch for RestAsked<'_> {
         out: &mut O,
     ) -> Result<Verdict, CheckFault> {
         let rest = watch.close();
-        let answer = report_rest(alloc, names, &rest, out);
+        let answer = report_rest(alloc, names, self.sites, &rest, out);
         drop(rest);
         answer
     }
 }
 
-/// Writes the report of what is left of a log, and returns its verdict.
+/// The report of what is left of a log, and after it where the events of its alarm happened.
+///
+/// # Errors
+/// `Memory` if an allocation failed.
+fn sited_page(
+    alloc: Global,
+    names: Option<&Names>,
+    sites: &Option<Sites>,
+    rest: &ClosedRest,
+) -> Result<Page, Memory>
+    requires { length rest.now.places.items ≡ length rest.now.closed.log }
+    ensures { IfOk result (IsSitedReport sites.now (shown_of names.entry)
+        rest.now.closed.config.bounds.threads rest.now.closed.log
+        (slice_index rest.now.places.items)) }
+{
+    let mut page = page_of_rest(alloc, names, &rest.closed, &rest.places)?;
+    add_places(&mut page, sites, &rest.places, rest.closed.alarm())?;
+    Ok(page)
+}
+
+/// Writes the report of what is left of a log and the places of its alarm, and returns its verdict.
 fn report_rest<O: Sink>(
     alloc: Global,
     names: Option<&Names>,
+    sites: &Option<Sites>,
     rest: &ClosedRest,
     out: &mut O,
 ) -> Result<Verdict, CheckFault>
     requires { length rest.now.places.items ≡ length rest.now.closed.log }
-    ensures { ShowsText (IsRestReport (shown_of names.entry) rest.now.closed.config.bounds.threads
-        rest.now.closed.log (slice_index rest.now.places.items)) rest.now.closed.log
+    ensures { ShowsText (IsSitedReport sites.now (shown_of names.entry)
+        rest.now.closed.config.bounds.threads rest.now.closed.log
+        (slice_index rest.now.places.items)) rest.now.closed.log
         (writing O.contents O.failures out.old out.new) result }
 {
     let verdict = verdict_of(&rest.closed);
-    match page_of_rest(alloc, names, &rest.closed, &rest.places) {
+    match sited_page(alloc, names, sites, rest) {
         Ok(page) => match write_all(out, page.as_slice()) {
             Ok(()) => Ok(verdict),
             Err(WriteFault) => Err(CheckFault::Write),
@@ -117,14 +152,14 @@ fn report_rest<O: Sink>(
 }
 
 impl InContext for Command<'_, WatchRestOptions<'_>> {
-    ghost does = { λ command names asked sites. WatchesRestBy names asked command.options.now };
+    ghost does = { λ command names asked sites. WatchesRestBy names asked sites command.options.now };
 
     fn do_in<F: Files, O: Sink>(
         &self,
         alloc: Global,
         names: &Names,
         asked: &Asked,
-        _sites: &Option<Sites>,
+        sites: &Option<Sites>,
         files: &mut F,
         out: &mut O,
     ) -> Fate {
@@ -134,6 +169,7 @@ impl InContext for Command<'_, WatchRestOptions<'_>> {
                 let given = names_given(options.names, names);
                 let asked = RestAsked {
                     options,
+                    sites,
                     left: &left,
                 };
                 let fate = watch_named(alloc, &asked, given, files, out);
@@ -145,8 +181,8 @@ impl InContext for Command<'_, WatchRestOptions<'_>> {
     }
 }
 
-/// Watches the log that was asked for, of which what is left is judged. The names are read first, and then
-/// the list of what is known already.
+/// Watches the log that was asked for, of which what is left is judged. The names are read first, then
+/// the list of what is known already, and then the sites.
 pub fn watch_rest_file<F: Files, O: Sink>(
     alloc: Global,
     options: &WatchRestOptions,
@@ -159,8 +195,8 @@ pub fn watch_rest_file<F: Files, O: Sink>(
     let context = ContextOptions {
         names: options.watch.names,
         ignored: options.ignored,
-        sites: None,
-        source: None,
+        sites: options.sites,
+        source: options.source,
     };
     do_in_context(alloc, &Command { options }, &context, files, out)
 }

@@ -229,11 +229,15 @@ pub struct EndlessOptions<'a> {
     pub names: Option<&'a str>,
 }
 
-/// What `velodrome watch` was asked for, if something is left out of the log.
+/// What `velodrome watch` was asked for, if something is left out of the log, or its sites are given.
 #[derive(Clone, Copy, Debug)]
 pub struct WatchRestOptions<'a> {
     /// The rest, which is as for the whole log; without a certificate.
     pub watch: WatchOptions<'a>,
+    /// The path of the sites of the log's events, or `-`.
+    pub sites: Option<&'a str>,
+    /// The folder of the sources, whose lines are printed behind the sites.
+    pub source: Option<&'a str>,
     /// What is left out.
     pub ignored: Ignored<'a>,
 }
@@ -398,7 +402,7 @@ pub enum Request<'a> {
     Watch(WatchOptions<'a>),
     /// To check a log of any length as it comes.
     WatchEndless(EndlessOptions<'a>),
-    /// To check what is left of a log as it comes.
+    /// To check what is left of a log as it comes, and to tell the places of its alarm.
     WatchRest(WatchRestOptions<'a>),
     /// To list the labels of a recorded log whose blocks are not atomic.
     Audit(AuditOptions<'a>),

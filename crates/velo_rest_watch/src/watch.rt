@@ -112,6 +112,13 @@ impl RestWatch {
         Ok(true)
     }
 
+    /// How many events were read.
+    pub fn count_events(&self) -> usize
+        ensures { result ≡ length self.now.whole.trace.events }
+    {
+        self.whole.trace.len()
+    }
+
     /// Whether an alarm was told.
     pub fn has_told(&self) -> bool
         ensures { IsTrue result ↔ HasCycle self.now.rest.world.log }

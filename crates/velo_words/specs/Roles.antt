@@ -89,6 +89,7 @@ wide_list_of request =
 
 abbrev pub sites_of : Request → Option (List ℕ)
 sites_of (Explain options) = given options.sites
+sites_of (WatchRest options) = given options.sites
 sites_of (Audit options) = given options.sites
 sites_of (Predict options) = given options.sites
 sites_of _ = None

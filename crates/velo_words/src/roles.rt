@@ -173,6 +173,7 @@ pub fn sites_of<'a>(request: &Request<'a>) -> Option<&'a str>
 {
     match request {
         Request::Explain(options) => options.sites,
+        Request::WatchRest(options) => options.sites,
         Request::Audit(options) => options.sites,
         Request::Predict(options) => options.sites,
         _ => None,

@@ -1,7 +1,7 @@
 use Rattle.std.proofs.Common.{◌∙◌, codes, refl, subst, sym}
 use Rattle.clap.specs.Words.{found_of, one_of, rows_of}
 use Rattle.velo_arguments.specs.Asked.{AsksEndless, IsFlag, AsksWatch}
-use Rattle.velo_arguments.proofs.OnAsked.{flag_read, no_word, nothing_left, on_none_of_two, option_read, word_read}
+use Rattle.velo_arguments.proofs.OnAsked.{flag_read, no_word, on_none_of_two, option_read, whole_asked, word_read}
 use Rattle.velo_arguments.proofs.requests.watch_request.Goals as goal
 
 pub returns-in_err-input-clause-none : goal.returns-in_err-input-clause-none
@@ -33,8 +33,8 @@ returns-then-get_flag-clause-some c =
       ),
     )
 
-pub returns-then-leaves_out-clause-some : goal.returns-then-leaves_out-clause-some
-returns-then-leaves_out-clause-some c =
+pub returns-then-asks_more-clause-some : goal.returns-then-asks_more-clause-some
+returns-then-asks_more-clause-some c =
     let f = found_of c.args.found.now in (
       refl,
       (
@@ -49,15 +49,19 @@ returns-then-leaves_out-clause-some c =
             option_read f (codes "names") c.get_str-names.result c.get_str-names.ensures,
           ),
         ),
-        c.left_out-ignored.ensures,
-        sym c.leaves_out.ensures ∙ c.if-leaves_out.true,
+        option_read f (codes "sites") c.get_str-2.result c.get_str-2.ensures,
+        option_read f (codes "source") c.get_str-3.result c.get_str-3.ensures,
+        c.left_out.ensures,
+        sym c.asks_more.ensures ∙ c.if-asks_more.true,
       ),
     )
 
 pub returns-clause-some : goal.returns-clause-some
 returns-clause-some c =
     let f = found_of c.args.found.now in
-    let nothing = sym c.leaves_out.ensures ∙ c.if-leaves_out.false in (
+    let sites = option_read f (codes "sites") c.get_str-2.result c.get_str-2.ensures in
+    let source = option_read f (codes "source") c.get_str-3.result c.get_str-3.ensures in
+    let whole = whole_asked (rows_of f) _ sites source c.left_out.ensures (sym c.asks_more.ensures ∙ c.if-asks_more.false) in (
       refl,
       (
         subst (IsFlag (one_of (codes "endless") (rows_of f))) c.if-get_flag.false
@@ -70,5 +74,6 @@ returns-clause-some c =
           option_read f (codes "names") c.get_str-names.result c.get_str-names.ensures,
         ),
       ),
-      nothing_left (rows_of f) c.left_out-ignored.result c.left_out-ignored.ensures nothing,
+      whole.0,
+      whole.1,
     )

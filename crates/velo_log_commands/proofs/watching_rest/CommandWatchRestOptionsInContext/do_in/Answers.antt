@@ -15,5 +15,5 @@ returns-in-Ok g c =
     inl (
       shown,
       c.names_given-given.ensures,
-      subst (λ (omitted : Omitted). WatchesLog shown (terms_of_rest c.args.self.now.options.now.watch omitted) kept stdout c.watch_named-fate.result) c.in-Ok.ensures c.watch_named-fate.ensures,
+      subst (λ (omitted : Omitted). WatchesLog shown (terms_of_rest c.args.self.now.options.now.watch c.args.sites.now omitted) kept stdout c.watch_named-fate.result) c.in-Ok.ensures c.watch_named-fate.ensures,
     )

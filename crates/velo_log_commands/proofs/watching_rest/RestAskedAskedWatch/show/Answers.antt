@@ -15,5 +15,5 @@ report_rest-answer-requires g c =
 
 pub returns : goal.returns
 returns g c events seen =
-    shows_closed (shown_of c.args.names) (left_of c.args.self.now.left.now) events c.args.watch c.close-rest.result (writing g.O.Sink.contents g.O.Sink.failures c.args.out.now c.report_rest-answer.new.out) c.report_rest-answer.result c.requires.goes_on seen.0
+    shows_closed (shown_of c.args.names) c.args.self.now.sites.now (left_of c.args.self.now.left.now) events c.args.watch c.close-rest.result (writing g.O.Sink.contents g.O.Sink.failures c.args.out.now c.report_rest-answer.new.out) c.report_rest-answer.result c.requires.goes_on seen.0
     c.close-rest.ensures.closed c.close-rest.ensures.places c.report_rest-answer.ensures
