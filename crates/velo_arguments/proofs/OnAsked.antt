@@ -14,10 +14,9 @@ use Rattle.velo_request.specs.declared.request.Ignored.{Ignored}
 use Rattle.velo_request.specs.declared.request.OutputFormat.{OutputFormat}
 use Rattle.velo_request.specs.declared.request.TextOrJson.{TextOrJson}
 use Rattle.velo_request.specs.declared.request.RandomRuns.{RandomRuns}
-use Rattle.velo_request.specs.declared.request.WatchRestOptions.{WatchRestOptions}
 use Rattle.velo_request.specs.declared.request.TheConstants.{MAX_SECONDS}
 use Rattle.velo_request.specs.declared.request.Request.TheVariants.{Audit, AuditMany, Carry, Check, CheckRest, Explain, Explore, ExploreRest, MergeAudits, Predict, Replay, Run, Thin, Verify, Watch, WatchEndless, WatchRest}
-use Rattle.velo_arguments.specs.Asked.{AreLeftOut, AreRandomRuns, AreSeconds, AsksExplore, AsksForNothing, IsFlag, IsList, IsSeed, IsPath, LeaveNothingOut, TellNoPlaces, WritesNumber, asks_more, form_of, is_auto, leaves_out, text_or_json_of}
+use Rattle.velo_arguments.specs.Asked.{AreLeftOut, AreRandomRuns, AreSeconds, AsksExplore, AsksForNothing, IsFlag, IsList, IsSeed, IsPath, LeaveNothingOut, TellNoPlaces, WritesNumber, form_of, is_auto, leaves_out, text_or_json_of}
 
 pub option_read : (f : Found) (id : Text) (r : Option (Bor Text)) → option_map (λ s. s.now) r ≡ first_value f id
     → first_of id (rows_of f) ≡ option_map (λ s. s.now) r
@@ -137,12 +136,12 @@ no_path text None is none = is
 no_path text (Some path) is none = absurd (true≢false none)
 
 -- where nothing more is asked for than the report of the whole log, no option is given that asks for more
-pub whole_asked : (rows : List Row) (rest : WatchRestOptions) → IsPath (codes "sites") rows rest.sites → IsPath (codes "source") rows rest.source → AreLeftOut rows rest.ignored
-    → asks_more rest ≡ false → LeaveNothingOut rows × TellNoPlaces rows
-whole_asked rows rest sites source left none =
+pub whole_asked : (rows : List Row) (ignored : Ignored) (sites source : Option (Bor Text)) → AreLeftOut rows ignored → IsPath (codes "sites") rows sites → IsPath (codes "source") rows source
+    → (leaves_out ignored || (is_some sites || is_some source)) ≡ false → LeaveNothingOut rows × TellNoPlaces rows
+whole_asked rows ignored sites source left is_sites is_source none =
     let first = neither _ _ none in
     let second = neither _ _ first.1 in
-    (nothing_left rows rest.ignored left first.0, (no_path _ rest.sites sites second.0, no_path _ rest.source source second.1))
+    (nothing_left rows ignored left first.0, (no_path _ sites is_sites second.0, no_path _ source is_source second.1))
 
 -- a form, by its word
 pub form_read : (f : Found) (id : Text) (r : Option (Bor Text)) (form : OutputFormat) → option_map (λ s. s.now) r ≡ first_value f id

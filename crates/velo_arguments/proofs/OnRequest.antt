@@ -354,7 +354,7 @@ asks_watch rows false endless word has = go (asks_more rest) refl
     go : (b : Bool) → asks_more rest ≡ b → (request : Request) × AsksFor (Some (codes "watch", rows)) request
     go true is = (WatchRest rest, (refl, (watch.1, sites, source, left.1, is)))
     go false is =
-        let whole = whole_asked rows rest sites source left.1 is in
+        let whole = whole_asked rows rest.ignored rest.sites rest.source left.1 sites source is in
         (Watch watch.0, (refl, watch.1, whole.0, whole.1))
 
 an_audit : (rows : List Row) → HasWord (codes "LOG") rows → HasLimits rows → (options : AuditOptions) × AsksAudit rows options

@@ -345,6 +345,12 @@ their numbers. The line of the alarm has numbers alone.
 is left, with the positions of the whole log. The report has no certificate, and --endless does not go
 with these options. Only one of LOG and the FILEs can be -.
 
+--sites and --source are those of 'velodrome explain'. After the report come lines 'place P FILE:LINE
+FUNCTION': of the event that closes the cycle, and of the begins of the blocks to blame, or without one
+of the first event of the transaction. The sites are read before the log, and are of a log that has ended:
+if they are of another number of events than LOG has at its end, or with --stop of fewer than were read,
+there is no report. --certificate and --endless do not go with these options.
+
 LOG is a pipe, a FIFO or a regular file. A regular file is read to its end. To follow one that grows:
 tail -c +1 -f LOG | velodrome watch -
 
@@ -357,11 +363,14 @@ Statuses, each with the lines on standard error:
   0  no alarm, or help
   2  usage; 'error: standard input can be read once'; 'error: --endless does not go with
      --certificate'; 'error: --endless does not go with what leaves events out of the log';
-     'error: --certificate does not go with what leaves events out of the log'; 'error: --ignore does
-     not go with --not-atomic'; the text is no log: 'log fault K', 'log fault K line N'; an event cannot
-     happen: 'refused K at P', 'wrong value at P'; the text of --names is no file of names:
-     'names fault K line N'; the text of --not-atomic or --ignore is no list: 'list fault K line N'; a
-     word of --ignore-label, --ignore-lock or --ignore-variable means nothing: 'ignored fault K'
+     'error: --endless goes with neither --sites nor --source'; 'error: --certificate does not go with
+     what leaves events out of the log'; 'error: for a watch --certificate goes with neither --sites nor
+     --source'; 'error: --source goes only with --sites'; 'error: --ignore does not go with
+     --not-atomic'; the text is no log: 'log fault K', 'log fault K line N'; an event cannot happen:
+     'refused K at P', 'wrong value at P'; the text of --names is no file of names: 'names fault K line
+     N'; the text of --sites is no file of sites, or of another log: 'sites fault K line N'; the text of
+     --not-atomic or --ignore is no list: 'list fault K line N'; a word of --ignore-label, --ignore-lock
+     or --ignore-variable means nothing: 'ignored fault K'
   3  an alarm: no serial reordering of the log, or of what is left of it, exists
   4  a limit was met: 'refused 17 at P', 'refused 18 at P'
   5  memory or a device failed: 'out of memory', 'read failed', 'write failed', 'cannot open'

@@ -83,7 +83,7 @@ impl AskedWatch for RestAsked<'_> {
         let Some(sites) = self.sites else {
             return true;
         };
-        if self.options.stop && watch.has_told() {
+        if self.stops() && watch.has_told() {
             return watch.count_events() <= sites.count_events();
         }
         watch.count_events() == sites.count_events()

@@ -61,7 +61,7 @@ returns-clause-some c =
     let f = found_of c.args.found.now in
     let sites = option_read f (codes "sites") c.get_str-2.result c.get_str-2.ensures in
     let source = option_read f (codes "source") c.get_str-3.result c.get_str-3.ensures in
-    let whole = whole_asked (rows_of f) _ sites source c.left_out.ensures (sym c.asks_more.ensures ∙ c.if-asks_more.false) in (
+    let whole = whole_asked (rows_of f) c.left_out.result c.get_str-2.result c.get_str-3.result c.left_out.ensures sites source (sym c.asks_more.ensures ∙ c.if-asks_more.false) in (
       refl,
       (
         subst (IsFlag (one_of (codes "endless") (rows_of f))) c.if-get_flag.false
