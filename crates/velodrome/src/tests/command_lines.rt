@@ -143,7 +143,7 @@ static WRONG_WORDS: [&[&str]; 50] = [
 ];
 
 /// Right words that do not go together, with the line that says so.
-static WORDS_APART: [(&[&str], &str); 41] = [
+static WORDS_APART: [(&[&str], &str); 45] = [
     (
         &["velodrome", "check", "-", "--names", "-"],
         "error: standard input can be read once\n",
@@ -370,6 +370,22 @@ static WORDS_APART: [(&[&str], &str); 41] = [
     (
         &["velodrome", "watch", "a.log", "--ignore-locks", "--endless"],
         "error: --endless does not go with what leaves events out of the log\n",
+    ),
+    (
+        &["velodrome", "watch", "a.log", "--source=f", "--endless"],
+        "error: --endless goes with neither --sites nor --source\n",
+    ),
+    (
+        &["velodrome", "watch", "a.log", "--sites=s", "--certificate"],
+        "error: for a watch --certificate goes with neither --sites nor --source\n",
+    ),
+    (
+        &["velodrome", "watch", "a.log", "--source=f"],
+        "error: --source goes only with --sites\n",
+    ),
+    (
+        &["velodrome", "watch", "-", "--sites=-"],
+        "error: standard input can be read once\n",
     ),
 ];
 

@@ -1,4 +1,4 @@
-//! Audits and predictions that tell where in the source the events of a log happened.
+//! Audits, predictions and watches that tell where in the source the events of a log happened.
 use crate::tests::audits::UNREADABLE;
 use crate::tests::{Folder, LOST_UPDATE, compare, show};
 use std::alloc::Global;
@@ -259,6 +259,109 @@ static SITED: [Sited; 15] = [
     },
 ];
 
+/// The lock closes a cycle at position 6, the variable another one at position 10.
+const TWO_CYCLES: &str =
+    "vlog 2 2 1 1\n0 fork 1\n0 begin 7\n0 acq 0\n0 rel 0\n1 acq 0\n1 rel 0\n0 acq 0\n0 rel 0\n0 rd 0 0\n1 wr 0 5\n0 wr 0 1\n0 end\n";
+
+/// A cycle of which no block is to blame: each transaction sees the other one half done.
+const BLAMELESS: &str =
+    "vlog 1 2 2 0\n0 fork 1\n0 begin 1\n0 wr 0 1\n1 begin 2\n1 wr 1 1\n0 rd 1 1\n1 rd 0 1\n";
+
+const ENDED: &str = "vlog 1 2 1 0\n0 fork 1\n0 begin 7\n0 rd 0 0\n1 wr 0 5\n0 wr 0 1\n0 end\n";
+
+static WATCHED: [Sited; 10] = [
+    // the place of the closing event, and that of the begin of the block to blame
+    Sited {
+        words: &["velodrome", "watch", "a", "--sites", "s"],
+        log: LOST_UPDATE,
+        sites: ALL_SITES,
+        out: "alarm 4 blame 1 7\nevents 5\nthread 0 4\nthread 1 1\nverdict alarm 4\ntransaction 1\nblame 1 7\nplace 4 bank.c:12 deposit\nplace 1 bank.c:10 deposit\n",
+        err: "",
+        status: 3,
+    },
+    // with the lines of source
+    Sited {
+        words: &["velodrome", "watch", "a", "--sites", "s", "--source", "f"],
+        log: LOST_UPDATE,
+        sites: SITES,
+        out: "alarm 4 blame 1 7\nevents 5\nthread 0 4\nthread 1 1\nverdict alarm 4\ntransaction 1\nblame 1 7\nplace 4 bank.c:13 deposit | }\nplace 1 bank.c:10 deposit | void deposit(long n) {\n",
+        err: "",
+        status: 3,
+    },
+    // the site of the closing event is unknown
+    Sited {
+        words: &["velodrome", "watch", "a", "--sites", "s"],
+        log: LOST_UPDATE,
+        sites: "vsites 1 1 5\nbank.c:10 deposit\n0\n1\n0\n0\n0\n",
+        out: "alarm 4 blame 1 7\nevents 5\nthread 0 4\nthread 1 1\nverdict alarm 4\ntransaction 1\nblame 1 7\nplace 1 bank.c:10 deposit\n",
+        err: "",
+        status: 3,
+    },
+    // without a block to blame the transaction has its place
+    Sited {
+        words: &["velodrome", "watch", "a", "--sites", "s"],
+        log: BLAMELESS,
+        sites: "vsites 1 2 7\nx.c:1 f\nx.c:2 g\n0\n0\n0\n1\n0\n0\n2\n",
+        out: "alarm 6 blame none\nevents 7\nthread 0 4\nthread 1 3\nverdict alarm 6\ntransaction 3\nblame none\nplace 6 x.c:2 g\nplace 3 x.c:1 f\n",
+        err: "",
+        status: 3,
+    },
+    // the alarm is that of what is left, and its places are those of the whole log
+    Sited {
+        words: &["velodrome", "watch", "a", "--sites", "s", "--ignore-locks"],
+        log: TWO_CYCLES,
+        sites: "vsites 1 3 12\nx.c:1 f\nx.c:2 g\nx.c:3 h\n0\n1\n0\n0\n0\n0\n2\n0\n0\n0\n3\n0\n",
+        out: "alarm 10 blame 1 7\nevents 6\nthread 0 5\nthread 1 1\nverdict alarm 10\ntransaction 1\nblame 1 7\nplace 10 x.c:3 h\nplace 1 x.c:1 f\n",
+        err: "",
+        status: 3,
+    },
+    // without an alarm there is no place
+    Sited {
+        words: &["velodrome", "watch", "a", "--sites=s", "--ignore-label=7"],
+        log: LOST_UPDATE,
+        sites: ALL_SITES,
+        out: "events 4\nthread 0 3\nthread 1 1\nverdict clean\n",
+        err: "",
+        status: 0,
+    },
+    // where the alarm ended it, the log may go on
+    Sited {
+        words: &["velodrome", "watch", "a", "--sites", "s", "--stop"],
+        log: ENDED,
+        sites: "vsites 1 1 6\nbank.c:10 deposit\n0\n1\n0\n0\n0\n0\n",
+        out: "alarm 4 blame 1 7\nevents 5\nthread 0 4\nthread 1 1\nverdict alarm 4\ntransaction 1\nblame 1 7\nplace 1 bank.c:10 deposit\n",
+        err: "",
+        status: 3,
+    },
+    // but not before
+    Sited {
+        words: &["velodrome", "watch", "a", "--sites", "s", "--stop"],
+        log: ENDED,
+        sites: "vsites 1 0 4\n0\n0\n0\n0\n",
+        out: "alarm 4 blame 1 7\n",
+        err: "velodrome: s: these are the sites of a log with another number of events\nhelp: take the log and its sites from one run\nsites fault 5 line 0\n",
+        status: 2,
+    },
+    // of another log, behind the alarm that came before
+    Sited {
+        words: &["velodrome", "watch", "a", "--sites", "s"],
+        log: LOST_UPDATE,
+        sites: "vsites 1 0 6\n0\n0\n0\n0\n0\n0\n",
+        out: "alarm 4 blame 1 7\n",
+        err: "velodrome: s: these are the sites of a log with another number of events\nhelp: take the log and its sites from one run\nsites fault 5 line 0\n",
+        status: 2,
+    },
+    // the sites are read before the log
+    Sited {
+        words: &["velodrome", "watch", "a", "--sites", "s"],
+        log: UNREADABLE,
+        sites: "vsites 1 0\n",
+        out: "",
+        err: "sites fault 1 line 1\n",
+        status: 2,
+    },
+];
+
 /// Compares what the program shows of the files with what it is to show.
 fn try_sited<R: Threads + Wait + Sync + Abort>(rt: &R, alloc: Global, told: &Sited) {
     let files = [("a", told.log), ("s", told.sites), ("f/bank.c", BANK)];
@@ -271,6 +374,13 @@ fn try_sited<R: Threads + Wait + Sync + Abort>(rt: &R, alloc: Global, told: &Sit
 #[test]
 fn where_events_happened(rt: HostRuntime) {
     for told in &SITED {
+        try_sited(&rt, rt.alloc(), told);
+    }
+}
+
+#[test]
+fn where_watched_events_happened(rt: HostRuntime) {
+    for told in &WATCHED {
         try_sited(&rt, rt.alloc(), told);
     }
 }
