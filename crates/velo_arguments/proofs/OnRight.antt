@@ -285,8 +285,8 @@ explore_right words e =
 pub watch_right : (words : List Text) → AreFaultless watch words
     → HasWord (codes "LOG") (rows_of_leaf watch words) × HasLimits (rows_of_leaf watch words)
 watch_right words e =
-    let level = level_has limits (leaf watch) words refl (makes_word (codes "LOG") refl, (makes_valued (codes "names") refl, (makes_flag (codes "stop") refl, (makes_flag (codes "endless") refl, left_out_before graph_options graph_made)))) e in
-    (word_there (codes "LOG") (rows_of_leaf watch words) level.passes (level.given.0 refl), limits_there (rows_of_leaf watch words) level.passes (level.defaults.1.1.1.1.1.1.1.1.1.1.0 tt) (level.defaults.1.1.1.1.1.1.1.1.1.1.1.0 tt))
+    let level = level_has limits (leaf watch) words refl (makes_word (codes "LOG") refl, (makes_valued (codes "names") refl, (makes_valued (codes "sites") refl, (makes_valued (codes "source") refl, (makes_flag (codes "stop") refl, (makes_flag (codes "endless") refl, left_out_before graph_options graph_made)))))) e in
+    (word_there (codes "LOG") (rows_of_leaf watch words) level.passes (level.given.0 refl), limits_there (rows_of_leaf watch words) level.passes (level.defaults.1.1.1.1.1.1.1.1.1.1.1.1.0 tt) (level.defaults.1.1.1.1.1.1.1.1.1.1.1.1.1.0 tt))
 
 pub audit_right : (words : List Text) → AreFaultless audit words
     → HasWord (codes "LOG") (rows_of_leaf audit words) × HasLimits (rows_of_leaf audit words)
