@@ -6,7 +6,8 @@
 A random log is checked with random labels, locks and variables left out, each by an option or by a line of an --ignore list. The
 same events are taken out of the log here, and what is left is checked without options. The two reports have to be the same, but
 for the positions, which are turned into those of the whole log; and so has that of `watch`, behind the line of its alarm, which
-has the same position and blocks. The last line is `N compared, N alarms`.
+has the same position and blocks. With a file of sites `watch` says the same, and after it the places of the alarm. The last line is
+`N compared, N alarms`.
 """
 import os
 import random
@@ -116,6 +117,25 @@ def placed(report, places):
     return "".join(f"{at(line.split(' '))}\n" for line in report.splitlines())
 
 
+def sited(draw, events, path):
+    """The place of each event that has one, by its position; they stand in a file of sites at the path."""
+    known = ("bank.c:12 deposit", "src/a b.c:7 audit")
+    sites = [draw.randint(0, len(known)) for _ in events]
+    with open(path, "w", encoding="utf-8") as it:
+        it.write("".join(f"{line}\n" for line in (f"vsites 1 {len(known)} {len(sites)}", *known, *sites)))
+    return {position: known[site - 1] for position, site in enumerate(sites) if site}
+
+
+def told(report, sites):
+    """The lines of the places of the alarm of a report, if it has one."""
+    lines = [line.split(" ") for line in report.splitlines()]
+    closing = [words[2] for words in lines if words[:2] == ["verdict", "alarm"]]
+    begins = [words[1] for words in lines if words[0] == "blame" and words[1] != "none"]
+    transaction = [words[1] for words in lines if words[0] == "transaction"]
+    positions = [int(position) for position in closing + (begins or transaction)]
+    return "".join(f"place {position} {sites[position]}\n" for position in positions if position in sites)
+
+
 def main():
     program, count = sys.argv[1], int(sys.argv[2]) if len(sys.argv) > 2 else 5000
     alarms = 0
@@ -129,10 +149,13 @@ def main():
             status, report = judge(program, "check", [], run.text(places))
             wanted = placed(report, places)
             options = options_of(draw, omitted, os.path.join(room, "list"))
-            for command, said in (("check", wanted), ("watch", alarm_of(wanted) + wanted)):
-                found = judge(program, command, options, run.text(range(len(run.events))))
+            path = os.path.join(room, "sites")
+            watched = alarm_of(wanted) + wanted
+            places_told = told(wanted, sited(draw, run.events, path))
+            for command, more, said in (("check", [], wanted), ("watch", [], watched), ("watch", ["--sites", path], watched + places_told)):
+                found = judge(program, command, options + more, run.text(range(len(run.events))))
                 if found != (status, said):
-                    sys.exit(f"{command} of log {seed} with {' '.join(options)}: {found} in place of {status, said}")
+                    sys.exit(f"{command} of log {seed} with {' '.join(options + more)}: {found} in place of {status, said}")
             alarms += status == 3
     print(f"{count} compared, {alarms} alarms")
 
