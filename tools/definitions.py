@@ -69,7 +69,7 @@ PARTS = [
         "velo_arguments": "CommandLine Asked Together",
         "velo_cli": "Running Usage"}),
     ("The library for other languages", {
-        "velo_ffi": "Answers Numbers Texts* Pieces* Renewal* Words"}),
+        "velo_ffi": "Answers Numbers Texts* Explaining* Pieces* Renewal* Words"}),
 ]
 
 ITEM = re.compile(r"(?:abbrev |unfoldable |opaque )*pub (?:abbrev |unfoldable |opaque )*(?:record |data )?(\S+)")

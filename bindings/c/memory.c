@@ -50,7 +50,7 @@ static void play(velodrome *m) {
 
 /* A text, with this growth of its call refused; whether there was one. */
 static bool short_of(velodrome *m, velodrome_status (*call)(velodrome *, char *, size_t, size_t *), long growth, const char *text) {
-    char buffer[1024];
+    char buffer[2048];
     size_t count = 99;
     memset(buffer, 98, sizeof buffer);
     until_refusal = growth;
@@ -66,6 +66,24 @@ static bool short_of(velodrome *m, velodrome_status (*call)(velodrome *, char *,
         for (size_t i = 0; i < sizeof buffer; i++) if (buffer[i] != 98) { expect("buffer as it was", i, sizeof buffer); break; }
     }
     return refused;
+}
+
+/* The explanation with names, and with sites of so many events. */
+static const char *given_sites;
+static velodrome_status sited(velodrome *m, char *buffer, size_t room, size_t *count) {
+    static const char names[] = "thread 1 the other\nlabel 7 transfer\n";
+    return velodrome_explanation_sited(m, names, sizeof names - 1, given_sites, strlen(given_sites), buffer, room, count);
+}
+
+/* A text, each growth of its call refused in turn. How many growths there are. */
+static long short_in_turn(velodrome *m, velodrome_status (*call)(velodrome *, char *, size_t, size_t *)) {
+    char words[2048];
+    size_t count = 0;
+    long growth = 0;
+    expect("explanation", call(m, words, sizeof words - 1, &count), VELODROME_DONE);
+    words[count] = 0;
+    while (short_of(m, call, growth, words) && !failed) growth++;
+    return growth;
 }
 
 /* A run goes on in a new log, each growth of that call refused in turn: nothing has changed then. How many growths there are. */
@@ -92,8 +110,7 @@ static long renewed(void) {
 
 int main(void) {
     const char *report = "events 6\nthread 0 5\nthread 1 1\nverdict alarm 4\ntransaction 1\nblame 1 7\n";
-    char words[1024];
-    long opened = 0, told = 0;
+    long opened = 0, told = 0, placed = 0;
     for (bool more = true; more && !failed; opened++) {
         velodrome *m = (velodrome *)&limits; /* is not read */
         until_refusal = opened;
@@ -106,19 +123,19 @@ int main(void) {
     }
     for (long growth = 0; growth < 40 && !failed; growth++) {
         velodrome *m;
-        size_t count = 0;
         until_refusal = -1;
         expect("open", velodrome_open(&m, &limits), VELODROME_DONE);
         until_refusal = growth;
         play(m);
         until_refusal = -1;
         for (told = 0; short_of(m, velodrome_report, told, report); told++) {}
-        expect("explanation", velodrome_explanation(m, words, sizeof words - 1, &count), VELODROME_DONE);
-        words[count] = 0;
-        for (told = 0; short_of(m, velodrome_explanation, told, words); told++) {}
+        told = short_in_turn(m, velodrome_explanation);
+        given_sites = "vsites 1 1 6\nbank.c:12 transfer\n1\n0\n1\n1\n1\n1\n";
+        placed = short_in_turn(m, sited);
         velodrome_close(m);
     }
     long renewing = renewed();
-    printf("%s: %ld growths to open, %ld to renew, %ld to explain\n", failed ? "failed" : "passed", opened - 1, renewing, told);
+    printf("%s: %ld growths to open, %ld to renew, %ld to explain, %ld with places\n",
+        failed ? "failed" : "passed", opened - 1, renewing, told, placed);
     return failed;
 }

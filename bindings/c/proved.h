@@ -28,6 +28,8 @@ uint32_t velo_blamed(velodrome *monitor, velodrome_block *buffer, size_t room, s
 uint32_t velo_log(velodrome *monitor, size_t from, char *buffer, size_t room, size_t *count, size_t *next);
 uint32_t velo_report(velodrome *monitor, const char *names, size_t bytes, char *buffer, size_t room, size_t *count);
 uint32_t velo_explanation(velodrome *monitor, const char *names, size_t bytes, char *buffer, size_t room, size_t *count);
+uint32_t velo_explanation_sited(velodrome *monitor, const char *names, size_t bytes, const char *sites, size_t site_bytes,
+    char *buffer, size_t room, size_t *count);
 uint32_t velo_words(uint32_t status, char *buffer, size_t room, size_t *count);
 
 #endif

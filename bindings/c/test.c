@@ -61,6 +61,7 @@ static void null_handle(void) {
     expect("null renew", velodrome_renew(NULL), VELODROME_CLOSED);
     expect("null report", velodrome_report(NULL, NULL, 0, &untold), VELODROME_CLOSED);
     expect("null explanation", velodrome_explanation(NULL, NULL, 0, &untold), VELODROME_CLOSED);
+    expect("null explanation, sited", velodrome_explanation_sited(NULL, "x", 1, "x", 1, NULL, 0, &untold), VELODROME_CLOSED);
     expect("null log", velodrome_log(NULL, 0, NULL, 0, &untold, &unmoved), VELODROME_CLOSED);
     expect("null blamed", velodrome_blamed(NULL, NULL, 0, &untold), VELODROME_CLOSED);
     expect("count kept", untold, 79);
@@ -256,6 +257,9 @@ static void words(void) {
     expect_words(velodrome_strerror(VELODROME_EVENT_MEMORY), "out of memory");
     expect_words(velodrome_strerror(VELODROME_BAD_NUMBER), "a number is out of its range");
     expect_words(velodrome_strerror(VELODROME_ALARMED), "there is an alarm");
+    expect_words(velodrome_strerror(VELODROME_BAD_SITES), "the sites have a fault");
+    expect_words(velodrome_strerror(VELODROME_OTHER_SITES), "the sites are of another log");
+    expect_words(velodrome_strerror((velodrome_status)110), "unknown status");
     expect_words(velodrome_strerror((velodrome_status)50), "unknown status");
     expect_words(velodrome_strerror((velodrome_status)101), "unknown status");
     expect_words(velodrome_strerror((velodrome_status)4000000000u), "unknown status");
@@ -301,6 +305,68 @@ static void names(const char *data) {
     expect("of the whole", count, 0);
     expect("no names", velodrome_report_named(m, NULL, 99, buffer, sizeof buffer, &count), 0);
     expect("report", count, 81);
+    velodrome_close(m);
+}
+
+/* What the explanation with sites is given; both end in a zero byte. */
+static const char *given_names, *given_sites;
+static velodrome_status sited(velodrome *m, char *buffer, size_t room, size_t *count) {
+    size_t names = given_names ? strlen(given_names) : 99, sites = given_sites ? strlen(given_sites) : 99; /* 99: of null, not read */
+    return velodrome_explanation_sited(m, given_names, names, given_sites, sites, buffer, room, count);
+}
+
+/* The call with these files: its text is that of a file of `data`, which the program writes for them. */
+static void expect_sited(velodrome *m, const char *data, const char *names_file, const char *sites_file, const char *text_file) {
+    size_t ignored;
+    char *names = names_file ? contents(data, names_file, &ignored) : NULL;
+    char *sites = sites_file ? contents(data, sites_file, &ignored) : NULL;
+    char *text = contents(data, text_file, &ignored);
+    given_names = names;
+    given_sites = sites;
+    expect_text(text_file, m, sited, text);
+    free(names);
+    free(sites);
+    free(text);
+}
+
+/* It is refused with this status and count, and the buffer is as it was. */
+static void expect_unsited(const char *what, velodrome *m, const char *names, const char *sites, velodrome_status status, size_t line) {
+    char buffer[8] = "as was";
+    size_t count = 77;
+    given_names = names;
+    given_sites = sites;
+    expect(what, sited(m, buffer, sizeof buffer, &count), status);
+    expect(what, count, line);
+    expect_words(buffer, "as was");
+    expect(what, sited(m, NULL, 0, NULL), status);
+}
+
+/* The explanation with sites: as the program writes it, or why not. */
+static void sites(const char *data) {
+    const char *clean = "The blocks of this log can be serialized.\nEvents: 1\nTransactions, which can follow one another: 1\n";
+    velodrome *m = alarmed_run();
+    expect_sited(m, data, "names", "sites", "explanation_sited");
+    expect_sited(m, data, "names", NULL, "explanation");
+    expect_unsited("bad place", m, NULL, "vsites 1 1 6\n\n1\n", VELODROME_BAD_SITES, 2);
+    expect_unsited("no such site", m, NULL, "vsites 1 1 6\nb.c:1 f\n0\n2\n", VELODROME_BAD_SITES, 4);
+    expect_unsited("ends early", m, "label 7 x\n", "vsites 1 1 6\nb.c:1 f\n0\n", VELODROME_BAD_SITES, 3);
+    expect_unsited("no UTF-8", m, "", "vsites 1 1 6\n\xff\n", VELODROME_BAD_SITES, 0);
+    expect_unsited("names first", m, "label 7 x\nlabel\n", "no sites", VELODROME_BAD_NAMES, 2);
+    expect_unsited("names before a count", m, "label", "vsites 1 0 2\n0\n0\n", VELODROME_BAD_NAMES, 1);
+    expect_unsited("a fault before a count", m, NULL, "vsites 1 0 2\n0\n0\n0\n", VELODROME_BAD_SITES, 4);
+    expect_unsited("fewer events", m, NULL, "vsites 1 0 2\n0\n0\n", VELODROME_OTHER_SITES, 2);
+    expect_unsited("no events", m, NULL, "vsites 1 0 0\n", VELODROME_OTHER_SITES, 0);
+    expect_unsited("more events", m, "label 7 x\n", "vsites 1 0 7\n0\n0\n0\n0\n0\n0\n0\n", VELODROME_OTHER_SITES, 7);
+    velodrome_end(m, 0, NULL);
+    given_names = NULL;
+    expect("of the log so far", sited(m, NULL, 0, NULL), VELODROME_TOO_SHORT);
+    expect_unsited("fewer than now", m, NULL, "vsites 1 0 6\n0\n0\n0\n0\n0\n0\n", VELODROME_OTHER_SITES, 6);
+    velodrome_close(m);
+    m = opened((velodrome_limits){.threads = 2, .variables = 1, .locks = 1});
+    velodrome_fork(m, 0, 1, NULL);
+    given_sites = "vsites 1 1 1\nb.c:1 f\n1\n";
+    expect_text("clean", m, sited, clean);
+    expect_unsited("clean, of another log", m, NULL, "vsites 1 0 0\n", VELODROME_OTHER_SITES, 0);
     velodrome_close(m);
 }
 
@@ -392,6 +458,7 @@ int main(int argc, char **argv) {
     renewed_run();
     endless_run();
     names(argc > 1 ? argv[1] : "data");
+    sites(argc > 1 ? argv[1] : "data");
     again_and_again();
     puts(failed ? "failed" : "passed");
     return failed;

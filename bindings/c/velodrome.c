@@ -7,7 +7,7 @@ const char *velodrome_version(void) { return VELODROME_VERSION; }
 
 /* The words of each status, and at the end those of any other number, as the proved call gives them. They are written when the
  * library is loaded, before any thread and any constructor of the program (101: the first of theirs) may read them. */
-enum { STATUSES = VELODROME_ALARMED + 1, WORDS_ROOM = 31 };
+enum { STATUSES = VELODROME_OTHER_SITES + 1, WORDS_ROOM = 31 };
 static char words[STATUSES + 1][WORDS_ROOM + 1];
 
 __attribute__((constructor(101))) static void write_words(void) {
@@ -100,6 +100,7 @@ velodrome_status velodrome_renew(velodrome *monitor) { return CALL(velo_renew(mo
 #define COUNT (count ? count : &(size_t){0})
 #define TEXT buffer ? buffer : (char[1]){0}, buffer ? room : 0
 #define NAMES names ? names : "", names ? bytes : 0
+#define SITES sites ? sites : "", sites ? site_bytes : 0
 
 velodrome_status velodrome_verdict(velodrome *monitor, velodrome_summary *summary) {
     velodrome_summary ignored;
@@ -126,6 +127,11 @@ velodrome_status velodrome_report(velodrome *monitor, char *buffer, size_t room,
 
 velodrome_status velodrome_explanation_named(velodrome *monitor, const char *names, size_t bytes, char *buffer, size_t room, size_t *count) {
     return CALL(velo_explanation(monitor, NAMES, TEXT, COUNT));
+}
+
+velodrome_status velodrome_explanation_sited(velodrome *monitor, const char *names, size_t bytes, const char *sites, size_t site_bytes,
+    char *buffer, size_t room, size_t *count) {
+    return CALL(velo_explanation_sited(monitor, NAMES, SITES, TEXT, COUNT));
 }
 
 velodrome_status velodrome_explanation(velodrome *monitor, char *buffer, size_t room, size_t *count) {

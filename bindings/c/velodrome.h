@@ -39,7 +39,7 @@ typedef struct velodrome velodrome;
 #define VELODROME_REPORT_ROOM 4096 /* bytes, always enough for a report without names */
 
 /* 1 to 19: the event is refused. Where a status is not VELODROME_DONE nothing has changed, and nothing is returned, except what
- * VELODROME_TOO_SHORT and VELODROME_BAD_NAMES put into *count. */
+ * VELODROME_TOO_SHORT, VELODROME_BAD_NAMES, VELODROME_BAD_SITES and VELODROME_OTHER_SITES put into *count. */
 typedef enum velodrome_status {
     VELODROME_DONE = 0,
     VELODROME_HALTED = 1,
@@ -67,7 +67,9 @@ typedef enum velodrome_status {
     VELODROME_TOO_SHORT = 104,  /* *count says how much room it takes; the buffer is as it was */
     VELODROME_BAD_NAMES = 105,  /* *count says which line of the names is wrong; 0: they are too many, or no UTF-8 */
     VELODROME_IN_BLOCK = 106,   /* a thread has a block open */
-    VELODROME_ALARMED = 107     /* there is an alarm */
+    VELODROME_ALARMED = 107,    /* there is an alarm */
+    VELODROME_BAD_SITES = 108,  /* *count says which line of the sites is wrong; 0: they are too many bytes, or no UTF-8 */
+    VELODROME_OTHER_SITES = 109 /* *count says of how many events the sites are; the log has another number */
 } velodrome_status;
 
 /* The words of a status, such as "lock busy". */
@@ -163,8 +165,9 @@ velodrome_status velodrome_blamed(velodrome *monitor, velodrome_block *buffer, s
 velodrome_status velodrome_log(velodrome *monitor, size_t from, char *buffer, size_t room, size_t *count, size_t *next);
 
 /* The report of the events so far, and their explanation: the bytes that `velodrome check` and `velodrome explain`
- * write for the text of the log, all of them or none. *count says how many bytes were put into the buffer, without a zero byte
- * after them. VELODROME_TOO_SHORT where there is no room for all. The run goes on after each.
+ * write for the text of the log, all of them or none; of the explanation the words, without the accesses that follow where edges are
+ * by locks. *count says how many bytes were put into the buffer, without a zero byte after them. VELODROME_TOO_SHORT where there is
+ * no room for all. The run goes on after each.
  *
  * The report is short. An explanation takes time and memory in proportion to the log, each time that it is asked for. */
 velodrome_status velodrome_report(velodrome *monitor, char *buffer, size_t room, size_t *count);
@@ -174,6 +177,22 @@ velodrome_status velodrome_explanation(velodrome *monitor, char *buffer, size_t 
  * They are lines such as "variable 3 balance" (also thread, lock, label). */
 velodrome_status velodrome_report_named(velodrome *monitor, const char *names, size_t bytes, char *buffer, size_t room, size_t *count);
 velodrome_status velodrome_explanation_named(velodrome *monitor, const char *names, size_t bytes, char *buffer, size_t room, size_t *count);
+
+/* The explanation with places in the source: the words that `velodrome explain --names FILE --sites SITES` writes, and the places
+ * after them, where the files have these bytes. The sites are of the log so far, such as
+ *
+ *     vsites 1 2 3
+ *     bank.c:12 deposit
+ *     bank.c:20 withdraw
+ *     1
+ *     0
+ *     2
+ *
+ * of 2 sites and 3 events: the lines of the sites, then a line for each event with the number of its site, 0 where it is unknown.
+ * No bytes of names are no names, and no bytes of sites no sites. Names are read before sites; a fault of either comes before the
+ * room. */
+velodrome_status velodrome_explanation_sited(velodrome *monitor, const char *names, size_t bytes, const char *sites, size_t site_bytes,
+    char *buffer, size_t room, size_t *count);
 
 #ifdef __cplusplus
 }

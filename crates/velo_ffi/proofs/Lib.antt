@@ -3,3 +3,4 @@ mod OnVerdicts
 mod OnPieces
 mod OnJoined
 mod OnTexts
+mod OnExplaining

@@ -3,6 +3,8 @@ pub mod Inside
 pub mod Kept
 pub mod Gathered
 pub mod Texts
+pub mod Explaining
+pub mod Reasons
 pub mod Numbers
 pub mod Answers
 pub mod Pieces

@@ -1,21 +1,13 @@
--- The texts of a whole log: the report and the explanation, and how they get into a caller's
--- buffer.
+-- How the text of a whole log gets into a caller's buffer, and the report.
 use Rattle.std.specs.Prelude.{◌≡◌, ◌<◌, ◌≤◌, ◌⊎◌, ℕ, List, [], length, take, Ok, Err}
-use Rattle.velo_events.specs.declared.event.Event.{Event}
-use Rattle.velo_events.specs.Graph.{HasCycle}
 use Rattle.velo_events.specs.Refusals.{GrowthRefused}
-use Rattle.velo_explain.specs.declared.evidence.Evidence.{Evidence}
-use Rattle.velo_explain.specs.Count.{transactions_of}
-use Rattle.velo_explain.specs.Evidence.{HaveReasons, IsEvidence}
-use Rattle.velo_explain.specs.Text.{clean_text, named_explanation_text}
 use Rattle.velo_names.specs.declared.fault.NamesFault.{NamesFault}
 use Rattle.velo_names.specs.Fault.{fault_line}
-use Rattle.velo_names.specs.Names.{NameLists, Stands}
+use Rattle.velo_names.specs.Names.{Stands}
 use Rattle.velo_report.specs.declared.names.Names.{Names}
 use Rattle.velo_report.specs.declared.names.Names.TheVariants.{Listed, Numbers, Words}
 use Rattle.velo_report.specs.Report.{IsReport}
-use Rattle.velo_world.specs.declared.analysis.Alarm.{Alarm}
-use Rattle.velo_world.specs.World.{IsAlarm, WorldState}
+use Rattle.velo_world.specs.World.{WorldState}
 use Rattle.velo_ffi.specs.declared.answers.TheConstants.{BAD_NAMES, DONE, NO_MEMORY, TOO_SHORT}
 
 -- ---- what comes into a buffer whole or not at all
@@ -38,6 +30,12 @@ TellsAll items status buffer count =
 abbrev pub WantsMemory : ℕ → Type 0
 WantsMemory status = (status ≡ NO_MEMORY) × GrowthRefused
 
+-- the text that a whole log has is returned, all of it or its length; or there is none, for a reason
+-- that is returned; or an allocation failed
+abbrev pub TellsText : (List ℕ → Type 0) → (ℕ → ℕ → Type 0) → ℕ → List ℕ → ℕ → Type 0
+TellsText Is TellsReason status buffer count =
+    ((text : List ℕ) × Is text × TellsAll text status buffer count) ⊎ (TellsReason status count ⊎ WantsMemory status)
+
 -- ---- names
 
 -- the bytes of a file of names have a fault, whose line is returned: 0 where it is one of the whole
@@ -46,12 +44,6 @@ pub record TellsFault (file : List ℕ) (status count : ℕ) : Type 0 where
   pub stands : Stands file (Err fault)
   pub bad : status ≡ BAD_NAMES
   pub line : count ≡ fault_line fault
-
--- The text that a whole log has by names is returned, all of it or its length; or the names have a
--- fault, or an allocation failed
-abbrev pub TellsText : List ℕ → (List ℕ → Type 0) → ℕ → List ℕ → ℕ → Type 0
-TellsText file Is status buffer count =
-    ((text : List ℕ) × Is text × TellsAll text status buffer count) ⊎ (TellsFault file status count ⊎ WantsMemory status)
 
 -- ---- the report
 
@@ -69,32 +61,4 @@ pub record IsReportBy (file : List ℕ) (w : WorldState) (text : List ℕ) : Typ
   pub is_report : IsReport names w.config.bounds.threads w.log text
 
 abbrev pub TellsReport : List ℕ → WorldState → ℕ → List ℕ → ℕ → Type 0
-TellsReport file w status buffer count = TellsText file (IsReportBy file w) status buffer count
-
--- ---- the explanation
-
--- The text explains an alarm of the log, which is at the first event that closes a cycle and blames
--- exactly the blocks to blame: by a shortest cycle there, by a reason for each of these blocks, and
--- by these names.
-pub record ExplainsAlarm (names : NameLists) (log : List Event) (text : List ℕ) : Type 0 where
-  pub alarm : Alarm
-  pub is_alarm : IsAlarm log alarm
-  pub evidence : Evidence
-  pub is_evidence : IsEvidence log alarm.position alarm.blamed.items evidence
-  pub reasons : HaveReasons log alarm.position alarm.blamed.items evidence
-  pub said : text ≡ named_explanation_text names log alarm.position evidence
-
--- the text explains the verdict of the log; without a cycle it says how many events and
--- transactions there are
-abbrev pub IsExplanation : NameLists → List Event → List ℕ → Type 0
-IsExplanation names log text =
-    ExplainsAlarm names log text ⊎ ((¬ HasCycle log) × (text ≡ clean_text (length log) (transactions_of log)))
-
--- the same by the bytes of a file of names; no bytes are no names
-pub record IsExplanationBy (file : List ℕ) (log : List Event) (text : List ℕ) : Type 0 where
-  pub names : NameLists
-  pub are_names : Stands file (Ok names)
-  pub is_explanation : IsExplanation names log text
-
-abbrev pub TellsExplanation : List ℕ → List Event → ℕ → List ℕ → ℕ → Type 0
-TellsExplanation file log status buffer count = TellsText file (IsExplanationBy file log) status buffer count
+TellsReport file w status buffer count = TellsText (IsReportBy file w) (TellsFault file) status buffer count

@@ -2,7 +2,7 @@
 use Rattle.std.specs.Prelude.{◌≡◌, ◌<◌, ◌≤◌, ◌⊎◌, ◌==◌, ℕ, List, codes, if◌then◌else◌}
 use Rattle.velo_events.specs.declared.refusal.Refusal.{Refusal}
 use Rattle.velo_events.specs.declared.refusal.Refusal.TheVariants.{Halted, NotLive, NoSuchVariable, NoSuchLock, NoSuchThread, Busy, AlreadyHeld, NotHolder, NoOpenBlock, TooDeep, AlreadyForked, NotForked, NotExited, AlreadyJoined, BlockOpen, LockHeld, LogFull, GraphFull, Memory, WouldDeadlock, RuntimeMemory, Foreign}
-use Rattle.velo_ffi.specs.declared.answers.TheConstants.{ALARMED, BAD_NAMES, BAD_NUMBER, CLOSED, DONE, IN_BLOCK, NO_MEMORY, TOO_SHORT}
+use Rattle.velo_ffi.specs.declared.answers.TheConstants.{ALARMED, BAD_NAMES, BAD_NUMBER, BAD_SITES, CLOSED, DONE, IN_BLOCK, NO_MEMORY, OTHER_SITES, TOO_SHORT}
 use Rattle.velo_ffi.specs.Answers.{number_of}
 use Rattle.velo_ffi.specs.Texts.{TellsAll}
 
@@ -42,7 +42,9 @@ own_words status =
     else (if status == BAD_NAMES then codes "the names have a fault"
     else (if status == IN_BLOCK then codes "a block is open"
     else (if status == ALARMED then codes "there is an alarm"
-    else codes "unknown status")))))))
+    else (if status == BAD_SITES then codes "the sites have a fault"
+    else (if status == OTHER_SITES then codes "the sites are of another log"
+    else codes "unknown status")))))))))
 
 -- no refusal has the number
 abbrev pub IsNoRefusal : ℕ → Type 0

@@ -61,3 +61,10 @@ pub const IN_BLOCK: u32 = 106;
 
 /// There is an alarm.
 pub const ALARMED: u32 = 107;
+
+/// A line of the sites is not what their header asks for there, or they end early, or they are too
+/// many bytes or no UTF-8.
+pub const BAD_SITES: u32 = 108;
+
+/// The sites are of another number of events than the log.
+pub const OTHER_SITES: u32 = 109;

@@ -4,6 +4,7 @@
 
 mod answers;
 mod events;
+mod explaining;
 mod gathered;
 mod growth;
 mod held;

@@ -1,9 +1,7 @@
-//! The report and the explanation of the events so far, whole or not at all.
-ghost use Rattle.std.specs.Prelude.{◌≡◌, ◌≢◌, ◌≤◌, ◌⊎◌, Ok, Err, List, None, ℕ, length, IfErr, IfOk, IfSome};
-ghost use Rattle.velo_events.specs.declared.limits.TheConstants.{MAX_EVENTS};
+//! A text that comes whole or not at all, and the report of the events so far.
+ghost use Rattle.std.specs.Prelude.{◌≡◌, ◌≢◌, ◌⊎◌, Ok, Err, List, None, ℕ, IfErr, IfOk, IfSome};
 ghost use Rattle.velo_names.specs.Names.{ReadsAs, Stands};
-ghost use Rattle.velo_world.specs.World.{IsAlarm};
-ghost use Rattle.velo_ffi.specs.Texts.{AreNamesBy, ExplainsAlarm, IsExplanation, IsExplanationBy, IsReportBy, TellsAll, TellsExplanation, TellsFault, TellsReport, WantsMemory};
+ghost use Rattle.velo_ffi.specs.Texts.{AreNamesBy, IsReportBy, TellsAll, TellsFault, TellsReport, WantsMemory};
 
 use crate::answers::{BAD_NAMES, CLOSED, DONE, NO_MEMORY, TOO_SHORT};
 use crate::gathered::Gathered;
@@ -11,13 +9,10 @@ use crate::monitor::Monitor;
 use crate::watch::Watch;
 use std::alloc::Global;
 use velo_bytes::{WriteFault, put_bytes};
-use velo_certify::CertFault;
 use velo_events::Memory;
-use velo_explain::{Page, evidence_of, explain_clean, explain_named};
 use velo_names::{Names, NamesFault};
 use velo_report::report_so_far;
-use velo_traces::Trace;
-use velo_world::{Alarm, World};
+use velo_world::World;
 
 /// Puts a whole text at the front of a buffer, if there is room for it, and returns how many bytes
 /// it is.
@@ -35,7 +30,7 @@ pub fn put_whole(text: &[u8], buffer: &mut [u8], count: &mut usize) -> u32
 }
 
 /// Returns why a file has no names: the line of its fault, or that an allocation failed.
-fn put_fault(fault: NamesFault, count: &mut usize) -> u32
+pub fn put_fault(fault: NamesFault, count: &mut usize) -> u32
     ensures told { (file : List ℕ) → ReadsAs file (Err fault)
         → TellsFault file result count.new ⊎ WantsMemory result }
     ensures refused { result ≢ DONE }
@@ -142,110 +137,6 @@ pub extern "C" fn velo_report(
         return CLOSED;
     };
     let status = put_report(alloc, &watch, names, buffer, count);
-    *monitor = Monitor::of(watch);
-    status
-}
-
-/// The explanation of an alarm of a log, by names.
-///
-/// # Errors
-/// `Memory` if an allocation failed.
-fn explain_alarm(alloc: Global, log: &Trace, alarm: &Alarm, names: &Names) -> Result<Page, Memory>
-    requires few { length log.now.events ≤ MAX_EVENTS }
-    requires alarm { IsAlarm log.now.events alarm.now }
-    ensures { IfOk result (λ page. ExplainsAlarm names.now log.now.events page) }
-{
-    let position = alarm.position;
-    match evidence_of(alloc, log, position, alarm.blamed.as_slice()) {
-        Ok(evidence) => {
-            let page = explain_named(alloc, log, position, &evidence, names);
-            drop(evidence);
-            page
-        }
-        Err(CertFault::Memory) => Err(Memory),
-        Err(CertFault::NoCycle) => unreachable!(),
-        Err(CertFault::HasCycle | CertFault::NotThere) => unreachable!(),
-    }
-}
-
-/// The explanation of the events so far, by names.
-///
-/// # Errors
-/// `Memory` if an allocation failed.
-fn explanation_of(alloc: Global, world: &World, names: &Names) -> Result<Page, Memory>
-    ensures { IfOk result (λ page. IsExplanation names.now world.now.log page) }
-{
-    let log = world.log();
-    match world.alarm() {
-        None => explain_clean(alloc, log),
-        Some(alarm) => explain_alarm(alloc, log, alarm, names),
-    }
-}
-
-/// The explanation of the events so far, by the names in the bytes of a file; no bytes are no
-/// names.
-///
-/// # Errors
-/// The fault of the file. `Memory` if an allocation failed.
-fn explanation_by(alloc: Global, world: &World, file: &[u8]) -> Result<Page, NamesFault>
-    ensures explains { IfOk result (λ page. IsExplanationBy file.now world.now.log page) }
-    ensures fault { IfErr result (λ fault. ReadsAs file.now (Err fault)) }
-{
-    let names = Names::parse(alloc, file)?;
-    let page = explanation_of(alloc, world, &names);
-    drop(names);
-    match page {
-        Ok(page) => Ok(page),
-        Err(Memory) => Err(NamesFault::Memory),
-    }
-}
-
-/// Puts the explanation of the events so far.
-fn put_explanation(
-    alloc: Global,
-    watch: &Watch,
-    file: &[u8],
-    buffer: &mut [u8],
-    count: &mut usize,
-) -> u32
-    ensures told { TellsExplanation file.now watch.now.world.log result buffer.new count.new }
-    ensures same { result ≢ DONE → buffer.new ≡ buffer.old }
-    ensures untold { result ≢ DONE → result ≢ TOO_SHORT → result ≢ BAD_NAMES
-        → count.new ≡ count.old }
-{
-    match explanation_by(alloc, &watch.world, file) {
-        Ok(page) => put_whole(page.as_slice(), buffer, count),
-        Err(fault) => put_fault(fault, count),
-    }
-}
-
-/// Writes the explanation of the events so far to a buffer, and returns how many bytes it is: what
-/// `velodrome explain` writes for the log, with `--names` where the file of names has bytes. The
-/// monitor goes on. It takes time and memory in proportion to the log.
-///
-/// Where there is no room for all, `TOO_SHORT` with the length that is needed; the buffer is as it
-/// was. Where the file has a fault, `BAD_NAMES` with the line of it, which is 0 where it is one of
-/// the whole. `NO_MEMORY` if an allocation failed; nothing has changed then.
-#[unsafe(no_mangle)]
-pub extern "C" fn velo_explanation(
-    alloc: Global,
-    monitor: &mut Monitor,
-    names: &[u8],
-    buffer: &mut [u8],
-    count: &mut usize,
-) -> u32
-    ensures kept { monitor.new.kept.watch ≡ monitor.old.kept.watch }
-    ensures told { IfSome monitor.old.kept.watch (λ watch.
-        TellsExplanation names.now watch.world.log result buffer.new count.new) }
-    ensures closed { monitor.old.kept.watch ≡ None → result ≡ CLOSED }
-    ensures same { result ≢ DONE → buffer.new ≡ buffer.old }
-    ensures untold { result ≢ DONE → result ≢ TOO_SHORT → result ≢ BAD_NAMES
-        → count.new ≡ count.old }
-{
-    let Some(watch) = monitor.take(alloc) else {
-        return CLOSED;
-    };
-    let status = put_explanation(alloc, &watch, names, buffer, count);
     *monitor = Monitor::of(watch);
     status
 }

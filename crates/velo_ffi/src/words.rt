@@ -4,7 +4,8 @@ ghost use Rattle.velo_ffi.specs.Answers.{number_of};
 ghost use Rattle.velo_ffi.specs.Words.{AreWords, IsNoRefusal, TellsWords, own_words, words_of};
 
 use crate::answers::{
-    ALARMED, BAD_NAMES, BAD_NUMBER, CLOSED, DONE, IN_BLOCK, NO_MEMORY, TOO_SHORT,
+    ALARMED, BAD_NAMES, BAD_NUMBER, BAD_SITES, CLOSED, DONE, IN_BLOCK, NO_MEMORY, OTHER_SITES,
+    TOO_SHORT,
 };
 use crate::texts::put_whole;
 use velo_events::Refusal;
@@ -86,6 +87,8 @@ fn own_words(status: u32) -> &'static str
         BAD_NAMES => "the names have a fault",
         IN_BLOCK => "a block is open",
         ALARMED => "there is an alarm",
+        BAD_SITES => "the sites have a fault",
+        OTHER_SITES => "the sites are of another log",
         _ => "unknown status",
     }
 }
