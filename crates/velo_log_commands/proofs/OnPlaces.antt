@@ -1,8 +1,8 @@
 -- The places of an alarm, line by line.
-use Rattle.std.proofs.Common.{◌≡◌, ◌∙◌, ◌<◌, ◌≤◌, ◌++◌, ℕ, List, [], ◌∷◌, length, map, take, ap, arith, refl, sym}
+use Rattle.std.proofs.Common.{◌≡◌, ◌∙◌, ◌<◌, ◌≤◌, ◌++◌, ℕ, List, [], ◌∷◌, length, map, take, ap, arith, refl}
 use Rattle.std.specs.Prelude.{slice_index}
 use Rattle.std.specs.List.{flat_map}
-use Rattle.std.proofs.lemmas.List.{append-nil, take_all}
+use Rattle.std.proofs.lemmas.List.{take_all}
 use Rattle.velo_audit.specs.Witness.{block_as_read}
 use Rattle.velo_sites.specs.Sites.{Table}
 use Rattle.velo_traces.specs.declared.block.Block.{Block}
@@ -23,9 +23,3 @@ pub begins_read : (table : Table) (places : List ℕ) (transaction : ℕ) (block
 begins_read table places transaction [] i all some = absurd (omega (arith, some))
 begins_read table places transaction (block ∷ blocks) i all some =
     ap (flat_map (begin_text table places)) (take_all i (block ∷ blocks) all) ∙ each_begin table places (block ∷ blocks)
-
--- without one there is the line of the transaction
-pub no_begins : (table : Table) (places : List ℕ) (transaction : ℕ) (blocks : List Block) → length blocks ≡ 0
-    → place_text table transaction ≡ flat_map (place_text table) (begins_of transaction (map (block_as_read (slice_index places)) blocks))
-no_begins table places transaction [] none = sym (append-nil (place_text table transaction))
-no_begins table places transaction (block ∷ blocks) none = absurd (omega (arith, none))

@@ -1,9 +1,9 @@
 //! Where in the source the events of an alarm happened: the lines after the report of a watch.
-ghost use Rattle.std.specs.Prelude.{◌≡◌, ◌++◌, length, map, option_map, slice_index, All, IfSome, OnOk};
+ghost use Rattle.std.specs.Prelude.{◌≡◌, ◌<◌, ◌++◌, length, map, option_map, slice_index, All, IfSome, OnOk};
 ghost use Rattle.std.specs.List.{flat_map};
 ghost use Rattle.std.specs.Option.{option_copied};
 ghost use Rattle.velo_audit.specs.Witness.{block_as_read};
-ghost use Rattle.velo_log_commands.specs.Places.{begins_of, place_text, places_told};
+ghost use Rattle.velo_log_commands.specs.Places.{begins_of, events_of, place_text, places_told};
 ghost use Rattle.velo_rest_watch.specs.Alarm.{IsAlarmWithin, alarm_as_read};
 
 use velo_events::Memory;
@@ -50,6 +50,22 @@ fn add_begins(
     Ok(())
 }
 
+/// Adds where the events of an alarm happened.
+fn add_alarm(page: &mut Page, sites: &Sites, places: &[u32], alarm: &Alarm) -> Result<(), Memory>
+    requires { IsAlarmWithin (length places.now) alarm.now }
+    ensures { OnOk result (page.new ≡ page.old ++ flat_map (place_text sites.now)
+        (events_of (alarm_as_read (slice_index places.now) alarm.now))) }
+{
+    add_place(page, sites, places[alarm.position])?;
+    add_begins(
+        page,
+        sites,
+        places,
+        alarm.transaction,
+        alarm.blamed.as_slice(),
+    )
+}
+
 /// Adds where the events of an alarm happened, if there are sites and an alarm.
 ///
 /// # Errors
@@ -64,9 +80,11 @@ pub fn add_places(
     ensures { OnOk result (page.new ≡ page.old ++ places_told sites.now
         (option_map (alarm_as_read (slice_index places.now)) (option_copied alarm.entry))) }
 {
-    let (Some(sites), Some(alarm)) = (sites, alarm) else {
+    let Some(sites) = sites else {
         return Ok(());
     };
-    add_place(page, sites, places[alarm.position])?;
-    add_begins(page, sites, places, alarm.transaction, alarm.blamed.as_slice())
+    let Some(alarm) = alarm else {
+        return Ok(());
+    };
+    add_alarm(page, sites, places, alarm)
 }

@@ -1,8 +1,8 @@
-use Rattle.std.proofs.Common.{◌∙◌, ◌++◌, List, ap, arith, get_or, sym}
+use Rattle.std.proofs.Common.{◌∙◌, ◌++◌, List, ap, arith, get_or}
 use Rattle.std.specs.Prelude.{ℕ}
 use Rattle.std.proofs.lemmas.List.{take_more}
 use Rattle.velo_audit_text.proofs.OnPieces.{texts-next}
-use Rattle.velo_log_commands.proofs.OnPlaces.{begin_text, begins_read, no_begins}
+use Rattle.velo_log_commands.proofs.OnPlaces.{begin_text, begins_read}
 use Rattle.velo_log_commands.proofs.OnRests.{no_block, some}
 use Rattle.velo_log_commands.proofs.places.add_begins.Goals as goal
 

@@ -8,8 +8,8 @@ add_places-requires c = alarm_within c.args.rest.now.closed.log _ c.requires c.a
 pub returns : goal.returns
 returns c =
     record {
-      report = c.in_ok-page_of_rest-page.page;
-      is_report = c.in_ok-page_of_rest-page.ensures;
+      report = c.in_ok-page.page;
+      is_report = c.in_ok-page.ensures;
       alarm = option_copied c.alarm.result;
       exact = alarm_of c.args.rest.now.closed.log c.alarm.result c.alarm.ensures.none c.alarm.ensures.some;
       said = c.in_ok-add_places.ensures;
