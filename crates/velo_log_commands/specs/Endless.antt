@@ -1,6 +1,6 @@
 -- What a watch of a log without end has to say: what any watch has (`Watching`), of a log of any
 -- length, of which it keeps no more events than its limit says.
-use Rattle.std.specs.Prelude.{◌≡◌, false, List}
+use Rattle.std.specs.Prelude.{⊤, ◌≡◌, false, List}
 use Rattle.velo_events.specs.declared.config.Bounds.{Bounds}
 use Rattle.velo_events.specs.declared.config.Config.{Config}
 use Rattle.velo_events.specs.declared.event.Event.{Event}

@@ -30,6 +30,7 @@ use velo_request::{WatchOptions, WatchRestOptions};
 use velo_rest_watch::{ClosedRest, RestWatch};
 use velo_sites::Sites;
 use velo_watch::WatchFault;
+use velo_world::Closed;
 
 /// A watch that was asked for, the sites of its log, and what is left out of it.
 #[derive(Clone, Copy)]
@@ -107,7 +108,8 @@ impl AskedWatch for RestAsked<'_> {
     }
 }
 
-/// The report of what is left of a log, and after it where the events of its alarm happened.
+/// The report of a closed world of what is left of a log, whose events stand at these places of the whole
+/// log, and after it where the events of its alarm happened.
 ///
 /// # Errors
 /// `Memory` if an allocation failed.
@@ -115,15 +117,15 @@ fn sited_page(
     alloc: Global,
     names: Option<&Names>,
     sites: &Option<Sites>,
-    rest: &ClosedRest,
+    closed: &Closed,
+    places: &[u32],
 ) -> Result<Page, Memory>
-    requires { length rest.now.places.items ≡ length rest.now.closed.log }
+    requires { length places.now ≡ length closed.now.log }
     ensures { IfOk result (IsSitedReport sites.now (shown_of names.entry)
-        rest.now.closed.config.bounds.threads rest.now.closed.log
-        (slice_index rest.now.places.items)) }
+        closed.now.config.bounds.threads closed.now.log (slice_index places.now)) }
 {
-    let mut page = page_of_rest(alloc, names, &rest.closed, &rest.places)?;
-    add_places(&mut page, sites, &rest.places, rest.closed.alarm())?;
+    let mut page = page_of_rest(alloc, names, closed, places)?;
+    add_places(&mut page, sites, places, closed.alarm())?;
     Ok(page)
 }
 
@@ -142,7 +144,7 @@ fn report_rest<O: Sink>(
         (writing O.contents O.failures out.old out.new) result }
 {
     let verdict = verdict_of(&rest.closed);
-    match sited_page(alloc, names, sites, rest) {
+    match sited_page(alloc, names, sites, &rest.closed, &rest.places) {
         Ok(page) => match write_all(out, page.as_slice()) {
             Ok(()) => Ok(verdict),
             Err(WriteFault) => Err(CheckFault::Write),
