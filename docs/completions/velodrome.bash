@@ -13,7 +13,7 @@ _velodrome() {
         explain) words="--dot --svg --stacks --format --names --sites --source --not-atomic --ignore --ignore-label --ignore-lock --ignore-locks --ignore-variable --help" ;;
         carry) words="--log --why --help" ;;
         explore) words="--states --seconds --first --progress --random --seed --format --not-atomic --ignore --ignore-label --ignore-lock --ignore-locks --ignore-variable --log --names-out --events --nodes --certificate --help" ;;
-        watch) words="--names --stop --endless --not-atomic --ignore --ignore-label --ignore-lock --ignore-locks --ignore-variable --events --nodes --certificate --help" ;;
+        watch) words="--names --sites --source --stop --endless --not-atomic --ignore --ignore-label --ignore-lock --ignore-locks --ignore-variable --events --nodes --certificate --help" ;;
         audit) words="--no-witness --counts --by-count --innermost --summary --merge --format --names --sites --source --not-atomic --ignore --ignore-label --ignore-lock --ignore-locks --ignore-variable --events --nodes --help" ;;
         thin) words="--log --map --names --not-atomic --ignore --ignore-label --ignore-lock --ignore-locks --ignore-variable --help" ;;
         predict) words="--log --values --tries --seed --format --names --sites --source --not-atomic --ignore --ignore-label --ignore-lock --ignore-locks --ignore-variable --events --nodes --help" ;;

@@ -77,6 +77,8 @@ complete -c velodrome -n '__fish_seen_subcommand_from explore' -l nodes -x -d 'T
 complete -c velodrome -n '__fish_seen_subcommand_from explore' -l certificate -d 'Print a serial order, or with an alarm a shortest cycle, after the report'
 complete -c velodrome -n '__fish_seen_subcommand_from explore' -l help -d 'Print help'
 complete -c velodrome -n '__fish_seen_subcommand_from watch' -l names -r -d 'Read the names of threads, variables, locks and labels; - is standard input'
+complete -c velodrome -n '__fish_seen_subcommand_from watch' -l sites -r -d 'Read where in the source each event happened; - is standard input'
+complete -c velodrome -n '__fish_seen_subcommand_from watch' -l source -r -d 'Print the lines of source at these places, from the files below FOLDER'
 complete -c velodrome -n '__fish_seen_subcommand_from watch' -l stop -d 'End the watch at an alarm'
 complete -c velodrome -n '__fish_seen_subcommand_from watch' -l endless -d 'Forget what is done where no block is open, so that the log may be of any length'
 complete -c velodrome -n '__fish_seen_subcommand_from watch' -l not-atomic -r -d 'Read known labels, and leave out their begins and ends; - is standard input'
