@@ -6,6 +6,7 @@ mod clash;
 mod given;
 mod growth;
 pub mod help;
+mod ignored;
 mod options;
 mod paths;
 mod requests;

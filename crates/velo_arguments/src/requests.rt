@@ -16,17 +16,18 @@ ghost use Rattle.velo_request.specs.declared.request.RunOptions.{RunOptions};
 ghost use Rattle.velo_request.specs.declared.request.ThinOptions.{ThinOptions};
 ghost use Rattle.velo_request.specs.declared.request.VerifyOptions.{VerifyOptions};
 ghost use Rattle.velo_request.specs.declared.request.WatchOptions.{WatchOptions};
-ghost use Rattle.velo_arguments.specs.Asked.{AreLeftOut, AreLimits, AreRandomRuns, AreSeconds, AreTurns, AreWords, AsksFor, AsksForNothing, AsksAudit, AsksAuditMany, AsksCarry, AsksCheck, AsksEndless, AsksExplain, AsksExplore, AsksMerge, AsksPredict, AsksReplay, AsksRun, IsScheduleSource, IsSeed, AsksThin, AsksVerify, AsksWatch, WritesNumber, form_named, form_of, has_summary, is_auto, leaves_out, text_or_json_named, text_or_json_of, asks_more};
+ghost use Rattle.velo_arguments.specs.Asked.{AreLimits, AreRandomRuns, AreSeconds, AreTurns, AreWords, AsksFor, AsksForNothing, AsksAudit, AsksAuditMany, AsksCarry, AsksCheck, AsksEndless, AsksExplain, AsksExplore, AsksMerge, AsksPredict, AsksReplay, AsksRun, IsScheduleSource, IsSeed, AsksThin, AsksVerify, AsksWatch, WritesNumber, form_named, form_of, has_summary, is_auto, text_or_json_named, text_or_json_of, asks_more};
 
 use crate::given::is_given;
+use crate::ignored::{leaves_out, left_out};
 use clap::ArgMatches;
 use velo_events::{MAX_EVENTS, MAX_NODES};
 use velo_request::{
     AuditOptions, CarryOptions, CheckOptions, CheckRestOptions, DEFAULT_SEED, EndlessOptions,
-    ExplainOptions, ExploreOptions, ExploreRestOptions, Ignored, Limits, MAX_RUNS, MAX_SECONDS,
-    MAX_STATES, MAX_TRIES, ManyOptions, MergeOptions, OutputFormat, PredictOptions, RandomRuns,
-    ReplayOptions, Request, RunOptions, ScheduleSource, TextOrJson, ThinOptions, VerifyOptions,
-    WatchOptions, WatchRestOptions,
+    ExplainOptions, ExploreOptions, ExploreRestOptions, Limits, MAX_RUNS, MAX_SECONDS, MAX_STATES,
+    MAX_TRIES, ManyOptions, MergeOptions, OutputFormat, PredictOptions, RandomRuns, ReplayOptions,
+    Request, RunOptions, ScheduleSource, TextOrJson, ThinOptions, VerifyOptions, WatchOptions,
+    WatchRestOptions,
 };
 
 /// Reads a number from 1 to `most`; none where it is missing or out of this range.
@@ -69,17 +70,6 @@ fn check_options<'a>(found: &ArgMatches<'a>) -> Option<CheckOptions<'a>>
         names: found.get_str("names"),
         why: found.get_flag("why"),
     })
-}
-
-/// Whether something is left out.
-pub fn leaves_out(ignored: &Ignored) -> bool
-    ensures { result ≡ leaves_out ignored.now }
-{
-    ignored.known.is_some()
-        || !ignored.labels.is_empty()
-        || !ignored.locks.is_empty()
-        || !ignored.variables.is_empty()
-        || ignored.all_locks
 }
 
 /// Whether a watch is asked for more than the report of the whole log: something is left out, or places are
@@ -323,22 +313,6 @@ fn watch_request<'a>(found: &'a ArgMatches) -> Option<Request<'a>>
         return Some(Request::WatchRest(rest));
     }
     Some(Request::Watch(watch))
-}
-
-/// What is left out of a log.
-fn left_out<'a>(found: &'a ArgMatches) -> Ignored<'a>
-    ensures { AreLeftOut (rows_of (found_of found.now)) result }
-{
-    let wide = found.get_str("ignore");
-    let labels = found.get_str("not-atomic");
-    Ignored {
-        known: wide.or(labels),
-        is_wide: wide.is_some(),
-        labels: found.get_strs("ignore-label").unwrap_or(&[]),
-        locks: found.get_strs("ignore-lock").unwrap_or(&[]),
-        variables: found.get_strs("ignore-variable").unwrap_or(&[]),
-        all_locks: found.get_flag("ignore-locks"),
-    }
 }
 
 /// The form of an answer that a word names, if it names one.

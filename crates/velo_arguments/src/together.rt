@@ -6,11 +6,12 @@ ghost use Rattle.velo_arguments.specs.Together.{IsApart, IsTogether, clash_of, c
 
 use crate::clash::Clash;
 use crate::given::{Given, given_by};
+use crate::ignored::leaves_out;
 use crate::paths::{
     clash_of_drawing, clash_of_files, clash_of_inputs, clash_of_many_inputs, clash_of_map,
     clash_of_targets, path_of_schedule,
 };
-use crate::requests::{leaves_out, request_of};
+use crate::requests::request_of;
 use clap::ArgMatches;
 use velo_request::{
     AuditOptions, CheckRestOptions, EndlessOptions, ExplainOptions, ExploreOptions,

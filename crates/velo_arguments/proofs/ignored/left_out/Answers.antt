@@ -1,7 +1,7 @@
 use Rattle.std.proofs.Common.{codes, refl}
 use Rattle.clap.specs.Words.{found_of}
 use Rattle.velo_arguments.proofs.OnAsked.{flag_read, list_read, words_read}
-use Rattle.velo_arguments.proofs.requests.left_out.Goals as goal
+use Rattle.velo_arguments.proofs.ignored.left_out.Goals as goal
 
 pub returns : goal.returns
 returns c =

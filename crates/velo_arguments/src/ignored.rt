@@ -1,0 +1,34 @@
+//! What the matches of a subcommand leave out of a log.
+ghost use Rattle.std.specs.Prelude.{◌≡◌};
+ghost use Rattle.clap.specs.Words.{found_of, rows_of};
+ghost use Rattle.velo_arguments.specs.Asked.{AreLeftOut, leaves_out};
+
+use clap::ArgMatches;
+use velo_request::Ignored;
+
+/// What is left out of a log.
+pub fn left_out<'a>(found: &'a ArgMatches) -> Ignored<'a>
+    ensures { AreLeftOut (rows_of (found_of found.now)) result }
+{
+    let wide = found.get_str("ignore");
+    let labels = found.get_str("not-atomic");
+    Ignored {
+        known: wide.or(labels),
+        is_wide: wide.is_some(),
+        labels: found.get_strs("ignore-label").unwrap_or(&[]),
+        locks: found.get_strs("ignore-lock").unwrap_or(&[]),
+        variables: found.get_strs("ignore-variable").unwrap_or(&[]),
+        all_locks: found.get_flag("ignore-locks"),
+    }
+}
+
+/// Whether something is left out.
+pub fn leaves_out(ignored: &Ignored) -> bool
+    ensures { result ≡ leaves_out ignored.now }
+{
+    ignored.known.is_some()
+        || !ignored.labels.is_empty()
+        || !ignored.locks.is_empty()
+        || !ignored.variables.is_empty()
+        || ignored.all_locks
+}
