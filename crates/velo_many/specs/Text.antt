@@ -1,5 +1,5 @@
 -- The text of a summary.
-use Rattle.std.specs.Prelude.{◌≡◌, ℕ, List, [], ◌++◌, length, Option, Some, None, codes, decimal}
+use Rattle.std.specs.Prelude.{◌≡◌, ℕ, List, [], ◌==◌, ◌++◌, length, Option, Some, None, codes, decimal, if◌then◌else◌}
 use Rattle.std.specs.Global.{Vec}
 use Rattle.std.specs.List.{flat_map}
 use Rattle.velo_many.specs.declared.audits.FoundLabel.{FoundLabel}
@@ -11,10 +11,14 @@ use Rattle.velo_many.specs.declared.audits.Verdict.TheVariants as verdict
 use Rattle.velo_many.specs.declared.listing.Listed.{Listed}
 use Rattle.velo_many.specs.Summary.{IsListing, count_logs}
 
+-- the word after the number of logs
+abbrev pub logs_word : ℕ → List ℕ
+logs_word count = if count == 1 then codes " log: " else codes " logs: "
+
 -- "3 logs: 1 atomic, 1 not atomic, 1 unreadable"
 abbrev pub counts_text : List LogAudit → List ℕ
 counts_text logs =
-    decimal (length logs) ++ codes " logs: "
+    decimal (length logs) ++ logs_word (length logs)
     ++ decimal (count_logs Atomic logs) ++ codes " atomic, "
     ++ decimal (count_logs NotAtomic logs) ++ codes " not atomic, "
     ++ decimal (count_logs verdict.Unreadable logs) ++ codes " unreadable\n"

@@ -2,7 +2,7 @@
 ghost use Rattle.std.specs.Prelude.{◌≡◌, ◌++◌, decimal, length, IfOk, OnOk};
 ghost use Rattle.std.specs.List.{flat_map};
 ghost use Rattle.velo_many.specs.Summary.{count_logs};
-ghost use Rattle.velo_many.specs.Text.{IsSummary, counts_text, first_text, heading_text, label_text, name_text, path_text, place_text, reason_text, share_text, site_text, unreadable_text};
+ghost use Rattle.velo_many.specs.Text.{IsSummary, counts_text, first_text, heading_text, label_text, logs_word, name_text, path_text, place_text, reason_text, share_text, site_text, unreadable_text};
 
 use crate::audits::{FoundLabel, LogAudit, LogResult, Verdict, count_logs};
 use crate::listing::{Listed, listing_of};
@@ -23,12 +23,22 @@ fn append_count(
     append(text, words)
 }
 
+/// The word after the number of logs.
+fn logs_word(count: usize) -> &'static [u8]
+    ensures { result.now ≡ logs_word count }
+{
+    match count {
+        1 => b" log: ",
+        _ => b" logs: ",
+    }
+}
+
 /// Appends how many logs there are, and how many of them are of each verdict.
 fn append_counts(text: &mut Vec<u8>, logs: &[LogAudit]) -> Result<(), Memory>
     ensures { OnOk result (text.new.items ≡ text.old.items ++ counts_text logs.now) }
 {
     append_number(text, logs.len() as u64)?;
-    append(text, b" logs: ")?;
+    append(text, logs_word(logs.len()))?;
     append_count(text, Verdict::Atomic, logs, b" atomic, ")?;
     append_count(text, Verdict::NotAtomic, logs, b" not atomic, ")?;
     append_count(text, Verdict::Unreadable, logs, b" unreadable\n")

@@ -319,7 +319,7 @@ fn merges_no_other_files(rt: HostRuntime) -> Result<(), Fail> {
     let one = summary_of(&rt, alloc, &["cut.log", "ready.log"], TextOrJson::Json);
     let parts = Parts {
         one: one.as_slice(),
-        two: b"1 logs: 1 atomic, 0 not atomic, 0 unreadable\n",
+        two: b"1 log: 1 atomic, 0 not atomic, 0 unreadable\n",
     };
     let (fate, merged) = merged_of(alloc, &parts, &["one.json", "two.json"], TextOrJson::Text);
     assert!(rt; fate == Fate::NoSummary { file: 2 });

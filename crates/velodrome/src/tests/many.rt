@@ -76,7 +76,7 @@ static SUMMARIES: [Row; 11] = [
             "--sites",
             "auto",
         ],
-        out: "1 logs: 0 atomic, 1 not atomic, 0 unreadable\nnot atomic 7\n  in 1 of 1 logs, first in a.log, line 6 at bank.c:9 deposit\n",
+        out: "1 log: 0 atomic, 1 not atomic, 0 unreadable\nnot atomic 7\n  in 1 of 1 logs, first in a.log, line 6 at bank.c:9 deposit\n",
         err: "",
         status: 3,
     },
@@ -180,7 +180,7 @@ static MERGES: [Row; 7] = [
     },
     Row {
         words: &["velodrome", "audit", "--merge", "two.json"],
-        out: "1 logs: 1 atomic, 0 not atomic, 0 unreadable\n",
+        out: "1 log: 1 atomic, 0 not atomic, 0 unreadable\n",
         err: "",
         status: 0,
     },
