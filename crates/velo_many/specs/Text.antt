@@ -15,10 +15,14 @@ use Rattle.velo_many.specs.Summary.{IsListing, count_logs}
 abbrev pub logs_word : ℕ → List ℕ
 logs_word count = if count == 1 then codes " log: " else codes " logs: "
 
+-- "3 logs: "
+abbrev pub logs_text : ℕ → List ℕ
+logs_text count = decimal count ++ logs_word count
+
 -- "3 logs: 1 atomic, 1 not atomic, 1 unreadable"
 abbrev pub counts_text : List LogAudit → List ℕ
 counts_text logs =
-    decimal (length logs) ++ logs_word (length logs)
+    logs_text (length logs)
     ++ decimal (count_logs Atomic logs) ++ codes " atomic, "
     ++ decimal (count_logs NotAtomic logs) ++ codes " not atomic, "
     ++ decimal (count_logs verdict.Unreadable logs) ++ codes " unreadable\n"

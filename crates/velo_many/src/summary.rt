@@ -2,7 +2,7 @@
 ghost use Rattle.std.specs.Prelude.{◌≡◌, ◌++◌, decimal, length, IfOk, OnOk};
 ghost use Rattle.std.specs.List.{flat_map};
 ghost use Rattle.velo_many.specs.Summary.{count_logs};
-ghost use Rattle.velo_many.specs.Text.{IsSummary, counts_text, first_text, heading_text, label_text, logs_word, name_text, path_text, place_text, reason_text, share_text, site_text, unreadable_text};
+ghost use Rattle.velo_many.specs.Text.{IsSummary, counts_text, first_text, heading_text, label_text, logs_text, logs_word, name_text, path_text, place_text, reason_text, share_text, site_text, unreadable_text};
 
 use crate::audits::{FoundLabel, LogAudit, LogResult, Verdict, count_logs};
 use crate::listing::{Listed, listing_of};
@@ -33,12 +33,19 @@ fn logs_word(count: usize) -> &'static [u8]
     }
 }
 
+/// Appends how many logs there are.
+fn append_logs(text: &mut Vec<u8>, count: usize) -> Result<(), Memory>
+    ensures { OnOk result (text.new.items ≡ text.old.items ++ logs_text count) }
+{
+    append_number(text, count as u64)?;
+    append(text, logs_word(count))
+}
+
 /// Appends how many logs there are, and how many of them are of each verdict.
 fn append_counts(text: &mut Vec<u8>, logs: &[LogAudit]) -> Result<(), Memory>
     ensures { OnOk result (text.new.items ≡ text.old.items ++ counts_text logs.now) }
 {
-    append_number(text, logs.len() as u64)?;
-    append(text, logs_word(logs.len()))?;
+    append_logs(text, logs.len())?;
     append_count(text, Verdict::Atomic, logs, b" atomic, ")?;
     append_count(text, Verdict::NotAtomic, logs, b" not atomic, ")?;
     append_count(text, Verdict::Unreadable, logs, b" unreadable\n")
