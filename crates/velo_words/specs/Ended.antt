@@ -135,7 +135,7 @@ SaysRun disk path (ending.Refused t r) words =
     × (words ≡ act_words path program.thread_names t.0 r)
 SaysRun disk path ending.Stuck words =
     words ≡ whole_words path (codes "threads wait for one another")
-    (codes "help: `velodrome explore` says which thread waits for which lock, held by whom\n")
+    (codes "help: `velodrome explore` with nothing left out says which thread waits for which lock, held by whom\n")
 SaysRun disk path ended words = ⊥
 
 -- by what was asked for. Of a deadlock that an exploration finds this stands on standard output, but not

@@ -323,7 +323,7 @@ fn words_of_run<F: Files>(alloc: Global, path: &str, ending: Ending, files: &F) 
             let complaint = Complaint {
                 line: 0,
                 reason: "threads wait for one another",
-                help: "help: `velodrome explore` says which thread waits for which lock, held by whom\n",
+                help: "help: `velodrome explore` with nothing left out says which thread waits for which lock, held by whom\n",
             };
             place_words(alloc, path, &[], complaint).ok()
         }

@@ -96,7 +96,7 @@ static ROWS: [Row; 9] = [
         workload: CROSSING,
         list: "",
         out: "events 11\nstates 9\nalarm none\nstuck 0*2 1\nrefused none\n",
-        err: "velodrome: w: threads wait for one another\nhelp: `velodrome explore` says which thread waits for which lock, held by whom\nstuck\n",
+        err: "velodrome: w: threads wait for one another\nhelp: `velodrome explore` with nothing left out says which thread waits for which lock, held by whom\nstuck\n",
         status: 4,
         log: None,
     },
