@@ -1,6 +1,7 @@
 //! A shortest cycle through the transaction of a position, and whether a list is one.
-ghost use Rattle.std.specs.Prelude.{◌≡◌, ◌-◌, ◌<◌, ◌↔◌, List, length, slice_index, IfOk, IfErr, IsTrue};
-ghost use Rattle.velo_events.specs.Block.{owner};
+ghost use Rattle.std.specs.Prelude.{◌≡◌, ◌-◌, ◌<◌, ◌↔◌, ◌++◌, ℕ, List, length, slice_index, IfOk, IfErr, IsTrue};
+ghost use Rattle.velo_events.specs.Block.{is_begin_at, owner};
+ghost use Rattle.velo_events.specs.Reordering.{IsSelfSerializable};
 ghost use Rattle.velo_certify.specs.Shortest.{IsShortestCycleAt};
 ghost use Rattle.velo_events.specs.declared.event.Event.{Event};
 ghost use Rattle.velo_certify.specs.Owners.{AreOwners};
@@ -77,6 +78,10 @@ fn last_cycle(alloc: Global, events: &[Event]) -> Result<Vec<usize>, CertFault>
 pub fn cycle_of(alloc: Global, trace: &Trace, position: usize) -> Result<Vec<usize>, CertFault>
     ensures cycle { IfOk result (λ cycle. IsShortestCycleAt trace.now.events position cycle.items) }
     ensures fault { IfErr result (IsCycleFault trace.now.events position) }
+    // Law: whatever events follow, a block that is not self-serializable stays so.
+    ensures stays { (more : List Event) (begin : ℕ) → IsTrue (is_begin_at trace.now.events begin)
+        → ¬ IsSelfSerializable trace.now.events begin
+        → ¬ IsSelfSerializable (trace.now.events ++ more) begin }
 {
     let events = trace.as_slice();
     if position >= events.len() {

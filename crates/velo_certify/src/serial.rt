@@ -1,8 +1,12 @@
 //! The greedy serial order of a trace without a cycle.
-ghost use Rattle.std.specs.Prelude.{◌≡◌, ◌≤◌, ◌<◌, ◌+◌, ◌++◌, length, IfOk, IfErr, OnOk, IsTrue, IsFalse};
+ghost use Rattle.std.specs.Prelude.{◌≡◌, ◌≤◌, ◌<◌, ◌+◌, ◌++◌, ℕ, List, length, IfOk, IfErr, OnOk, IsTrue, IsFalse};
 ghost use Rattle.velo_events.specs.Block.{IsTransaction};
 ghost use Rattle.velo_events.specs.Certificate.{positions_of, IsSerialOrder};
 ghost use Rattle.velo_events.specs.Graph.{HasCycle};
+ghost use Rattle.velo_events.specs.Reordering.{IsReordering, events_in_order};
+ghost use Rattle.velo_events.specs.WellFormed.{IsWellFormed};
+ghost use Rattle.velo_events.specs.declared.config.Bounds.{Bounds};
+ghost use Rattle.velo_certify.specs.Reordered.{LeavesSameHeap};
 ghost use Rattle.velo_certify.specs.Owners.{AreOwners};
 ghost use Rattle.velo_certify.specs.Links.{HasLinksLeft};
 ghost use Rattle.velo_certify.specs.Serial.{is_before, AreClosed, IsCandidate, IsNext, IsOrderFault};
@@ -144,6 +148,13 @@ pub fn serial_order(alloc: Global, trace: &Trace) -> Result<Vec<usize>, CertFaul
     ensures order { IfOk result (λ order. IsSerialOrder trace.now.events order.items) }
     ensures acyclic { OnOk result (¬ HasCycle trace.now.events) }
     ensures fault { IfErr result (IsOrderFault trace.now.events) }
+    // Law: every reordering of a well-formed trace is well-formed.
+    ensures well_formed { (bounds : Bounds) (order : List ℕ) → IsWellFormed bounds trace.now.events
+        → IsReordering trace.now.events order
+        → IsWellFormed bounds (events_in_order trace.now.events order) }
+    // Law: every reordering of a trace leaves the same heap, so a serial order does what the trace does.
+    ensures same_heap { (order : List ℕ) → IsReordering trace.now.events order
+        → LeavesSameHeap trace.now.events (events_in_order trace.now.events order) }
 {
     list_all(alloc, trace.as_slice())
 }

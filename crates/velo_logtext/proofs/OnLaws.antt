@@ -8,7 +8,7 @@ use Rattle.velo_events.specs.declared.event.Event.{Event}
 use Rattle.velo_logtext.specs.declared.fault.LogFault.{LogFault}
 use Rattle.velo_logtext.specs.declared.fault.LogFault.TheVariants.{BadHeader, BadLine, Truncated, TooLong, Read, Memory}
 use Rattle.velo_logtext.specs.Text.{Head, header_line, event_line, event_lines, IsEventIn, AreEventsIn, Begins, IsTextIn, IsLogText}
-use Rattle.velo_logtext.specs.Finding.{HasNoHeader, HasNoEvent, IsBadLine, IsCutLine, Finding, Stands}
+use Rattle.velo_logtext.specs.Finding.{HasNoHeader, HasNoEvent, IsBadLine, IsCutLine, Finding, Stands, ReadsAs, IsFindingOrFailure}
 use Rattle.velo_bytes.specs.Parsing.{Taken}
 use Rattle.velo_logtext.specs.Reading.{event_in, header_at}
 use Rattle.velo_logtext.proofs.OnLines.{event_in_taken, event_in_again, event_short, header_taken, header_again}
@@ -157,6 +157,20 @@ stands_read limit bytes (Err Memory) h = absurd h
 
 pub one_finding_is : (limit : ℕ) (bytes : List ℕ) (f g : Finding) → Stands limit bytes f → Stands limit bytes g → f ≡ g
 one_finding_is limit bytes f g p q = sym (stands_read limit bytes f p) ∙ stands_read limit bytes g q
+
+pub answers_one : (limit : ℕ) (bytes : List ℕ) (answer f : Finding) → ReadsAs limit bytes answer → Stands limit bytes f → IsFindingOrFailure f answer
+answers_one limit bytes (Ok log) f a s = one_finding_is limit bytes f (Ok log) s a
+answers_one limit bytes (Err Read) f a s = tt
+answers_one limit bytes (Err Memory) f a s = a
+answers_one limit bytes (Err BadHeader) f a s = one_finding_is limit bytes f (Err BadHeader) s a
+answers_one limit bytes (Err (BadLine n)) f a s = one_finding_is limit bytes f (Err (BadLine n)) s a
+answers_one limit bytes (Err (Truncated n)) f a s = one_finding_is limit bytes f (Err (Truncated n)) s a
+answers_one limit bytes (Err TooLong) f a s = one_finding_is limit bytes f (Err TooLong) s a
+
+-- the same where the bytes may be unknown
+pub answers_found : (limit : ℕ) (known : Option (List ℕ)) (answer : Finding) → IfSome known (λ bytes. ReadsAs limit bytes answer) → IfSome known (λ bytes. (f : Finding) → Stands limit bytes f → IsFindingOrFailure f answer)
+answers_found limit None answer a = tt
+answers_found limit (Some bytes) answer a = λ f s. answers_one limit bytes answer f a s
 
 -- a text is that of one pair
 pub one_pair : (bytes : List ℕ) (b c : Bounds) (es fs : List Event) → IsLogText bytes b es → IsLogText bytes c fs → (b ≡ c) × (es ≡ fs)

@@ -77,6 +77,13 @@ ReadsAs limit bytes (Err Memory) = GrowthRefused
 ReadsAs limit bytes (Ok log) = Stands limit bytes (Ok log)
 ReadsAs limit bytes (Err fault) = Stands limit bytes (Err fault)
 
+-- the answer is this finding, unless the device failed or a growth was refused
+abbrev pub IsFindingOrFailure : Finding → Finding → Type 0
+IsFindingOrFailure finding (Err Read) = Unit {0}
+IsFindingOrFailure finding (Err Memory) = GrowthRefused
+IsFindingOrFailure finding (Ok log) = finding ≡ Ok log
+IsFindingOrFailure finding (Err fault) = finding ≡ Err fault
+
 -- the count of failures after a reader's answer
 abbrev pub failures_after : {X : Type 0} → Result X LogFault → ℕ → ℕ
 failures_after (Err Read) failures = with_failure failures

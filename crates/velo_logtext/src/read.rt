@@ -5,7 +5,7 @@ ghost use Rattle.velo_events.specs.Refusals.{GrowthRefused};
 ghost use Rattle.velo_events.specs.declared.limits.TheConstants.{MAX_EVENTS};
 ghost use Rattle.velo_logtext.specs.declared.fault.LogFault.TheVariants as log_fault;
 ghost use Rattle.velo_logtext.specs.Text.{AreBounds, AreEvents};
-ghost use Rattle.velo_logtext.specs.Finding.{ReadsAs, finding_of, failures_after};
+ghost use Rattle.velo_logtext.specs.Finding.{Finding, Stands, ReadsAs, IsFindingOrFailure, finding_of, failures_after};
 
 use crate::fault::LogFault;
 use crate::reader::LogReader;
@@ -23,8 +23,12 @@ use velo_traces::Trace;
 /// `BadHeader`, `BadLine`, `Truncated` or `TooLong` for the first line that is wrong; `Read` only where the source
 /// failed in this call, and `Memory` only where a growth was refused.
 pub fn read_log<S: Source>(alloc: Global, source: &mut S) -> Result<(Bounds, Trace), LogFault>
-    // What is returned stands in the bytes, and nothing else does: `one_finding`.
+    // What is returned stands in the bytes.
     ensures found { IfSome (S.remaining source.old) (λ bytes. ReadsAs MAX_EVENTS bytes (finding_of result)) }
+
+    // What stands in the bytes is returned, unless the source failed or a growth was refused.
+    ensures only { IfSome (S.remaining source.old) (λ bytes. (finding : Finding) → Stands MAX_EVENTS bytes finding
+        → IsFindingOrFailure finding (finding_of result)) }
 
     ensures within { IfOk result (λ log.
         AreBounds log.0 × AreEvents log.1.events × (length log.1.events ≤ MAX_EVENTS)) }

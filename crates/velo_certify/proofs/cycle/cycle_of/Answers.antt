@@ -5,6 +5,7 @@ use Rattle.velo_certify.specs.Shortest.{IsShortestCycleAt}
 use Rattle.velo_certify.specs.Cycle.{IsShortestFrom, IsLastFault, IsCycleFault}
 use Rattle.velo_certify.proofs.OnOrders.{IfOk-map, IfErr-map}
 use Rattle.velo_certify.proofs.OnCycles.{IsShortestCycleAt-from, IsCycleFault-from}
+use Rattle.velo_certify.proofs.OnPrefixes.{IsSelfSerializable-early}
 use Rattle.velo_certify.proofs.cycle.cycle_of.Goals as goal
 
 pub returns-clause-cycle : goal.returns-clause-cycle
@@ -22,3 +23,9 @@ returns-clause-fault c =
     IfErr-map (IsLastFault (take (p + 1) trace) (owner (take (p + 1) trace) (length (take (p + 1) trace) - 1))) (IsCycleFault trace p)
     (IsCycleFault-from trace p within) c.last_cycle.result
     (subst (λ xs. IfErr c.last_cycle.result (IsLastFault (take (p + 1) xs) (owner (take (p + 1) xs) (length (take (p + 1) xs) - 1)))) c.as_slice-events.ensures c.last_cycle.ensures.fault)
+
+pub returns-then-position-events-clause-stays : goal.returns-then-position-events-clause-stays
+returns-then-position-events-clause-stays c = λ more b begun not_self longer. not_self (IsSelfSerializable-early c.args.trace.now.events more b begun longer)
+
+pub returns-clause-stays : goal.returns-clause-stays
+returns-clause-stays c = λ more b begun not_self longer. not_self (IsSelfSerializable-early c.args.trace.now.events more b begun longer)
