@@ -22,8 +22,11 @@ def words_of(path):
 def main():
     if sys.argv[1:]:
         sys.exit(__doc__)
-    sources = [path for pattern in ("specs/**/*.antt", "src/**/*.rt")
-               for path in glob.glob(os.path.join(ROOT, "crates", "*", pattern), recursive=True)]
+    sources = [
+        path
+        for pattern in ("specs/**/*.antt", "src/**/*.rt")
+        for path in glob.glob(os.path.join(ROOT, "crates", "*", pattern), recursive=True)
+    ]
     known = set().union(*(words_of(path) for path in sources))
     files = {os.path.splitext(os.path.basename(path))[0] for path in sources}
     faults = 0
@@ -32,10 +35,16 @@ def main():
             lines = file.read().splitlines()
         for number, line in enumerate(lines, 1):
             for name in re.findall(r"(?<!`)`([^`]+)`(?!`)", line):
-                missing = [word for word in WORD.findall(name) if word not in known | files and not word.startswith("velo_")]
+                missing = [
+                    word
+                    for word in WORD.findall(name)
+                    if word not in known | files and not word.startswith("velo_")
+                ]
                 if missing and not re.search(r"/|\.txt", name):
                     faults += 1
-                    print(f"docs/internals/{page}:{number}: {', '.join(missing)} of `{name}` is nowhere")
+                    print(
+                        f"docs/internals/{page}:{number}: {', '.join(missing)} of `{name}` is nowhere"
+                    )
     return 1 if faults else 0
 
 

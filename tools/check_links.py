@@ -10,7 +10,14 @@ import re
 import sys
 
 ROOT = os.path.dirname(os.path.dirname(os.path.abspath(__file__)))
-PAGES = ("README.md", "docs/**/*.md", "crates/*/README.md", "recorder/*.md", "bindings/README.md", "bindings/*/README.md")
+PAGES = (
+    "README.md",
+    "docs/**/*.md",
+    "crates/*/README.md",
+    "recorder/*.md",
+    "bindings/README.md",
+    "bindings/*/README.md",
+)
 LINK = re.compile(r"\]\(([^)\s]+)\)")
 CODE = re.compile(r"^```.*?^```|`[^`\n]*`", re.MULTILINE | re.DOTALL)
 
@@ -40,7 +47,9 @@ def fault_of(page, link):
 def main():
     if sys.argv[1:]:
         sys.exit(__doc__)
-    pages = [page for pattern in PAGES for page in glob.glob(os.path.join(ROOT, pattern), recursive=True)]
+    pages = [
+        page for pattern in PAGES for page in glob.glob(os.path.join(ROOT, pattern), recursive=True)
+    ]
     faults = 0
     for page in sorted(pages):
         for link in LINK.findall(CODE.sub("", text_of(page))):

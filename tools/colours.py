@@ -27,12 +27,38 @@ ESCAPE = re.compile(rb"\x1b\[[0-9;]*m")
 HEAD = re.compile(rb"  (?:\x1b\[(\d+)m)?thread (\d+)")
 COLOURS = 5
 
-COLOURED = (["explain"], ["explain", "--stacks"], ["explain", "--format", "text"], ["audit"], ["audit", "--no-witness"],
-            ["audit", "--counts", "--innermost"], ["predict", "--tries", "5"], ["explain", "--ignore-locks"], ["explain", "--help"])
-BARE = (["check"], ["check", "--certificate"], ["watch"], ["thin", "--log", os.devnull], ["explain", "--format", "json"],
-        ["audit", "--format=sarif"], ["predict", "--tries", "1", "--format", "json"])
+COLOURED = (
+    ["explain"],
+    ["explain", "--stacks"],
+    ["explain", "--format", "text"],
+    ["audit"],
+    ["audit", "--no-witness"],
+    ["audit", "--counts", "--innermost"],
+    ["predict", "--tries", "5"],
+    ["explain", "--ignore-locks"],
+    ["explain", "--help"],
+)
+BARE = (
+    ["check"],
+    ["check", "--certificate"],
+    ["watch"],
+    ["thin", "--log", os.devnull],
+    ["explain", "--format", "json"],
+    ["audit", "--format=sarif"],
+    ["predict", "--tries", "1", "--format", "json"],
+)
 
-NAMES = ("réader", "线程", "thread 3", "a  thread 4", "x: thread 5, block 1", "`1 rd 0 0`", "a, from line 9", "back`tick", "")
+NAMES = (
+    "réader",
+    "线程",
+    "thread 3",
+    "a  thread 4",
+    "x: thread 5, block 1",
+    "`1 rd 0 0`",
+    "a, from line 9",
+    "back`tick",
+    "",
+)
 
 
 def environment(**variables):
@@ -42,7 +68,13 @@ def environment(**variables):
 
 
 def piped(words, **variables):
-    done = subprocess.run(words, stdin=subprocess.DEVNULL, capture_output=True, env=environment(**variables), check=False)
+    done = subprocess.run(
+        words,
+        stdin=subprocess.DEVNULL,
+        capture_output=True,
+        env=environment(**variables),
+        check=False,
+    )
     return done.stdout, done.returncode
 
 
@@ -70,7 +102,13 @@ def all_from(master):
 
 def on_terminal(words, **variables):
     master, slave = terminal()
-    started = subprocess.Popen(words, stdin=subprocess.DEVNULL, stdout=slave, stderr=subprocess.DEVNULL, env=environment(**variables))
+    started = subprocess.Popen(
+        words,
+        stdin=subprocess.DEVNULL,
+        stdout=slave,
+        stderr=subprocess.DEVNULL,
+        env=environment(**variables),
+    )
     os.close(slave)
     shown = all_from(master)
     os.close(master)
@@ -80,7 +118,14 @@ def on_terminal(words, **variables):
 def beside_terminal(words):
     """What goes into a pipe where standard error is a terminal."""
     master, slave = terminal()
-    done = subprocess.run(words, stdin=subprocess.DEVNULL, stdout=subprocess.PIPE, stderr=slave, env=environment(), check=False)
+    done = subprocess.run(
+        words,
+        stdin=subprocess.DEVNULL,
+        stdout=subprocess.PIPE,
+        stderr=slave,
+        env=environment(),
+        check=False,
+    )
     os.close(slave)
     os.close(master)
     return done.stdout, done.returncode
@@ -89,7 +134,14 @@ def beside_terminal(words):
 def wrong_lanes(shown):
     """What is wrong with the colours of lanes, if there are any."""
     lines = shown.split(b"\n")
-    first = next((n for n, line in enumerate(lines) if ESCAPE.sub(b"", line).startswith(b"    line  thread ")), None)
+    first = next(
+        (
+            n
+            for n, line in enumerate(lines)
+            if ESCAPE.sub(b"", line).startswith(b"    line  thread ")
+        ),
+        None,
+    )
     if first is None:
         return None
     colours = {}
@@ -109,8 +161,11 @@ def wrong_with(words, coloured):
     plain = piped(words)
     if b"\x1b" in plain[0]:
         return "escape sequences in a pipe"
-    for name, shown in (("NO_COLOR", on_terminal(words, NO_COLOR="1")), ("a dumb terminal", on_terminal(words, TERM="dumb")),
-                        ("a terminal beside", beside_terminal(words))):
+    for name, shown in (
+        ("NO_COLOR", on_terminal(words, NO_COLOR="1")),
+        ("a dumb terminal", on_terminal(words, TERM="dumb")),
+        ("a terminal beside", beside_terminal(words)),
+    ):
         if shown != plain:
             return f"{name}: other bytes"
     shown, status = on_terminal(words)
@@ -118,7 +173,9 @@ def wrong_with(words, coloured):
         return "an empty NO_COLOR: other bytes"
     if (ESCAPE.sub(b"", shown), status) != plain:
         return "on a terminal: another text"
-    has_cycle = any(part in plain[0] for part in (b" closes a cycle ", b"not atomic", b"deadlock? "))
+    has_cycle = any(
+        part in plain[0] for part in (b" closes a cycle ", b"not atomic", b"deadlock? ")
+    )
     if (b"\x1b" in shown) != (coloured and has_cycle):
         return "on a terminal: colours" if b"\x1b" in shown else "on a terminal: no colours"
     return wrong_lanes(shown) if coloured else None
@@ -153,24 +210,44 @@ def logs(folder):
             open(os.path.join(folder, name), "w", encoding="utf-8").write(text)
     for seed in range(6):
         threads = 2 + 2 * seed
-        open(os.path.join(folder, f"made{seed}.log"), "w", encoding="utf-8").write(made_log(seed, threads))
-        open(os.path.join(folder, f"made{seed}.names"), "w", encoding="utf-8").write(made_names(seed, threads))
-    folders = (folder, os.path.join(TOP, "docs", "data"), os.path.join(TOP, "crates", "velodrome", "data"))
-    for path in sorted(path for place in folders for path in glob.glob(os.path.join(place, "*.log"))):
-        yield path, {kind: path[:-3] + kind for kind in ("names", "sites") if os.path.exists(path[:-3] + kind)}
+        open(os.path.join(folder, f"made{seed}.log"), "w", encoding="utf-8").write(
+            made_log(seed, threads)
+        )
+        open(os.path.join(folder, f"made{seed}.names"), "w", encoding="utf-8").write(
+            made_names(seed, threads)
+        )
+    folders = (
+        folder,
+        os.path.join(TOP, "docs", "data"),
+        os.path.join(TOP, "crates", "velodrome", "data"),
+    )
+    for path in sorted(
+        path for place in folders for path in glob.glob(os.path.join(place, "*.log"))
+    ):
+        yield path, {
+            kind: path[:-3] + kind
+            for kind in ("names", "sites")
+            if os.path.exists(path[:-3] + kind)
+        }
 
 
 def command_lines(program, folder):
     """Each command line, with whether it can have colours."""
     for path, beside in logs(folder):
         for words in COLOURED + BARE:
-            kinds = {"check": ("names",), "watch": ("names",), "thin": ("names",)}.get(words[0], ("names", "sites"))
-            options = [word for kind in kinds if kind in beside for word in ("--" + kind, beside[kind])]
+            kinds = {"check": ("names",), "watch": ("names",), "thin": ("names",)}.get(
+                words[0], ("names", "sites")
+            )
+            options = [
+                word for kind in kinds if kind in beside for word in ("--" + kind, beside[kind])
+            ]
             yield [program, *words, path, *options], words in COLOURED
 
 
 def main():
-    parser = argparse.ArgumentParser(description=__doc__, formatter_class=argparse.RawDescriptionHelpFormatter)
+    parser = argparse.ArgumentParser(
+        description=__doc__, formatter_class=argparse.RawDescriptionHelpFormatter
+    )
     parser.add_argument("program", help="the built program")
     program = os.path.abspath(parser.parse_args().program)
     passed = failed = 0

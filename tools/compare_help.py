@@ -35,14 +35,20 @@ def rows_of(page, title):
 
 
 def options_in_page(page, command):
-    rows = [row for row in rows_of(page, "## Options") if f"`{command}`" in row[1] or row[1] == "all"]
+    rows = [
+        row for row in rows_of(page, "## Options") if f"`{command}`" in row[1] or row[1] == "all"
+    ]
     parts = {re.search(r"--[\w-]+", row[0]).group(): row[2].partition("(") for row in rows}
-    return {name: (numbers_in(span), numbers_in(default)) for name, (span, _, default) in parts.items()}
+    return {
+        name: (numbers_in(span), numbers_in(default)) for name, (span, _, default) in parts.items()
+    }
 
 
 def options_in_help(text):
     found = {}
-    for name, meaning in re.findall(r"^ +(--[\w-]+)(?: <\w+>)? {2,}(.*)$", section_of(text, "Options:", r"^\S"), re.MULTILINE):
+    for name, meaning in re.findall(
+        r"^ +(--[\w-]+)(?: <\w+>)? {2,}(.*)$", section_of(text, "Options:", r"^\S"), re.MULTILINE
+    ):
         span, _, default = meaning.partition("[default:")
         found[name] = (numbers_in(span), numbers_in(default))
     return found
@@ -57,24 +63,38 @@ def statuses_in_page(page, command):
 
 
 def statuses_in_help(text):
-    entries = re.split(r"^  (?=\d)", section_of(text, "Statuses", r"^$(?=\n\S)"), flags=re.MULTILINE)[1:]
+    entries = re.split(
+        r"^  (?=\d)", section_of(text, "Statuses", r"^$(?=\n\S)"), flags=re.MULTILINE
+    )[1:]
     return {int(entry.split()[0]): quoted(" ".join(entry.split()), "'") for entry in entries}
 
 
 def numbered_in_help(text, title):
-    return dict(re.findall(r"^ +(\d+)  (.*)$", section_of(text, title, r"^$(?=\n\S)"), re.MULTILINE))
+    return dict(
+        re.findall(r"^ +(\d+)  (.*)$", section_of(text, title, r"^$(?=\n\S)"), re.MULTILINE)
+    )
 
 
 def numbered_in_page(page, title):
     rows = [(row[0].split(", "), row[1].split("; ")) for row in rows_of(page, title)]
-    return {number: text for numbers, texts in rows for number, text in zip(numbers, texts, strict=True)}
+    return {
+        number: text for numbers, texts in rows for number, text in zip(numbers, texts, strict=True)
+    }
 
 
 def differences(page, command, text):
     compared = [("options", options_in_page(page, command), options_in_help(text))]
     if "\nStatuses" in text:
         compared.append(("statuses", statuses_in_page(page, command), statuses_in_help(text)))
-    for title in ("Log faults", "Names faults", "List faults", "Sites faults", "Ignored faults", "Workload faults", "Refusals"):
+    for title in (
+        "Log faults",
+        "Names faults",
+        "List faults",
+        "Sites faults",
+        "Ignored faults",
+        "Workload faults",
+        "Refusals",
+    ):
         told = numbered_in_help(text, title)
         if told:
             compared.append((title, numbered_in_page(page, f"## {title}"), told))
@@ -85,7 +105,9 @@ def differences(page, command, text):
 
 
 def help_of(program, *command):
-    return subprocess.run([program, *command, "--help"], check=True, capture_output=True, text=True).stdout
+    return subprocess.run(
+        [program, *command, "--help"], check=True, capture_output=True, text=True
+    ).stdout
 
 
 def commands_in_help(text):

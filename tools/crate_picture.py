@@ -11,7 +11,10 @@ import sys
 
 ROOT = os.path.dirname(os.path.dirname(os.path.abspath(__file__)))
 PAGE = os.path.join(ROOT, "docs", "internals", "ARCHITECTURE.md")
-BEGIN, END = "<!-- crates.txt, drawn by tools/crate_picture.py -->\n", "<!-- end of the picture -->\n"
+BEGIN, END = (
+    "<!-- crates.txt, drawn by tools/crate_picture.py -->\n",
+    "<!-- end of the picture -->\n",
+)
 
 
 def read_crates():
@@ -52,7 +55,9 @@ def main():
     rows = re.findall(r"^\| \[?`(\w+)`", tail, re.MULTILINE)
     wrong = [crate for crate in crates if rows.count(crate) != 1]
     if old != new:
-        print("docs/internals/ARCHITECTURE.md: the picture is stale; run python3 tools/crate_picture.py")
+        print(
+            "docs/internals/ARCHITECTURE.md: the picture is stale; run python3 tools/crate_picture.py"
+        )
     for crate in wrong:
         print(f"docs/internals/ARCHITECTURE.md: {crate} has {rows.count(crate)} rows in the table")
     return 1 if wrong or old != new else 0

@@ -20,59 +20,99 @@ QUOTED = re.compile(r"^```antt ([^\n]+)\n.*?^```$", re.M | re.S)
 # The parts of the page, each with the files of its crates' specs: whole where a star stands behind the name, else what the
 # comments say of each definition. What only private contracts cite is left to its files.
 PARTS = [
-    ("Traces, and what is meant by atomic", {
-        "velo_events": "Event Conflict* Heap Meaning* WellFormed* Block* Graph* Reordering* Certificate* Refusals*",
-        "velo_certify": "Shortest*",
-        "velo_monitor": "Collection*"}),
-    ("Texts", {
-        "velo_bytes": "Device Parsing",
-        "velo_logtext": "Text* Finding",
-        "velo_names": "Names Line Fault",
-        "velo_workload": "Program Names Phrase Words Bodies"}),
-    ("A run and its world", {
-        "velo_world": "World Faults",
-        "velo_ledger": "Book Shares",
-        "velo_runtime": "Rooms Steps Turns Waits Seats"}),
-    ("Runs of a workload, and every schedule", {
-        "velo_worker": "Progress Schedule Live Logs Causes",
-        "velo_schedule_text": "Schedule Short File",
-        "velo_explore": "Logs* Goals* Told*",
-        "velo_shrink": "Simple*",
-        "velo_random": "Drawing Runs Tallies"}),
-    ("What is told of a log", {
-        "velo_report": "Names Report Alarm Certificate",
-        "velo_explain": "Evidence Lanes Fitting Text Picture",
-        "velo_watch": "Watch UnderWay"}),
-    ("Which labels are not atomic", {
-        "velo_filter": "Left* Thinned",
-        "velo_audit": "Audit* Rounds* Tells Witness",
-        "velo_audit_text": "Text",
-        "velo_suppressions": "Line* Known* List"}),
-    ("What one log says of other schedules", {
-        "velo_predict": "Predictions* Deadlocks* Feasible* Differences* Sources* Waits",
-        "velo_delays": "Anew* Differing* Sources* Found* Deadlock*",
-        "velo_predict_text": "Text"}),
-    ("Laws of logs", {
-        "velo_laws": "Cut* Restart* Renumber Ordered* Repeats*",
-        "velo_renew": "Renewal*",
-        "velo_races": "Races*"}),
-    ("What the program does", {
-        "velo_commands": "Program* Causes",
-        "velo_inputs": "Context* Input",
-        "velo_log_commands": "Commands* Check Explaining Carrying",
-        "velo_audit_commands": "Commands* Predicting",
-        "velo_verify": "Commands* Verifying",
-        "velo_claims": "Judging* Text* Line",
-        "velo_workload_commands": "Commands* Scheduling Playing ByChance Exploring*",
-        "velo_fate": "Verdict Format Delivery Barred Fate Failures Causes",
-        "velo_delivery": "Disk Reading Writing Answers",
-        "velo_arguments": "CommandLine Asked Together",
-        "velo_cli": "Running Usage"}),
-    ("The library for other languages", {
-        "velo_ffi": "Answers Numbers Texts* Explaining* Pieces* Renewal* Words"}),
+    (
+        "Traces, and what is meant by atomic",
+        {
+            "velo_events": "Event Conflict* Heap Meaning* WellFormed* Block* Graph* Reordering* Certificate* Refusals*",
+            "velo_certify": "Shortest*",
+            "velo_monitor": "Collection*",
+        },
+    ),
+    (
+        "Texts",
+        {
+            "velo_bytes": "Device Parsing",
+            "velo_logtext": "Text* Finding",
+            "velo_names": "Names Line Fault",
+            "velo_workload": "Program Names Phrase Words Bodies",
+        },
+    ),
+    (
+        "A run and its world",
+        {
+            "velo_world": "World Faults",
+            "velo_ledger": "Book Shares",
+            "velo_runtime": "Rooms Steps Turns Waits Seats",
+        },
+    ),
+    (
+        "Runs of a workload, and every schedule",
+        {
+            "velo_worker": "Progress Schedule Live Logs Causes",
+            "velo_schedule_text": "Schedule Short File",
+            "velo_explore": "Logs* Goals* Told*",
+            "velo_shrink": "Simple*",
+            "velo_random": "Drawing Runs Tallies",
+        },
+    ),
+    (
+        "What is told of a log",
+        {
+            "velo_report": "Names Report Alarm Certificate",
+            "velo_explain": "Evidence Lanes Fitting Text Picture",
+            "velo_watch": "Watch UnderWay",
+        },
+    ),
+    (
+        "Which labels are not atomic",
+        {
+            "velo_filter": "Left* Thinned",
+            "velo_audit": "Audit* Rounds* Tells Witness",
+            "velo_audit_text": "Text",
+            "velo_suppressions": "Line* Known* List",
+        },
+    ),
+    (
+        "What one log says of other schedules",
+        {
+            "velo_predict": "Predictions* Deadlocks* Feasible* Differences* Sources* Waits",
+            "velo_delays": "Anew* Differing* Sources* Found* Deadlock*",
+            "velo_predict_text": "Text",
+        },
+    ),
+    (
+        "Laws of logs",
+        {
+            "velo_laws": "Cut* Restart* Renumber Ordered* Repeats*",
+            "velo_renew": "Renewal*",
+            "velo_races": "Races*",
+        },
+    ),
+    (
+        "What the program does",
+        {
+            "velo_commands": "Program* Causes",
+            "velo_inputs": "Context* Input",
+            "velo_log_commands": "Commands* Check Explaining Carrying",
+            "velo_audit_commands": "Commands* Predicting",
+            "velo_verify": "Commands* Verifying",
+            "velo_claims": "Judging* Text* Line",
+            "velo_workload_commands": "Commands* Scheduling Playing ByChance Exploring*",
+            "velo_fate": "Verdict Format Delivery Barred Fate Failures Causes",
+            "velo_delivery": "Disk Reading Writing Answers",
+            "velo_arguments": "CommandLine Asked Together",
+            "velo_cli": "Running Usage",
+        },
+    ),
+    (
+        "The library for other languages",
+        {"velo_ffi": "Answers Numbers Texts* Explaining* Pieces* Renewal* Words"},
+    ),
 ]
 
-ITEM = re.compile(r"(?:abbrev |unfoldable |opaque )*pub (?:abbrev |unfoldable |opaque )*(?:record |data )?(\S+)")
+ITEM = re.compile(
+    r"(?:abbrev |unfoldable |opaque )*pub (?:abbrev |unfoldable |opaque )*(?:record |data )?(\S+)"
+)
 
 
 def sentence(lines):
@@ -104,7 +144,9 @@ def rows(lines):
 
 
 def lines_of(crate, name):
-    with open(os.path.join(ROOT, "crates", crate, "specs", f"{name}.antt"), encoding="utf-8") as file:
+    with open(
+        os.path.join(ROOT, "crates", crate, "specs", f"{name}.antt"), encoding="utf-8"
+    ) as file:
         return file.read().splitlines()
 
 
@@ -126,7 +168,12 @@ def all_definitions():
 
 
 def files():
-    return [(crate, name.rstrip("*")) for _, crates in PARTS for crate, names in crates.items() for name in names.split()]
+    return [
+        (crate, name.rstrip("*"))
+        for _, crates in PARTS
+        for crate, names in crates.items()
+        for name in names.split()
+    ]
 
 
 def definition(name):
@@ -134,7 +181,9 @@ def definition(name):
     for lines in (lines_of(*file) for file in files()):
         for at, line in enumerate(lines):
             if (item := ITEM.match(line)) and item[1] == name:
-                ends = (n for n, it in enumerate(lines[at:]) if not it.strip() or it.startswith("--"))
+                ends = (
+                    n for n, it in enumerate(lines[at:]) if not it.strip() or it.startswith("--")
+                )
                 return "\n".join(lines[at : at + next(ends, len(lines))])
     sys.exit(f"docs/DEFINITIONS.md quotes {name}, of which there is no definition")
 

@@ -35,7 +35,9 @@ STATUS = re.compile(r"\s+# status (\d+)$")
 
 
 def pages():
-    return [os.path.join(TOP, "README.md")] + sorted(glob.glob(os.path.join(TOP, "docs", "**", "*.md"), recursive=True))
+    return [os.path.join(TOP, "README.md")] + sorted(
+        glob.glob(os.path.join(TOP, "docs", "**", "*.md"), recursive=True)
+    )
 
 
 def commands(session):
@@ -47,9 +49,19 @@ def commands(session):
 
 
 def ran(command, folder, path):
-    environment = dict(os.environ, PATH=os.pathsep.join((path, RECORDER, os.environ["PATH"])), TOP=TOP)
-    done = subprocess.run(["bash", "-c", command], cwd=folder, env=environment, stdin=subprocess.DEVNULL,
-                          stdout=subprocess.PIPE, stderr=subprocess.STDOUT, text=True, timeout=300)
+    environment = dict(
+        os.environ, PATH=os.pathsep.join((path, RECORDER, os.environ["PATH"])), TOP=TOP
+    )
+    done = subprocess.run(
+        ["bash", "-c", command],
+        cwd=folder,
+        env=environment,
+        stdin=subprocess.DEVNULL,
+        stdout=subprocess.PIPE,
+        stderr=subprocess.STDOUT,
+        text=True,
+        timeout=300,
+    )
     return done.stdout, done.returncode
 
 
@@ -65,7 +77,9 @@ class Page:
     def expect(self, right, command, wanted, seen):
         self.passed, self.failed = self.passed + right, self.failed + (not right)
         if not right:
-            print(f"{self.name}: {command}\nexpected {wanted}came, with status {seen[1]}:\n{seen[0]}")
+            print(
+                f"{self.name}: {command}\nexpected {wanted}came, with status {seen[1]}:\n{seen[0]}"
+            )
 
     def run_session(self, session):
         for command, printed, status in commands(session):
@@ -77,7 +91,12 @@ class Page:
             if "." in name:
                 with open(os.path.join(self.folder, name), "w", encoding="utf-8") as it:
                     it.write(body)
-            elif kind == "sh" or kind == "console" and name == "recorder" and not os.path.isdir(RECORDER):
+            elif (
+                kind == "sh"
+                or kind == "console"
+                and name == "recorder"
+                and not os.path.isdir(RECORDER)
+            ):
                 self.left += 1
             elif kind == "console":
                 self.run_session(body)

@@ -47,15 +47,26 @@ def trouble(edit):
 
 def main():
     told = []
-    for edit in sorted(glob.glob(f"{TOP}/crates/*/must-fail/*.edit") + glob.glob(f"{TOP}/crates/*/plants/*.edit")):
+    for edit in sorted(
+        glob.glob(f"{TOP}/crates/*/must-fail/*.edit") + glob.glob(f"{TOP}/crates/*/plants/*.edit")
+    ):
         why = trouble(edit)
         if why:
             told.append(f"{os.path.relpath(edit, TOP)}: {why}")
-    counts = {crate: len(glob.glob(f"{crate}/must-fail/*.edit")) for crate in sorted(glob.glob(f"{TOP}/crates/*"))}
-    told += [f"{os.path.relpath(crate, TOP)}/must-fail: {count} edits, of at most {MAX_OF_A_CRATE}" for crate, count in counts.items() if count > MAX_OF_A_CRATE]
+    counts = {
+        crate: len(glob.glob(f"{crate}/must-fail/*.edit"))
+        for crate in sorted(glob.glob(f"{TOP}/crates/*"))
+    }
+    told += [
+        f"{os.path.relpath(crate, TOP)}/must-fail: {count} edits, of at most {MAX_OF_A_CRATE}"
+        for crate, count in counts.items()
+        if count > MAX_OF_A_CRATE
+    ]
     if sum(counts.values()) > MOST:
         told.append(f"{sum(counts.values())} edits in the first line, of at most {MOST}")
-    print("\n".join(told or [f"{sum(counts.values())} edits in the first line, all can be applied"]))
+    print(
+        "\n".join(told or [f"{sum(counts.values())} edits in the first line, all can be applied"])
+    )
     return 1 if told else 0
 
 

@@ -19,8 +19,14 @@ import sys
 import tempfile
 
 MAX_INTERLEAVINGS = 500
-LEFT_OUT = [["--ignore-locks"], ["--ignore-lock", "m"], ["--ignore-lock", "*"], ["--ignore-variable", "x"], ["--ignore-label", "b0"],
-            ["--ignore-label", "b1", "--ignore-lock", "m"]]
+LEFT_OUT = [
+    ["--ignore-locks"],
+    ["--ignore-lock", "m"],
+    ["--ignore-lock", "*"],
+    ["--ignore-variable", "x"],
+    ["--ignore-label", "b0"],
+    ["--ignore-label", "b1", "--ignore-lock", "m"],
+]
 
 
 def body(chance, room):
@@ -83,7 +89,9 @@ def interleavings(counts):
 
 
 def ran(words, folder):
-    done = subprocess.run(words, cwd=folder, stdin=subprocess.DEVNULL, capture_output=True, text=True, timeout=60)
+    done = subprocess.run(
+        words, cwd=folder, stdin=subprocess.DEVNULL, capture_output=True, text=True, timeout=60
+    )
     return done.returncode, done.stdout, done.stderr
 
 
@@ -99,7 +107,9 @@ def seen(program, folder, option, schedule, left):
 
 def means_something(text, left):
     """Whether the workload has the names that are left out."""
-    return all(word.startswith("-") or "*" in word or re.search(r"\b%s\b" % word, text) for word in left)
+    return all(
+        word.startswith("-") or "*" in word or re.search(r"\b%s\b" % word, text) for word in left
+    )
 
 
 def judged(task):
@@ -113,7 +123,9 @@ def judged(task):
         with open(os.path.join(folder, "w.work"), "w", encoding="utf-8") as it:
             it.write(text)
         status, out, err = ran([program, "explore", "w.work"] + left, folder)
-        told = dict(line.split(" ", 1) if " " in line else (line, "") for line in out.splitlines()[2:5])
+        told = dict(
+            line.split(" ", 1) if " " in line else (line, "") for line in out.splitlines()[2:5]
+        )
         if set(told) != {"alarm", "stuck", "refused"} or "open" in told.values():
             return "%s%s%s(status %d)" % (text, out, err, status), left, set()
         found = set()
@@ -121,9 +133,19 @@ def judged(task):
             found |= seen(program, folder, "--schedule", " ".join(map(str, order)), left)
         for kind, said in told.items():
             if (said == "none") == (kind in found):
-                return "%s%s%s%s: replays say %s" % (text, left, out, kind, sorted(found)), left, found
-            if said != "none" and kind not in seen(program, folder, "--turns", turns_of(kind, said), left):
-                return "%s%s%s%s: its own schedule does not show it" % (text, left, out, kind), left, found
+                return (
+                    "%s%s%s%s: replays say %s" % (text, left, out, kind, sorted(found)),
+                    left,
+                    found,
+                )
+            if said != "none" and kind not in seen(
+                program, folder, "--turns", turns_of(kind, said), left
+            ):
+                return (
+                    "%s%s%s%s: its own schedule does not show it" % (text, left, out, kind),
+                    left,
+                    found,
+                )
     return None, left, found
 
 
@@ -141,7 +163,9 @@ def main(words):
     seed = words[2] if len(words) > 2 else "1"
     failed, kinds = 0, {}
     with multiprocessing.Pool() as pool:
-        for why, left, found in pool.imap_unordered(judged, [(program, number, seed) for number in range(count)]):
+        for why, left, found in pool.imap_unordered(
+            judged, [(program, number, seed) for number in range(count)]
+        ):
             for kind in found or ["none"]:
                 kind += " of what is left" if left else ""
                 kinds[kind] = kinds.get(kind, 0) + 1

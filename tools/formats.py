@@ -20,12 +20,23 @@ AUDITS = ([], ["--no-witness"], ["--counts"], ["--innermost", "--by-count", "--c
 EXPLANATIONS = ([], ["--ignore-lock", "0", "--ignore-variable", "0"], ["--ignore-locks"])
 EXPLORATIONS = ([], ["--first"], ["--states", "9"], ["--random", "20"])
 NUMBERS = "  lines below are its own; its values are the lines of the log that wrote them (0: none)"
-PREDICTIONS = (["--tries", "20"], ["--tries", "20", "--values"], ["--tries", "20", "--ignore-lock", "0", "--ignore-variable", "0"])
+PREDICTIONS = (
+    ["--tries", "20"],
+    ["--tries", "20", "--values"],
+    ["--tries", "20", "--ignore-lock", "0", "--ignore-variable", "0"],
+)
 
 
 def printed(program, command, log, words):
-    beside = [word for kind in ("names", "sites") if os.path.exists(log[:-3] + kind) for word in ("--" + kind, log[:-3] + kind)]
-    done = subprocess.run([program, command, log, *beside, *words], capture_output=True, check=False)
+    beside = [
+        word
+        for kind in ("names", "sites")
+        if os.path.exists(log[:-3] + kind)
+        for word in ("--" + kind, log[:-3] + kind)
+    ]
+    done = subprocess.run(
+        [program, command, log, *beside, *words], capture_output=True, check=False
+    )
     return done.stdout.decode(), done.returncode
 
 
@@ -36,7 +47,7 @@ def named(thing):
 def source_of(event):
     """The file and the line of an event's site FILE:LINE FUNCTION, or None: up to the first colon that a line follows as a word."""
     found = re.match(r"(.+?):([1-9][0-9]{0,9})(?= |$)", event["site"] or "", re.S)
-    return (found[1], int(found[2])) if found and int(found[2]) < 2 ** 31 else None
+    return (found[1], int(found[2])) if found and int(found[2]) < 2**31 else None
 
 
 def line_text(event):
@@ -53,41 +64,102 @@ def physical(location):
 def findings(program, log, words, status, answer):
     sarif, one = printed(program, "audit", log, [*words, "--format", "sarif"])
     junit, other = printed(program, "audit", log, [*words, "--format", "junit"])
-    results = [(result["message"]["text"], [physical(location) for location in result["locations"]],
-                [physical(location) for location in result.get("relatedLocations", [])])
-               for result in json.loads(sarif)["runs"][0]["results"]]
-    cases = [(case.get("name"), case.get("file"), case.get("line"), case[0].get("message") if len(case) else None)
-             for case in xml.etree.ElementTree.fromstring(junit.encode()).iter("testcase")]
-    blocks = [(f"block {named(block['label'])}", block["begin"], alarm["closing"]) for alarm in answer["alarms"] for block in alarm["blocks"]]
-    said = [f"{name}, from {line_text(begin)}, is not atomic: {line_text(closing)} closes a cycle" for name, begin, closing in blocks]
-    places = [[source for source in (source_of(begin), (answer["log"], begin["line"])) if source] for _, begin, _ in blocks]
+    results = [
+        (
+            result["message"]["text"],
+            [physical(location) for location in result["locations"]],
+            [physical(location) for location in result.get("relatedLocations", [])],
+        )
+        for result in json.loads(sarif)["runs"][0]["results"]
+    ]
+    cases = [
+        (
+            case.get("name"),
+            case.get("file"),
+            case.get("line"),
+            case[0].get("message") if len(case) else None,
+        )
+        for case in xml.etree.ElementTree.fromstring(junit.encode()).iter("testcase")
+    ]
+    blocks = [
+        (f"block {named(block['label'])}", block["begin"], alarm["closing"])
+        for alarm in answer["alarms"]
+        for block in alarm["blocks"]
+    ]
+    said = [
+        f"{name}, from {line_text(begin)}, is not atomic: {line_text(closing)} closes a cycle"
+        for name, begin, closing in blocks
+    ]
+    places = [
+        [source for source in (source_of(begin), (answer["log"], begin["line"])) if source]
+        for _, begin, _ in blocks
+    ]
     files = [(file, str(line)) if more else (None, None) for (file, line), *more in places]
-    return [what for what, right in (
-        ("status of findings", one == other == status),
-        ("sarif", results == [(text, place[:1], place[1:]) for text, place in zip(said, places)]),
-        ("junit", cases == ([(name, *file, text) for (name, _, _), file, text in zip(blocks, files, said)] or [("atomic", None, None, None)])),
-    ) if not right]
+    return [
+        what
+        for what, right in (
+            ("status of findings", one == other == status),
+            (
+                "sarif",
+                results == [(text, place[:1], place[1:]) for text, place in zip(said, places)],
+            ),
+            (
+                "junit",
+                cases
+                == (
+                    [(name, *file, text) for (name, _, _), file, text in zip(blocks, files, said)]
+                    or [("atomic", None, None, None)]
+                ),
+            ),
+        )
+        if not right
+    ]
 
 
 def audit_faults(program, log, words, text, status, answer):
-    listed = answer["counts"]["labels"] if answer["counts"] else [block for alarm in answer["alarms"] for block in alarm["blocks"]]
+    listed = (
+        answer["counts"]["labels"]
+        if answer["counts"]
+        else [block for alarm in answer["alarms"] for block in alarm["blocks"]]
+    )
     labels = list(dict.fromkeys("not atomic " + named(entry["label"]) for entry in listed))
     lines = text.splitlines()
-    closing = [f"  Line {alarm['closing']['line']} `{alarm['closing']['text']}`" for alarm in answer["alarms"]]
-    wrong = [what for what, right in (
-        ("labels", labels == [line for line in lines if line.startswith("not atomic ")]),
-        ("atomic", f"atomic {answer['atomic']} labels" in lines),
-        ("rounds", f"rounds {answer['rounds']}" in lines and len(answer["alarms"]) + 1 == answer["rounds"]),
-        ("verdict", (answer["verdict"] == "not atomic") == (status == 3)),
-        ("closing", "--no-witness" in words or "--counts" in words or all(any(line.startswith(at) for line in lines) for at in closing)),
-    ) if not right]
+    closing = [
+        f"  Line {alarm['closing']['line']} `{alarm['closing']['text']}`"
+        for alarm in answer["alarms"]
+    ]
+    wrong = [
+        what
+        for what, right in (
+            ("labels", labels == [line for line in lines if line.startswith("not atomic ")]),
+            ("atomic", f"atomic {answer['atomic']} labels" in lines),
+            (
+                "rounds",
+                f"rounds {answer['rounds']}" in lines
+                and len(answer["alarms"]) + 1 == answer["rounds"],
+            ),
+            ("verdict", (answer["verdict"] == "not atomic") == (status == 3)),
+            (
+                "closing",
+                "--no-witness" in words
+                or "--counts" in words
+                or all(any(line.startswith(at) for line in lines) for at in closing),
+            ),
+        )
+        if not right
+    ]
     return wrong + findings(program, log, words, status, answer)
 
 
 def left_out(asked):
-    locks = ["all locks"] if asked["all_locks"] else ["lock " + named(lock) for lock in asked["locks"]]
-    return (["left out label " + named(label) for label in asked["labels"]] + ["left out " + lock for lock in locks]
-            + ["left out variable " + named(variable) for variable in asked["variables"]])
+    locks = (
+        ["all locks"] if asked["all_locks"] else ["lock " + named(lock) for lock in asked["locks"]]
+    )
+    return (
+        ["left out label " + named(label) for label in asked["labels"]]
+        + ["left out " + lock for lock in locks]
+        + ["left out variable " + named(variable) for variable in asked["variables"]]
+    )
 
 
 def about(event):
@@ -101,7 +173,11 @@ def cycle(alarm):
 def transaction(number, one):
     first, last = one["first"], one["last"]
     kind = first["text"].split(" ", 1)[1]
-    block = "outside blocks" if not kind.startswith("begin ") else "block " + named({"number": kind[6:], "name": first["name"]})
+    block = (
+        "outside blocks"
+        if not kind.startswith("begin ")
+        else "block " + named({"number": kind[6:], "name": first["name"]})
+    )
     lines = f"line {first['line']}" if first == last else f"lines {first['line']} to {last['line']}"
     return f"  T{number}: thread {named(first['thread'])}, {block}, {lines}"
 
@@ -113,28 +189,44 @@ def place(event):
 def reasons(alarm):
     blames, closing = alarm["witness"]["reasons"], alarm["closing"]
     if not blames:
-        return ["No block alone is to blame: each can be brought together, but not all transactions at once."]
-    return [f"To blame in thread {named(closing['thread'])}:",
-            *(f"  block {named(one['block']['label'])}, from line {one['block']['begin']['line']}: {place(one['event'])}"
-              f" must come after its begin and before line {closing['line']}" for one in blames)]
+        return [
+            "No block alone is to blame: each can be brought together, but not all transactions at once."
+        ]
+    return [
+        f"To blame in thread {named(closing['thread'])}:",
+        *(
+            f"  block {named(one['block']['label'])}, from line {one['block']['begin']['line']}: {place(one['event'])}"
+            f" must come after its begin and before line {closing['line']}"
+            for one in blames
+        ),
+    ]
 
 
 def sources(alarm):
     """The lines that say where the events happened that the words mention."""
     witness = alarm["witness"]
-    events = ([alarm["closing"]] + [one[end] for one in witness["transactions"] for end in ("first", "last")]
-              + [edge[end]["event"] for edge in witness["edges"] for end in ("from", "to")]
-              + [event for one in witness["reasons"] for event in (one["event"], one["block"]["begin"])])
+    events = (
+        [alarm["closing"]]
+        + [one[end] for one in witness["transactions"] for end in ("first", "last")]
+        + [edge[end]["event"] for edge in witness["edges"] for end in ("from", "to")]
+        + [event for one in witness["reasons"] for event in (one["event"], one["block"]["begin"])]
+    )
     sites = {event["line"]: event["site"] for event in events if event["site"] is not None}
     return [f"{line:8}  {sites[line]}" for line in sorted(sites)]
 
 
 def words_of(alarm):
     transactions, edges = alarm["witness"]["transactions"], alarm["witness"]["edges"]
-    return [cycle(alarm)[2:], *(transaction(k + 1, one) for k, one in enumerate(transactions)),
-            "Each must come before the next, and the last before the first:",
-            *(f"  T{k + 1} before T{(k + 1) % len(edges) + 1}: {place(edge['from']['event'])}, then {place(edge['to']['event'])}"
-              for k, edge in enumerate(edges)), *reasons(alarm)]
+    return [
+        cycle(alarm)[2:],
+        *(transaction(k + 1, one) for k, one in enumerate(transactions)),
+        "Each must come before the next, and the last before the first:",
+        *(
+            f"  T{k + 1} before T{(k + 1) % len(edges) + 1}: {place(edge['from']['event'])}, then {place(edge['to']['event'])}"
+            for k, edge in enumerate(edges)
+        ),
+        *reasons(alarm),
+    ]
 
 
 def explanation_faults(program, log, words, text, status, answer):
@@ -144,26 +236,46 @@ def explanation_faults(program, log, words, text, status, answer):
     if alarm:
         expected += ["The blocks of this log cannot be serialized.", *words_of(alarm)]
         lanes = [k for k, line in enumerate(lines) if line.startswith("    line  ")][0]
-        lines = lines[:lanes] + lines[[k for k, line in enumerate(lines) if line.startswith("Line ")][0]:]
+        lines = (
+            lines[:lanes]
+            + lines[[k for k, line in enumerate(lines) if line.startswith("Line ")][0] :]
+        )
         if "In the source:" in lines:
             expected += ["In the source:", *sources(alarm)]
     else:
-        expected += ["The blocks of this log can be serialized.", f"Events: {serial['events']}",
-                     f"Transactions, which can follow one another: {serial['transactions']}"]
+        expected += [
+            "The blocks of this log can be serialized.",
+            f"Events: {serial['events']}",
+            f"Transactions, which can follow one another: {serial['transactions']}",
+        ]
     with open(log, encoding="utf-8") as it:
         events = sum(1 for line in it) - 1
-    return [what for what, right in (
-        ("lines", lines == expected),
-        ("events", answer["events"] == events),
-        ("verdict", (answer["verdict"] == "not serializable") == (status == 3) == (alarm is not None) == (serial is None)),
-    ) if not right]
+    return [
+        what
+        for what, right in (
+            ("lines", lines == expected),
+            ("events", answer["events"] == events),
+            (
+                "verdict",
+                (answer["verdict"] == "not serializable")
+                == (status == 3)
+                == (alarm is not None)
+                == (serial is None),
+            ),
+        )
+        if not right
+    ]
 
 
 def recorded(value, values):
     """What a read had in the log: a value of the program, or what a line wrote."""
     if values:
         return f"read {value} in the log"
-    return f"read in the log what line {value} there wrote" if value else "read in the log the start value"
+    return (
+        f"read in the log what line {value} there wrote"
+        if value
+        else "read in the log the start value"
+    )
 
 
 def sited(event):
@@ -173,41 +285,84 @@ def sited(event):
 
 def begins(alarm):
     """The lines that say where the blocks begin whose places are known."""
-    return [f"  block {named(block['label'])} begins at {block['begin']['site']}" for block in alarm["blocks"] if block["begin"]["site"] is not None]
+    return [
+        f"  block {named(block['label'])} begins at {block['begin']['site']}"
+        for block in alarm["blocks"]
+        if block["begin"]["site"] is not None
+    ]
 
 
 def told(prediction, values):
     """The lines of a prediction, up to the cycle."""
     if prediction["kind"] == "deadlock":
         first, last = [f"deadlock? {len(prediction['circle'])} threads wait in a circle"], [
-            f"  thread {named(one['thread'])} waits at {sited(one)}" for one in prediction["circle"]]
+            f"  thread {named(one['thread'])} waits at {sited(one)}" for one in prediction["circle"]
+        ]
     else:
         alarm = prediction["alarm"]
-        first, last = ["not atomic? " + named(block["label"]) for block in alarm["blocks"]] + begins(alarm), [cycle(alarm)]
-    return [*first, f"  witness {prediction['events']} events", *([] if values else [NUMBERS]),
-            *(f"  line {one['event']['line']} {sited(one['event'])} {recorded(one['recorded'], values)}" for one in prediction["differing"]), *last]
+        first, last = [
+            "not atomic? " + named(block["label"]) for block in alarm["blocks"]
+        ] + begins(alarm), [cycle(alarm)]
+    return [
+        *first,
+        f"  witness {prediction['events']} events",
+        *([] if values else [NUMBERS]),
+        *(
+            f"  line {one['event']['line']} {sited(one['event'])} {recorded(one['recorded'], values)}"
+            for one in prediction["differing"]
+        ),
+        *last,
+    ]
 
 
 def prediction_faults(program, log, words, text, status, answer):
     lines = text.splitlines()
-    heads = [line for line in lines if line[0] != " " or line.startswith(("  witness ", "  lines ", "  line ", "  thread ", "  Line "))
-             or re.match("  block .* begins at ", line)]
-    labels = [[*dict.fromkeys("not atomic " + named(block["label"]) for block in alarm["blocks"]), *begins(alarm)] for alarm in answer["alarms"]]
-    expected = (left_out(answer["left_out"])
-                + [line for some, alarm in zip(labels, answer["alarms"]) for line in (*some, cycle(alarm))]
-                + [line for prediction in answer["predictions"] for line in told(prediction, "--values" in words)]
-                + [f"nothing{' else' * answer['found']} found in {answer['tries']} tries"])
-    return [what for what, right in (
-        ("lines", heads == expected),
-        ("found", answer["found"] == bool(answer["alarms"] or answer["predictions"]) == (status == 3)),
-    ) if not right]
+    heads = [
+        line
+        for line in lines
+        if line[0] != " "
+        or line.startswith(("  witness ", "  lines ", "  line ", "  thread ", "  Line "))
+        or re.match("  block .* begins at ", line)
+    ]
+    labels = [
+        [
+            *dict.fromkeys("not atomic " + named(block["label"]) for block in alarm["blocks"]),
+            *begins(alarm),
+        ]
+        for alarm in answer["alarms"]
+    ]
+    expected = (
+        left_out(answer["left_out"])
+        + [line for some, alarm in zip(labels, answer["alarms"]) for line in (*some, cycle(alarm))]
+        + [
+            line
+            for prediction in answer["predictions"]
+            for line in told(prediction, "--values" in words)
+        ]
+        + [f"nothing{' else' * answer['found']} found in {answer['tries']} tries"]
+    )
+    return [
+        what
+        for what, right in (
+            ("lines", heads == expected),
+            (
+                "found",
+                answer["found"] == bool(answer["alarms"] or answer["predictions"]) == (status == 3),
+            ),
+        )
+        if not right
+    ]
 
 
 def finding_line(word, finding):
     """The line of a finding."""
     refusal = finding.get("refusal")
     about_it = [str(refusal["number"]), "thread", named(refusal["thread"])] if refusal else []
-    rest = [*about_it, *finding["turns"].split()] if finding["finding"] == "shown" else [{"never": "none", "open": "open"}[finding["finding"]]]
+    rest = (
+        [*about_it, *finding["turns"].split()]
+        if finding["finding"] == "shown"
+        else [{"never": "none", "open": "open"}[finding["finding"]]]
+    )
     return " ".join([word, *rest])
 
 
@@ -215,16 +370,40 @@ def exploration_faults(program, workload, words, text, status, answer):
     search, blame, lines = answer["search"], answer["blame"], text.splitlines()
     findings_of = {word: answer[word] for word in ("alarm", "stuck", "refused")}
     states = {word: finding["finding"] for word, finding in findings_of.items()}
-    expected = ([f"{word} {search[word]}" for word in (("events", "states") if search["kind"] == "exhaustive" else ("seed", "runs"))]
-                + [finding_line(word, finding) for word, finding in findings_of.items()]
-                + [f"to blame {one['label']['name']} ({one['alarms']} of {blame['alarms']} alarms)" for one in blame["labels"]]
-                + [f"never forked {one['name']}" for one in answer["never_forked"]])
-    return [what for what, right in (
-        ("lines", lines[:len(expected)] == expected),
-        ("report", (len(lines) > len(expected)) == ("shown" in states.values())),
-        ("decided", answer["decided"] == ("open" not in states.values())),
-        ("status", status == (3 if states["alarm"] == "shown" else 0 if set(states.values()) == {"never"} else 4)),
-    ) if not right]
+    expected = (
+        [
+            f"{word} {search[word]}"
+            for word in (
+                ("events", "states") if search["kind"] == "exhaustive" else ("seed", "runs")
+            )
+        ]
+        + [finding_line(word, finding) for word, finding in findings_of.items()]
+        + [
+            f"to blame {one['label']['name']} ({one['alarms']} of {blame['alarms']} alarms)"
+            for one in blame["labels"]
+        ]
+        + [f"never forked {one['name']}" for one in answer["never_forked"]]
+    )
+    return [
+        what
+        for what, right in (
+            ("lines", lines[: len(expected)] == expected),
+            ("report", (len(lines) > len(expected)) == ("shown" in states.values())),
+            ("decided", answer["decided"] == ("open" not in states.values())),
+            (
+                "status",
+                status
+                == (
+                    3
+                    if states["alarm"] == "shown"
+                    else 0
+                    if set(states.values()) == {"never"}
+                    else 4
+                ),
+            ),
+        )
+        if not right
+    ]
 
 
 def faults(program, command, log, words, validate):
@@ -234,9 +413,18 @@ def faults(program, command, log, words, validate):
         return [f"status {status}, {same}"]
     if out.count("\n") != 1 or not out.endswith("\n"):
         return ["not one line"]
-    answer, more = json.loads(out), {
-        "audit": audit_faults, "explain": explanation_faults, "explore": exploration_faults, "predict": prediction_faults}[command]
-    return more(program, log, words, text, status, answer) + [error.message for error in validate[command](answer)]
+    answer, more = (
+        json.loads(out),
+        {
+            "audit": audit_faults,
+            "explain": explanation_faults,
+            "explore": exploration_faults,
+            "predict": prediction_faults,
+        }[command],
+    )
+    return more(program, log, words, text, status, answer) + [
+        error.message for error in validate[command](answer)
+    ]
 
 
 def validators():
@@ -251,8 +439,13 @@ def validators():
         with open(os.path.join(DOCS, command + ".schema.json"), encoding="utf-8") as it:
             schemas[command] = json.load(it)
     known = referencing.Registry().with_resources(
-        (command + ".schema.json", referencing.Resource.from_contents(schema)) for command, schema in schemas.items())
-    return {command: jsonschema.Draft202012Validator(schema, registry=known).iter_errors for command, schema in schemas.items()}
+        (command + ".schema.json", referencing.Resource.from_contents(schema))
+        for command, schema in schemas.items()
+    )
+    return {
+        command: jsonschema.Draft202012Validator(schema, registry=known).iter_errors
+        for command, schema in schemas.items()
+    }
 
 
 def main(words):
@@ -260,10 +453,19 @@ def main(words):
         print(__doc__)
         return 2
     validate, passed, failed = validators(), 0, 0
-    tries = [(command, choice) for command, choices in (("audit", AUDITS), ("explain", EXPLANATIONS), ("predict", PREDICTIONS))
-             for choice in choices]
+    tries = [
+        (command, choice)
+        for command, choices in (
+            ("audit", AUDITS),
+            ("explain", EXPLANATIONS),
+            ("predict", PREDICTIONS),
+        )
+        for choice in choices
+    ]
     for log in words[1:]:
-        for command, choice in [("explore", choice) for choice in EXPLORATIONS] if log.endswith(".work") else tries:
+        for command, choice in (
+            [("explore", choice) for choice in EXPLORATIONS] if log.endswith(".work") else tries
+        ):
             wrong = faults(os.path.abspath(words[0]), command, log, choice, validate)
             passed, failed = passed + (not wrong), failed + bool(wrong)
             if wrong:

@@ -47,7 +47,9 @@ def seconds_of(crate):
 
 def main():
     arguments = argparse.ArgumentParser(description=__doc__.splitlines()[0])
-    arguments.add_argument("--functions", type=int, default=3, metavar="N", help="how many functions of each crate (3)")
+    arguments.add_argument(
+        "--functions", type=int, default=3, metavar="N", help="how many functions of each crate (3)"
+    )
     arguments.add_argument("crates", nargs="*", metavar="NAME")
     given = arguments.parse_args()
     times = {crate: seconds_of(crate) for crate in given.crates or sorted(os.listdir(TOP))}
@@ -57,7 +59,9 @@ def main():
     print("| Crate | s | Longest |")
     print("|---|---|---|")
     for crate, seconds in sorted(times.items(), key=lambda it: -sum(it[1].values())):
-        longest = ", ".join(f"{name} {value:.0f}" for name, value in seconds.most_common(given.functions))
+        longest = ", ".join(
+            f"{name} {value:.0f}" for name, value in seconds.most_common(given.functions)
+        )
         print(f"| {crate} | {sum(seconds.values()):.0f} | {longest} |")
     print(f"| all | {sum(sum(it.values()) for it in times.values()):.0f} | |")
 

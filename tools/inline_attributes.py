@@ -11,7 +11,11 @@ import re
 import sys
 
 TOP = os.path.join(os.path.dirname(os.path.abspath(__file__)), "..")
-ATTRIBUTES = {"#[inline(always)]": "alwaysinline", "#[inline]": "inlinehint", "#[inline(never)]": "noinline"}
+ATTRIBUTES = {
+    "#[inline(always)]": "alwaysinline",
+    "#[inline]": "inlinehint",
+    "#[inline(never)]": "noinline",
+}
 FUNCTION = re.compile(r"(\s*)(?:pub(?:\(\w+\))?\s+)?(?:unsafe\s+)?fn\s+(\w+)")
 IMPLEMENTATION = re.compile(r"impl(?:<[^>]*>)?\s+(?:[\w:<>]+\s+for\s+)?(\w+)")
 
@@ -43,7 +47,11 @@ def as_proved(line, attributes):
         attribute = attributes.get(name[1]) or attributes.get(re.sub(r"::<.*$", "", name[1]))
         return re.sub(r"\) (#\d+)", rf") {attribute} \1", line, count=1) if attribute else line
     if line.startswith("attributes #"):
-        line = re.sub(r' sanitize_address| "frame-pointer"="all"| "probe-stack"="[^"]*"| "stack-probe-size"="\d+"', "", line)
+        line = re.sub(
+            r' sanitize_address| "frame-pointer"="all"| "probe-stack"="[^"]*"| "stack-probe-size"="\d+"',
+            "",
+            line,
+        )
         return line.replace("{ }", '{ "frame-pointer"="none" }')
     return line
 

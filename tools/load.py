@@ -94,7 +94,14 @@ def main():
     words.add_argument("--rounds", type=int, default=40)
     words.add_argument("--seed", type=int, default=1)
     asked = words.parse_args()
-    end, seed, seen, events, longest, wrong = time.time() + asked.seconds, asked.seed, {0: 0, 3: 0}, 0, 0.0, 0
+    end, seed, seen, events, longest, wrong = (
+        time.time() + asked.seconds,
+        asked.seed,
+        {0: 0, 3: 0},
+        0,
+        0.0,
+        0,
+    )
     with tempfile.TemporaryDirectory() as folder:
         work, log = os.path.join(folder, "it.work"), os.path.join(folder, "it.log")
         while time.time() < end:
@@ -104,21 +111,37 @@ def main():
                 it.write(text)
             at = time.time()
             try:
-                ran = subprocess.run([asked.program, "run", work, *LIMITS, "--log", log], capture_output=True, text=True, timeout=120)
+                ran = subprocess.run(
+                    [asked.program, "run", work, *LIMITS, "--log", log],
+                    capture_output=True,
+                    text=True,
+                    timeout=120,
+                )
             except subprocess.TimeoutExpired:
                 print(f"seed {seed}: no end within 120 seconds")
                 return 1
             longest = max(longest, time.time() - at)
-            again = subprocess.run([asked.program, "check", log, *LIMITS], capture_output=True, text=True, timeout=120)
+            again = subprocess.run(
+                [asked.program, "check", log, *LIMITS], capture_output=True, text=True, timeout=120
+            )
             same = sorted(again.stdout.split("\n")) == numbered(text, ran.stdout)
-            if ran.returncode not in seen or again.returncode != ran.returncode or not same or (kept and ran.returncode):
-                print(f"seed {seed}: run {ran.returncode} {ran.stderr.strip()}, check {again.returncode} {again.stderr.strip()}, same {same}, kept {kept}")
+            if (
+                ran.returncode not in seen
+                or again.returncode != ran.returncode
+                or not same
+                or (kept and ran.returncode)
+            ):
+                print(
+                    f"seed {seed}: run {ran.returncode} {ran.stderr.strip()}, check {again.returncode} {again.stderr.strip()}, same {same}, kept {kept}"
+                )
                 wrong += 1
             else:
                 seen[ran.returncode] += 1
                 events += int(ran.stdout.split()[1])
             seed += 1
-    print(f"{sum(seen.values())} runs agree, {wrong} do not: {seen[3]} with an alarm, {seen[0]} without, {events} events, the longest {longest:.1f} s")
+    print(
+        f"{sum(seen.values())} runs agree, {wrong} do not: {seen[3]} with an alarm, {seen[0]} without, {events} events, the longest {longest:.1f} s"
+    )
     return 1 if wrong else 0
 
 

@@ -37,10 +37,19 @@ def functions_of(file, text):
     """The functions of a file that `rt fmt` laid out, those inside others left out."""
     lines, found, after = text.splitlines(), [], 0
     for number, line in enumerate(lines):
-        head = re.match(r"( *)(?:pub(?:\([^)]*\))? )?(?:const |unsafe |extern \"C\" )*fn (\w+)", line)
+        head = re.match(
+            r"( *)(?:pub(?:\([^)]*\))? )?(?:const |unsafe |extern \"C\" )*fn (\w+)", line
+        )
         if number < after or not head:
             continue
-        end = next((at for at in range(number, len(lines)) if lines[at] == head[1] + "}" or at > number and lines[at] == head[1] + "{}"), number)
+        end = next(
+            (
+                at
+                for at in range(number, len(lines))
+                if lines[at] == head[1] + "}" or at > number and lines[at] == head[1] + "{}"
+            ),
+            number,
+        )
         found.append(Function(file, head[2], number + 1, end + 1))
         after = end + 1
     return found
@@ -50,16 +59,27 @@ def owner_of(lines, first):
     """What the prover calls the type of the method on this line, with the trait, or "" where it is no method."""
     if not lines[first - 1].startswith(" "):
         return ""
-    head = next((it for it in reversed(lines[: first - 1]) if re.match(r"(unsafe )?(impl|(pub )?trait)\b", it)), "")
+    head = next(
+        (
+            it
+            for it in reversed(lines[: first - 1])
+            if re.match(r"(unsafe )?(impl|(pub )?trait)\b", it)
+        ),
+        "",
+    )
     parts = re.match(r"(?:unsafe |pub )*(?:impl|trait)(<.*?>)? ?(.*)", head)
     parameters = re.findall(r"\w+", parts[1] or "") if parts else []
     types = reversed(parts[2].split(" for ")) if parts else []
-    return "".join(word for it in types for word in re.findall(r"\b[A-Z]\w*", it) if word not in parameters)
+    return "".join(
+        word for it in types for word in re.findall(r"\b[A-Z]\w*", it) if word not in parameters
+    )
 
 
 def path_of(file, name, first, lines):
     """The path of a function, as `rt check --only` takes it."""
-    modules = [it for it in re.sub(r"^src/|\.rt$", "", file).split("/") if it not in ("lib", "main", "mod")]
+    modules = [
+        it for it in re.sub(r"^src/|\.rt$", "", file).split("/") if it not in ("lib", "main", "mod")
+    ]
     return "::".join([*modules, *filter(None, [owner_of(lines, first)]), name])
 
 
@@ -95,7 +115,15 @@ def batches_of(edits):
     """The edits in as few batches as it takes so that no two of one batch are of one function."""
     batches = []
     for edit in edits:
-        fit = next((it for it in batches if edit.functions and all(other.functions and not other.functions & edit.functions for other in it)), None)
+        fit = next(
+            (
+                it
+                for it in batches
+                if edit.functions
+                and all(other.functions and not other.functions & edit.functions for other in it)
+            ),
+            None,
+        )
         if fit is None:
             batches.append([edit])
         else:
@@ -109,7 +137,12 @@ def told_of(said, names):
     for file, line, _, text in said:
         if file.startswith("proofs/"):
             parts = os.path.dirname(file).split("/")[1:]
-            is_of = any(parts and parts[-1] == name and "/".join(parts).startswith(re.sub(r"^src/|\.rt$", "", of)) for of, name, _, _ in names)
+            is_of = any(
+                parts
+                and parts[-1] == name
+                and "/".join(parts).startswith(re.sub(r"^src/|\.rt$", "", of))
+                for of, name, _, _ in names
+            )
         else:
             is_of = any(of == file and first <= int(line) <= last for of, _, first, last in names)
         if is_of:
@@ -131,7 +164,11 @@ class Copy:
         self.room = tempfile.mkdtemp(prefix="plants-")
         for name in ("crates.txt", "HANDLES"):
             shutil.copy2(f"{TOP}/{name}", self.room)
-        shutil.copytree(f"{TOP}/crates", f"{self.room}/crates", ignore=shutil.ignore_patterns("out", "must-fail"))
+        shutil.copytree(
+            f"{TOP}/crates",
+            f"{self.room}/crates",
+            ignore=shutil.ignore_patterns("out", "must-fail"),
+        )
         for name in os.listdir(f"{TOP}/crates"):
             built = f"{TOP}/crates/{name}/out/rlib"
             if os.path.isdir(built):
@@ -154,8 +191,15 @@ class Copy:
             with open(f"{folder}/{edit.file}", encoding="utf-8") as source:
                 text = source.read()
             names = {name for _, name, _ in edit.functions or ()}
-            places[edit] = [(it.file, it.name, it.first, it.last) for it in functions_of(edit.file, text) if it.name in names]
-            paths |= {path_of(file, name, first, text.splitlines()) for file, name, first, _ in places[edit]}
+            places[edit] = [
+                (it.file, it.name, it.first, it.last)
+                for it in functions_of(edit.file, text)
+                if it.name in names
+            ]
+            paths |= {
+                path_of(file, name, first, text.splitlines())
+                for file, name, first, _ in places[edit]
+            }
         is_known = all(places[it] for it in applied)
         ran = checked(folder, sorted(paths) if is_known else [])
         # a path that the prover does not know, or an edit that these functions alone do not refuse
@@ -168,13 +212,23 @@ class Copy:
 def checked(folder, paths):
     """What a check of the crate says, of these functions or, where none is given, of all."""
     only = [word for path in paths for word in ("--only", path)]
-    return subprocess.run(["rt", "check", "--jobs", "1", *only], cwd=folder, stdin=subprocess.DEVNULL, stdout=subprocess.PIPE, stderr=subprocess.STDOUT, errors="replace")
+    return subprocess.run(
+        ["rt", "check", "--jobs", "1", *only],
+        cwd=folder,
+        stdin=subprocess.DEVNULL,
+        stdout=subprocess.PIPE,
+        stderr=subprocess.STDOUT,
+        errors="replace",
+    )
 
 
 def judged(copy, crate, batch):
     """What became of each edit of a batch."""
     ran, said, places = copy.try_edits(crate, batch)
-    has_judged = re.search(r"^(logic=not-proved|only=\d+ proved=)", ran.stdout, re.MULTILINE) or ran.returncode == 0
+    has_judged = (
+        re.search(r"^(logic=not-proved|only=\d+ proved=)", ran.stdout, re.MULTILINE)
+        or ran.returncode == 0
+    )
     if len(batch) == 1:
         edit = batch[0]
         if edit not in places:
@@ -182,9 +236,20 @@ def judged(copy, crate, batch):
         if ran.returncode == 0:
             return {edit: ("NOT REFUSED", "the crate is still proved")}
         if not has_judged:
-            return {edit: ("BAD", next((line for line in ran.stdout.splitlines() if "error" in line), ran.stdout[-200:])[:160])}
+            return {
+                edit: (
+                    "BAD",
+                    next(
+                        (line for line in ran.stdout.splitlines() if "error" in line),
+                        ran.stdout[-200:],
+                    )[:160],
+                )
+            }
         verdict = verdict_on([text for _, _, _, text in said])
-        unproved = next((line for line in ran.stdout.splitlines() if ": no proof" in line), "it says nothing of a goal")
+        unproved = next(
+            (line for line in ran.stdout.splitlines() if ": no proof" in line),
+            "it says nothing of a goal",
+        )
         return {edit: verdict if verdict[0] else ("BAD", unproved[:160])}
     if not has_judged:
         # one of them does not compile
@@ -197,7 +262,9 @@ def judged(copy, crate, batch):
 
 
 def main():
-    names = sys.argv[1:] or sorted(it for it in os.listdir(f"{TOP}/crates") if os.path.isdir(f"{TOP}/crates/{it}/plants"))
+    names = sys.argv[1:] or sorted(
+        it for it in os.listdir(f"{TOP}/crates") if os.path.isdir(f"{TOP}/crates/{it}/plants")
+    )
     unknown = [it for it in names if not os.path.isdir(f"{TOP}/crates/{it}/plants")]
     if unknown:
         print(f"plants: crates/{unknown[0]} has no folder plants", file=sys.stderr)
@@ -206,11 +273,18 @@ def main():
     try:
         for crate in names:
             folder = f"{TOP}/crates/{crate}"
-            paths = sorted(f"{folder}/plants/{it}" for it in os.listdir(f"{folder}/plants") if it.endswith(".edit"))
+            paths = sorted(
+                f"{folder}/plants/{it}"
+                for it in os.listdir(f"{folder}/plants")
+                if it.endswith(".edit")
+            )
             bad = {it: trouble(it) for it in paths}
             lines = [("BAD", os.path.basename(it), why) for it, why in bad.items() if why]
             for batch in batches_of([Edit(it, folder) for it in paths if not bad[it]]):
-                lines += [(what, edit.name, why) for edit, (what, why) in judged(copy, crate, batch).items()]
+                lines += [
+                    (what, edit.name, why)
+                    for edit, (what, why) in judged(copy, crate, batch).items()
+                ]
             copy.restored(crate)
             for what, edit, why in lines:
                 counts[what] = counts.get(what, 0) + 1

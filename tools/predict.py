@@ -22,14 +22,28 @@ MAX_EVENTS = 70
 
 # ---- programs: a thread is a list of steps, of which those in capitals are events
 
-READ, WRITE, ACQUIRE, RELEASE, BEGIN, END, FORK, JOIN, EXIT = "rd", "wr", "acq", "rel", "begin", "end", "fork", "join", "exit"
+READ, WRITE, ACQUIRE, RELEASE, BEGIN, END, FORK, JOIN, EXIT = (
+    "rd",
+    "wr",
+    "acq",
+    "rel",
+    "begin",
+    "end",
+    "fork",
+    "join",
+    "exit",
+)
 
 
 def statements(draw, room, shape, held, depth, in_block):
     """Some steps. A branch goes over its steps where the register does not pass its test. Locks nest in one order, or in any."""
     steps = []
     for _ in range(room):
-        x, register, pick = draw.randrange(shape["variables"]), draw.randrange(3), draw.randrange(10)
+        x, register, pick = (
+            draw.randrange(shape["variables"]),
+            draw.randrange(3),
+            draw.randrange(10),
+        )
         if pick < 2:
             steps.append((READ, x, register))
         elif pick == 2:
@@ -37,14 +51,24 @@ def statements(draw, room, shape, held, depth, in_block):
         elif pick == 3:
             steps += [("add", register, 1), (WRITE, x, register)]
         elif pick < 7 and depth < 3:
-            free = [m for m in range(shape["locks"]) if m not in held and (shape["any_order"] or all(m > other for other in held))]
+            free = [
+                m
+                for m in range(shape["locks"])
+                if m not in held and (shape["any_order"] or all(m > other for other in held))
+            ]
             if free:
                 m = draw.choice(free)
-                inside = statements(draw, draw.randrange(1, 3), shape, held | {m}, depth + 1, in_block)
+                inside = statements(
+                    draw, draw.randrange(1, 3), shape, held | {m}, depth + 1, in_block
+                )
                 steps += [(ACQUIRE, m), *inside, (RELEASE, m)]
         elif pick < 9 and depth < 3:
             inside = statements(draw, draw.randrange(1, 3), shape, held, depth + 1, in_block)
-            steps += [(READ, x, register), ("unless", register, draw.randrange(2), draw.random() < 0.5, len(inside)), *inside]
+            steps += [
+                (READ, x, register),
+                ("unless", register, draw.randrange(2), draw.random() < 0.5, len(inside)),
+                *inside,
+            ]
         elif not in_block and depth == 0:
             inside = statements(draw, draw.randrange(1, 4), shape, held, depth, True)
             steps += [(BEGIN, draw.randrange(3)), *inside, (END,)]
@@ -54,8 +78,15 @@ def statements(draw, room, shape, held, depth, in_block):
 
 
 def program(draw):
-    shape = {"variables": draw.randrange(1, 3), "locks": draw.randrange(1, 3), "any_order": draw.random() < 0.3}
-    threads = [statements(draw, draw.randrange(1, 4), shape, frozenset(), 0, False) for _ in range(draw.choice([2, 2, 3]))]
+    shape = {
+        "variables": draw.randrange(1, 3),
+        "locks": draw.randrange(1, 3),
+        "any_order": draw.random() < 0.3,
+    }
+    threads = [
+        statements(draw, draw.randrange(1, 4), shape, frozenset(), 0, False)
+        for _ in range(draw.choice([2, 2, 3]))
+    ]
     numbers = range(1, len(threads) + 1)
     main = [(FORK, u) for u in numbers] + [(JOIN, u) for u in numbers]
     return {"shape": shape, "threads": [steps + [(EXIT,)] for steps in [main, *threads]]}
@@ -66,9 +97,11 @@ def quiet(steps, place, registers):
     while place < len(steps):
         step = steps[place]
         if step[0] == "set":
-            registers = registers[:step[1]] + (step[2],) + registers[step[1] + 1:]
+            registers = registers[: step[1]] + (step[2],) + registers[step[1] + 1 :]
         elif step[0] == "add":
-            registers = registers[:step[1]] + (registers[step[1]] + step[2],) + registers[step[1] + 1:]
+            registers = (
+                registers[: step[1]] + (registers[step[1]] + step[2],) + registers[step[1] + 1 :]
+            )
         elif step[0] == "unless":
             if (registers[step[1]] == step[2]) != step[3]:
                 place += step[4]
@@ -110,9 +143,14 @@ class State:
 
     def after(self, t, event):
         state = State.__new__(State)
-        state.program, state.values, state.holders, state.status = self.program, self.values, self.holders, self.status
+        state.program, state.values, state.holders, state.status = (
+            self.program,
+            self.values,
+            self.holders,
+            self.status,
+        )
         place, registers = self.threads[t]
-        put = lambda items, at, item: items[:at] + (item,) + items[at + 1:]
+        put = lambda items, at, item: items[:at] + (item,) + items[at + 1 :]
         if event[0] == READ:
             registers = put(registers, self.program["threads"][t][place][2], event[2])
         elif event[0] == WRITE:
@@ -140,13 +178,16 @@ def recorded(draw, program):
     """The events of a run, in which each turn is mostly that of the same thread."""
     state, events, last = State(program), [], 0
     while able := state.able():
-        t, event = next((it for it in able if it[0] == last and draw.random() < 0.9), None) or draw.choice(able)
+        t, event = next(
+            (it for it in able if it[0] == last and draw.random() < 0.9), None
+        ) or draw.choice(able)
         state, last = state.after(t, event), t
         events.append((t, event))
     return events
 
 
 # ---- what all runs show: blocks that are not self-serializable, threads that wait in a circle
+
 
 def touched(t, event):
     """The groups that the event is of: those of a thread, a lock, the writes of a variable, or its reads."""
@@ -168,7 +209,8 @@ def meets(groups, t, event):
 
 def follow(blocks, t, event):
     """The blocks that are open after the event, each with the groups that it touched and those of others' events behind it; and the
-    labels of the blocks that the event parts: it is in the block, and behind an event of another thread that is behind the block."""
+    labels of the blocks that the event parts: it is in the block, and behind an event of another thread that is behind the block.
+    """
     rest, parted = [], set()
     for owner, label, own, others in blocks:
         if owner == t:
@@ -214,7 +256,10 @@ def shown(program):
         for t, event in state.able():
             after, parted = follow(blocks, t, event)
             labels |= parted
-            after = tuple((owner, label, frozenset(own), frozenset(others)) for owner, label, own, others in after)
+            after = tuple(
+                (owner, label, frozenset(own), frozenset(others))
+                for owner, label, own, others in after
+            )
             behind = state.after(t, event)
             key = behind.key(), after
             if key not in seen:
@@ -227,17 +272,25 @@ def shown(program):
 
 # ---- logs made by chance alone
 
+
 def drawn(draw):
     """A log in which each thread does whatever it can, and writes one of two values."""
     shape = {"variables": 2, "locks": 2, "any_order": True}
     count = draw.choice([2, 3])
-    values, holders, depth, events = [0, 0], [None, None], [0] * count, [(0, (FORK, u)) for u in range(1, count)]
+    values, holders, depth, events = (
+        [0, 0],
+        [None, None],
+        [0] * count,
+        [(0, (FORK, u)) for u in range(1, count)],
+    )
     last = 0
     for _ in range(draw.randrange(6, 30)):
         t = last if draw.random() < 0.7 else draw.randrange(count)
         x, m = draw.randrange(2), draw.randrange(2)
         can = [(READ, x, values[x]), (WRITE, x, draw.randrange(2))]
-        can += [(ACQUIRE, m)] if holders[m] is None else [(RELEASE, m)] * 3 if holders[m] == t else []
+        can += (
+            [(ACQUIRE, m)] if holders[m] is None else [(RELEASE, m)] * 3 if holders[m] == t else []
+        )
         can += [(BEGIN, draw.randrange(3))] * 2 if depth[t] < 2 else []
         can += [(END,)] if depth[t] else []
         event, last = draw.choice(can), t
@@ -251,6 +304,7 @@ def drawn(draw):
 
 
 # ---- a judge: whether a log foretells a trace
+
 
 def renewed(events):
     """A write writes the number of its line, and a read has the latest value."""
@@ -329,8 +383,11 @@ class Judge:
 
 # ---- the program under test
 
+
 def text_of(shape, events):
-    threads = 1 + max([0] + [t for t, _ in events] + [event[1] for _, event in events if event[0] in (FORK, JOIN)])
+    threads = 1 + max(
+        [0] + [t for t, _ in events] + [event[1] for _, event in events if event[0] in (FORK, JOIN)]
+    )
     lines = [f"vlog 2 {threads} {shape['variables']} {shape['locks']}"]
     return "\n".join(lines + [" ".join(map(str, (t, *event))) for t, event in events]) + "\n"
 
@@ -349,7 +406,11 @@ def told_by(text):
     """The labels of the log itself, those of rounds without a block to blame, and the lines of each prediction."""
     own, idle, predictions, before = [], [], [], ""
     for line in text.splitlines():
-        if line.startswith("deadlock? ") or line.startswith("not atomic? ") and not before.startswith("not atomic? "):
+        if (
+            line.startswith("deadlock? ")
+            or line.startswith("not atomic? ")
+            and not before.startswith("not atomic? ")
+        ):
             predictions.append([line])
         elif predictions and not line.startswith("nothing "):
             predictions[-1].append(line)
@@ -377,9 +438,15 @@ def see_witness(exe, log, prediction, out):
     status, text, fault = ran(exe, "check", out)
     report = [line.split() for line in text.splitlines()]
     if labels_of(prediction):
-        closing = next(int(line.split()[1]) - 2 for line in prediction if line.startswith("  Line "))
+        closing = next(
+            int(line.split()[1]) - 2 for line in prediction if line.startswith("  Line ")
+        )
         blamed = [int(words[2]) for words in report if words[0] == "blame" and words[1] != "none"]
-        if status != 3 or ["verdict", "alarm", str(closing)] not in report or blamed != labels_of(prediction):
+        if (
+            status != 3
+            or ["verdict", "alarm", str(closing)] not in report
+            or blamed != labels_of(prediction)
+        ):
             raise Wrong(f"check says otherwise: {text}{fault}")
         return
     circle = [event_of(line.split("`")[1]) for line in prediction if " waits at `" in line]
@@ -398,9 +465,20 @@ def tell_all(exe, shape, events, values, folder):
         open(known, "w", encoding="utf-8").write("".join(f"{label}\n" for label in left))
         if os.path.exists(out):
             os.remove(out)
-        status, text, fault = ran(exe, "predict", log, "--log", out, "--not-atomic", known, *(["--values"] if values else []))
+        status, text, fault = ran(
+            exe,
+            "predict",
+            log,
+            "--log",
+            out,
+            "--not-atomic",
+            known,
+            *(["--values"] if values else []),
+        )
         own, idle, predictions = told_by(text)
-        if status != (3 if own or idle or predictions else 0) or os.path.exists(out) != bool(predictions):
+        if status != (3 if own or idle or predictions else 0) or os.path.exists(out) != bool(
+            predictions
+        ):
             raise Wrong(f"status {status}: {text}{fault}")
         if not text.endswith(" tries\n"):
             raise Wrong(f"no end: {text}")
@@ -409,7 +487,12 @@ def tell_all(exe, shape, events, values, folder):
         if predictions:
             witnesses += 1
             try:
-                see_witness(exe, without(events if values else renewed(events), left + own + idle), predictions[0], out)
+                see_witness(
+                    exe,
+                    without(events if values else renewed(events), left + own + idle),
+                    predictions[0],
+                    out,
+                )
             except Wrong as wrong:
                 raise Wrong(f"{wrong}\n{text}") from None
         if not predictions or not labels_of(predictions[0]):
@@ -446,14 +529,28 @@ def main(words):
                     told, circle, some = tell_all(exe, shape, events, values, folder)
                     witnesses += some
                     if truth and (told - truth[0] or circle and not truth[1]):
-                        raise Wrong(f"told {sorted(told)} {circle}, but runs show {sorted(truth[0])} {truth[1]}")
+                        raise Wrong(
+                            f"told {sorted(told)} {circle}, but runs show {sorted(truth[0])} {truth[1]}"
+                        )
                 except Wrong as wrong:
                     failed += 1
-                    print(text_of(shape, events) + str(wrong), "with --values" if values else "", flush=True)
+                    print(
+                        text_of(shape, events) + str(wrong),
+                        "with --values" if values else "",
+                        flush=True,
+                    )
                     continue
                 if truth and not values:
-                    counts = counts[0] + len(truth[0]), counts[1] + len(told), counts[2] + truth[1], counts[3] + circle
-    print("%d labels are to blame, %d were told from one log each; %d programs come to a circle, %d were told" % counts)
+                    counts = (
+                        counts[0] + len(truth[0]),
+                        counts[1] + len(told),
+                        counts[2] + truth[1],
+                        counts[3] + circle,
+                    )
+    print(
+        "%d labels are to blame, %d were told from one log each; %d programs come to a circle, %d were told"
+        % counts
+    )
     print(f"{programs} programs, {logs} logs by chance, {witnesses} witnesses")
     print(f"{2 * (programs + logs) - failed} passed, {failed} failed")
     return 1 if failed else 0

@@ -29,7 +29,11 @@ WORKLOAD = f"var x\nlock m\nthread main\nfork a\n{ROUNDS}join a\nthread a\n{ROUN
 
 
 def copy_repository(folder):
-    shutil.copytree(os.path.join(ROOT, "crates"), os.path.join(folder, "crates"), ignore=shutil.ignore_patterns("out"))
+    shutil.copytree(
+        os.path.join(ROOT, "crates"),
+        os.path.join(folder, "crates"),
+        ignore=shutil.ignore_patterns("out"),
+    )
     for name in ("crates.txt", "HANDLES"):
         shutil.copy(os.path.join(ROOT, name), folder)
 
@@ -50,7 +54,9 @@ def run(folder):
     with open(os.path.join(crate, "work"), "w", encoding="utf-8") as file:
         file.write(WORKLOAD)
     command = ["rt", "try", "--", "run", "work"]
-    tried = subprocess.run(command, cwd=crate, stdin=subprocess.DEVNULL, capture_output=True, text=True, check=False)
+    tried = subprocess.run(
+        command, cwd=crate, stdin=subprocess.DEVNULL, capture_output=True, text=True, check=False
+    )
     return tried.returncode, tried.stdout, tried.stderr
 
 

@@ -23,20 +23,28 @@ class Run:
 
     def __init__(self, draw):
         self.draw = draw
-        self.threads, self.variables, self.locks = draw.randint(2, 4), draw.randint(1, 3), draw.randint(1, 3)
+        self.threads, self.variables, self.locks = (
+            draw.randint(2, 4),
+            draw.randint(1, 3),
+            draw.randint(1, 3),
+        )
         self.values = [0] * self.variables
         self.holders = {}
         self.open = [[] for _ in range(self.threads)]
         self.events = [(0, f"fork {thread}", None) for thread in range(1, self.threads)]
         for _ in range(draw.randint(5, 40)):
-            draw.choice([self.access, self.access, self.acquire, self.release, self.begin, self.end])(draw.randrange(self.threads))
+            draw.choice(
+                [self.access, self.access, self.acquire, self.release, self.begin, self.end]
+            )(draw.randrange(self.threads))
 
     def access(self, thread):
         variable = self.draw.randrange(self.variables)
         word = self.draw.choice(["rd", "wr"])
         if word == "wr":
             self.values[variable] = self.draw.randint(0, 5)
-        self.events.append((thread, f"{word} {variable} {self.values[variable]}", ("variable", variable)))
+        self.events.append(
+            (thread, f"{word} {variable} {self.values[variable]}", ("variable", variable))
+        )
 
     def acquire(self, thread):
         lock = self.draw.randrange(self.locks)
@@ -63,14 +71,21 @@ class Run:
     def text(self, places):
         """The text of a log of the events at these places."""
         lines = [f"vlog 2 {self.threads} {self.variables} {self.locks}"]
-        lines += [f"{thread} {words}" for thread, words, _ in (self.events[place] for place in places)]
+        lines += [
+            f"{thread} {words}" for thread, words, _ in (self.events[place] for place in places)
+        ]
         return "".join(f"{line}\n" for line in lines)
 
 
 def drawn(draw, run):
     """What is left out, as pairs of a kind and a number, or of a kind and `all`."""
     kinds = {"lock": range(run.locks), "variable": range(run.variables), "label": LABELS}
-    some = {(kind, number) for kind, numbers in kinds.items() for number in numbers if draw.random() < 0.3}
+    some = {
+        (kind, number)
+        for kind, numbers in kinds.items()
+        for number in numbers
+        if draw.random() < 0.3
+    }
     return some | ({("lock", "all")} if draw.random() < 0.3 else set())
 
 
@@ -79,7 +94,13 @@ def options_of(draw, omitted, path):
     lines, options = [], []
     for kind, number in sorted(omitted, key=str):
         if draw.random() < 0.5:
-            lines.append("all locks" if number == "all" else str(number) if kind == "label" else f"{kind} {number}")
+            lines.append(
+                "all locks"
+                if number == "all"
+                else str(number)
+                if kind == "label"
+                else f"{kind} {number}"
+            )
         else:
             options += ["--ignore-locks"] if number == "all" else [f"--ignore-{kind}", str(number)]
     if lines:
@@ -90,7 +111,9 @@ def options_of(draw, omitted, path):
 
 
 def judge(program, command, options, text):
-    done = subprocess.run([program, command, "-", *options], input=text, capture_output=True, text=True, check=False)
+    done = subprocess.run(
+        [program, command, "-", *options], input=text, capture_output=True, text=True, check=False
+    )
     return done.returncode, done.stdout
 
 
@@ -122,7 +145,9 @@ def sited(draw, events, path):
     known = ("bank.c:12 deposit", "src/a b.c:7 audit")
     sites = [draw.randint(0, len(known)) for _ in events]
     with open(path, "w", encoding="utf-8") as it:
-        it.write("".join(f"{line}\n" for line in (f"vsites 1 {len(known)} {len(sites)}", *known, *sites)))
+        it.write(
+            "".join(f"{line}\n" for line in (f"vsites 1 {len(known)} {len(sites)}", *known, *sites))
+        )
     return {position: known[site - 1] for position, site in enumerate(sites) if site}
 
 
@@ -133,7 +158,9 @@ def told(report, sites):
     begins = [words[1] for words in lines if words[0] == "blame" and words[1] != "none"]
     transaction = [words[1] for words in lines if words[0] == "transaction"]
     positions = [int(position) for position in closing + (begins or transaction)]
-    return "".join(f"place {position} {sites[position]}\n" for position in positions if position in sites)
+    return "".join(
+        f"place {position} {sites[position]}\n" for position in positions if position in sites
+    )
 
 
 def main():
@@ -144,7 +171,9 @@ def main():
             draw = random.Random(seed)
             run = Run(draw)
             omitted = drawn(draw, run) or {("lock", "all")}
-            stays = lambda about: about not in omitted and not (about and about[0] == "lock" and ("lock", "all") in omitted)
+            stays = lambda about: about not in omitted and not (
+                about and about[0] == "lock" and ("lock", "all") in omitted
+            )
             places = [place for place, event in enumerate(run.events) if stays(event[2])]
             status, report = judge(program, "check", [], run.text(places))
             wanted = placed(report, places)
@@ -152,10 +181,16 @@ def main():
             path = os.path.join(room, "sites")
             watched = alarm_of(wanted) + wanted
             places_told = told(wanted, sited(draw, run.events, path))
-            for command, more, said in (("check", [], wanted), ("watch", [], watched), ("watch", ["--sites", path], watched + places_told)):
+            for command, more, said in (
+                ("check", [], wanted),
+                ("watch", [], watched),
+                ("watch", ["--sites", path], watched + places_told),
+            ):
                 found = judge(program, command, options + more, run.text(range(len(run.events))))
                 if found != (status, said):
-                    sys.exit(f"{command} of log {seed} with {' '.join(options + more)}: {found} in place of {status, said}")
+                    sys.exit(
+                        f"{command} of log {seed} with {' '.join(options + more)}: {found} in place of {status, said}"
+                    )
             alarms += status == 3
     print(f"{count} compared, {alarms} alarms")
 

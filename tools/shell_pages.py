@@ -109,13 +109,19 @@ def prose(command):
 def option_lines(flags):
     for flag in flags:
         names = ", ".join(f"\\fB{escaped(it)}\\fR" for it in (flag.short, flag.long) if it)
-        yield from [".TP", names + (f" \\fI{flag.value}\\fR" if flag.value else ""), escaped(flag.text)]
+        yield from [
+            ".TP",
+            names + (f" \\fI{flag.value}\\fR" if flag.value else ""),
+            escaped(flag.text),
+        ]
 
 
 def page_of(command):
     page = f"{NAME}-{command.name}"
     yield f'.TH {page.upper()} 1 "" "" "User commands"'
-    yield from section("NAME", f"{escaped(page)} \\- {escaped(command.summary[0].lower() + command.summary[1:])}")
+    yield from section(
+        "NAME", f"{escaped(page)} \\- {escaped(command.summary[0].lower() + command.summary[1:])}"
+    )
     yield from section("SYNOPSIS", f".B {escaped(command.usage)}")
     if command.arguments:
         yield from section("ARGUMENTS")
@@ -145,18 +151,20 @@ def flags_in(commands):
 def bash(commands):
     yield f"# completions of {NAME} for bash, made by tools/shell_pages.py"
     yield f"_{NAME}() {{"
-    yield '    local word=${COMP_WORDS[COMP_CWORD]} before=${COMP_WORDS[COMP_CWORD-1]} words='
-    yield "    if [ \"$COMP_CWORD\" -eq 1 ]; then"
+    yield "    local word=${COMP_WORDS[COMP_CWORD]} before=${COMP_WORDS[COMP_CWORD-1]} words="
+    yield '    if [ "$COMP_CWORD" -eq 1 ]; then'
     yield f'        COMPREPLY=($(compgen -W "{" ".join(it.name for it in commands)} help --help --version" -- "$word"))'
     yield "        return"
     yield "    fi"
-    numbers = sorted({it.long for c in commands for it in c.flags if it.value and it.value not in PATHS})
+    numbers = sorted(
+        {it.long for c in commands for it in c.flags if it.value and it.value not in PATHS}
+    )
     yield f"    case $before in {'|'.join(numbers)}) COMPREPLY=(); return ;; esac"
     yield "    case ${COMP_WORDS[1]} in"
     for command in commands:
         yield f'        {command.name}) words="{" ".join(it.long for it in command.flags)}" ;;'
     yield "    esac"
-    yield '    case $word in'
+    yield "    case $word in"
     yield '        -*) COMPREPLY=($(compgen -W "$words" -- "$word")) ;;'
     yield '        *) COMPREPLY=($(compgen -f -- "$word")) ;;'
     yield "    esac"
@@ -229,7 +237,9 @@ def text_of(path):
 def main():
     arguments = argparse.ArgumentParser(description=__doc__.splitlines()[0])
     arguments.add_argument("program")
-    arguments.add_argument("--check", action="store_true", help="write nothing; fail if a file is stale")
+    arguments.add_argument(
+        "--check", action="store_true", help="write nothing; fail if a file is stale"
+    )
     given = arguments.parse_args()
     stale = []
     for path, text in pages_of(given.program).items():

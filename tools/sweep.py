@@ -34,8 +34,14 @@ def run(refusal, command, number):
     reader, writer = os.pipe()
     environment = dict(os.environ, LD_PRELOAD=shim, REFUSED=str(writer))
     environment[variable] = str(number)
-    with subprocess.Popen(command, env=environment, stdin=subprocess.DEVNULL, stdout=subprocess.PIPE,
-                          stderr=subprocess.PIPE, pass_fds=(writer,)) as child:
+    with subprocess.Popen(
+        command,
+        env=environment,
+        stdin=subprocess.DEVNULL,
+        stdout=subprocess.PIPE,
+        stderr=subprocess.PIPE,
+        pass_fds=(writer,),
+    ) as child:
         os.close(writer)
         try:
             out, err = child.communicate(timeout=120)
@@ -91,7 +97,9 @@ def sweep_tests(refusal, program, word):
     succeed = bool(tests)
     for test in tests:
         print(test, end=": ", flush=True)
-        succeed = sweep(refusal, [program, test]) and run(refusal, [program, test], 0)[0] == 0 and succeed
+        succeed = (
+            sweep(refusal, [program, test]) and run(refusal, [program, test], 0)[0] == 0 and succeed
+        )
     return succeed
 
 

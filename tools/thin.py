@@ -35,7 +35,9 @@ def report_of(text):
     """The verdict, the position of the alarm, and the blocks to blame, each by its position and its label."""
     lines = [line.split() for line in text.splitlines()]
     verdict = next(words for words in lines if words[0] == "verdict")
-    blame = [(int(words[1]), words[2:]) for words in lines if words[0] == "blame" and words[1] != "none"]
+    blame = [
+        (int(words[1]), words[2:]) for words in lines if words[0] == "blame" and words[1] != "none"
+    ]
     return verdict[1], [int(word) for word in verdict[2:]], blame
 
 
@@ -51,9 +53,15 @@ def compare(program, log, folder, name):
     if [before[1 + p] for p in position] != after[1:]:
         sys.exit(f"{name}: the map is not that of the events")
     limits = ("--events", "16777216", "--nodes", "4096")
-    (one, first, _), (two, second, _) = (run(program, "check", path, *limits) for path in (log, out))
+    (one, first, _), (two, second, _) = (
+        run(program, "check", path, *limits) for path in (log, out)
+    )
     (verdict, at, blame), (verdict_left, at_left, blame_left) = report_of(first), report_of(second)
-    left = verdict_left, [position[p] for p in at_left], [(position[p], label) for p, label in blame_left]
+    left = (
+        verdict_left,
+        [position[p] for p in at_left],
+        [(position[p], label) for p, label in blame_left],
+    )
     if (one, (verdict, at, blame)) != (two, left):
         sys.exit(f"{name}: {verdict} {at} {blame} becomes {left}")
     audits = [run(program, "audit", path, "--no-witness") for path in (log, out)]
@@ -85,7 +93,12 @@ def actions(state):
 
 def after(state, t, action):
     words = action.split()
-    state = {"forked": state["forked"], "value": list(state["value"]), "holder": state["holder"], "depth": list(state["depth"])}
+    state = {
+        "forked": state["forked"],
+        "value": list(state["value"]),
+        "holder": state["holder"],
+        "depth": list(state["depth"]),
+    }
     if words[0] == "wr":
         state["value"][int(words[1])] = int(words[2])
     elif words[0] == "acq":
@@ -110,6 +123,7 @@ def small(most):
         if len(events) < most:
             for t, action in actions(state):
                 yield from grow(after(state, t, action), [*events, f"{t} {action}"])
+
     yield from grow(after(START, 0, "fork 1"), ["0 fork 1"])
 
 
@@ -135,13 +149,29 @@ def times(program, logs, folder):
         best = {}
         for _ in range(3):
             for name, call in (
-                ("check", lambda: run(program, "check", path, "--events", "16777216", "--nodes", "4096")),
-                ("thin", lambda: thin(program, path, os.path.join(folder, "out.log"), os.path.join(folder, "out.map"))),
+                (
+                    "check",
+                    lambda: run(program, "check", path, "--events", "16777216", "--nodes", "4096"),
+                ),
+                (
+                    "thin",
+                    lambda: thin(
+                        program,
+                        path,
+                        os.path.join(folder, "out.log"),
+                        os.path.join(folder, "out.map"),
+                    ),
+                ),
             ):
                 start = time.perf_counter()
                 said = call()
                 best[name] = min(best.get(name, 1e9), time.perf_counter() - start)
-        print(os.path.basename(log), " ".join(said[1].split()), f"check {best['check']:.3f} s, thin {best['thin']:.3f} s", flush=True)
+        print(
+            os.path.basename(log),
+            " ".join(said[1].split()),
+            f"check {best['check']:.3f} s, thin {best['thin']:.3f} s",
+            flush=True,
+        )
 
 
 def main():

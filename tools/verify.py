@@ -54,7 +54,12 @@ def is_order(events, order):
     if sorted(order) != list(range(len(events))):
         return False
     place = {i: n for n, i in enumerate(order)}
-    if any(place[i] > place[j] for j in range(len(events)) for i in range(j) if conflict(events[i], events[j])):
+    if any(
+        place[i] > place[j]
+        for j in range(len(events))
+        for i in range(j)
+        if conflict(events[i], events[j])
+    ):
         return False
     owners = owners_of(events)
     changes = sum(owners[order[k]] != owners[order[k - 1]] for k in range(1, len(order)))
@@ -68,7 +73,11 @@ def is_shortest_cycle(events, position, cycle):
     events = events[: position + 1]
     owners = owners_of(events)
     edges, start = edges_of(events, owners), owners[position]
-    if len(cycle) < 2 or cycle[0] != start or any(pair not in edges for pair in zip(cycle, cycle[1:] + cycle[:1])):
+    if (
+        len(cycle) < 2
+        or cycle[0] != start
+        or any(pair not in edges for pair in zip(cycle, cycle[1:] + cycle[:1]))
+    ):
         return False
     length, reached = 1, {b for a, b in edges if a == start}
     while start not in reached:
@@ -105,7 +114,13 @@ def step(part, claim, line):
         claim["position"] = after("verdict alarm ", line)
         if line.startswith("thread "):
             return THREADS
-        return TRANSACTION if claim["position"] is not None else ORDER if line == "verdict clean" else None
+        return (
+            TRANSACTION
+            if claim["position"] is not None
+            else ORDER
+            if line == "verdict clean"
+            else None
+        )
     if part == TRANSACTION:
         claim["transaction"] = after("transaction ", line)
         return None if claim["transaction"] is None else BLAMES
@@ -134,7 +149,11 @@ def expected(events, report):
     if position is None:
         right, said, wrong = is_order(events, listed), "verified clean\n", "wrong order"
     else:
-        right, said, wrong = is_shortest_cycle(events, position, listed), f"verified alarm {position}\n", "wrong cycle"
+        right, said, wrong = (
+            is_shortest_cycle(events, position, listed),
+            f"verified alarm {position}\n",
+            "wrong cycle",
+        )
     if not right:
         return 3, f"not verified: {wrong if listed else 'no certificate'}\n"
     if position is not None and claim["transaction"] != listed[0]:

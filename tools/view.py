@@ -36,9 +36,17 @@ def events_of(value):
 
 def log_lines(path, events):
     """Returns the lines of the log around the events, by their numbers."""
-    near = {line for event in events for line in range(event["line"] - CONTEXT, event["line"] + CONTEXT + 1)}
+    near = {
+        line
+        for event in events
+        for line in range(event["line"] - CONTEXT, event["line"] + CONTEXT + 1)
+    }
     with open(path, encoding="utf-8", errors="replace") as log:
-        lines = {number: line.rstrip("\n")[:LONGEST_LINE] for number, line in enumerate(log, 1) if number in near}
+        lines = {
+            number: line.rstrip("\n")[:LONGEST_LINE]
+            for number, line in enumerate(log, 1)
+            if number in near
+        }
     if any(lines.get(event["line"]) != event["text"] for event in events):
         raise ValueError(f"{path} is not the log of this audit")
     return lines
@@ -47,7 +55,11 @@ def log_lines(path, events):
 def site_of(event):
     """Returns the file and the line of an event's site, or None."""
     site = event.get("site")
-    if isinstance(site, dict) and isinstance(site.get("file"), str) and isinstance(site.get("line"), int):
+    if (
+        isinstance(site, dict)
+        and isinstance(site.get("file"), str)
+        and isinstance(site.get("line"), int)
+    ):
         return site["file"], site["line"]
     found = re.match(r"(.*?):(\d+)(?: |$)", site) if isinstance(site, str) else None
     return (found[1], int(found[2])) if found else None
@@ -89,13 +101,19 @@ def page_of(audit, log, folder):
 
 
 def main():
-    words = argparse.ArgumentParser(description=__doc__, formatter_class=argparse.RawDescriptionHelpFormatter)
+    words = argparse.ArgumentParser(
+        description=__doc__, formatter_class=argparse.RawDescriptionHelpFormatter
+    )
     words.add_argument("audit", metavar="AUDIT.json")
     words.add_argument("--log", metavar="LOG")
     words.add_argument("--source", metavar="FOLDER")
     given = words.parse_args()
     try:
-        text = sys.stdin.buffer.read() if given.audit == "-" else pathlib.Path(given.audit).read_bytes()
+        text = (
+            sys.stdin.buffer.read()
+            if given.audit == "-"
+            else pathlib.Path(given.audit).read_bytes()
+        )
         page = page_of(json.loads(text), given.log, given.source)
     except (OSError, ValueError, RecursionError) as error:
         sys.exit(f"view.py: {given.audit}: {error}")

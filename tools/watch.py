@@ -67,7 +67,11 @@ def answer(out, count):
 def send(end, lines, single):
     """Sends lines, each in a write of its own or byte by byte."""
     text = "".join(line + "\n" for line in lines).encode()
-    pieces = [text[i:i + 1] for i in range(len(text))] if single else [line.encode() + b"\n" for line in lines]
+    pieces = (
+        [text[i : i + 1] for i in range(len(text))]
+        if single
+        else [line.encode() + b"\n" for line in lines]
+    )
     for piece in pieces:
         os.write(end, piece)
 
@@ -75,7 +79,9 @@ def send(end, lines, single):
 def watched(words, path, end, stop, single):
     """Watches what is written to this end of a pipe; says what is wrong, or nothing. The end is open until the alarm is told."""
     words = words + [path or "-"] + ["--stop"] * stop
-    started = subprocess.Popen(words, stdin=end[0] if end else None, stdout=subprocess.PIPE, stderr=subprocess.PIPE)
+    started = subprocess.Popen(
+        words, stdin=end[0] if end else None, stdout=subprocess.PIPE, stderr=subprocess.PIPE
+    )
     if end:
         os.close(end[0])
     writer = end[1] if end else os.open(path, os.O_WRONLY)
@@ -112,8 +118,10 @@ def pipes(program):
                         runs += 1
                         if said:
                             wrong += 1
-                            print(f"{'FIFO' if path else 'pipe'}{' --endless' * endless}{' --stop' * stop}"
-                                  f"{' byte by byte' * single}: {said}")
+                            print(
+                                f"{'FIFO' if path else 'pipe'}{' --endless' * endless}{' --stop' * stop}"
+                                f"{' byte by byte' * single}: {said}"
+                            )
     return runs, wrong
 
 
@@ -143,7 +151,11 @@ def alike(program, folder):
         for stop in ([], ["--stop"]):
             whole = told([program, "watch", "-"] + stop, log)
             for kept in KEPT:
-                words = [program, "watch", "--endless", "-"] + stop + (["--events", kept] if kept else [])
+                words = (
+                    [program, "watch", "--endless", "-"]
+                    + stop
+                    + (["--events", kept] if kept else [])
+                )
                 cut = told(words, log)
                 runs += 1
                 if kept and LIMIT.fullmatch(cut[1]) and whole[0].startswith(cut[0]):
@@ -170,7 +182,9 @@ def long(program, events):
     rounds = -(-events // 12)
     reader, writer = os.pipe()
     started = time.monotonic()
-    run = subprocess.Popen([program, "watch", "--endless", "-"], stdin=reader, stdout=subprocess.PIPE)
+    run = subprocess.Popen(
+        [program, "watch", "--endless", "-"], stdin=reader, stdout=subprocess.PIPE
+    )
     os.close(reader)
     sender = threading.Thread(target=write_rounds, args=(writer, rounds))
     sender.start()
@@ -179,10 +193,16 @@ def long(program, events):
     sender.join()
     seconds = time.monotonic() - started
     begin = 1 + rounds * 12
-    wanted = (f"alarm {begin + 3} blame {begin} 3\nevents {begin + 5}\nthread 0 {rounds * 6 + 5}\nthread 1 {rounds * 6 + 1}\n"
-              f"verdict alarm {begin + 3}\ntransaction {begin}\nblame {begin} 3\n").encode()
+    wanted = (
+        f"alarm {begin + 3} blame {begin} 3\nevents {begin + 5}\nthread 0 {rounds * 6 + 5}\nthread 1 {rounds * 6 + 1}\n"
+        f"verdict alarm {begin + 3}\ntransaction {begin}\nblame {begin} 3\n"
+    ).encode()
     print(f"{begin + 5} events, {seconds:.1f} s, {used.ru_maxrss * 1024 / 1e6:.1f} MB")
-    well = said == wanted and os.waitstatus_to_exitcode(status) == 3 and used.ru_maxrss * 1024 < MOST_BYTES
+    well = (
+        said == wanted
+        and os.waitstatus_to_exitcode(status) == 3
+        and used.ru_maxrss * 1024 < MOST_BYTES
+    )
     if not well:
         print(f"{said!r}, status {os.waitstatus_to_exitcode(status)}")
     return 1, 0 if well else 1

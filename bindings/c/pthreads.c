@@ -1,11 +1,13 @@
-/* pthreads: what velodrome_pthread.h promises. With VELODROME_OFF the same program without sessions. */
+/* pthreads: what velodrome_pthread.h promises. With VELODROME_OFF the same program without
+ * sessions. */
 #include "velodrome_pthread.h"
 #include <stdio.h>
 #include <string.h>
 
 static int failed;
 static void expect(bool holds, const char *what, int line) {
-    if (holds) return;
+    if (holds)
+        return;
     printf("    line %d: %s\n", line, what);
     failed = 1;
 }
@@ -28,7 +30,8 @@ static void turn_to(int n) {
 }
 static void wait_for_turn(int n) {
     pthread_mutex_lock(&unwatched);
-    while (turn != n) pthread_cond_wait(&turned, &unwatched);
+    while (turn != n)
+        pthread_cond_wait(&turned, &unwatched);
     pthread_mutex_unlock(&unwatched);
 }
 
@@ -43,7 +46,8 @@ static void wait_for_step(void) {
     vs_thread t;
     vs_mutex_lock(&lock);
     EXPECT(vs_thread_create(&t, NULL, step_on, NULL) == 0);
-    while (!VS_GET(step)) vs_cond_wait(&stepped, &lock);
+    while (!VS_GET(step))
+        vs_cond_wait(&stepped, &lock);
     vs_mutex_unlock(&lock);
     EXPECT(vs_thread_join(&t, NULL) == 0 && step.value == 1);
 }
@@ -73,8 +77,10 @@ static void many_deposits(void) {
     vs_thread t[8];
     long amount = 5;
     void *result = NULL;
-    for (int i = 0; i < 8; i++) EXPECT(vs_thread_create(&t[i], NULL, deposit, &amount) == 0);
-    for (int i = 0; i < 8; i++) EXPECT(vs_thread_join(&t[i], &result) == 0 && result == &amount);
+    for (int i = 0; i < 8; i++)
+        EXPECT(vs_thread_create(&t[i], NULL, deposit, &amount) == 0);
+    for (int i = 0; i < 8; i++)
+        EXPECT(vs_thread_join(&t[i], &result) == 0 && result == &amount);
     EXPECT(balance.value == 140);
 }
 
@@ -100,7 +106,8 @@ static void the_rest(void) {
     vs_thread t;
     struct timespec past = {0, 0};
     pthread_cond_t never = PTHREAD_COND_INITIALIZER;
-    EXPECT(vs_mutex_init(&m, NULL, "m") == 0 && vs_mutex_trylock(&m) == 0 && vs_mutex_trylock(&m) != 0);
+    EXPECT(vs_mutex_init(&m, NULL, "m") == 0 && vs_mutex_trylock(&m) == 0 &&
+           vs_mutex_trylock(&m) != 0);
     EXPECT(vs_cond_timedwait(&never, &m, &past) != 0);
     EXPECT(vs_mutex_unlock(&m) == 0 && vs_mutex_destroy(&m) == 0);
     EXPECT(vs_thread_create(&t, NULL, leave, NULL) == 0 && vs_thread_join(&t, NULL) == 0);
@@ -124,7 +131,9 @@ int main(void) {
     EXPECT(vs_close(s, NULL) == VS_CLEAN);
     s = vs_open(NULL, false);
     lose_one();
-    EXPECT(vs_close(s, &report) == VS_ALARM && report && strstr(report, "not atomic: careless (pthreads.c:") && strstr(report, "thread 2 acquires lock"));
+    EXPECT(vs_close(s, &report) == VS_ALARM && report &&
+           strstr(report, "not atomic: careless (pthreads.c:") &&
+           strstr(report, "thread 2 acquires lock"));
     vs_free(report);
     return failed;
 }

@@ -1,4 +1,5 @@
-/* What no contract says: that the header, the layout of its structs, the shell and the linked library fit together. */
+/* What no contract says: that the header, the layout of its structs, the shell and the linked
+ * library fit together. */
 #include "velodrome.h"
 #include <stdio.h>
 #include <stdlib.h>
@@ -6,20 +7,24 @@
 
 static int failed;
 static void expect(const char *what, uint64_t got, uint64_t wanted) {
-    if (got == wanted) return;
-    printf("%s: got %llu, wanted %llu\n", what, (unsigned long long)got, (unsigned long long)wanted);
+    if (got == wanted)
+        return;
+    printf("%s: got %llu, wanted %llu\n", what, (unsigned long long)got,
+           (unsigned long long)wanted);
     failed = 1;
 }
 
 static void expect_words(const char *got, const char *wanted) {
-    if (strcmp(got, wanted) == 0) return;
+    if (strcmp(got, wanted) == 0)
+        return;
     printf("got \"%s\", wanted \"%s\"\n", got, wanted);
     failed = 1;
 }
 
 typedef velodrome_status text_call(velodrome *, char *, size_t, size_t *);
 
-/* The text comes whole into each buffer that has room for it; where one has not, its length is told, and the buffer is as it was. */
+/* The text comes whole into each buffer that has room for it; where one has not, its length is
+ * told, and the buffer is as it was. */
 static void expect_text(const char *what, velodrome *m, text_call *call, const char *text) {
     static char buffer[4096];
     size_t length = strlen(text), count = 0;
@@ -29,8 +34,16 @@ static void expect_text(const char *what, velodrome *m, text_call *call, const c
         expect(what, status, room < length ? VELODROME_TOO_SHORT : VELODROME_DONE);
         expect(what, count, length);
         size_t put = room < length ? 0 : length;
-        if (memcmp(buffer, text, put)) { printf("%s: got\n%.*s", what, (int)count, buffer); failed = 1; return; }
-        for (size_t i = put; i < sizeof buffer; i++) if (buffer[i] != 99) { expect(what, i, sizeof buffer); break; }
+        if (memcmp(buffer, text, put)) {
+            printf("%s: got\n%.*s", what, (int)count, buffer);
+            failed = 1;
+            return;
+        }
+        for (size_t i = put; i < sizeof buffer; i++)
+            if (buffer[i] != 99) {
+                expect(what, i, sizeof buffer);
+                break;
+            }
     }
     expect(what, call(m, NULL, 99, &count), VELODROME_TOO_SHORT);
     expect(what, call(m, buffer, sizeof buffer, NULL), VELODROME_DONE);
@@ -61,7 +74,8 @@ static void null_handle(void) {
     expect("null renew", velodrome_renew(NULL), VELODROME_CLOSED);
     expect("null report", velodrome_report(NULL, NULL, 0, &untold), VELODROME_CLOSED);
     expect("null explanation", velodrome_explanation(NULL, NULL, 0, &untold), VELODROME_CLOSED);
-    expect("null explanation, sited", velodrome_explanation_sited(NULL, "x", 1, "x", 1, NULL, 0, &untold), VELODROME_CLOSED);
+    expect("null explanation, sited",
+           velodrome_explanation_sited(NULL, "x", 1, "x", 1, NULL, 0, &untold), VELODROME_CLOSED);
     expect("null log", velodrome_log(NULL, 0, NULL, 0, &untold, &unmoved), VELODROME_CLOSED);
     expect("null blamed", velodrome_blamed(NULL, NULL, 0, &untold), VELODROME_CLOSED);
     expect("count kept", untold, 79);
@@ -150,7 +164,9 @@ static void log_in_pieces(velodrome *m) {
     expect("log", velodrome_log(m, 0, whole, sizeof whole, &count, &next), 0);
     expect("all events", next, 12);
     length = count;
-    const char *text = "vlog 2 3 2 2\n0 fork 1\n0 wr 1 18446744073709551615\n1 rd 1 18446744073709551615\n0 acq 0\n0 rel 0\n0 acqs 1\n1 acqs 1\n1 rels 1\n1 begin 4294967295\n1 end\n1 exit\n0 join 1\n";
+    const char *text =
+        "vlog 2 3 2 2\n0 fork 1\n0 wr 1 18446744073709551615\n1 rd 1 18446744073709551615\n0 acq "
+        "0\n0 rel 0\n0 acqs 1\n1 acqs 1\n1 rels 1\n1 begin 4294967295\n1 end\n1 exit\n0 join 1\n";
     expect("length", length, strlen(text));
     expect("text", memcmp(whole, text, length), 0);
     for (size_t room = 36; room < 200; room++) {
@@ -158,7 +174,10 @@ static void log_in_pieces(velodrome *m) {
         while (from < 12) {
             size_t before = from;
             expect("piece", velodrome_log(m, from, part, room, &count, &from), 0);
-            if (from == before || count > room) { expect("progress", 0, 1); break; }
+            if (from == before || count > room) {
+                expect("progress", 0, 1);
+                break;
+            }
             memcpy(joined + at, part, count);
             at += count;
         }
@@ -189,14 +208,18 @@ static void clean_run(void) {
     log_in_pieces(m);
     expect("blamed", velodrome_blamed(m, blocks, 0, &count), 0);
     expect("none", count, 0);
-    expect_text("clean report", m, velodrome_report, "events 12\nthread 0 6\nthread 1 6\nthread 2 0\nverdict clean\n");
-    expect_text("clean explanation", m, velodrome_explanation, "The blocks of this log can be serialized.\nEvents: 12\nTransactions, which can follow one another: 11\n");
+    expect_text("clean report", m, velodrome_report,
+                "events 12\nthread 0 6\nthread 1 6\nthread 2 0\nverdict clean\n");
+    expect_text("clean explanation", m, velodrome_explanation,
+                "The blocks of this log can be serialized.\nEvents: 12\nTransactions, which can "
+                "follow one another: 11\n");
     velodrome_close(m);
 }
 
 /* Two blocks to blame, outermost first. */
 static velodrome *alarmed_run(void) {
-    velodrome *m = opened((velodrome_limits){.threads = 2, .variables = 1, .events = 100, .nodes = 64});
+    velodrome *m =
+        opened((velodrome_limits){.threads = 2, .variables = 1, .events = 100, .nodes = 64});
     velodrome_answer a;
     velodrome_fork(m, 0, 1, &a);
     velodrome_begin(m, 0, 7, &a);
@@ -227,8 +250,11 @@ static void alarm_is_told(void) {
     expect("blamed", velodrome_blamed(m, blocks, 2, &count), 0);
     expect("outer", blocks[0].first * 100 + blocks[0].label, 107);
     expect("inner", blocks[1].first * 100 + blocks[1].label, 208);
-    expect_text("report", m, velodrome_report, "events 6\nthread 0 5\nthread 1 1\nverdict alarm 5\ntransaction 1\nblame 1 7\nblame 2 8\n");
-    expect_text("explanation", m, velodrome_explanation,
+    expect_text(
+        "report", m, velodrome_report,
+        "events 6\nthread 0 5\nthread 1 1\nverdict alarm 5\ntransaction 1\nblame 1 7\nblame 2 8\n");
+    expect_text(
+        "explanation", m, velodrome_explanation,
         "The blocks of this log cannot be serialized.\n"
         "    line  thread 0                            thread 1\n"
         "       3  begin 7\n"
@@ -246,7 +272,9 @@ static void alarm_is_told(void) {
         "  block 7, from line 3: line 6 `1 wr 0 5` must come after its begin and before line 7\n"
         "  block 8, from line 4: line 6 `1 wr 0 5` must come after its begin and before line 7\n");
     expect("goes on", velodrome_end(m, 0, NULL), 0);
-    expect_text("report of one more", m, velodrome_report, "events 7\nthread 0 6\nthread 1 1\nverdict alarm 5\ntransaction 1\nblame 1 7\nblame 2 8\n");
+    expect_text(
+        "report of one more", m, velodrome_report,
+        "events 7\nthread 0 6\nthread 1 1\nverdict alarm 5\ntransaction 1\nblame 1 7\nblame 2 8\n");
     velodrome_close(m);
 }
 
@@ -263,11 +291,14 @@ static void words(void) {
     expect_words(velodrome_strerror((velodrome_status)50), "unknown status");
     expect_words(velodrome_strerror((velodrome_status)101), "unknown status");
     expect_words(velodrome_strerror((velodrome_status)4000000000u), "unknown status");
-    for (int i = 0; i <= VELODROME_EVENT_MEMORY; i++) expect("has words", strcmp(velodrome_strerror((velodrome_status)i), "unknown status") != 0, 1);
+    for (int i = 0; i <= VELODROME_EVENT_MEMORY; i++)
+        expect("has words", strcmp(velodrome_strerror((velodrome_status)i), "unknown status") != 0,
+               1);
     expect_words(velodrome_version(), VELODROME_VERSION);
     int major, minor, patch;
     expect("version", sscanf(VELODROME_VERSION, "%d.%d.%d", &major, &minor, &patch), 3);
-    expect("version number", (uint64_t)(10000 * major + 100 * minor + patch), VELODROME_VERSION_NUMBER);
+    expect("version number", (uint64_t)(10000 * major + 100 * minor + patch),
+           VELODROME_VERSION_NUMBER);
 }
 
 /* A file, whole; to be freed. */
@@ -277,31 +308,44 @@ static char *contents(const char *folder, const char *name, size_t *bytes) {
     FILE *f = fopen(path, "rb");
     char *text = calloc(1, 1 << 16);
     *bytes = f ? fread(text, 1, (1 << 16) - 1, f) : 0;
-    if (!f) { printf("no %s\n", path); failed = 1; }
-    else fclose(f);
+    if (!f) {
+        printf("no %s\n", path);
+        failed = 1;
+    } else
+        fclose(f);
     return text;
 }
 
-/* Report and explanation with names: `data` has what the program writes for this log and these names. */
+/* Report and explanation with names: `data` has what the program writes for this log and these
+ * names. */
 static void names(const char *data) {
     velodrome *m = alarmed_run();
     char buffer[8192];
     size_t bytes, wanted_bytes, count = 0;
     char *file = contents(data, "names", &bytes), *wanted = contents(data, "report", &wanted_bytes);
-    expect("named report", velodrome_report_named(m, file, bytes, buffer, sizeof buffer, &count), 0);
+    expect("named report", velodrome_report_named(m, file, bytes, buffer, sizeof buffer, &count),
+           0);
     expect("as check --names", count == wanted_bytes && memcmp(buffer, wanted, count) == 0, 1);
     free(wanted);
     wanted = contents(data, "explanation", &wanted_bytes);
-    expect("named explanation", velodrome_explanation_named(m, file, bytes, buffer, sizeof buffer, &count), 0);
+    expect("named explanation",
+           velodrome_explanation_named(m, file, bytes, buffer, sizeof buffer, &count), 0);
     expect("as explain --names", count == wanted_bytes && memcmp(buffer, wanted, count) == 0, 1);
-    expect("too short", velodrome_report_named(m, file, bytes, buffer, 20, &count), VELODROME_TOO_SHORT);
+    expect("too short", velodrome_report_named(m, file, bytes, buffer, 20, &count),
+           VELODROME_TOO_SHORT);
     free(wanted);
     free(file);
-    expect("bad line", velodrome_report_named(m, "label 7 x\nlabel\n", 16, buffer, sizeof buffer, &count), VELODROME_BAD_NAMES);
+    expect("bad line",
+           velodrome_report_named(m, "label 7 x\nlabel\n", 16, buffer, sizeof buffer, &count),
+           VELODROME_BAD_NAMES);
     expect("its number", count, 2);
-    expect("named twice", velodrome_explanation_named(m, "label 7 x\n\nlabel 7 y", 20, buffer, sizeof buffer, &count), VELODROME_BAD_NAMES);
+    expect(
+        "named twice",
+        velodrome_explanation_named(m, "label 7 x\n\nlabel 7 y", 20, buffer, sizeof buffer, &count),
+        VELODROME_BAD_NAMES);
     expect("its number", count, 3);
-    expect("no UTF-8", velodrome_report_named(m, "label 7 \xff", 9, buffer, sizeof buffer, &count), VELODROME_BAD_NAMES);
+    expect("no UTF-8", velodrome_report_named(m, "label 7 \xff", 9, buffer, sizeof buffer, &count),
+           VELODROME_BAD_NAMES);
     expect("of the whole", count, 0);
     expect("no names", velodrome_report_named(m, NULL, 99, buffer, sizeof buffer, &count), 0);
     expect("report", count, 81);
@@ -311,12 +355,16 @@ static void names(const char *data) {
 /* What the explanation with sites is given; both end in a zero byte. */
 static const char *given_names, *given_sites;
 static velodrome_status sited(velodrome *m, char *buffer, size_t room, size_t *count) {
-    size_t names = given_names ? strlen(given_names) : 99, sites = given_sites ? strlen(given_sites) : 99; /* 99: of null, not read */
-    return velodrome_explanation_sited(m, given_names, names, given_sites, sites, buffer, room, count);
+    size_t names = given_names ? strlen(given_names) : 99,
+           sites = given_sites ? strlen(given_sites) : 99; /* 99: of null, not read */
+    return velodrome_explanation_sited(m, given_names, names, given_sites, sites, buffer, room,
+                                       count);
 }
 
-/* The call with these files: its text is that of a file of `data`, which the program writes for them. */
-static void expect_sited(velodrome *m, const char *data, const char *names_file, const char *sites_file, const char *text_file) {
+/* The call with these files: its text is that of a file of `data`, which the program writes for
+ * them. */
+static void expect_sited(velodrome *m, const char *data, const char *names_file,
+                         const char *sites_file, const char *text_file) {
     size_t ignored;
     char *names = names_file ? contents(data, names_file, &ignored) : NULL;
     char *sites = sites_file ? contents(data, sites_file, &ignored) : NULL;
@@ -330,7 +378,8 @@ static void expect_sited(velodrome *m, const char *data, const char *names_file,
 }
 
 /* It is refused with this status and count, and the buffer is as it was. */
-static void expect_unsited(const char *what, velodrome *m, const char *names, const char *sites, velodrome_status status, size_t line) {
+static void expect_unsited(const char *what, velodrome *m, const char *names, const char *sites,
+                           velodrome_status status, size_t line) {
     char buffer[8] = "as was";
     size_t count = 77;
     given_names = names;
@@ -343,24 +392,31 @@ static void expect_unsited(const char *what, velodrome *m, const char *names, co
 
 /* The explanation with sites: as the program writes it, or why not. */
 static void sites(const char *data) {
-    const char *clean = "The blocks of this log can be serialized.\nEvents: 1\nTransactions, which can follow one another: 1\n";
+    const char *clean = "The blocks of this log can be serialized.\nEvents: 1\nTransactions, which "
+                        "can follow one another: 1\n";
     velodrome *m = alarmed_run();
     expect_sited(m, data, "names", "sites", "explanation_sited");
     expect_sited(m, data, "names", NULL, "explanation");
     expect_unsited("bad place", m, NULL, "vsites 1 1 6\n\n1\n", VELODROME_BAD_SITES, 2);
-    expect_unsited("no such site", m, NULL, "vsites 1 1 6\nb.c:1 f\n0\n2\n", VELODROME_BAD_SITES, 4);
-    expect_unsited("ends early", m, "label 7 x\n", "vsites 1 1 6\nb.c:1 f\n0\n", VELODROME_BAD_SITES, 3);
+    expect_unsited("no such site", m, NULL, "vsites 1 1 6\nb.c:1 f\n0\n2\n", VELODROME_BAD_SITES,
+                   4);
+    expect_unsited("ends early", m, "label 7 x\n", "vsites 1 1 6\nb.c:1 f\n0\n",
+                   VELODROME_BAD_SITES, 3);
     expect_unsited("no UTF-8", m, "", "vsites 1 1 6\n\xff\n", VELODROME_BAD_SITES, 0);
     expect_unsited("names first", m, "label 7 x\nlabel\n", "no sites", VELODROME_BAD_NAMES, 2);
-    expect_unsited("names before a count", m, "label", "vsites 1 0 2\n0\n0\n", VELODROME_BAD_NAMES, 1);
-    expect_unsited("a fault before a count", m, NULL, "vsites 1 0 2\n0\n0\n0\n", VELODROME_BAD_SITES, 4);
+    expect_unsited("names before a count", m, "label", "vsites 1 0 2\n0\n0\n", VELODROME_BAD_NAMES,
+                   1);
+    expect_unsited("a fault before a count", m, NULL, "vsites 1 0 2\n0\n0\n0\n",
+                   VELODROME_BAD_SITES, 4);
     expect_unsited("fewer events", m, NULL, "vsites 1 0 2\n0\n0\n", VELODROME_OTHER_SITES, 2);
     expect_unsited("no events", m, NULL, "vsites 1 0 0\n", VELODROME_OTHER_SITES, 0);
-    expect_unsited("more events", m, "label 7 x\n", "vsites 1 0 7\n0\n0\n0\n0\n0\n0\n0\n", VELODROME_OTHER_SITES, 7);
+    expect_unsited("more events", m, "label 7 x\n", "vsites 1 0 7\n0\n0\n0\n0\n0\n0\n0\n",
+                   VELODROME_OTHER_SITES, 7);
     velodrome_end(m, 0, NULL);
     given_names = NULL;
     expect("of the log so far", sited(m, NULL, 0, NULL), VELODROME_TOO_SHORT);
-    expect_unsited("fewer than now", m, NULL, "vsites 1 0 6\n0\n0\n0\n0\n0\n0\n", VELODROME_OTHER_SITES, 6);
+    expect_unsited("fewer than now", m, NULL, "vsites 1 0 6\n0\n0\n0\n0\n0\n0\n",
+                   VELODROME_OTHER_SITES, 6);
     velodrome_close(m);
     m = opened((velodrome_limits){.threads = 2, .variables = 1, .locks = 1});
     velodrome_fork(m, 0, 1, NULL);
@@ -379,12 +435,15 @@ static void expect_log(velodrome *m, const char *text) {
     expect_words(buffer, text);
 }
 
-/* A run goes on in a new log: threads, values, holders and sharers stay, and joined threads are forgotten. */
+/* A run goes on in a new log: threads, values, holders and sharers stay, and joined threads are
+ * forgotten. */
 static void renewed_run(void) {
-    velodrome *m = opened((velodrome_limits){.threads = 6, .variables = 3, .locks = 3, .events = 40});
+    velodrome *m =
+        opened((velodrome_limits){.threads = 6, .variables = 3, .locks = 3, .events = 40});
     velodrome_answer a;
     velodrome_summary s;
-    for (uint32_t child = 1; child < 5; child++) expect("fork", velodrome_fork(m, 0, child, NULL), 0);
+    for (uint32_t child = 1; child < 5; child++)
+        expect("fork", velodrome_fork(m, 0, child, NULL), 0);
     velodrome_write(m, 1, 2, 7, NULL);
     velodrome_acquire(m, 1, 0, NULL);
     velodrome_acquire_shared(m, 2, 1, NULL);
@@ -397,7 +456,8 @@ static void renewed_run(void) {
     velodrome_end(m, 2, &a);
     expect("as it was", a.position, 12);
     expect("renew", velodrome_renew(m), 0);
-    expect_log(m, "vlog 2 6 3 3\n0 fork 1\n0 fork 2\n0 fork 3\n0 wr 2 7\n1 acq 0\n1 acqs 1\n2 acqs 1\n3 exit\n");
+    expect_log(m, "vlog 2 6 3 3\n0 fork 1\n0 fork 2\n0 fork 3\n0 wr 2 7\n1 acq 0\n1 acqs 1\n2 acqs "
+                  "1\n3 exit\n");
     expect("read", velodrome_read(m, 2, 2, &a), 0);
     expect("value", a.value, 7);
     expect("position", a.position, 8);
@@ -427,9 +487,11 @@ static void renewed_run(void) {
 
 /* A thousand times as many events as a log takes. */
 static void endless_run(void) {
-    velodrome *m = opened((velodrome_limits){.threads = 2, .variables = 1, .locks = 1, .events = 100});
+    velodrome *m =
+        opened((velodrome_limits){.threads = 2, .variables = 1, .locks = 1, .events = 100});
     for (uint32_t i = 0; i < 100000; i++) {
-        if (i % 50 == 0) expect("renew", velodrome_renew(m), 0);
+        if (i % 50 == 0)
+            expect("renew", velodrome_renew(m), 0);
         expect("write", velodrome_write(m, 0, 0, i, NULL), 0);
     }
     velodrome_close(m);
@@ -438,7 +500,8 @@ static void endless_run(void) {
 /* Opened and closed again and again: a checker of leaks sees what is left. */
 static void again_and_again(void) {
     for (uint32_t i = 0; i < 1000; i++) {
-        velodrome *m = opened((velodrome_limits){.threads = 2, .variables = 16, .locks = 4, .events = 1000});
+        velodrome *m =
+            opened((velodrome_limits){.threads = 2, .variables = 16, .locks = 4, .events = 1000});
         expect("write", velodrome_write(m, 0, i % 16, 1, NULL), 0);
         velodrome_close(m);
     }

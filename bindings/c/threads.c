@@ -18,7 +18,8 @@ static void add_one(uint8_t thread) {
     pthread_mutex_lock(&order);
     failures |= velodrome_begin(monitor, thread, 7, &answer);
     failures |= velodrome_read(monitor, thread, 0, &answer);
-    if ((long)answer.value != counter) failures |= 1u << 31;
+    if ((long)answer.value != counter)
+        failures |= 1u << 31;
     failures |= velodrome_write(monitor, thread, 0, (uint64_t)++counter, &answer);
     failures |= velodrome_end(monitor, thread, &answer);
     pthread_mutex_unlock(&order);
@@ -27,7 +28,8 @@ static void add_one(uint8_t thread) {
 static void *run(void *argument) {
     uint8_t thread = *(uint8_t *)argument;
     velodrome_answer answer;
-    for (int round = 0; round < ROUNDS; round++) add_one(thread);
+    for (int round = 0; round < ROUNDS; round++)
+        add_one(thread);
     pthread_mutex_lock(&order);
     failures |= velodrome_exit(monitor, thread, &answer);
     pthread_mutex_unlock(&order);
@@ -46,7 +48,8 @@ int main(void) {
         pthread_mutex_lock(&order);
         failures |= velodrome_fork(monitor, 0, numbers[i], &answer);
         pthread_mutex_unlock(&order);
-        if (pthread_create(&threads[i], NULL, run, &numbers[i])) return 2;
+        if (pthread_create(&threads[i], NULL, run, &numbers[i]))
+            return 2;
     }
     for (uint8_t i = 0; i < CHILDREN; i++) {
         pthread_join(threads[i], NULL);
@@ -56,9 +59,12 @@ int main(void) {
     }
     failures |= velodrome_report(monitor, text, sizeof text, &count);
     char wanted[64];
-    int length = snprintf(wanted, sizeof wanted, "events %d\nthread 0 %d\nthread 1 %d\n", CHILDREN * (4 * ROUNDS + 3), 2 * CHILDREN, 4 * ROUNDS + 1);
-    if (count < (size_t)length || memcmp(text, wanted, (size_t)length)) failures |= 1u << 30;
-    if (count < 14 || memcmp(text + count - 14, "verdict clean\n", 14)) failures |= 1u << 29;
+    int length = snprintf(wanted, sizeof wanted, "events %d\nthread 0 %d\nthread 1 %d\n",
+                          CHILDREN * (4 * ROUNDS + 3), 2 * CHILDREN, 4 * ROUNDS + 1);
+    if (count < (size_t)length || memcmp(text, wanted, (size_t)length))
+        failures |= 1u << 30;
+    if (count < 14 || memcmp(text + count - 14, "verdict clean\n", 14))
+        failures |= 1u << 29;
     velodrome_close(monitor);
     printf("%s: %ld times, failures %#x\n", failures ? "failed" : "passed", counter, failures);
     return failures != 0 || counter != (long)CHILDREN * ROUNDS;

@@ -1,5 +1,6 @@
-// cost: nanoseconds a round of six events (begin, lock, read, write, unlock, end): by std's mutex, by the calls with a lock, watched,
-// in a session that stopped, and without one. The median of nine; the processor's time, and the clock's in brackets.
+// cost: nanoseconds a round of six events (begin, lock, read, write, unlock, end): by std's mutex,
+// by the calls with a lock, watched, in a session that stopped, and without one. The median of
+// nine; the processor's time, and the clock's in brackets.
 #include "velodrome.hpp"
 #include <algorithm>
 #include <cstdio>
@@ -14,7 +15,8 @@ void calls_round(int thread, int object, pthread_mutex_t *lock, int *x);
 }
 
 enum way { plain, calls, watched, stopped, alone };
-static const char *const words[] = {"std::mutex", "calls with a lock", "watched", "stopped", "no session"};
+static const char *const words[] = {"std::mutex", "calls with a lock", "watched", "stopped",
+                                    "no session"};
 static constexpr int rounds = 120000; // fewer events than a log has
 
 struct alignas(128) object {
@@ -33,7 +35,8 @@ static void work(way w, int thread, int which, object &o, int n) {
             o.std_x = o.std_x + 1;
         }
     else if (w == calls)
-        for (int i = 0; i < n; i++) calls_round(thread, which, &o.lock_of_calls, &o.x_of_calls);
+        for (int i = 0; i < n; i++)
+            calls_round(thread, which, &o.lock_of_calls, &o.x_of_calls);
     else
         for (int i = 0; i < n; i++) {
             VELODROME_ATOMIC("increment");
@@ -51,29 +54,41 @@ static double now(clockid_t clock) {
 static std::pair<double, double> once(way w, int threads, bool same) {
     std::vector<object> objects(static_cast<std::size_t>(threads));
     std::unique_ptr<velodrome::session> session;
-    if (w == watched || w == stopped) session = std::make_unique<velodrome::session>();
-    if (w == stopped) vs_stop("for its cost");
-    if (w == calls) calls_open(threads);
+    if (w == watched || w == stopped)
+        session = std::make_unique<velodrome::session>();
+    if (w == stopped)
+        vs_stop("for its cost");
+    if (w == calls)
+        calls_open(threads);
     const double clock = now(CLOCK_MONOTONIC), processor = now(CLOCK_PROCESS_CPUTIME_ID);
     {
         std::vector<velodrome::thread> all;
-        auto body = [&](int i) { work(w, i, same ? 0 : i, objects[same ? 0 : i], rounds / threads); };
-        for (int i = 1; i < threads; i++) all.emplace_back(body, i);
+        auto body = [&](int i) {
+            work(w, i, same ? 0 : i, objects[same ? 0 : i], rounds / threads);
+        };
+        for (int i = 1; i < threads; i++)
+            all.emplace_back(body, i);
         body(0);
-        for (velodrome::thread &t : all) t.join();
+        for (velodrome::thread &t : all)
+            t.join();
     }
-    const std::pair spent((now(CLOCK_PROCESS_CPUTIME_ID) - processor) / rounds, (now(CLOCK_MONOTONIC) - clock) / rounds);
-    if (w == calls) calls_close();
+    const std::pair spent((now(CLOCK_PROCESS_CPUTIME_ID) - processor) / rounds,
+                          (now(CLOCK_MONOTONIC) - clock) / rounds);
+    if (w == calls)
+        calls_close();
     return spent;
 }
 
 int main() {
-    std::promise<void> over; // a program with threads: with one alone the C library's mutex is cheaper by its atomic operations
+    std::promise<void> over; // a program with threads: with one alone the C library's mutex is
+                             // cheaper by its atomic operations
     std::thread idle([&] { over.get_future().wait(); });
     for (int threads : {1, 2, 4, 60})
         for (bool same : {true, false}) {
-            if ((threads == 1 && !same) || (threads == 60 && same)) continue;
-            std::printf("%d thread%s, %s:", threads, threads > 1 ? "s" : "", same ? "one object" : "own objects");
+            if ((threads == 1 && !same) || (threads == 60 && same))
+                continue;
+            std::printf("%d thread%s, %s:", threads, threads > 1 ? "s" : "",
+                        same ? "one object" : "own objects");
             for (way w : {plain, calls, watched, stopped, alone}) {
                 std::vector<double> processor, clock;
                 for (int i = 0; i < 9; i++) {
@@ -83,7 +98,8 @@ int main() {
                 }
                 std::sort(processor.begin(), processor.end());
                 std::sort(clock.begin(), clock.end());
-                std::printf(" %s %.0f (%.0f)%s", words[w], processor[4], clock[4], w == alone ? "\n" : ",");
+                std::printf(" %s %.0f (%.0f)%s", words[w], processor[4], clock[4],
+                            w == alone ? "\n" : ",");
             }
         }
     over.set_value();

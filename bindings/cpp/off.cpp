@@ -1,10 +1,14 @@
 // off: with VELODROME_OFF all are std's own types, and nothing of Velodrome is linked.
 #define VELODROME_OFF
 #include "velodrome.hpp"
-static_assert(std::is_same_v<velodrome::mutex, std::mutex> && std::is_same_v<velodrome::recursive_mutex, std::recursive_mutex>);
-static_assert(std::is_same_v<velodrome::timed_mutex, std::timed_mutex> && std::is_same_v<velodrome::shared_mutex, std::shared_mutex>);
-static_assert(std::is_same_v<velodrome::condition_variable, std::condition_variable> && std::is_same_v<velodrome::thread, std::thread>);
-static_assert(std::is_same_v<velodrome::atomic<int>, std::atomic<int>> && sizeof(velodrome::var<int>) == sizeof(int));
+static_assert(std::is_same_v<velodrome::mutex, std::mutex> &&
+              std::is_same_v<velodrome::recursive_mutex, std::recursive_mutex>);
+static_assert(std::is_same_v<velodrome::timed_mutex, std::timed_mutex> &&
+              std::is_same_v<velodrome::shared_mutex, std::shared_mutex>);
+static_assert(std::is_same_v<velodrome::condition_variable, std::condition_variable> &&
+              std::is_same_v<velodrome::thread, std::thread>);
+static_assert(std::is_same_v<velodrome::atomic<int>, std::atomic<int>> &&
+              sizeof(velodrome::var<int>) == sizeof(int));
 
 struct account {
     velodrome::mutex lock VELODROME_NAMED("lock");
@@ -22,5 +26,7 @@ int main() {
         ++a.hits;
     }).join();
     const velodrome::result r = s.finish("off");
-    return a.balance == 5 && a.hits == 1 && r.what == velodrome::verdict::incomplete && !r.fails ? 0 : 1;
+    return a.balance == 5 && a.hits == 1 && r.what == velodrome::verdict::incomplete && !r.fails
+               ? 0
+               : 1;
 }

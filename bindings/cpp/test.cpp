@@ -1,4 +1,5 @@
-// test [NAME..] [-NAME..]: what velodrome.hpp promises, a case each; those of these names, or all but these. Each ends by itself, with its verdict; tools/bindings.sh gives it a minute.
+// test [NAME..] [-NAME..]: what velodrome.hpp promises, a case each; those of these names, or all
+// but these. Each ends by itself, with its verdict; tools/bindings.sh gives it a minute.
 #include "velodrome.hpp"
 #include <cstdio>
 #include <cstdlib>
@@ -29,14 +30,15 @@ static std::vector<test_case> &cases() {
 }
 static int failures = 0;
 static void expect(bool holds, const char *what, int line) {
-    if (holds) return;
+    if (holds)
+        return;
     std::cout << "    line " << line << ": " << what << std::endl;
     failures++;
 }
 #define EXPECT(x) expect(static_cast<bool>(x), #x, __LINE__)
-#define TEST(name) \
-    static void name(); \
-    static const bool name##_is_there = (cases().push_back({#name, name}), true); \
+#define TEST(name)                                                                                 \
+    static void name();                                                                            \
+    static const bool name##_is_there = (cases().push_back({#name, name}), true);                  \
     static void name()
 
 static options limited_to(std::uint32_t events) {
@@ -46,11 +48,16 @@ static options limited_to(std::uint32_t events) {
 }
 static bool clean(session &s) {
     const result r = s.close();
-    if (!r) std::cout << r.words;
+    if (!r)
+        std::cout << r.words;
     return r.what == verdict::clean;
 }
-static bool has(const std::string &text, const char *part) { return text.find(part) != std::string::npos; }
-template <class F> static void apart(F f) { std::thread(std::move(f)).join(); } // a thread that nobody told of
+static bool has(const std::string &text, const char *part) {
+    return text.find(part) != std::string::npos;
+}
+template <class F> static void apart(F f) {
+    std::thread(std::move(f)).join();
+} // a thread that nobody told of
 
 // Between the read and the write of a block, `f` runs in another thread.
 template <class F> static void add_around(var<int> &x, F f) {
@@ -77,7 +84,8 @@ TEST(another_variable_is_none) {
     add_around(x, [&] { y = 5; });
     EXPECT(clean(s));
 }
-TEST(a_thread_of_another_session_is_itself) { // the writer is the first thread of session a; the alarm is that of b
+TEST(a_thread_of_another_session_is_itself) { // the writer is the first thread of session a; the
+                                              // alarm is that of b
     for (bool ours : {true, false}) {
         std::optional<session> a(std::in_place), b(std::in_place);
         var<int> x VELODROME_VALUE(0, "x");
@@ -87,10 +95,12 @@ TEST(a_thread_of_another_session_is_itself) { // the writer is the first thread 
             VELODROME_ATOMIC("inc");
             const int v = x;
             step = 1;
-            while (step < 2) std::this_thread::yield();
+            while (step < 2)
+                std::this_thread::yield();
             x = v + 1;
         });
-        while (step < 1) std::this_thread::yield();
+        while (step < 1)
+            std::this_thread::yield();
         const vs_session mine = vs_current();
         vs_enter(ours ? b->native_handle() : a->native_handle());
         velodrome::thread([&] { x = 5; }).join();
@@ -99,7 +109,8 @@ TEST(a_thread_of_another_session_is_itself) { // the writer is the first thread 
         victim.join();
         EXPECT(b->close().what == verdict::alarm);
         const result ra = a->close();
-        EXPECT(ours ? ra.what == verdict::clean : ra.what == verdict::incomplete && has(ra.words, "another session uses x"));
+        EXPECT(ours ? ra.what == verdict::clean
+                    : ra.what == verdict::incomplete && has(ra.words, "another session uses x"));
     }
 }
 TEST(threads_of_two_sessions_have_their_own_numbers) {
@@ -109,9 +120,11 @@ TEST(threads_of_two_sessions_have_their_own_numbers) {
     velodrome::thread one([&] {
         x = 1;
         step = 1;
-        while (step < 2) std::this_thread::yield();
+        while (step < 2)
+            std::this_thread::yield();
     });
-    while (step < 1) std::this_thread::yield();
+    while (step < 1)
+        std::this_thread::yield();
     apart([&] { x = 2; });
     step = 2;
     one.join();
@@ -149,9 +162,7 @@ struct account {
 TEST(two_objects_of_one_name_are_two) {
     session s;
     account a, b;
-    {
-        std::scoped_lock both(a.lock, b.lock);
-    }
+    { std::scoped_lock both(a.lock, b.lock); }
     {
         VELODROME_ATOMIC("t");
         (void)a.balance.load();
@@ -223,16 +234,19 @@ TEST(objects_outlive_sessions) {
     }
     EXPECT(x.unwatched() == 6);
 }
-TEST(a_pool_goes_from_session_to_session) { // its thread and the variables are older than each of them
+TEST(a_pool_goes_from_session_to_session) { // its thread and the variables are older than each of
+                                            // them
     static var<int> x, y;
     std::atomic<int> step{0};
     auto go_to = [&](int n) {
         step = n;
-        while (step == n) std::this_thread::yield();
+        while (step == n)
+            std::this_thread::yield();
     };
     std::thread pool([&] {
         for (int i = 0; i < 3; i++) {
-            while (step != 1) std::this_thread::yield();
+            while (step != 1)
+                std::this_thread::yield();
             VELODROME_ATOMIC("pool");
             x = i;
             go_to(2);
@@ -277,13 +291,15 @@ TEST(a_block_that_is_too_long) {
     {
         VELODROME_ATOMIC("long");
         std::lock_guard hold(m);
-        for (int i = 0; i < 1000; i++) x += 1;
+        for (int i = 0; i < 1000; i++)
+            x += 1;
     }
     EXPECT(x.unwatched() == 1000);
     EXPECT(m.try_lock());
     m.unlock();
     const result r = s.close();
-    EXPECT(r.what == verdict::incomplete && !r.fails && has(r.words, "too many events while a block was open"));
+    EXPECT(r.what == verdict::incomplete && !r.fails &&
+           has(r.words, "too many events while a block was open"));
 }
 TEST(locks_work_where_nothing_is_told) {
     session s(limited_to(1));
@@ -304,7 +320,8 @@ TEST(an_alarm_stays) {
     add_around(x, [&] { x = 5; });
     {
         VELODROME_ATOMIC("long");
-        for (int i = 0; i < 1000; i++) x += 1;
+        for (int i = 0; i < 1000; i++)
+            x += 1;
     }
     EXPECT(s.so_far() == verdict::alarm);
     EXPECT(s.close().what == verdict::alarm);
@@ -316,7 +333,8 @@ TEST(exceptions_and_returns) {
     auto f = [&](int i) {
         VELODROME_ATOMIC("b");
         std::lock_guard hold(m);
-        if (i) return;
+        if (i)
+            return;
         x = 1;
         throw std::runtime_error("mine");
     };
@@ -352,7 +370,8 @@ TEST(a_thread_full_of_events_ends) {
     var<int> x;
     velodrome::thread([&] {
         VELODROME_ATOMIC("b");
-        for (int i = 0; i < 100; i++) x += 1;
+        for (int i = 0; i < 100; i++)
+            x += 1;
     }).join();
     EXPECT(x.unwatched() == 100);
     EXPECT(s.close().what == verdict::incomplete);
@@ -393,7 +412,8 @@ TEST(thread_locals_act_after_the_body) {
 static var<int> *late;
 struct at_exit {
     ~at_exit() {
-        if (late) *late = 1;
+        if (late)
+            *late = 1;
     }
 } at_exit_; // made before the session, so it goes after it
 TEST(statics_in_any_order) {
@@ -407,11 +427,13 @@ struct nosy {
     nosy() = default;
     nosy(var<int> *p) : x(p) {}
     nosy(const nosy &o) : x(o.x) {
-        if (x) (void)x->load();
+        if (x)
+            (void)x->load();
     }
     nosy &operator=(const nosy &) = default;
     ~nosy() {
-        if (x) (void)x->load();
+        if (x)
+            (void)x->load();
     }
 };
 TEST(accesses_within_accesses) {
@@ -441,7 +463,8 @@ TEST(children_of_fork) { // while another thread is in a call
     var<int> x;
     std::atomic<bool> stop{false};
     velodrome::thread t([&] {
-        while (!stop) (void)x.load();
+        while (!stop)
+            (void)x.load();
     });
     int hung = 0;
     for (int i = 0; i < 20; i++) {
@@ -469,10 +492,12 @@ TEST(a_fork_within_an_access) {
     int status = 1;
     x.with_mut([&](int &) {
         const pid_t child = fork();
-        if (!child) return;
+        if (!child)
+            return;
         waitpid(child, &status, 0);
     });
-    if (vs_current() == 0) _exit(0); // the child, whose access has ended
+    if (vs_current() == 0)
+        _exit(0); // the child, whose access has ended
     EXPECT(status == 0);
     EXPECT(clean(s));
 }
@@ -507,7 +532,8 @@ TEST(a_long_run_with_locks_held_throughout) {
     std::thread([&] { std::shared_lock e(w); }).join();
     a.unlock();
     b.unlock();
-    for (int i = 0; i < 100; i++) x += 1;
+    for (int i = 0; i < 100; i++)
+        x += 1;
     c.unlock();
     d.unlock();
     std::thread([&] { std::scoped_lock all(m, r, w); }).join();
@@ -516,7 +542,8 @@ TEST(a_long_run_with_locks_held_throughout) {
 TEST(an_alarm_after_cuts) {
     session s(limited_to(40));
     var<int> x;
-    for (int i = 0; i < 1000; i++) x = i;
+    for (int i = 0; i < 1000; i++)
+        x = i;
     add_around(x, [&] { x = 5; });
     EXPECT(s.close().what == verdict::alarm);
 }
@@ -525,7 +552,8 @@ TEST(an_alarm_through_a_lock_that_was_held_across_a_cut) {
     velodrome::mutex m VELODROME_NAMED("m");
     var<int> x, y;
     m.lock();
-    for (int i = 0; i < 100; i++) y = i;
+    for (int i = 0; i < 100; i++)
+        y = i;
     {
         VELODROME_ATOMIC("b");
         x = 1;
@@ -542,8 +570,10 @@ TEST(an_alarm_through_a_lock_that_was_held_across_a_cut) {
 TEST(hundreds_of_threads) {
     session s;
     var<int> x;
-    for (int i = 0; i < 300; i++) velodrome::thread([&] { x += 1; }).join();
-    for (int i = 0; i < 300; i++) apart([&] { x += 1; });
+    for (int i = 0; i < 300; i++)
+        velodrome::thread([&] { x += 1; }).join();
+    for (int i = 0; i < 300; i++)
+        apart([&] { x += 1; });
     EXPECT(x.unwatched() == 600);
     EXPECT(clean(s));
 }
@@ -553,7 +583,11 @@ TEST(more_threads_in_a_block_than_can_be_told) {
     {
         VELODROME_ATOMIC("b");
         x = 1;
-        for (int i = 0; i < 80; i++) apart([&] { var<int> y; y = 1; });
+        for (int i = 0; i < 80; i++)
+            apart([&] {
+                var<int> y;
+                y = 1;
+            });
     }
     const result r = s.close();
     EXPECT(r.what == verdict::incomplete && has(r.words, "more than 63 threads"));
@@ -562,7 +596,8 @@ TEST(many_labels) {
     session s;
     var<int> x;
     std::vector<std::string> names;
-    for (int i = 0; i < 65536; i++) names.push_back("method " + std::to_string(i));
+    for (int i = 0; i < 65536; i++)
+        names.push_back("method " + std::to_string(i));
     for (const std::string &n : names) {
         vs_object label{0, n.c_str(), 0};
         atomic_block b(label);
@@ -576,7 +611,8 @@ TEST(deep_blocks) {
     std::function<void(int)> f = [&](int n) {
         VELODROME_ATOMIC("f");
         x = n;
-        if (n) f(n - 1);
+        if (n)
+            f(n - 1);
     };
     f(100);
     EXPECT(clean(s));
@@ -586,16 +622,19 @@ TEST(thousands_of_sessions) {
         session s;
         var<int> x;
         x = 1;
-        if (!clean(s)) EXPECT(!"clean");
+        if (!clean(s))
+            EXPECT(!"clean");
     }
 }
 TEST(more_sessions_than_there_is_room) {
     std::vector<std::unique_ptr<session>> all;
-    for (int i = 0; i < 300; i++) all.push_back(std::make_unique<session>());
+    for (int i = 0; i < 300; i++)
+        all.push_back(std::make_unique<session>());
     var<int> x;
     x = 1;
     EXPECT(all[299]->native_handle() == 0 && all[299]->close().what == verdict::incomplete);
-    while (!all.empty()) all.pop_back();
+    while (!all.empty())
+        all.pop_back();
 }
 
 // ---- std's interface
@@ -613,7 +652,8 @@ TEST(std_async) {
                 x += 1;
             }
         }));
-    for (auto &f : all) f.get();
+    for (auto &f : all)
+        f.get();
     EXPECT(x.unwatched() == 400);
     EXPECT(clean(s));
 }
@@ -634,7 +674,8 @@ TEST(mutexes) {
     apart([&] { std::lock_guard a(r); });
     EXPECT(clean(s));
 }
-TEST(timed_mutexes) { // not under ThreadSanitizer, which does not know of the C library's call behind them
+TEST(timed_mutexes) { // not under ThreadSanitizer, which does not know of the C library's call
+                      // behind them
     session s;
     velodrome::timed_mutex t;
     {
@@ -694,7 +735,11 @@ TEST(shares_guard_writers) { // an alarm: between two shares of one block anothe
             std::shared_lock a(m);
             (void)x.load();
             a.unlock();
-            if (!i) apart([&] { std::unique_lock b(m); x = 1; });
+            if (!i)
+                apart([&] {
+                    std::unique_lock b(m);
+                    x = 1;
+                });
         }
     }
     EXPECT(s.close().what == verdict::alarm);
@@ -725,7 +770,8 @@ TEST(condition_variables) {
     wait_with<velodrome::condition_variable>();
     wait_with<velodrome::condition_variable_any>();
 }
-TEST(a_wait_in_a_block_is_an_alarm) { // by the definition: others act between its release and its acquire
+TEST(a_wait_in_a_block_is_an_alarm) { // by the definition: others act between its release and its
+                                      // acquire
     session s;
     velodrome::mutex m;
     velodrome::condition_variable c;
@@ -739,7 +785,8 @@ TEST(a_wait_in_a_block_is_an_alarm) { // by the definition: others act between i
             c.wait(hold);
         }
     });
-    while (!inside) std::this_thread::yield();
+    while (!inside)
+        std::this_thread::yield();
     {
         std::lock_guard hold(m); // so it waits
         go = true;
@@ -749,7 +796,8 @@ TEST(a_wait_in_a_block_is_an_alarm) { // by the definition: others act between i
     const result r = s.close();
     EXPECT(r.what == verdict::alarm && has(r.words, "not atomic: waits"));
 }
-TEST(a_fork_and_a_join_in_a_block_are_an_alarm) { // by the definition: such a block never runs without a break
+TEST(a_fork_and_a_join_in_a_block_are_an_alarm) { // by the definition: such a block never runs
+                                                  // without a break
     session s;
     VELODROME_ATOMIC("parallel");
     velodrome::thread([] {}).join();
@@ -766,7 +814,9 @@ TEST(atomics) {
     EXPECT((x |= 4) == 7 && (x &= 6) == 6 && (x ^= 1) == 7 && x-- == 7 && --x == 5);
     int wrong = 9;
     EXPECT(!x.compare_exchange_strong(wrong, 1) && wrong == 5);
-    while (!x.compare_exchange_weak(wrong, 1, std::memory_order_acq_rel, std::memory_order_relaxed)) {}
+    while (
+        !x.compare_exchange_weak(wrong, 1, std::memory_order_acq_rel, std::memory_order_relaxed)) {
+    }
     EXPECT(x.load(std::memory_order_relaxed) == 1);
     velodrome::atomic<int *> p(nullptr);
     int two[2];
@@ -775,7 +825,8 @@ TEST(atomics) {
     EXPECT(clean(s));
 }
 #ifdef __cpp_lib_atomic_wait
-TEST(atomics_that_are_waited_for) { // the wait is a read: between it and the write of the same block another thread writes
+TEST(atomics_that_are_waited_for) { // the wait is a read: between it and the write of the same
+                                    // block another thread writes
     session s;
     velodrome::atomic<int> x(0);
     velodrome::thread t([&] {
@@ -799,7 +850,8 @@ TEST(native_handles) {
     velodrome::timed_mutex t;
     velodrome::shared_mutex u;
     velodrome::condition_variable c;
-    EXPECT(m.native_handle() && r.native_handle() && t.native_handle() && u.native_handle() && c.native_handle());
+    EXPECT(m.native_handle() && r.native_handle() && t.native_handle() && u.native_handle() &&
+           c.native_handle());
 }
 TEST(a_compare_exchange_that_fails_reads) {
     for (int value : {0, 1}) {
@@ -820,7 +872,8 @@ TEST(a_compare_exchange_that_fails_reads) {
 TEST(threads) {
     session s;
     int r = 0;
-    velodrome::thread t([&r](std::unique_ptr<int> p, int k) { r = *p + k; }, std::make_unique<int>(3), 4);
+    velodrome::thread t([&r](std::unique_ptr<int> p, int k) { r = *p + k; },
+                        std::make_unique<int>(3), 4);
     EXPECT(t.joinable());
     velodrome::thread u = std::move(t);
     swap(t, u);
@@ -843,7 +896,8 @@ TEST(jthreads) {
     var<int> x;
     {
         velodrome::jthread a([&](std::stop_token stop) {
-            while (!stop.stop_requested()) std::this_thread::yield();
+            while (!stop.stop_requested())
+                std::this_thread::yield();
             x = 1;
         });
         velodrome::jthread b([&](int n) { EXPECT(n == 3); }, 3);
@@ -875,19 +929,24 @@ TEST(the_hook_gets_both_sides) {
         x.store(before + 1);
     }
     EXPECT(calls == 1);
-    EXPECT(found.first.event == "writes balance" && found.first.place == "test.cpp:" + std::to_string(line + 4) && found.first.block.empty());
-    EXPECT(found.second.event == "writes balance" && found.second.place == "test.cpp:" + std::to_string(line + 5));
+    EXPECT(found.first.event == "writes balance" &&
+           found.first.place == "test.cpp:" + std::to_string(line + 4) &&
+           found.first.block.empty());
+    EXPECT(found.second.event == "writes balance" &&
+           found.second.place == "test.cpp:" + std::to_string(line + 5));
     EXPECT(found.second.block == "transfer (test.cpp:" + std::to_string(line + 2) + ")");
     EXPECT(found.first.thread != found.second.thread);
     const result r = s.close();
-    EXPECT(r.words == found.report && has(r.words, ("reads balance at test.cpp:" + std::to_string(line + 3)).c_str()));
+    EXPECT(r.words == found.report &&
+           has(r.words, ("reads balance at test.cpp:" + std::to_string(line + 3)).c_str()));
 }
 TEST(objects_without_a_name_have_their_place) {
     session s;
     const int line = __LINE__;
     var<int> x;
     add_around(x, [&] { x = 5; });
-    EXPECT(has(s.close().words, ("writes variable at test.cpp:" + std::to_string(line + 1)).c_str()));
+    EXPECT(
+        has(s.close().words, ("writes variable at test.cpp:" + std::to_string(line + 1)).c_str()));
 }
 TEST(names_of_any_kind) {
     session s;
@@ -895,7 +954,8 @@ TEST(names_of_any_kind) {
     x = 1;
     y = 1;
     std::string long_name(500, 'x'), wide;
-    for (int i = 0; i < 300; i++) wide += "\xc3\xb6";
+    for (int i = 0; i < 300; i++)
+        wide += "\xc3\xb6";
     for (const std::string *n : {&long_name, &wide}) {
         vs_object label{0, n->c_str(), 0};
         atomic_block b(label);
@@ -904,9 +964,12 @@ TEST(names_of_any_kind) {
     EXPECT(s.save("names.vlog"));
     std::ifstream names("names.vlog.names");
     std::vector<std::string> lines;
-    for (std::string l; std::getline(names, l);) lines.push_back(l);
-    EXPECT(lines.size() == 4 && lines[0] == "variable 0 pay label 1 refund" && lines[1] == "variable 1 unnamed variable");
-    for (const std::string &l : lines) EXPECT(l.size() < 200);
+    for (std::string l; std::getline(names, l);)
+        lines.push_back(l);
+    EXPECT(lines.size() == 4 && lines[0] == "variable 0 pay label 1 refund" &&
+           lines[1] == "variable 1 unnamed variable");
+    for (const std::string &l : lines)
+        EXPECT(l.size() < 200);
     std::remove("names.vlog");
     std::remove("names.vlog.names");
     EXPECT(clean(s));
@@ -916,7 +979,8 @@ TEST(the_end_of_a_test) {
     setenv("VELODROME_LOGS", "kept", 1);
     const std::string path = "kept/Bank.Deposit";
     for (bool strict : {false, true}) {
-        if (strict) setenv("VELODROME_INCOMPLETE", "fail", 1);
+        if (strict)
+            setenv("VELODROME_INCOMPLETE", "fail", 1);
         session s(limited_to(2));
         var<int> x;
         {
@@ -927,7 +991,10 @@ TEST(the_end_of_a_test) {
         const result r = s.finish("Bank/Deposit");
         EXPECT(r.what == verdict::incomplete && r.fails == strict);
         EXPECT(std::ifstream(path + ".vlog").good() == strict);
-        if (strict) EXPECT(has(r.words, ("velodrome explain " + path + ".vlog --names " + path + ".vlog.names").c_str()));
+        if (strict)
+            EXPECT(has(
+                r.words,
+                ("velodrome explain " + path + ".vlog --names " + path + ".vlog.names").c_str()));
     }
     std::remove((path + ".vlog").c_str());
     std::remove((path + ".vlog.names").c_str());
@@ -948,7 +1015,8 @@ TEST(settings_of_the_environment) {
     unsetenv("VELODROME_NOISE");
     unsetenv("VELODROME_SEED");
 }
-// Two threads, each with one round, as a unit test has it: an update is lost if one comes between the two holds of the other.
+// Two threads, each with one round, as a unit test has it: an update is lost if one comes between
+// the two holds of the other.
 static bool loses_one(std::uint64_t seed) {
     options o;
     o.noise = 4;
@@ -973,7 +1041,8 @@ static bool loses_one(std::uint64_t seed) {
 }
 TEST(noise_finds_what_is_rare) {
     std::uint64_t run = 1;
-    while (run < 20000 && !loses_one(run)) run++;
+    while (run < 20000 && !loses_one(run))
+        run++;
     std::cout << "    in run " << run << "\n";
     EXPECT(run < 20000);
 }
@@ -982,12 +1051,15 @@ int main(int count, char **names) {
     for (const test_case &t : cases()) {
         bool asked = count < 2 || names[1][0] == '-';
         for (int i = 1; i < count; i++)
-            if (!std::strcmp(names[i] + (names[i][0] == '-'), t.name)) asked = names[i][0] != '-';
-        if (!asked) continue;
+            if (!std::strcmp(names[i] + (names[i][0] == '-'), t.name))
+                asked = names[i][0] != '-';
+        if (!asked)
+            continue;
         const int before = failures;
         std::cout << t.name << std::endl;
         t.run();
-        if (failures > before) std::cout << "    FAILED" << std::endl;
+        if (failures > before)
+            std::cout << "    FAILED" << std::endl;
     }
     std::cout << (failures ? "failed" : "passed") << std::endl;
     return failures != 0;

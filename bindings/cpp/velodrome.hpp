@@ -1,15 +1,18 @@
-// velodrome.hpp: std's mutexes, threads and atomics, watched. C++17, header only, over velodrome_session.h.
+// velodrome.hpp: std's mutexes, threads and atomics, watched. C++17, header only, over
+// velodrome_session.h.
 //
 //     velodrome::mutex m;
 //     velodrome::var<int> balance VELODROME_VALUE(100, "balance");
 //     void deposit(int n) { VELODROME_ATOMIC("deposit"); std::lock_guard hold(m); balance += n; }
 //
-// Each type has the interface of std's type of its name. What goes wrong in the watching is never thrown at the program: it is in the
-// session's result. With VELODROME_OFF all are std's own types, a var is its value alone, and the macros say nothing.
+// Each type has the interface of std's type of its name. What goes wrong in the watching is never
+// thrown at the program: it is in the session's result. With VELODROME_OFF all are std's own types,
+// a var is its value alone, and the macros say nothing.
 #ifndef VELODROME_HPP
 #define VELODROME_HPP
 #ifdef VELODROME_H
-#error "velodrome.h has a struct with the name of this header's namespace: include one of them in a file"
+#error                                                                                             \
+    "velodrome.h has a struct with the name of this header's namespace: include one of them in a file"
 #endif
 #include <atomic>
 #include <chrono>
@@ -38,13 +41,25 @@ using std::condition_variable_any;
 #include "velodrome_session.h"
 
 // A block that is meant to be atomic: from here to the end of the scope, however it is left.
-#define VELODROME_ATOMIC(name) VELODROME_BLOCK_(name, VELODROME_JOIN_(velodrome_label_, __LINE__), VELODROME_JOIN_(velodrome_block_, __LINE__))
+#define VELODROME_ATOMIC(name)                                                                     \
+    VELODROME_BLOCK_(name, VELODROME_JOIN_(velodrome_label_, __LINE__),                            \
+                     VELODROME_JOIN_(velodrome_block_, __LINE__))
 // The initializer of an object with a name, where it has no value, and where it has one.
-#define VELODROME_NAMED(name) {::velodrome::named{name}}
-#define VELODROME_VALUE(value, name) {value, ::velodrome::named{name}}
+#define VELODROME_NAMED(name)                                                                      \
+    {                                                                                              \
+        ::velodrome::named {                                                                       \
+            name                                                                                   \
+        }                                                                                          \
+    }
+#define VELODROME_VALUE(value, name)                                                               \
+    {                                                                                              \
+        value, ::velodrome::named {                                                                \
+            name                                                                                   \
+        }                                                                                          \
+    }
 
-#define VELODROME_BLOCK_(name, label, block) \
-    static ::vs_object label{0, name " (" VELODROME_FILE_ ":" VELODROME_TEXT_(__LINE__) ")", 0}; \
+#define VELODROME_BLOCK_(name, label, block)                                                       \
+    static ::vs_object label{0, name " (" VELODROME_FILE_ ":" VELODROME_TEXT_(__LINE__) ")", 0};   \
     const ::velodrome::atomic_block block(label)
 #define VELODROME_JOIN_(a, b) VELODROME_JOINED_(a, b)
 #define VELODROME_JOINED_(a, b) a##b
@@ -66,7 +81,10 @@ struct named {
 // Where a call stands in the source, as a default argument.
 class place {
 public:
-    static constexpr place here(const char *file = __builtin_FILE(), std::uint32_t line = __builtin_LINE()) noexcept { return place{file, line}; }
+    static constexpr place here(const char *file = __builtin_FILE(),
+                                std::uint32_t line = __builtin_LINE()) noexcept {
+        return place{file, line};
+    }
     constexpr vs_object object() const noexcept { return vs_object{0, file_, line_}; }
     constexpr vs_place told() const noexcept { return vs_place{file_, 0, line_}; }
 
@@ -94,16 +112,19 @@ namespace detail {
 // The hold in which an access and its event stand.
 class access {
 public:
-    access(vs_object &object, vs_kind kind) noexcept : token_(vs_idle() ? 0 : vs_before(&object, kind)) {}
+    access(vs_object &object, vs_kind kind) noexcept
+        : token_(vs_idle() ? 0 : vs_before(&object, kind)) {}
     access(vs_object &object, vs_kind kind, place at) noexcept : token_(0) {
-        if (vs_idle()) return;
+        if (vs_idle())
+            return;
         const vs_place told = at.told();
         token_ = vs_before_at(&object, kind, &told);
     }
     access(const access &) = delete;
     access &operator=(const access &) = delete;
     ~access() {
-        if (token_) vs_after(token_);
+        if (token_)
+            vs_after(token_);
     }
 
 private:
@@ -111,7 +132,8 @@ private:
 };
 
 inline void tell(vs_object &object, vs_kind kind) noexcept {
-    if (!vs_idle()) vs_tell(&object, kind);
+    if (!vs_idle())
+        vs_tell(&object, kind);
 }
 
 // A mutex of std's, recorded: an acquire after it was acquired, a release before it is released.
@@ -131,11 +153,14 @@ public:
         tell(object_, VS_RELEASE);
         inner_.unlock();
     }
-    template <class U = M> typename U::native_handle_type native_handle() { return inner_.native_handle(); }
+    template <class U = M> typename U::native_handle_type native_handle() {
+        return inner_.native_handle();
+    }
 
 protected:
     bool taken(bool got, vs_kind kind = VS_ACQUIRE) noexcept {
-        if (got) tell(object_, kind);
+        if (got)
+            tell(object_, kind);
         return got;
     }
     M inner_;
@@ -145,8 +170,14 @@ protected:
 template <class M> class timed : public lockable<M> {
 public:
     using lockable<M>::lockable;
-    template <class R, class P> [[nodiscard]] bool try_lock_for(const std::chrono::duration<R, P> &time) { return this->taken(this->inner_.try_lock_for(time)); }
-    template <class C, class D> [[nodiscard]] bool try_lock_until(const std::chrono::time_point<C, D> &time) { return this->taken(this->inner_.try_lock_until(time)); }
+    template <class R, class P>
+    [[nodiscard]] bool try_lock_for(const std::chrono::duration<R, P> &time) {
+        return this->taken(this->inner_.try_lock_for(time));
+    }
+    template <class C, class D>
+    [[nodiscard]] bool try_lock_until(const std::chrono::time_point<C, D> &time) {
+        return this->taken(this->inner_.try_lock_until(time));
+    }
 };
 
 template <class Base> class shared : public Base {
@@ -156,7 +187,9 @@ public:
         this->inner_.lock_shared();
         tell(this->object_, VS_ACQUIRE_SHARED);
     }
-    [[nodiscard]] bool try_lock_shared() { return this->taken(this->inner_.try_lock_shared(), VS_ACQUIRE_SHARED); }
+    [[nodiscard]] bool try_lock_shared() {
+        return this->taken(this->inner_.try_lock_shared(), VS_ACQUIRE_SHARED);
+    }
     void unlock_shared() noexcept {
         tell(this->object_, VS_RELEASE_SHARED);
         this->inner_.unlock_shared();
@@ -208,8 +241,14 @@ class shared_timed_mutex : public detail::shared<detail::timed<std::shared_timed
 public:
     constexpr shared_timed_mutex(place at = place::here()) noexcept : shared(at) {}
     constexpr shared_timed_mutex(named n) noexcept : shared(n) {}
-    template <class R, class P> [[nodiscard]] bool try_lock_shared_for(const std::chrono::duration<R, P> &time) { return taken(inner_.try_lock_shared_for(time), VS_ACQUIRE_SHARED); }
-    template <class C, class D> [[nodiscard]] bool try_lock_shared_until(const std::chrono::time_point<C, D> &time) { return taken(inner_.try_lock_shared_until(time), VS_ACQUIRE_SHARED); }
+    template <class R, class P>
+    [[nodiscard]] bool try_lock_shared_for(const std::chrono::duration<R, P> &time) {
+        return taken(inner_.try_lock_shared_for(time), VS_ACQUIRE_SHARED);
+    }
+    template <class C, class D>
+    [[nodiscard]] bool try_lock_shared_until(const std::chrono::time_point<C, D> &time) {
+        return taken(inner_.try_lock_shared_until(time), VS_ACQUIRE_SHARED);
+    }
 };
 
 // ---- waiting: the mutex is released and acquired again, and both are recorded
@@ -229,23 +268,38 @@ public:
         inner_.wait(w.inner);
     }
     template <class F> void wait(std::unique_lock<mutex> &lock, F ready) {
-        while (!ready()) wait(lock);
+        while (!ready())
+            wait(lock);
     }
-    template <class C, class D> std::cv_status wait_until(std::unique_lock<mutex> &lock, const std::chrono::time_point<C, D> &time) {
+    template <class C, class D>
+    std::cv_status wait_until(std::unique_lock<mutex> &lock,
+                              const std::chrono::time_point<C, D> &time) {
         waiting w(*lock.mutex());
         return inner_.wait_until(w.inner, time);
     }
-    template <class C, class D, class F> bool wait_until(std::unique_lock<mutex> &lock, const std::chrono::time_point<C, D> &time, F ready) {
+    template <class C, class D, class F>
+    bool wait_until(std::unique_lock<mutex> &lock, const std::chrono::time_point<C, D> &time,
+                    F ready) {
         while (!ready())
-            if (wait_until(lock, time) == std::cv_status::timeout) return ready();
+            if (wait_until(lock, time) == std::cv_status::timeout)
+                return ready();
         return true;
     }
-    template <class R, class P> std::cv_status wait_for(std::unique_lock<mutex> &lock, const std::chrono::duration<R, P> &time) { return wait_until(lock, std::chrono::steady_clock::now() + time); }
-    template <class R, class P, class F> bool wait_for(std::unique_lock<mutex> &lock, const std::chrono::duration<R, P> &time, F ready) { return wait_until(lock, std::chrono::steady_clock::now() + time, std::move(ready)); }
+    template <class R, class P>
+    std::cv_status wait_for(std::unique_lock<mutex> &lock,
+                            const std::chrono::duration<R, P> &time) {
+        return wait_until(lock, std::chrono::steady_clock::now() + time);
+    }
+    template <class R, class P, class F>
+    bool wait_for(std::unique_lock<mutex> &lock, const std::chrono::duration<R, P> &time, F ready) {
+        return wait_until(lock, std::chrono::steady_clock::now() + time, std::move(ready));
+    }
 
 private:
     struct waiting {
-        explicit waiting(mutex &m) noexcept : outer(m), inner(m.inner_, std::adopt_lock) { detail::tell(outer.object_, VS_RELEASE); }
+        explicit waiting(mutex &m) noexcept : outer(m), inner(m.inner_, std::adopt_lock) {
+            detail::tell(outer.object_, VS_RELEASE);
+        }
         waiting(const waiting &) = delete;
         waiting &operator=(const waiting &) = delete;
         ~waiting() {
@@ -264,11 +318,15 @@ private:
 template <class T> class var {
 public:
     using value_type = T;
-    constexpr var(place at = place::here()) noexcept(std::is_nothrow_default_constructible_v<T>) : value_(), object_(at.object()) {}
-    constexpr var(T value, place at = place::here()) : value_(std::move(value)), object_(at.object()) {}
+    constexpr var(place at = place::here()) noexcept(std::is_nothrow_default_constructible_v<T>)
+        : value_(), object_(at.object()) {}
+    constexpr var(T value, place at = place::here())
+        : value_(std::move(value)), object_(at.object()) {}
     constexpr var(T value, named n) : value_(std::move(value)), object_{0, n.name, 0} {}
     constexpr explicit var(named n) : value_(), object_{0, n.name, 0} {}
-    var(const var &other) : value_(other.load()), object_{0, other.object_.name, other.object_.line} {} // another variable with the same value
+    var(const var &other)
+        : value_(other.load()), object_{0, other.object_.name, other.object_.line} {
+    } // another variable with the same value
     var &operator=(const var &other) {
         store(other.load());
         return *this;
@@ -303,7 +361,8 @@ public:
         return before;
     }
 
-    // One access by f, which gets a reference and is short: no other thread's events are recorded meanwhile.
+    // One access by f, which gets a reference and is short: no other thread's events are recorded
+    // meanwhile.
     template <class F> decltype(auto) with(F &&f, place at = place::here()) const {
         detail::access a(object_, VS_READ, at);
         return std::forward<F>(f)(value_);
@@ -338,13 +397,15 @@ public:
     using value_type = T;
     static constexpr bool is_always_lock_free = std::atomic<T>::is_always_lock_free;
     constexpr atomic(place at = place::here()) noexcept : object_(at.object()) {}
-    constexpr atomic(T value, place at = place::here()) noexcept : value_(value), object_(at.object()) {}
+    constexpr atomic(T value, place at = place::here()) noexcept
+        : value_(value), object_(at.object()) {}
     constexpr atomic(T value, named n) noexcept : value_(value), object_{0, n.name, 0} {}
     atomic(const atomic &) = delete;
     atomic &operator=(const atomic &) = delete;
     bool is_lock_free() const noexcept { return value_.is_lock_free(); }
 
-    [[nodiscard]] T load(std::memory_order order = strongest, place at = place::here()) const noexcept {
+    [[nodiscard]] T load(std::memory_order order = strongest,
+                         place at = place::here()) const noexcept {
         detail::access a(object_, VS_READ, at);
         return value_.load(order);
     }
@@ -356,16 +417,23 @@ public:
         detail::access a(object_, VS_WRITE, at);
         return value_.exchange(value, order);
     }
-    bool compare_exchange_strong(T &expected, T value, std::memory_order yes, std::memory_order no, place at = place::here()) noexcept {
-        return exchanged(at, [&] { return value_.compare_exchange_strong(expected, value, yes, no); });
+    bool compare_exchange_strong(T &expected, T value, std::memory_order yes, std::memory_order no,
+                                 place at = place::here()) noexcept {
+        return exchanged(at,
+                         [&] { return value_.compare_exchange_strong(expected, value, yes, no); });
     }
-    bool compare_exchange_strong(T &expected, T value, std::memory_order order = strongest, place at = place::here()) noexcept {
-        return exchanged(at, [&] { return value_.compare_exchange_strong(expected, value, order); });
+    bool compare_exchange_strong(T &expected, T value, std::memory_order order = strongest,
+                                 place at = place::here()) noexcept {
+        return exchanged(at,
+                         [&] { return value_.compare_exchange_strong(expected, value, order); });
     }
-    bool compare_exchange_weak(T &expected, T value, std::memory_order yes, std::memory_order no, place at = place::here()) noexcept {
-        return exchanged(at, [&] { return value_.compare_exchange_weak(expected, value, yes, no); });
+    bool compare_exchange_weak(T &expected, T value, std::memory_order yes, std::memory_order no,
+                               place at = place::here()) noexcept {
+        return exchanged(at,
+                         [&] { return value_.compare_exchange_weak(expected, value, yes, no); });
     }
-    bool compare_exchange_weak(T &expected, T value, std::memory_order order = strongest, place at = place::here()) noexcept {
+    bool compare_exchange_weak(T &expected, T value, std::memory_order order = strongest,
+                               place at = place::here()) noexcept {
         return exchanged(at, [&] { return value_.compare_exchange_weak(expected, value, order); });
     }
     operator T() const noexcept { return load(); }
@@ -374,18 +442,25 @@ public:
         return value;
     }
 #ifdef __cpp_lib_atomic_wait
-    void wait(T old, std::memory_order order = strongest, place at = place::here()) const noexcept { // a read, once it is another value
+    void wait(T old, std::memory_order order = strongest,
+              place at = place::here()) const noexcept { // a read, once it is another value
         value_.wait(old, order);
         (void)load(order, at);
     }
-    void notify_one() noexcept { value_.notify_one(); }
-    void notify_all() noexcept { value_.notify_all(); }
+    void notify_one() noexcept {
+        value_.notify_one();
+    }
+    void notify_all() noexcept {
+        value_.notify_all();
+    }
 #endif
 
-#define VELODROME_UPDATE_(name) \
-    template <class D, class A = std::atomic<T>> auto name(D d, std::memory_order order = strongest, place at = place::here()) noexcept->decltype(std::declval<A &>().name(d, order)) { \
-        detail::access a(object_, VS_WRITE, at); \
-        return value_.name(d, order); \
+#define VELODROME_UPDATE_(name)                                                                    \
+    template <class D, class A = std::atomic<T>>                                                   \
+    auto name(D d, std::memory_order order = strongest,                                            \
+              place at = place::here()) noexcept->decltype(std::declval<A &>().name(d, order)) {   \
+        detail::access a(object_, VS_WRITE, at);                                                   \
+        return value_.name(d, order);                                                              \
     }
     VELODROME_UPDATE_(fetch_add)
     VELODROME_UPDATE_(fetch_sub)
@@ -393,27 +468,53 @@ public:
     VELODROME_UPDATE_(fetch_or)
     VELODROME_UPDATE_(fetch_xor)
 #undef VELODROME_UPDATE_
-    template <class D> auto operator+=(D d) noexcept -> decltype(std::declval<std::atomic<T> &>() += d) { return updated([d](auto &v) { return v += d; }); }
-    template <class D> auto operator-=(D d) noexcept -> decltype(std::declval<std::atomic<T> &>() -= d) { return updated([d](auto &v) { return v -= d; }); }
-    template <class D> auto operator&=(D d) noexcept -> decltype(std::declval<std::atomic<T> &>() &= d) { return updated([d](auto &v) { return v &= d; }); }
-    template <class D> auto operator|=(D d) noexcept -> decltype(std::declval<std::atomic<T> &>() |= d) { return updated([d](auto &v) { return v |= d; }); }
-    template <class D> auto operator^=(D d) noexcept -> decltype(std::declval<std::atomic<T> &>() ^= d) { return updated([d](auto &v) { return v ^= d; }); }
-    T operator++() noexcept { return updated([](auto &v) { return ++v; }); }
-    T operator--() noexcept { return updated([](auto &v) { return --v; }); }
-    T operator++(int) noexcept { return updated([](auto &v) { return v++; }); }
-    T operator--(int) noexcept { return updated([](auto &v) { return v--; }); }
+    template <class D>
+    auto operator+=(D d) noexcept -> decltype(std::declval<std::atomic<T> &>() += d) {
+        return updated([d](auto &v) { return v += d; });
+    }
+    template <class D>
+    auto operator-=(D d) noexcept -> decltype(std::declval<std::atomic<T> &>() -= d) {
+        return updated([d](auto &v) { return v -= d; });
+    }
+    template <class D>
+    auto operator&=(D d) noexcept -> decltype(std::declval<std::atomic<T> &>() &= d) {
+        return updated([d](auto &v) { return v &= d; });
+    }
+    template <class D>
+    auto operator|=(D d) noexcept -> decltype(std::declval<std::atomic<T> &>() |= d) {
+        return updated([d](auto &v) { return v |= d; });
+    }
+    template <class D>
+    auto operator^=(D d) noexcept -> decltype(std::declval<std::atomic<T> &>() ^= d) {
+        return updated([d](auto &v) { return v ^= d; });
+    }
+    T operator++() noexcept {
+        return updated([](auto &v) { return ++v; });
+    }
+    T operator--() noexcept {
+        return updated([](auto &v) { return --v; });
+    }
+    T operator++(int) noexcept {
+        return updated([](auto &v) { return v++; });
+    }
+    T operator--(int) noexcept {
+        return updated([](auto &v) { return v--; });
+    }
 
 private:
     template <class F> T updated(F f) noexcept {
         detail::access a(object_, VS_WRITE);
         return f(value_);
     }
-    template <class F> bool exchanged(place at, F f) noexcept { // the event is known once it is done
+    template <class F>
+    bool exchanged(place at, F f) noexcept { // the event is known once it is done
         const unsigned token = vs_idle() ? 0 : vs_hold(&object_);
         const bool done = f();
         const vs_place told = at.told();
-        if (token) vs_tell_at(&object_, done ? VS_WRITE : VS_READ, &told);
-        if (token) vs_after(token);
+        if (token)
+            vs_tell_at(&object_, done ? VS_WRITE : VS_READ, &told);
+        if (token)
+            vs_after(token);
         return done;
     }
     std::atomic<T> value_{};
@@ -437,12 +538,17 @@ public:
     using id = std::thread::id;
     using native_handle_type = std::thread::native_handle_type;
     thread() noexcept = default;
-    template <class F, class... A, class = std::enable_if_t<!std::is_same_v<std::remove_cv_t<std::remove_reference_t<F>>, thread>>> explicit thread(F &&f, A &&...a) : child_(vs_fork()) {
+    template <class F, class... A,
+              class = std::enable_if_t<
+                  !std::is_same_v<std::remove_cv_t<std::remove_reference_t<F>>, thread>>>
+    explicit thread(F &&f, A &&...a) : child_(vs_fork()) {
         try {
             inner_ = std::thread(
                 [](vs_child child, std::decay_t<F> f, std::decay_t<A>... a) {
                     detail::living l(child);
-                    std::invoke(std::move(f), std::move(a)...); // what it throws ends the program, as std::thread's does
+                    std::invoke(
+                        std::move(f),
+                        std::move(a)...); // what it throws ends the program, as std::thread's does
                 },
                 child_, std::forward<F>(f), std::forward<A>(a)...);
         } catch (...) {
@@ -471,7 +577,9 @@ private:
     vs_child child_{};
     std::thread inner_;
 };
-inline void swap(thread &a, thread &b) noexcept { a.swap(b); }
+inline void swap(thread &a, thread &b) noexcept {
+    a.swap(b);
+}
 
 #ifdef __cpp_lib_jthread
 class jthread {
@@ -479,14 +587,18 @@ public:
     using id = thread::id;
     using native_handle_type = thread::native_handle_type;
     jthread() noexcept : source_(std::nostopstate) {}
-    template <class F, class... A, class = std::enable_if_t<!std::is_same_v<std::remove_cvref_t<F>, jthread>>> explicit jthread(F &&f, A &&...a) : inner_(started(source_, std::forward<F>(f), std::forward<A>(a)...)) {}
+    template <class F, class... A,
+              class = std::enable_if_t<!std::is_same_v<std::remove_cvref_t<F>, jthread>>>
+    explicit jthread(F &&f, A &&...a)
+        : inner_(started(source_, std::forward<F>(f), std::forward<A>(a)...)) {}
     jthread(jthread &&) noexcept = default;
     jthread &operator=(jthread &&other) noexcept {
         jthread(std::move(other)).swap(*this);
         return *this;
     }
     ~jthread() {
-        if (!joinable()) return;
+        if (!joinable())
+            return;
         request_stop();
         join();
     }
@@ -505,14 +617,19 @@ public:
     static unsigned hardware_concurrency() noexcept { return thread::hardware_concurrency(); }
 
 private:
-    template <class F, class... A> static thread started(std::stop_source &source, F &&f, A &&...a) {
-        if constexpr (std::is_invocable_v<std::decay_t<F>, std::stop_token, std::decay_t<A>...>) return thread(std::forward<F>(f), source.get_token(), std::forward<A>(a)...);
-        else return thread(std::forward<F>(f), std::forward<A>(a)...);
+    template <class F, class... A>
+    static thread started(std::stop_source &source, F &&f, A &&...a) {
+        if constexpr (std::is_invocable_v<std::decay_t<F>, std::stop_token, std::decay_t<A>...>)
+            return thread(std::forward<F>(f), source.get_token(), std::forward<A>(a)...);
+        else
+            return thread(std::forward<F>(f), std::forward<A>(a)...);
     }
     std::stop_source source_;
     thread inner_;
 };
-inline void swap(jthread &a, jthread &b) noexcept { a.swap(b); }
+inline void swap(jthread &a, jthread &b) noexcept {
+    a.swap(b);
+}
 #endif
 
 // ---- sessions
@@ -523,7 +640,8 @@ enum class verdict { clean = VS_CLEAN, alarm = VS_ALARM, incomplete = VS_INCOMPL
 struct side {
     std::uint64_t position;
     unsigned thread;
-    std::string event, block, place; // "writes balance", "transfer (bank.cpp:12)", "bank.cpp:14"; what is not known is empty
+    std::string event, block, place; // "writes balance", "transfer (bank.cpp:12)", "bank.cpp:14";
+                                     // what is not known is empty
 };
 
 struct collision {
@@ -538,7 +656,8 @@ struct options {
     std::uint32_t noise = 0;     // one event in `noise` waits for a while; 0: none
     std::uint64_t seed = 0;      // which ones; 0: by the clock
     bool everywhere = true;      // also for threads that velodrome::thread did not start
-    std::function<void(const collision &)> on_alarm; // called once, in the thread of the event; what it throws is lost
+    std::function<void(const collision &)>
+        on_alarm; // called once, in the thread of the event; what it throws is lost
 
     // What the environment asks for: VELODROME_NOISE, VELODROME_SEED, VELODROME_EVENTS.
     static options environment() {
@@ -554,7 +673,8 @@ struct options {
 
 struct [[nodiscard]] result {
     verdict what = verdict::incomplete;
-    std::string words; // what `velodrome explain` prints of an alarm, with names and places; why it is incomplete
+    std::string words; // what `velodrome explain` prints of an alarm, with names and places; why it
+                       // is incomplete
     bool fails = true; // what VELODROME_INCOMPLETE asks for, by finish()
     explicit operator bool() const noexcept { return what == verdict::clean; }
 };
@@ -569,14 +689,16 @@ public:
         asked.locks = o.locks;
         asked.noise = o.noise;
         asked.seed = o.seed;
-        if (on_alarm_) asked.alarm = called;
+        if (on_alarm_)
+            asked.alarm = called;
         asked.data = this;
         id_ = vs_open(&asked, o.everywhere);
     }
     session(const session &) = delete;
     session &operator=(const session &) = delete;
     ~session() {
-        if (id_) vs_close(id_, nullptr);
+        if (id_)
+            vs_close(id_, nullptr);
     }
     verdict so_far() const noexcept { return static_cast<verdict>(vs_so_far(id_)); }
     bool save(const char *path) const noexcept { return vs_save(id_, path); }
@@ -601,14 +723,19 @@ private:
         result r;
         r.what = static_cast<verdict>(v);
         r.fails = fails;
-        if (words) r.words = words;
+        if (words)
+            r.words = words;
         vs_free(words);
         return r;
     }
-    static side side_of(const vs_side &s) { return {s.position, s.thread, s.event ? s.event : "", s.block ? s.block : "", s.place ? s.place : ""}; }
+    static side side_of(const vs_side &s) {
+        return {s.position, s.thread, s.event ? s.event : "", s.block ? s.block : "",
+                s.place ? s.place : ""};
+    }
     static void called(void *data, const vs_alarm *a) noexcept {
         try {
-            static_cast<session *>(data)->on_alarm_(collision{side_of(a->first), side_of(a->second), a->report});
+            static_cast<session *>(data)->on_alarm_(
+                collision{side_of(a->first), side_of(a->second), a->report});
         } catch (...) {
         }
     }

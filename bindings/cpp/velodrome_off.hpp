@@ -2,8 +2,10 @@
 #ifndef VELODROME_OFF_HPP
 #define VELODROME_OFF_HPP
 #define VELODROME_ATOMIC(name) static_cast<void>(0)
-#define VELODROME_NAMED(name) {}
-#define VELODROME_VALUE(value, name) {value}
+#define VELODROME_NAMED(name)                                                                      \
+    {}
+#define VELODROME_VALUE(value, name)                                                               \
+    { value }
 
 namespace velodrome {
 using std::atomic;

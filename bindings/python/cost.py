@@ -23,13 +23,18 @@ def cost(name, body, events, **options):
         times.append((time.process_time_ns() - start) / ROUNDS / events)
         if run and not run.close().clean:
             raise SystemExit(run.outcome.text)
-    print(f'{name:34} {statistics.median(times):5.0f} ns an event', flush=True)
+    print(f"{name:34} {statistics.median(times):5.0f} ns an event", flush=True)
 
 
 def main():
-    x, lock, block, account = velodrome.Var(0, 'x'), velodrome.Lock('lock'), velodrome.atomic('block'), Account()
+    x, lock, block, account = (
+        velodrome.Var(0, "x"),
+        velodrome.Lock("lock"),
+        velodrome.atomic("block"),
+        Account(),
+    )
     plain, plain_lock = Account(), threading.Lock()
-    plain.__dict__['value'] = 0
+    plain.__dict__["value"] = 0
 
     def whole():
         with block, lock:
@@ -43,13 +48,13 @@ def main():
         with plain_lock:
             plain.value = plain.value + 1
 
-    cost('a round', whole, 6, places=True)
-    cost('a round without places', whole, 6, places=False)
-    cost('a round of a field', of_fields, 6, places=True)
-    cost('Var.get', x.get, 1, places=True)
-    cost('a round with no session', whole, 6)
-    cost('a plain lock and attribute, a sixth', without, 6)
+    cost("a round", whole, 6, places=True)
+    cost("a round without places", whole, 6, places=False)
+    cost("a round of a field", of_fields, 6, places=True)
+    cost("Var.get", x.get, 1, places=True)
+    cost("a round with no session", whole, 6)
+    cost("a plain lock and attribute, a sixth", without, 6)
 
 
-if __name__ == '__main__':
+if __name__ == "__main__":
     main()

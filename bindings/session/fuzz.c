@@ -1,6 +1,7 @@
-/* fuzz [RUNS [SEED]]: the session against the plain calls. A random run, with threads that are played by one, is told to a session
- * whose log is so short that it is cut again and again, and to one handle that has room for all of it. The session has its alarm at
- * the very event at which the handle has it, and is incomplete only where a block stood open for too long. */
+/* fuzz [RUNS [SEED]]: the session against the plain calls. A random run, with threads that are
+ * played by one, is told to a session whose log is so short that it is cut again and again, and to
+ * one handle that has room for all of it. The session has its alarm at the very event at which the
+ * handle has it, and is incomplete only where a block stood open for too long. */
 #include "velodrome.h"
 #include "velodrome_session.h"
 #include <stdio.h>
@@ -32,18 +33,23 @@ static bool refused;
 static bool alarm_of_handle;
 static void answered(velodrome_status status, const velodrome_answer *a) {
     refused |= status != 0;
-    if (!status) run.events++;
-    if (!status) alarm_of_handle = a->alarmed;
+    if (!status)
+        run.events++;
+    if (!status)
+        alarm_of_handle = a->alarmed;
 }
 
 /* The handle is told of blocks when their first event comes, as the session does. */
 static void in_blocks(int t) {
     velodrome_answer a;
-    for (; run.told[t] < run.depth[t]; run.told[t]++) answered(velodrome_begin(run.handle, (uint32_t)t, (uint32_t)run.label[t][run.told[t]], &a), &a);
+    for (; run.told[t] < run.depth[t]; run.told[t]++)
+        answered(velodrome_begin(run.handle, (uint32_t)t, (uint32_t)run.label[t][run.told[t]], &a),
+                 &a);
 }
 
 static void open_block(int t) {
-    if (run.depth[t] == DEPTH) return;
+    if (run.depth[t] == DEPTH)
+        return;
     run.label[t][run.depth[t]] = (int)draw(3);
     vs_begin(&run.labels[run.label[t][run.depth[t]++]]);
 }
@@ -51,7 +57,8 @@ static void open_block(int t) {
 static void close_block(int t) {
     velodrome_answer a;
     vs_end();
-    if (!run.depth[t]) return;
+    if (!run.depth[t])
+        return;
     if (run.told[t] == run.depth[t]--) {
         answered(velodrome_end(run.handle, (uint32_t)t, &a), &a);
         run.told[t]--;
@@ -63,12 +70,15 @@ static void access_variable(int t, bool write) {
     int x = (int)draw(VARIABLES);
     in_blocks(t);
     vs_after(vs_before(&run.variable[x], write ? VS_WRITE : VS_READ));
-    answered(write ? velodrome_write(run.handle, (uint32_t)t, (uint32_t)x, 0, &a) : velodrome_read(run.handle, (uint32_t)t, (uint32_t)x, &a), &a);
+    answered(write ? velodrome_write(run.handle, (uint32_t)t, (uint32_t)x, 0, &a)
+                   : velodrome_read(run.handle, (uint32_t)t, (uint32_t)x, &a),
+             &a);
 }
 
 static int sharers(int m) {
     int n = 0;
-    for (int t = 0; t < THREADS; t++) n += run.share[m][t] > 0;
+    for (int t = 0; t < THREADS; t++)
+        n += run.share[m][t] > 0;
     return n;
 }
 
@@ -78,14 +88,16 @@ static void use_lock(int t) {
     bool release = draw(2);
     if (run.owner[m] == t && release) {
         vs_tell(&run.lock[m], VS_RELEASE);
-        if (--run.times[m]) return;
+        if (--run.times[m])
+            return;
         run.owner[m] = 0;
         in_blocks(t);
         answered(velodrome_release(run.handle, (uint32_t)t, (uint32_t)m, &a), &a);
     } else if (run.owner[m] == t || (!run.owner[m] && !sharers(m))) {
         vs_tell(&run.lock[m], VS_ACQUIRE);
         run.owner[m] = t;
-        if (run.times[m]++) return;
+        if (run.times[m]++)
+            return;
         in_blocks(t);
         answered(velodrome_acquire(run.handle, (uint32_t)t, (uint32_t)m, &a), &a);
     }
@@ -97,12 +109,14 @@ static void use_share(int t) {
     bool release = draw(2);
     if (run.share[m][t] && release) {
         vs_tell(&run.lock[m], VS_RELEASE_SHARED);
-        if (--run.share[m][t]) return;
+        if (--run.share[m][t])
+            return;
         in_blocks(t);
         answered(velodrome_release_shared(run.handle, (uint32_t)t, (uint32_t)m, &a), &a);
     } else if (!run.owner[m]) {
         vs_tell(&run.lock[m], VS_ACQUIRE_SHARED);
-        if (run.share[m][t]++) return;
+        if (run.share[m][t]++)
+            return;
         in_blocks(t);
         answered(velodrome_acquire_shared(run.handle, (uint32_t)t, (uint32_t)m, &a), &a);
     }
@@ -110,7 +124,8 @@ static void use_share(int t) {
 
 static bool holds(int t) {
     for (int m = 0; m < LOCKS; m++)
-        if (run.owner[m] == t || run.share[m][t]) return true;
+        if (run.owner[m] == t || run.share[m][t])
+            return true;
     return false;
 }
 
@@ -127,7 +142,8 @@ static void start_thread(int t, int child) {
 }
 
 static void end_thread(int t) {
-    if (run.depth[t] || holds(t)) return;
+    if (run.depth[t] || holds(t))
+        return;
     vs_exit(run.child[t]);
     run.life[t] = 2;
 }
@@ -143,9 +159,12 @@ static void join_thread(int t, int child) {
 
 static void thread_step(int t) {
     int other = (int)draw(THREADS);
-    if (other < 2 || other == t) return;
-    if (run.life[other] == 0) start_thread(t, other);
-    else if (run.life[other] == 2) join_thread(t, other);
+    if (other < 2 || other == t)
+        return;
+    if (run.life[other] == 0)
+        start_thread(t, other);
+    else if (run.life[other] == 2)
+        join_thread(t, other);
     else if (run.life[other] == 1 && draw(8) == 0) {
         vs_switch(run.self[other]);
         end_thread(other);
@@ -155,17 +174,30 @@ static void thread_step(int t) {
 static void step(int t) {
     switch (draw(12)) {
     case 0:
-    case 1: open_block(t); break;
+    case 1:
+        open_block(t);
+        break;
     case 2:
     case 3:
-    case 4: close_block(t); break;
+    case 4:
+        close_block(t);
+        break;
     case 5:
-    case 6: access_variable(t, false); break;
-    case 7: access_variable(t, true); break;
+    case 6:
+        access_variable(t, false);
+        break;
+    case 7:
+        access_variable(t, true);
+        break;
     case 8:
-    case 9: use_lock(t); break;
-    case 10: use_share(t); break;
-    default: thread_step(t);
+    case 9:
+        use_lock(t);
+        break;
+    case 10:
+        use_share(t);
+        break;
+    default:
+        thread_step(t);
     }
 }
 
@@ -189,7 +221,8 @@ static bool end_run(vs_session s) {
     bool other = vs_close(s, &report) == VS_INCOMPLETE && !strstr(report, "while a block was open");
     vs_free(report);
     velodrome_close(run.handle);
-    for (int t = 0; t < THREADS; t++) vs_self_free(run.self[t]);
+    for (int t = 0; t < THREADS; t++)
+        vs_self_free(run.self[t]);
     return other;
 }
 
@@ -200,13 +233,17 @@ static int one_run(uint32_t room) {
     int result = 0;
     for (long i = 0, n = 100 + draw(500); i < n && !result; i++) {
         int t = 1 + (int)draw(THREADS - 1);
-        if (run.life[t] != 1) continue;
+        if (run.life[t] != 1)
+            continue;
         vs_switch(run.self[t]);
         step(t);
         vs_verdict v = vs_so_far(s);
-        if (v == VS_INCOMPLETE) result = 2;
-        else if ((v == VS_ALARM) != alarm_of_handle || refused) result = -1;
-        else if (v == VS_ALARM) result = 1;
+        if (v == VS_INCOMPLETE)
+            result = 2;
+        else if ((v == VS_ALARM) != alarm_of_handle || refused)
+            result = -1;
+        else if (v == VS_ALARM)
+            result = 1;
     }
     return end_run(s) ? -1 : result;
 }
@@ -218,9 +255,12 @@ int main(int argc, char **argv) {
         uint64_t seed = state;
         int result = one_run(MOST - draw(100));
         events += run.events;
-        if (result < 0) printf("run %ld, seed %llu: they differ\n", i, (unsigned long long)seed);
+        if (result < 0)
+            printf("run %ld, seed %llu: they differ\n", i, (unsigned long long)seed);
         counts[result + 1]++;
     }
-    printf("%ld runs, %ld events: %ld with an alarm, %ld where a block stood open for too long, %ld differ\n", runs, events, counts[2], counts[3], counts[0]);
+    printf("%ld runs, %ld events: %ld with an alarm, %ld where a block stood open for too long, "
+           "%ld differ\n",
+           runs, events, counts[2], counts[3], counts[0]);
     return counts[0] != 0 || counts[2] == 0 || counts[1] == 0;
 }

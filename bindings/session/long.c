@@ -1,5 +1,6 @@
-/* long: a program that is longer than a log: 5,000,000 events and more, 1,000 threads one after another, 100,000 variables. It ends
- * with a verdict: clean; with "lost", the alarm of the lost update at its end. Prints how long an event took. */
+/* long: a program that is longer than a log: 5,000,000 events and more, 1,000 threads one after
+ * another, 100,000 variables. It ends with a verdict: clean; with "lost", the alarm of the lost
+ * update at its end. Prints how long an event took. */
 #define _GNU_SOURCE
 #include "velodrome_session.h"
 #include <pthread.h>
@@ -13,7 +14,9 @@ static vs_object *variables;
 static vs_object lock = VS_OBJECT("lock");
 static pthread_mutex_t real = PTHREAD_MUTEX_INITIALIZER;
 
-static void access_variable(int i, vs_kind kind) { vs_after(vs_before(&variables[i], kind)); }
+static void access_variable(int i, vs_kind kind) {
+    vs_after(vs_before(&variables[i], kind));
+}
 
 typedef struct start {
     vs_child child;
@@ -66,9 +69,12 @@ int main(int argc, char **argv) {
     }
     char *report;
     vs_verdict v = vs_close(s, &report);
-    double ns = (double)(ended.tv_sec - begun.tv_sec) * 1e9 + (double)(ended.tv_nsec - begun.tv_nsec);
-    printf("%d events, %d threads, %d variables: verdict %d, %.0f ns of the processor an event\n", THREADS * ROUNDS * 6 + 3 * THREADS, THREADS, VARIABLES, v, ns / (THREADS * ROUNDS * 6));
-    if (report) fputs(report, stdout);
+    double ns =
+        (double)(ended.tv_sec - begun.tv_sec) * 1e9 + (double)(ended.tv_nsec - begun.tv_nsec);
+    printf("%d events, %d threads, %d variables: verdict %d, %.0f ns of the processor an event\n",
+           THREADS * ROUNDS * 6 + 3 * THREADS, THREADS, VARIABLES, v, ns / (THREADS * ROUNDS * 6));
+    if (report)
+        fputs(report, stdout);
     vs_free(report);
     free(variables);
     return v == (lost ? VS_ALARM : VS_CLEAN) ? 0 : 1;

@@ -1,4 +1,5 @@
-/* test: what velodrome_session.h promises and a shell does not show. Threads come and go as they like; run it under ThreadSanitizer. */
+/* test: what velodrome_session.h promises and a shell does not show. Threads come and go as they
+ * like; run it under ThreadSanitizer. */
 #define _GNU_SOURCE
 #include "velodrome_session.h"
 #include <pthread.h>
@@ -13,14 +14,19 @@
 
 static int failed;
 static void expect(bool holds, const char *what, int line) {
-    if (holds) return;
+    if (holds)
+        return;
     printf("    line %d: %s\n", line, what);
     failed = 1;
 }
 #define EXPECT(x) expect(x, #x, __LINE__)
 
-static void get(vs_object *o) { vs_after(vs_before(o, VS_READ)); }
-static void set(vs_object *o) { vs_after(vs_before(o, VS_WRITE)); }
+static void get(vs_object *o) {
+    vs_after(vs_before(o, VS_READ));
+}
+static void set(vs_object *o) {
+    vs_after(vs_before(o, VS_WRITE));
+}
 static void *set_it(void *o) {
     set(o);
     return NULL;
@@ -31,7 +37,9 @@ static void set_apart(vs_object *o) {
     pthread_create(&t, NULL, set_it, o);
     pthread_join(t, NULL);
 }
-static void pause_for(long us) { nanosleep(&(struct timespec){0, us * 1000}, NULL); }
+static void pause_for(long us) {
+    nanosleep(&(struct timespec){0, us * 1000}, NULL);
+}
 
 static void lost_update(vs_object *o) {
     VELODROME_ATOMIC("add");
@@ -47,7 +55,8 @@ static void what_is_not_there(void) {
         vs_session s = i == 0 ? 0 : i == 1 ? old : 1234567;
         char *report = "x";
         bool fails;
-        EXPECT(vs_close(s, &report) == VS_INCOMPLETE && !report == (s != 0) && vs_so_far(s) == VS_INCOMPLETE && !vs_save(s, "none.vlog"));
+        EXPECT(vs_close(s, &report) == VS_INCOMPLETE && !report == (s != 0) &&
+               vs_so_far(s) == VS_INCOMPLETE && !vs_save(s, "none.vlog"));
         vs_free(report);
         EXPECT(vs_finish(s, "none", &report, &fails) == VS_INCOMPLETE && !fails);
         vs_free(report);
@@ -74,9 +83,12 @@ static int left_early(int how) {
     for (int i = 0; i < 3; i++) {
         VELODROME_ATOMIC("b");
         set(&x);
-        if (how == 0) return 1;
-        if (how == 1) break;
-        if (how == 2) continue;
+        if (how == 0)
+            return 1;
+        if (how == 1)
+            break;
+        if (how == 2)
+            continue;
         goto out;
     }
 out:
@@ -85,7 +97,8 @@ out:
 }
 static void blocks_end_with_their_scope(void) {
     vs_session s = vs_open(NULL, true);
-    for (int how = 0; how < 4; how++) left_early(how);
+    for (int how = 0; how < 4; how++)
+        left_early(how);
     vs_object y = VS_OBJECT("y");
     set(&y);
     set_apart(&y);
@@ -103,7 +116,8 @@ static void sessions_nest(void) {
     EXPECT(vs_close(a, NULL) == VS_ALARM && vs_current() == 0);
 }
 
-static void an_object_of_a_closed_session_is_anyones(void) { /* also where another session has its slot */
+static void
+an_object_of_a_closed_session_is_anyones(void) { /* also where another session has its slot */
     static vs_object x = VS_OBJECT("x");
     vs_session a = vs_open(NULL, false);
     set(&x);
@@ -115,7 +129,8 @@ static void an_object_of_a_closed_session_is_anyones(void) { /* also where anoth
     EXPECT(vs_close(c, NULL) == VS_ALARM && vs_close(b, NULL) == VS_CLEAN);
 }
 
-static void tasks_are_themselves(void) { /* two tasks of one thread lose an update, and the end of one's block is not the other's */
+static void tasks_are_themselves(void) { /* two tasks of one thread lose an update, and the end of
+                                            one's block is not the other's */
     vs_session s = vs_open(NULL, true);
     vs_object x = VS_OBJECT("x"), label = VS_OBJECT("task");
     vs_self *task[2] = {vs_self_new(), vs_self_new()};
@@ -132,7 +147,8 @@ static void tasks_are_themselves(void) { /* two tasks of one thread lose an upda
         vs_switch(NULL);
     }
     EXPECT(vs_close(s, NULL) == VS_ALARM);
-    for (int i = 0; i < 2; i++) vs_self_free(task[i]);
+    for (int i = 0; i < 2; i++)
+        vs_self_free(task[i]);
 }
 
 static void *act_as(void *self) {
@@ -161,7 +177,8 @@ static void a_task_goes_from_thread_to_thread(void) {
 
 static _Atomic int hook_state;
 static void slow_hook(void *data, const vs_alarm *a) {
-    EXPECT(data == &hook_state && a->first.event && strcmp(a->second.event, "writes x") == 0 && strstr(a->report, "not atomic: add"));
+    EXPECT(data == &hook_state && a->first.event && strcmp(a->second.event, "writes x") == 0 &&
+           strstr(a->report, "not atomic: add"));
     hook_state = 1;
     pause_for(30000);
     set(&(vs_object)VS_OBJECT("of the hook"));
@@ -177,13 +194,16 @@ static void close_waits_for_the_hook(void) {
     vs_object x = VS_OBJECT("x");
     pthread_t t;
     pthread_create(&t, NULL, lose, &x);
-    while (!hook_state) sched_yield();
+    while (!hook_state)
+        sched_yield();
     char *report;
     EXPECT(vs_close(s, &report) == VS_ALARM && hook_state == 2 && report);
     vs_free(report);
     pthread_join(t, NULL);
 }
-static void closing_hook(void *data, const vs_alarm *a) { *(vs_verdict *)data = vs_close(a->session, NULL); }
+static void closing_hook(void *data, const vs_alarm *a) {
+    *(vs_verdict *)data = vs_close(a->session, NULL);
+}
 static void a_hook_may_close(void) {
     vs_verdict v = VS_CLEAN;
     vs_options o = {.alarm = closing_hook, .data = &v};
@@ -213,30 +233,37 @@ static void *act(void *unused) {
 }
 static void sessions_come_and_go(void) {
     pthread_t t[4];
-    for (int i = 0; i < 4; i++) pthread_create(&t[i], NULL, act, NULL);
+    for (int i = 0; i < 4; i++)
+        pthread_create(&t[i], NULL, act, NULL);
     int wrong = 0;
     for (int i = 0; i < 300; i++) {
         vs_options o = {.events = 100, .variables = 8, .locks = 8, .noise = i % 3 == 0 ? 8 : 0};
         vs_session s = vs_open(&o, true);
         pause_for(200);
-        wrong += vs_close(s, NULL) == VS_ALARM; /* it may have been too short for the blocks, but none is to blame */
+        wrong += vs_close(s, NULL) ==
+                 VS_ALARM; /* it may have been too short for the blocks, but none is to blame */
     }
     over = true;
-    for (int i = 0; i < 4; i++) pthread_join(t[i], NULL);
+    for (int i = 0; i < 4; i++)
+        pthread_join(t[i], NULL);
     EXPECT(!wrong);
 }
-static void a_crowded_run_is_cut(void) { /* blocks are open nearly always, and yet it has a verdict */
+static void
+a_crowded_run_is_cut(void) { /* blocks are open nearly always, and yet it has a verdict */
     pthread_t t[4];
     over = false;
     vs_options o = {.events = 20000};
     vs_session s = vs_open(&o, true);
-    for (int i = 0; i < 4; i++) pthread_create(&t[i], NULL, act, NULL);
+    for (int i = 0; i < 4; i++)
+        pthread_create(&t[i], NULL, act, NULL);
     pause_for(900000);
     over = true;
-    for (int i = 0; i < 4; i++) pthread_join(t[i], NULL);
+    for (int i = 0; i < 4; i++)
+        pthread_join(t[i], NULL);
     char *report;
     EXPECT(vs_close(s, &report) == VS_CLEAN);
-    if (report) printf("    %s", report);
+    if (report)
+        printf("    %s", report);
     vs_free(report);
 }
 
@@ -260,10 +287,13 @@ static void sessions_crosswise(void) {
         set(&crossing[i]);
     }
     vs_enter(0);
-    for (int i = 0; i < 2; i++) pthread_create(&t[i], NULL, cross, &crossing[i]);
-    for (int i = 0; i < 2; i++) pthread_join(t[i], NULL);
+    for (int i = 0; i < 2; i++)
+        pthread_create(&t[i], NULL, cross, &crossing[i]);
+    for (int i = 0; i < 2; i++)
+        pthread_join(t[i], NULL);
     int incomplete = 0;
-    for (int i = 0; i < 2; i++) incomplete += vs_close(s[i], NULL) == VS_INCOMPLETE;
+    for (int i = 0; i < 2; i++)
+        incomplete += vs_close(s[i], NULL) == VS_INCOMPLETE;
     EXPECT(incomplete >= 1);
 }
 
@@ -284,7 +314,8 @@ static void a_child_of_fork_is_on_its_own(void) {
     EXPECT(status == 0 && vs_close(s, NULL) == VS_CLEAN);
 }
 
-static void a_thread_met_in_a_block_is_no_child_of_it(void) { /* such as one of a pool that is older than the session */
+static void a_thread_met_in_a_block_is_no_child_of_it(
+    void) { /* such as one of a pool that is older than the session */
     vs_session s = vs_open(NULL, true);
     vs_object x = VS_OBJECT("x"), y = VS_OBJECT("y"), label = VS_OBJECT("block");
     vs_begin(&label);
@@ -308,11 +339,13 @@ static void a_full_log_is_told_and_nothing_else(void) {
     vs_end();
     set_apart(&x);
     char *report;
-    EXPECT(vs_close(s, &report) == VS_INCOMPLETE && strstr(report, "too many events while a block was open"));
+    EXPECT(vs_close(s, &report) == VS_INCOMPLETE &&
+           strstr(report, "too many events while a block was open"));
     vs_free(report);
 }
 
-static void a_lock_of_another_kind(void) { /* released by a thread that did not take it: it cannot be told, and the program goes on */
+static void a_lock_of_another_kind(void) { /* released by a thread that did not take it: it cannot
+                                              be told, and the program goes on */
     vs_session s = vs_open(NULL, true);
     static vs_object l = VS_OBJECT("l");
     vs_tell(&l, VS_ACQUIRE);
@@ -320,17 +353,31 @@ static void a_lock_of_another_kind(void) { /* released by a thread that did not 
     vs_tell(&l, VS_RELEASE);
     vs_self_free(vs_switch(NULL));
     char *report;
-    EXPECT(vs_close(s, &report) == VS_INCOMPLETE && strstr(report, "released by a thread that does not hold it"));
+    EXPECT(vs_close(s, &report) == VS_INCOMPLETE &&
+           strstr(report, "released by a thread that does not hold it"));
     vs_free(report);
 }
 
 int main(void) {
-    static const struct { const char *name; void (*run)(void); } tests[] = {
+    static const struct {
+        const char *name;
+        void (*run)(void);
+    } tests[] = {
 #define T(f) {#f, f}
-        T(what_is_not_there), T(blocks_end_with_their_scope), T(sessions_nest), T(an_object_of_a_closed_session_is_anyones),
-        T(tasks_are_themselves), T(a_task_goes_from_thread_to_thread),
-        T(close_waits_for_the_hook), T(a_hook_may_close), T(sessions_come_and_go), T(a_crowded_run_is_cut), T(sessions_crosswise),
-        T(a_child_of_fork_is_on_its_own), T(a_thread_met_in_a_block_is_no_child_of_it), T(a_full_log_is_told_and_nothing_else),
+        T(what_is_not_there),
+        T(blocks_end_with_their_scope),
+        T(sessions_nest),
+        T(an_object_of_a_closed_session_is_anyones),
+        T(tasks_are_themselves),
+        T(a_task_goes_from_thread_to_thread),
+        T(close_waits_for_the_hook),
+        T(a_hook_may_close),
+        T(sessions_come_and_go),
+        T(a_crowded_run_is_cut),
+        T(sessions_crosswise),
+        T(a_child_of_fork_is_on_its_own),
+        T(a_thread_met_in_a_block_is_no_child_of_it),
+        T(a_full_log_is_told_and_nothing_else),
         T(a_lock_of_another_kind)};
     for (size_t i = 0; i < sizeof tests / sizeof *tests; i++) {
         printf("%s\n", tests[i].name);

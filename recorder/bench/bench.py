@@ -21,19 +21,32 @@ KINDS = {"memory": 2, "reads": 3, "calls": 2, "locks": 2, "atomics": 1}  # event
 def build(room, compiler, other):
     made = {"plain": f"{room}/plain", "tsan": f"{room}/tsan", "recorder": f"{room}/recorder"}
     source = f"{HERE}/work.c"
-    subprocess.run([compiler, "-O1", "-g", "-w", source, "-o", made["plain"], "-lpthread"], check=True)
-    subprocess.run([compiler, "-O1", "-g", "-w", "-fsanitize=thread", source, "-o", made["tsan"]], check=True)
+    subprocess.run(
+        [compiler, "-O1", "-g", "-w", source, "-o", made["plain"], "-lpthread"], check=True
+    )
+    subprocess.run(
+        [compiler, "-O1", "-g", "-w", "-fsanitize=thread", source, "-o", made["tsan"]], check=True
+    )
     environment = dict(os.environ, VELODROME_CC=compiler)
-    subprocess.run([f"{BIN}/velodrome-cc", source, "-o", made["recorder"]], check=True, env=environment)
+    subprocess.run(
+        [f"{BIN}/velodrome-cc", source, "-o", made["recorder"]], check=True, env=environment
+    )
     if other:
         made["other"] = f"{room}/other"
-        subprocess.run([f"{other}/velodrome-cc", source, "-o", made["other"]], check=True, env=environment)
+        subprocess.run(
+            [f"{other}/velodrome-cc", source, "-o", made["other"]], check=True, env=environment
+        )
     return made
 
 
 def run(program, words, **settings):
     before, start = resource.getrusage(resource.RUSAGE_CHILDREN), time.monotonic()
-    done = subprocess.run([program, *map(str, words)], env=dict(os.environ, **settings), capture_output=True, text=True)
+    done = subprocess.run(
+        [program, *map(str, words)],
+        env=dict(os.environ, **settings),
+        capture_output=True,
+        text=True,
+    )
     wall, after = time.monotonic() - start, resource.getrusage(resource.RUSAGE_CHILDREN)
     run.said = done.stdout
     if done.returncode:
@@ -52,7 +65,11 @@ def variants(made, out, nothing):
     yield "off", made["recorder"], {}
     for name in ("recorder", "other"):
         for mode in ("free", "exact", "serial") if name in made else ():
-            yield (mode if name == "recorder" else f"other {mode}"), made[name], {"VELODROME_OUT": out, "VELODROME_MODE": mode, "VELODROME_MOST": "200000000"}
+            yield (mode if name == "recorder" else f"other {mode}"), made[name], {
+                "VELODROME_OUT": out,
+                "VELODROME_MODE": mode,
+                "VELODROME_MOST": "200000000",
+            }
     yield "exact, not listed", made["recorder"], {"VELODROME_OUT": out, "VELODROME_SITES": nothing}
 
 
@@ -70,9 +87,14 @@ def measure(room, made, rounds, count, kinds):
                     seen = run(program, (kind, threads, steps), **settings)
                     least[name] = tuple(map(min, seen, least.get(name, seen)))
             total = steps * threads
-            print(f"{kind}, {threads} thread{'s' * (threads > 1)}, {KINDS[kind]} event{'s' * (KINDS[kind] > 1)} a step")
+            print(
+                f"{kind}, {threads} thread{'s' * (threads > 1)}, {KINDS[kind]} event{'s' * (KINDS[kind] > 1)} a step"
+            )
             for name, (cpu, wall) in least.items():
-                print(f"    {name:18} processor {cpu * 1e9 / total:7.1f}   wall {wall * 1e9 / total:7.1f}   {cpu / max(least['tsan'][0], 1e-9):5.1f} x tsan", flush=True)
+                print(
+                    f"    {name:18} processor {cpu * 1e9 / total:7.1f}   wall {wall * 1e9 / total:7.1f}   {cpu / max(least['tsan'][0], 1e-9):5.1f} x tsan",
+                    flush=True,
+                )
 
 
 def reading(room, made):
@@ -82,11 +104,15 @@ def reading(room, made):
     trace = [f for f in glob.glob(f"{out}.*") if re.search(r"\.\d+$", f)][0]
     cpu, wall = run(f"{BIN}/velodrome-log", (trace, f"{room}/log"))
     records = int(re.search(r"records (\d+)", run.said)[1])
-    print(f"velodrome-log: {records} records of {os.path.getsize(trace) / records:.1f} bytes, {records / cpu / 1e6:.1f} million a second of processor, {records / wall / 1e6:.1f} of wall")
+    print(
+        f"velodrome-log: {records} records of {os.path.getsize(trace) / records:.1f} bytes, {records / cpu / 1e6:.1f} million a second of processor, {records / wall / 1e6:.1f} of wall"
+    )
 
 
 def main():
-    words = argparse.ArgumentParser(description=__doc__, formatter_class=argparse.RawDescriptionHelpFormatter)
+    words = argparse.ArgumentParser(
+        description=__doc__, formatter_class=argparse.RawDescriptionHelpFormatter
+    )
     words.add_argument("--compiler", default="gcc")
     words.add_argument("--other")
     words.add_argument("--rounds", type=int, default=3)

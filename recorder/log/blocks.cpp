@@ -5,17 +5,22 @@
 
 using namespace std;
 
-static bool starts(const string &s, const char *with) { return s.compare(0, strlen(with), with) == 0; }
+static bool starts(const string &s, const char *with) {
+    return s.compare(0, strlen(with), with) == 0;
+}
 // Of the libraries of C++ and Rust; also what returns one of their types.
 bool is_library(const string &s) {
-    for (const char *p : {"std::", "__gnu_cxx::", "__gthread_", "core::", "alloc::", "<std::", "<core::", "<alloc::", "__rust", "_GLOBAL__", "void std::",
-                          "decltype", "operator new", "operator delete"})
-        if (starts(s, p)) return true;
+    for (const char *p : {"std::", "__gnu_cxx::", "__gthread_",
+                          "core::", "alloc::", "<std::", "<core::", "<alloc::", "__rust",
+                          "_GLOBAL__", "void std::", "decltype", "operator new", "operator delete"})
+        if (starts(s, p))
+            return true;
     return s.find(" std::__") != string::npos;
 }
 static ifstream open_list(const string &file) {
     ifstream f(file);
-    if (!f) throw runtime_error(file + ": " + strerror(errno));
+    if (!f)
+        throw runtime_error(file + ": " + strerror(errno));
     return f;
 }
 void Blocks::only(const string &file) {
@@ -23,45 +28,62 @@ void Blocks::only(const string &file) {
     some_ = true;
     for (string l; getline(f, l);) {
         bool pattern = l.size() > 2 && l[0] == '/' && l.back() == '/';
-        if (pattern) only_.emplace_back("", regex(l.substr(1, l.size() - 2)));
-        else if (!l.empty() && l[0] != '#') only_.emplace_back(l, regex());
+        if (pattern)
+            only_.emplace_back("", regex(l.substr(1, l.size() - 2)));
+        else if (!l.empty() && l[0] != '#')
+            only_.emplace_back(l, regex());
     }
 }
 void Blocks::never(const string &file) {
     ifstream f = open_list(file);
-    for (string l; getline(f, l);) never_.insert(l);
+    for (string l; getline(f, l);)
+        never_.insert(l);
 }
 // The name as it is told, or without the parameters of C++.
 bool Blocks::chosen(const string &name) const {
-    if (!some_) return true;
+    if (!some_)
+        return true;
     return any_of(only_.begin(), only_.end(), [&](auto &o) {
-        return o.first.empty() ? regex_search(name, o.second) : o.first == name || starts(name, (o.first + "(").c_str());
+        return o.first.empty() ? regex_search(name, o.second)
+                               : o.first == name || starts(name, (o.first + "(").c_str());
     });
 }
 Function *Blocks::of(const Event &e) {
     auto i = by_code_.find(e.code);
-    if (i != by_code_.end()) return i->second;
+    if (i != by_code_.end())
+        return i->second;
     bool named = e.kind == NAMED;
     string name = named ? modules_.constant(e.code) : modules_.function(e.code);
-    if (name.empty()) return by_code_[e.code] = nullptr;
+    if (name.empty())
+        return by_code_[e.code] = nullptr;
     auto &f = by_name_[name];
-    if (!f) f = make_unique<Function>();
+    if (!f)
+        f = make_unique<Function>();
     f->name = name, f->code = e.code;
-    if (!named) f->code = modules_.of(e.code)->bias + modules_.symbol(e.code)->at + 1;
+    if (!named)
+        f->code = modules_.of(e.code)->bias + modules_.symbol(e.code)->at + 1;
     f->library = !named && is_library(name);
-    f->block = named || (!never_.count(name) && !routines_.count(name) && !f->library && chosen(name));
+    f->block =
+        named || (!never_.count(name) && !routines_.count(name) && !f->library && chosen(name));
     return by_code_[e.code] = f.get();
 }
-// A thread's routine is no block. Of a thread that a library starts, it is the first function that is not the library's.
+// A thread's routine is no block. Of a thread that a library starts, it is the first function that
+// is not the library's.
 void Blocks::find_routines(const Shared &shared) {
     began_as.resize(shared.routine.size());
     for (size_t t = 0; t < began_as.size(); t++) {
-        if (!shared.routine[t]) continue;
+        if (!shared.routine[t])
+            continue;
         string name = modules_.function(shared.routine[t]);
-        if (!name.empty()) routines_.insert(name);
-        if (!name.empty() && !is_library(name) && name.find("native_thread_routine") == string::npos) continue;
+        if (!name.empty())
+            routines_.insert(name);
+        if (!name.empty() && !is_library(name) &&
+            name.find("native_thread_routine") == string::npos)
+            continue;
         auto &b = shared.begins[t];
-        auto first = find_if(b.begin(), b.end(), [&](u64 code) { return !is_library(modules_.function(code)); });
-        if (first != b.end()) began_as[t] = modules_.function(*first), routines_.insert(began_as[t]);
+        auto first = find_if(b.begin(), b.end(),
+                             [&](u64 code) { return !is_library(modules_.function(code)); });
+        if (first != b.end())
+            began_as[t] = modules_.function(*first), routines_.insert(began_as[t]);
     }
 }

@@ -14,17 +14,19 @@ struct Function {
 class Blocks {
 public:
     explicit Blocks(Modules &modules) : modules_(modules) {}
-    void only(const std::string &file);  // throws std::runtime_error
+    void only(const std::string &file); // throws std::runtime_error
     void never(const std::string &file);
     void find_routines(const Shared &shared);
     Function *of(const Event &begin); // 0 where it has no name
-    std::vector<std::string> began_as; // of each thread that a library started: its first function of the program
+    std::vector<std::string>
+        began_as; // of each thread that a library started: its first function of the program
 
 private:
     bool chosen(const std::string &name) const;
     Modules &modules_;
     std::set<std::string> never_ = {"main"}, routines_;
-    std::vector<std::pair<std::string, std::regex>> only_; // a name, or the pattern where that is empty
+    std::vector<std::pair<std::string, std::regex>>
+        only_; // a name, or the pattern where that is empty
     bool some_ = false;
     std::unordered_map<u64, Function *> by_code_;
     std::map<std::string, std::unique_ptr<Function>> by_name_;

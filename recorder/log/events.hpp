@@ -4,9 +4,9 @@
 #include <set>
 
 struct Options {
-    bool data = false;      // leave locks out, keep all shared variables
-    bool all = false;       // leave nothing out
-    u64 events = 16777216;  // at most
+    bool data = false;     // leave locks out, keep all shared variables
+    bool all = false;      // leave nothing out
+    u64 events = 16777216; // at most
 };
 struct Kept {
     u64 code; // where: of a begin the call
@@ -19,15 +19,16 @@ class Events {
 public:
     Events(Trace &trace, Shared &shared, Blocks &blocks, const Options &options);
     std::vector<Kept> kept;
-    std::vector<Function *> begun;  // of the begins, in order
+    std::vector<Function *> begun; // of the begins, in order
     std::vector<const Variable *> variables;
-    std::vector<u64> objects;       // variables behind those: addresses of semaphores and the like
-    std::vector<u64> locks;         // addresses
-    u32 numbers_of_threads = 0;     // variables behind those: for starts and ends of threads, where there are more than 64
+    std::vector<u64> objects; // variables behind those: addresses of semaphores and the like
+    std::vector<u64> locks;   // addresses
+    u32 numbers_of_threads =
+        0; // variables behind those: for starts and ends of threads, where there are more than 64
     u32 threads = 1;
     u64 events = 0, odd = 0, deep = 0, orders_added = 0, ordered = 0, dropped = 0;
     bool cut = false;
-    std::set<u64> codes;            // of the accesses that matter
+    std::set<u64> codes; // of the accesses that matter
 
 private:
     struct Open {

@@ -8,7 +8,8 @@ class Fields {
 public:
     explicit Fields(const std::string &path);
     ~Fields();
-    // What lies at the offset in the variable at this address of its module: `.field[2].other+1`; empty where it is not known.
+    // What lies at the offset in the variable at this address of its module: `.field[2].other+1`;
+    // empty where it is not known.
     std::string path(uint64_t variable, uint64_t offset);
 
 private:

@@ -8,11 +8,14 @@ using namespace std;
 
 static const char USAGE[] =
     "velodrome-log TRACE LOG [option]..: makes LOG, LOG.names, LOG.sites and LOG.functions\n"
-    "  --only FILE         blocks are the functions of these names or /patterns/, one a line (and VELODROME_ATOMIC)\n"
+    "  --only FILE         blocks are the functions of these names or /patterns/, one a line (and "
+    "VELODROME_ATOMIC)\n"
     "  --not-blocks FILE   these functions are no blocks\n"
-    "  --data              leave locks out, and keep all shared variables: conflicts of data alone\n"
+    "  --data              leave locks out, and keep all shared variables: conflicts of data "
+    "alone\n"
     "  --all-variables     leave nothing out: neither ordered variables nor repeats\n"
-    "  --sites-out FILE    write the code addresses that matter, for VELODROME_SITES of the next run\n"
+    "  --sites-out FILE    write the code addresses that matter, for VELODROME_SITES of the next "
+    "run\n"
     "  --tried FILE        write the positions of the acquires that came from trylock\n"
     "  --events N          at most so many events (16777216)\n";
 
@@ -22,40 +25,57 @@ struct Arguments {
 };
 static Arguments read(int n, char **v) {
     Arguments a;
-    if (n < 3) throw invalid_argument("");
+    if (n < 3)
+        throw invalid_argument("");
     a.trace = v[1], a.log = v[2];
-    map<string, string *> files = {{"--only", &a.only}, {"--not-blocks", &a.never}, {"--sites-out", &a.codes}, {"--tried", &a.tried}};
+    map<string, string *> files = {{"--only", &a.only},
+                                   {"--not-blocks", &a.never},
+                                   {"--sites-out", &a.codes},
+                                   {"--tried", &a.tried}};
     for (int i = 3; i < n; i++) {
         string o = v[i];
-        if (o == "--data") a.options.data = true;
-        else if (o == "--all-variables") a.options.all = true;
-        else if (i + 1 == n || (!files.count(o) && o != "--events")) throw invalid_argument(o);
-        else if (o == "--events") a.options.events = strtoull(v[++i], nullptr, 10);
-        else *files[o] = v[++i];
+        if (o == "--data")
+            a.options.data = true;
+        else if (o == "--all-variables")
+            a.options.all = true;
+        else if (i + 1 == n || (!files.count(o) && o != "--events"))
+            throw invalid_argument(o);
+        else if (o == "--events")
+            a.options.events = strtoull(v[++i], nullptr, 10);
+        else
+            *files[o] = v[++i];
     }
     return a;
 }
 static void tell(Trace &trace, Shared &shared, Events &events, Writer &writer) {
     auto &h = trace.info();
-    printf("records %lu%s events %lu%s threads %zu variables %u (ordered %lu, dropped %lu) locks %zu functions %u", shared.records, trace.full() ? " (stopped)" : "",
-           writer.written(), events.cut ? " (cut)" : "", trace.threads(), writer.variables(), events.ordered, events.dropped, events.locks.size(), writer.labels());
-    printf(" blocks-too-deep %lu odd %lu late %lu lost %lu%s\n", events.deep, events.odd, shared.late, h.lost, events.orders_added ? " (orders added)" : "");
+    printf("records %lu%s events %lu%s threads %zu variables %u (ordered %lu, dropped %lu) locks "
+           "%zu functions %u",
+           shared.records, trace.full() ? " (stopped)" : "", writer.written(),
+           events.cut ? " (cut)" : "", trace.threads(), writer.variables(), events.ordered,
+           events.dropped, events.locks.size(), writer.labels());
+    printf(" blocks-too-deep %lu odd %lu late %lu lost %lu%s\n", events.deep, events.odd,
+           shared.late, h.lost, events.orders_added ? " (orders added)" : "");
     writer.deadlock();
 }
 static void tell_hidden(Shared &shared, Modules &modules) {
     printf("hidden writes %lu\n", shared.hidden);
     vector<pair<u64, u64>> most;
-    for (auto &h : shared.hidden_at) most.push_back({h.second, h.first});
+    for (auto &h : shared.hidden_at)
+        most.push_back({h.second, h.first});
     sort(most.rbegin(), most.rend());
     for (size_t i = 0; i < most.size() && i < 8; i++)
-        printf("  %lu before %s %s\n", most[i].first, modules.line(most[i].second).c_str(), modules.function(most[i].second).c_str());
+        printf("  %lu before %s %s\n", most[i].first, modules.line(most[i].second).c_str(),
+               modules.function(most[i].second).c_str());
 }
 static void run(const Arguments &a) {
     Trace trace(a.trace);
     Modules modules(a.trace + ".maps");
     Blocks blocks(modules);
-    if (!a.only.empty()) blocks.only(a.only);
-    if (!a.never.empty()) blocks.never(a.never);
+    if (!a.only.empty())
+        blocks.only(a.only);
+    if (!a.never.empty())
+        blocks.never(a.never);
     Shared shared(trace, trace.info().values);
     blocks.find_routines(shared);
     Events events(trace, shared, blocks, a.options);
@@ -65,10 +85,13 @@ static void run(const Arguments &a) {
     writer.sites(a.log + ".sites");
     writer.names(a.log + ".names");
     writer.functions(a.log + ".functions");
-    if (!a.codes.empty()) writer.codes(a.codes);
-    if (!a.tried.empty()) writer.tried(a.tried);
+    if (!a.codes.empty())
+        writer.codes(a.codes);
+    if (!a.tried.empty())
+        writer.tried(a.tried);
     tell(trace, shared, events, writer);
-    if (trace.info().values) tell_hidden(shared, modules);
+    if (trace.info().values)
+        tell_hidden(shared, modules);
 }
 int main(int n, char **v) {
     try {

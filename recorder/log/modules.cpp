@@ -13,7 +13,8 @@ using namespace std;
 // ---- modules
 static bool read_header(const string &path, Elf64_Ehdr &h) {
     ifstream f(path, ios::binary);
-    return f.read(reinterpret_cast<char *>(&h), sizeof h) && !memcmp(h.e_ident, ELFMAG, 4) && h.e_ident[EI_CLASS] == ELFCLASS64;
+    return f.read(reinterpret_cast<char *>(&h), sizeof h) && !memcmp(h.e_ident, ELFMAG, 4) &&
+           h.e_ident[EI_CLASS] == ELFCLASS64;
 }
 // Each snapshot of the maps is in the file: what was mapped at any time counts.
 Modules::Modules(const string &maps) {
@@ -23,30 +24,39 @@ Modules::Modules(const string &maps) {
     for (string l; getline(f, l);) {
         u64 low, high, offset;
         char rights[8], name[4096] = "";
-        if (!seen.insert(l).second) continue;
-        if (sscanf(l.c_str(), "%lx-%lx %7s %lx %*s %*s %4095[^\n]", &low, &high, rights, &offset, name) < 4 || name[0] != '/') continue;
+        if (!seen.insert(l).second)
+            continue;
+        if (sscanf(l.c_str(), "%lx-%lx %7s %lx %*s %*s %4095[^\n]", &low, &high, rights, &offset,
+                   name) < 4 ||
+            name[0] != '/')
+            continue;
         pieces_.push_back({low, high, offset, name});
         auto i = span.emplace(name, make_pair(low, high)).first;
         i->second = {min(i->second.first, low), max(i->second.second, high)};
     }
     for (auto &s : span) {
         Elf64_Ehdr h{};
-        if (!read_header(s.first, h)) continue;
+        if (!read_header(s.first, h))
+            continue;
         Module m;
-        m.path = s.first, m.low = s.second.first, m.high = s.second.second + (64 << 20); // zeros behind the file's pages
+        m.path = s.first, m.low = s.second.first,
+        m.high = s.second.second + (64 << 20); // zeros behind the file's pages
         m.bias = h.e_type == ET_DYN ? m.low : 0;
         modules_.push_back(m);
     }
     sort(modules_.begin(), modules_.end(), [](auto &a, auto &b) { return a.low < b.low; });
-    for (size_t i = 0; i + 1 < modules_.size(); i++) modules_[i].high = min(modules_[i].high, modules_[i + 1].low);
+    for (size_t i = 0; i + 1 < modules_.size(); i++)
+        modules_[i].high = min(modules_[i].high, modules_[i + 1].low);
 }
 Module *Modules::of(u64 a) {
-    auto i = upper_bound(modules_.begin(), modules_.end(), a, [](u64 a, const Module &m) { return a < m.low; });
+    auto i = upper_bound(modules_.begin(), modules_.end(), a,
+                         [](u64 a, const Module &m) { return a < m.low; });
     return i == modules_.begin() || a >= (i - 1)->high ? nullptr : &*(i - 1);
 }
 string Modules::constant(u64 a) {
     for (auto &p : pieces_) {
-        if (a < p.low || a >= p.high) continue;
+        if (a < p.low || a >= p.high)
+            continue;
         ifstream f(p.path, ios::binary);
         f.seekg(a - p.low + p.offset);
         string s;
@@ -57,10 +67,13 @@ string Modules::constant(u64 a) {
 }
 
 // ---- symbols
-static string quoted(const string &s) { return "'" + regex_replace(s, regex("'"), "'\\''") + "'"; }
+static string quoted(const string &s) {
+    return "'" + regex_replace(s, regex("'"), "'\\''") + "'";
+}
 template <class F> static void lines_of(const string &command, F use) {
     FILE *p = popen(command.c_str(), "r");
-    if (!p) return;
+    if (!p)
+        return;
     char *l = nullptr;
     size_t room = 0;
     while (getline(&l, &room, p) >= 0) {
@@ -73,12 +86,17 @@ template <class F> static void lines_of(const string &command, F use) {
 static string demangle_rust(const string &s) {
     static map<string, string> known;
     auto i = known.emplace(s, s);
-    if (i.second) lines_of("c++filt " + quoted(s), [&](const char *l) { i.first->second = regex_replace(l, regex("\\[[0-9a-f]{14,16}\\]"), ""); });
+    if (i.second)
+        lines_of("c++filt " + quoted(s), [&](const char *l) {
+            i.first->second = regex_replace(l, regex("\\[[0-9a-f]{14,16}\\]"), "");
+        });
     return i.first->second;
 }
 string demangle(const string &s) {
-    if (s.compare(0, 2, "_R") == 0) return demangle_rust(s);
-    if (s.compare(0, 2, "_Z") != 0) return s;
+    if (s.compare(0, 2, "_R") == 0)
+        return demangle_rust(s);
+    if (s.compare(0, 2, "_Z") != 0)
+        return s;
     int status;
     char *d = abi::__cxa_demangle(s.c_str(), nullptr, nullptr, &status);
     string r = d ? d : s;
@@ -88,23 +106,30 @@ string demangle(const string &s) {
 void Modules::read_symbols(Module &m) {
     m.ready = true;
     for (const char *which : {"", "-D "}) {
-        lines_of("nm -S --defined-only " + string(which) + quoted(m.path) + " 2>/dev/null", [&](const char *l) {
-            u64 at, size;
-            char type;
-            int name = 0;
-            if (sscanf(l, "%lx %lx %c %n", &at, &size, &type, &name) == 3 && name) m.symbols.push_back({at, size, l + name});
-        });
-        if (!m.symbols.empty()) break;
+        lines_of("nm -S --defined-only " + string(which) + quoted(m.path) + " 2>/dev/null",
+                 [&](const char *l) {
+                     u64 at, size;
+                     char type;
+                     int name = 0;
+                     if (sscanf(l, "%lx %lx %c %n", &at, &size, &type, &name) == 3 && name)
+                         m.symbols.push_back({at, size, l + name});
+                 });
+        if (!m.symbols.empty())
+            break;
     }
     stable_sort(m.symbols.begin(), m.symbols.end(), [](auto &a, auto &b) { return a.at < b.at; });
 }
 const Symbol *Modules::symbol(u64 a) {
     Module *m = of(a);
-    if (!m) return nullptr;
-    if (!m->ready) read_symbols(*m);
+    if (!m)
+        return nullptr;
+    if (!m->ready)
+        read_symbols(*m);
     a -= m->bias;
-    auto i = upper_bound(m->symbols.begin(), m->symbols.end(), a, [](u64 a, const Symbol &s) { return a < s.at; });
-    if (i == m->symbols.begin()) return nullptr;
+    auto i = upper_bound(m->symbols.begin(), m->symbols.end(), a,
+                         [](u64 a, const Symbol &s) { return a < s.at; });
+    if (i == m->symbols.begin())
+        return nullptr;
     --i;
     return a < i->at + max<u64>(i->size, 1) ? &*i : nullptr;
 }
@@ -121,52 +146,66 @@ string Modules::place(u64 a) {
     }
     Module *m = of(a);
     u64 offset = a - m->bias - y->at;
-    if (!m->fields) m->fields = make_shared<Fields>(m->path);
+    if (!m->fields)
+        m->fields = make_shared<Fields>(m->path);
     string field = m->fields->path(y->at, offset);
-    if (!field.empty()) return demangle(y->name) + field;
-    if (offset) snprintf(text, sizeof text, "+%lu", offset);
+    if (!field.empty())
+        return demangle(y->name) + field;
+    if (offset)
+        snprintf(text, sizeof text, "+%lu", offset);
     return demangle(y->name) + text;
 }
 
 // ---- lines
 static string shorten(const string &s) { // the last two parts of a path
     size_t p = s.rfind('/');
-    if (p == string::npos || p == 0) return s;
+    if (p == string::npos || p == 0)
+        return s;
     size_t q = s.rfind('/', p - 1);
     return q == string::npos ? s : s.substr(q + 1);
 }
 static bool is_library(const string &path) {
     for (const char *p : {"/usr/include/", "/usr/lib/", "/rustc/", "/usr/local/include/"})
-        if (path.compare(0, strlen(p), p) == 0) return true;
+        if (path.compare(0, strlen(p), p) == 0)
+            return true;
     return path.find("/include/c++/") != string::npos || path.find("/rustlib/src/") != string::npos;
 }
-// The lines of one address, innermost first, where calls were inlined: the first that is the program's own.
+// The lines of one address, innermost first, where calls were inlined: the first that is the
+// program's own.
 static string own_line(const vector<string> &l) {
     for (auto &s : l)
-        if (s[0] != '?' && !is_library(s)) return shorten(s);
+        if (s[0] != '?' && !is_library(s))
+            return shorten(s);
     return l.empty() || l[0][0] == '?' ? "" : shorten(l[0]);
 }
 void Modules::find_lines(const set<u64> &codes) {
     map<Module *, vector<u64>> by;
     for (u64 a : codes)
-        if (Module *m = of(a)) by[m].push_back(a);
+        if (Module *m = of(a))
+            by[m].push_back(a);
     for (auto &g : by) {
         char name[] = P_tmpdir "/velodrome-XXXXXX";
         FILE *f = fdopen(mkstemp(name), "w");
-        if (!f) return;
-        for (u64 a : g.second) fprintf(f, "0x%lx\n", a - g.first->bias - 1); // in the call, not behind it
+        if (!f)
+            return;
+        for (u64 a : g.second)
+            fprintf(f, "0x%lx\n", a - g.first->bias - 1); // in the call, not behind it
         fclose(f);
         size_t n = 0;
         vector<string> found;
         auto end = [&] {
             string l = n ? own_line(found) : "";
-            if (!l.empty()) lines_[g.second[n - 1]] = l;
+            if (!l.empty())
+                lines_[g.second[n - 1]] = l;
             found.clear();
         };
-        lines_of("addr2line -a -i -e " + quoted(g.first->path) + " < " + name + " 2>/dev/null", [&](char *l) {
-            if (l[0] == '0' && l[1] == 'x') end(), n++;
-            else l[strcspn(l, " ")] = 0, found.push_back(l);
-        });
+        lines_of("addr2line -a -i -e " + quoted(g.first->path) + " < " + name + " 2>/dev/null",
+                 [&](char *l) {
+                     if (l[0] == '0' && l[1] == 'x')
+                         end(), n++;
+                     else
+                         l[strcspn(l, " ")] = 0, found.push_back(l);
+                 });
         end();
         unlink(name);
     }

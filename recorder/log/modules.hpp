@@ -27,8 +27,8 @@ public:
     explicit Modules(const std::string &maps);
     Module *of(u64 address);
     const Symbol *symbol(u64 address);
-    std::string function(u64 code);  // demangled; empty where there is none
-    std::string place(u64 address);  // of data: symbol and field, or the address
+    std::string function(u64 code);    // demangled; empty where there is none
+    std::string place(u64 address);    // of data: symbol and field, or the address
     std::string constant(u64 address); // a string of the program
     void find_lines(const std::set<u64> &codes);
     std::string line(u64 code) const; // FILE:LINE of a call, or ?

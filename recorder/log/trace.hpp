@@ -30,16 +30,19 @@ public:
     bool full() const { return head_->stopped == FULL || head_->stopped == NO_SPACE; }
     u64 records() const { return records_; }
 
-    // Calls use(event) for each event, until it returns false. The streams are merged once; what comes again is a replay.
+    // Calls use(event) for each event, until it returns false. The streams are merged once; what
+    // comes again is a replay.
     template <class F> void each(F use) {
         std::vector<Cursor> at(streams_.size());
-        for (size_t t = 0; t < at.size(); t++) open(at[t], t);
+        for (size_t t = 0; t < at.size(); t++)
+            open(at[t], t);
         for (const Run &r : runs_) {
             Cursor &c = at[r.thread];
             for (u32 left = r.records; left > 0;) {
                 Event e;
                 left -= decode(c, current(c), e);
-                if (e.kind != HIGH && !use(e)) return;
+                if (e.kind != HIGH && !use(e))
+                    return;
             }
         }
     }
@@ -58,19 +61,25 @@ private:
     void open(Cursor &c, size_t thread) const;
     const record *current(Cursor &c) const {
         for (;;) {
-            if (c.chunk == c.chunks->size()) return nullptr;
+            if (c.chunk == c.chunks->size())
+                return nullptr;
             const record *r = first_ + u64((*c.chunks)[c.chunk]) * CHUNK + c.place;
-            if (c.place < CHUNK && r->what) return r;
-            if (++c.chunk < c.chunks->size()) c.high = first_[u64((*c.chunks)[c.chunk]) * CHUNK].where << 32;
+            if (c.place < CHUNK && r->what)
+                return r;
+            if (++c.chunk < c.chunks->size())
+                c.high = first_[u64((*c.chunks)[c.chunk]) * CHUNK].where << 32;
             c.place = 1;
         }
     }
     // The event at the cursor, which moves behind it: how many records it took.
     u32 decode(Cursor &c, const record *r, Event &e) const {
-        e.thread = c.thread, e.kind = r->what & 31, e.flags = r->what >> 13 & 7, e.size = r->what >> 5 & 255, e.at = r->what >> 16;
+        e.thread = c.thread, e.kind = r->what & 31, e.flags = r->what >> 13 & 7,
+        e.size = r->what >> 5 & 255, e.at = r->what >> 16;
         e.code = c.high | u32(r->where), e.number = e.second = 0, e.valued = false;
-        if (e.kind == BEGIN || e.kind == NAMED) e.code = r->where;
-        if (e.kind == HIGH) c.high = e.at << 32;
+        if (e.kind == BEGIN || e.kind == NAMED)
+            e.code = r->where;
+        if (e.kind == HIGH)
+            c.high = e.at << 32;
         u32 taken = 1;
         for (; c.place + taken < CHUNK && (r[taken].what & 31) == MORE; taken++) {
             (taken == 1 ? e.number : e.second) = r[taken].where;

@@ -5,23 +5,28 @@
 
 using namespace std;
 
-static const char *const WORDS[] = {"", "rd", "wr", "", "", "", "", "begin", "", "end", "acq", "rel", "acqs", "rels", "fork", "join", "exit"};
+static const char *const WORDS[] = {"",     "rd",    "wr",   "",     "",    "",
+                                    "",     "begin", "",     "end",  "acq", "rel",
+                                    "acqs", "rels",  "fork", "join", "exit"};
 
 namespace {
 class Out {
 public:
     explicit Out(const string &path) : path_(path), file_(fopen(path.c_str(), "w")) {
-        if (!file_) fail();
+        if (!file_)
+            fail();
     }
     ~Out() {
-        if (file_) fclose(file_);
+        if (file_)
+            fclose(file_);
     }
     FILE *file() { return file_; }
     void close() {
         bool bad = ferror(file_);
         FILE *f = file_;
         file_ = nullptr;
-        if (fclose(f) || bad) fail();
+        if (fclose(f) || bad)
+            fail();
     }
 
 private:
@@ -29,16 +34,22 @@ private:
     string path_;
     FILE *file_;
 };
-}
+} // namespace
 // A name as the checker takes it: at most 200 bytes, printable.
 static string tidy(string s) {
     for (char &c : s)
-        if (c < ' ' || c == 127) c = '?'; // also what is not ASCII
-    if (s.size() > 200) s = s.substr(0, 120) + "..." + s.substr(s.size() - 77);
+        if (c < ' ' || c == 127)
+            c = '?'; // also what is not ASCII
+    if (s.size() > 200)
+        s = s.substr(0, 120) + "..." + s.substr(s.size() - 77);
     return s.empty() ? "?" : s;
 }
-static bool shares(const Kept &k) { return k.kind == ACQS || k.kind == RELS; }
-u32 Writer::variables() const { return events_.numbers_of_threads + (trace_.threads() > 64 ? 128 : 0); }
+static bool shares(const Kept &k) {
+    return k.kind == ACQS || k.kind == RELS;
+}
+u32 Writer::variables() const {
+    return events_.numbers_of_threads + (trace_.threads() > 64 ? 128 : 0);
+}
 
 // ---- the log
 void Writer::log(const string &path) {
@@ -46,40 +57,54 @@ void Writer::log(const string &path) {
     auto &kept = events_.kept;
     map<pair<u64, bool>, u32> site;
     bool version2 = any_of(kept.begin(), kept.end(), shares);
-    fprintf(out.file(), "vlog %d %u %u %zu\n", version2 ? 2 : 1, events_.threads, variables(), events_.locks.size());
+    fprintf(out.file(), "vlog %d %u %u %zu\n", version2 ? 2 : 1, events_.threads, variables(),
+            events_.locks.size());
     for (Kept &k : kept) {
-        if (!k.in_log) continue;
+        if (!k.in_log)
+            continue;
         if (k.kind == BEGIN) {
             Function *f = events_.begun[k.number];
-            if (f->label == ~0u) f->label = labels_.size(), labels_.push_back(f);
+            if (f->label == ~0u)
+                f->label = labels_.size(), labels_.push_back(f);
             k.number = f->label;
         }
-        if (k.tried) tried_.push_back(at_.size());
+        if (k.tried)
+            tried_.push_back(at_.size());
         fprintf(out.file(), "%u %s", k.thread, WORDS[k.kind]);
-        if (k.kind == RD || k.kind == WR) fprintf(out.file(), " %u %lu\n", k.number, k.value);
-        else if (k.kind == END || k.kind == EXIT) fputc('\n', out.file());
-        else fprintf(out.file(), " %u\n", k.number);
+        if (k.kind == RD || k.kind == WR)
+            fprintf(out.file(), " %u %lu\n", k.number, k.value);
+        else if (k.kind == END || k.kind == EXIT)
+            fputc('\n', out.file());
+        else
+            fprintf(out.file(), " %u\n", k.number);
         if (!k.code) {
             at_.push_back(0);
             continue;
         }
         auto i = site.emplace(make_pair(k.code, k.kind == BEGIN), sites_.size() + 1);
-        if (i.second) sites_.push_back(i.first->first), codes_.insert(k.code);
+        if (i.second)
+            sites_.push_back(i.first->first), codes_.insert(k.code);
         at_.push_back(i.first->second);
     }
     out.close();
 }
 void Writer::find_lines() {
-    for (auto &h : shared_.hidden_at) codes_.insert(h.first);
-    for (auto f : labels_) codes_.insert(f->code);
+    for (auto &h : shared_.hidden_at)
+        codes_.insert(h.first);
+    for (auto f : labels_)
+        codes_.insert(f->code);
     for (auto v : events_.variables)
-        if (v->heap_site) codes_.insert(v->heap_site);
+        if (v->heap_site)
+            codes_.insert(v->heap_site);
     for (auto &l : shared_.lock_places)
-        if (l.second.site) codes_.insert(l.second.site);
-    if (trace_.info().stuck) trace_.each([&](const Event &e) {
-        if (e.kind == STUCK) codes_.insert(e.code);
-        return true;
-    });
+        if (l.second.site)
+            codes_.insert(l.second.site);
+    if (trace_.info().stuck)
+        trace_.each([&](const Event &e) {
+            if (e.kind == STUCK)
+                codes_.insert(e.code);
+            return true;
+        });
     modules_.find_lines(codes_);
 }
 
@@ -88,32 +113,40 @@ void Writer::sites(const string &path) {
     Out out(path);
     fprintf(out.file(), "vsites 1 %zu %zu\n", sites_.size(), at_.size());
     for (auto &s : sites_) {
-        fprintf(out.file(), "%s %s\n", modules_.line(s.first).c_str(), tidy(modules_.function(s.first)).c_str());
+        fprintf(out.file(), "%s %s\n", modules_.line(s.first).c_str(),
+                tidy(modules_.function(s.first)).c_str());
     }
-    for (u32 s : at_) fprintf(out.file(), "%u\n", s);
+    for (u32 s : at_)
+        fprintf(out.file(), "%u\n", s);
     out.close();
 }
 void Writer::tried(const string &path) {
     Out out(path);
-    for (u64 p : tried_) fprintf(out.file(), "%lu\n", p);
+    for (u64 p : tried_)
+        fprintf(out.file(), "%lu\n", p);
     out.close();
 }
 void Writer::codes(const string &path) {
     Out out(path);
     for (u64 a : events_.codes)
-        if (Module *m = modules_.of(a)) fprintf(out.file(), "%lx %s\n", a - m->bias, m->path.c_str());
+        if (Module *m = modules_.of(a))
+            fprintf(out.file(), "%lx %s\n", a - m->bias, m->path.c_str());
     out.close();
 }
 
 // ---- names
-string Writer::heap_name(const HeapPlace &h) { return "heap " + modules_.line(h.site) + "+" + to_string(h.offset); }
+string Writer::heap_name(const HeapPlace &h) {
+    return "heap " + modules_.line(h.site) + "+" + to_string(h.offset);
+}
 string Writer::variable_name(u32 x) {
     if (x < events_.variables.size()) {
         const Variable &v = *events_.variables[x];
-        return v.heap_site && !modules_.symbol(v.at) ? heap_name({v.heap_site, v.heap_offset}) : modules_.place(v.at);
+        return v.heap_site && !modules_.symbol(v.at) ? heap_name({v.heap_site, v.heap_offset})
+                                                     : modules_.place(v.at);
     }
     x -= events_.variables.size();
-    if (x < events_.objects.size()) return modules_.place(events_.objects[x]);
+    if (x < events_.objects.size())
+        return modules_.place(events_.objects[x]);
     x -= events_.objects.size();
     return (x % 2 ? "end of thread " : "start of thread ") + to_string(x / 2);
 }
@@ -124,41 +157,55 @@ string Writer::lock_name(u32 m) {
     return heap ? heap_name(h->second) : modules_.place(at);
 }
 string Writer::thread_name(u32 t) {
-    if (!shared_.title[t].empty()) return shared_.title[t];
-    if (!blocks_.began_as[t].empty()) return blocks_.began_as[t];
+    if (!shared_.title[t].empty())
+        return shared_.title[t];
+    if (!blocks_.began_as[t].empty())
+        return blocks_.began_as[t];
     return shared_.routine[t] ? modules_.place(shared_.routine[t]) : "";
 }
 void Writer::names(const string &path) {
     Out out(path);
-    for (auto f : labels_) fprintf(out.file(), "label %u %s\n", f->label, tidy(f->name).c_str());
-    for (u32 x = 0; x < variables(); x++) fprintf(out.file(), "variable %u %s\n", x, tidy(variable_name(x)).c_str());
-    for (u32 m = 0; m < events_.locks.size(); m++) fprintf(out.file(), "lock %u %s\n", m, tidy(lock_name(m)).c_str());
+    for (auto f : labels_)
+        fprintf(out.file(), "label %u %s\n", f->label, tidy(f->name).c_str());
+    for (u32 x = 0; x < variables(); x++)
+        fprintf(out.file(), "variable %u %s\n", x, tidy(variable_name(x)).c_str());
+    for (u32 m = 0; m < events_.locks.size(); m++)
+        fprintf(out.file(), "lock %u %s\n", m, tidy(lock_name(m)).c_str());
     for (u32 t = 0; t < trace_.threads() && trace_.threads() <= 64; t++)
-        if (string n = thread_name(t); !n.empty()) fprintf(out.file(), "thread %u %s\n", t, tidy(n).c_str());
+        if (string n = thread_name(t); !n.empty())
+            fprintf(out.file(), "thread %u %s\n", t, tidy(n).c_str());
     out.close();
 }
 void Writer::functions(const string &path) {
     Out out(path);
     for (auto f : labels_)
-        fprintf(out.file(), "%u %s %lu %s %s\n", f->label, f->waits ? "waits" : "-", f->calls, modules_.line(f->code).c_str(), f->name.c_str());
+        fprintf(out.file(), "%u %s %lu %s %s\n", f->label, f->waits ? "waits" : "-", f->calls,
+                modules_.line(f->code).c_str(), f->name.c_str());
     out.close();
 }
 
 // ---- a deadlock
 void Writer::deadlock() {
-    static const char *const what[] = {"time", "mutex", "reader-writer lock", "spin lock", "condition", "semaphore", "barrier", "once", "the end of thread", "futex"};
-    if (!trace_.info().stuck) return;
+    static const char *const what[] = {
+        "time",    "mutex", "reader-writer lock", "spin lock", "condition", "semaphore",
+        "barrier", "once",  "the end of thread",  "futex"};
+    if (!trace_.info().stuck)
+        return;
     printf("deadlock\n");
     trace_.each([&](const Event &e) {
-        if (e.kind != STUCK || e.size > FOR_FUTEX) return true;
+        if (e.kind != STUCK || e.size > FOR_FUTEX)
+            return true;
         auto named = [&](u64 t) {
             string n = t < trace_.threads() ? thread_name(t) : "";
             return to_string(t) + (n.empty() ? "" : " " + tidy(n));
         };
         printf("  thread %s waits for ", named(e.thread).c_str());
-        if (e.size == FOR_THREAD) printf("the end of thread %s", named(e.number - 1).c_str());
-        else printf("the %s %s", what[e.size], tidy(modules_.place(e.at)).c_str());
-        if (e.size != FOR_THREAD && e.number) printf(", held by thread %s", named(e.number - 1).c_str());
+        if (e.size == FOR_THREAD)
+            printf("the end of thread %s", named(e.number - 1).c_str());
+        else
+            printf("the %s %s", what[e.size], tidy(modules_.place(e.at)).c_str());
+        if (e.size != FOR_THREAD && e.number)
+            printf(", held by thread %s", named(e.number - 1).c_str());
         printf("   %s\n", modules_.line(e.code).c_str());
         return true;
     });

@@ -6,7 +6,7 @@ class Writer {
 public:
     Writer(Trace &trace, Shared &shared, Events &events, Modules &modules, Blocks &blocks)
         : trace_(trace), shared_(shared), events_(events), modules_(modules), blocks_(blocks) {}
-    void log(const std::string &path);   // all of these throw std::runtime_error
+    void log(const std::string &path); // all of these throw std::runtime_error
     void sites(const std::string &path);
     void names(const std::string &path);
     void functions(const std::string &path);

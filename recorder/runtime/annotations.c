@@ -1,4 +1,5 @@
-// What a program that knows ThreadSanitizer tells it: locks and orders of its own. The rest asks for nothing here.
+// What a program that knows ThreadSanitizer tells it: locks and orders of its own. The rest asks
+// for nothing here.
 #include "runtime.h"
 
 #define READ_LOCK (1 << 3)
@@ -7,13 +8,15 @@
 
 static void lock(void *m, int shared, int tried, u64 code) {
     struct self *t = enter();
-    if (!t) return;
+    if (!t)
+        return;
     sync_event(t, (shared ? ACQS : ACQ) | (tried ? TRIED : 0) << 8, (u64)m, code);
     leave(t);
 }
 API void __tsan_mutex_post_lock(void *m, unsigned flags, int recursion) {
     (void)recursion;
-    if (!(flags & TRY_LOCK_FAILED)) lock(m, (flags & READ_LOCK) != 0, (flags & TRY_LOCK) != 0, CALLER);
+    if (!(flags & TRY_LOCK_FAILED))
+        lock(m, (flags & READ_LOCK) != 0, (flags & TRY_LOCK) != 0, CALLER);
 }
 API int __tsan_mutex_pre_unlock(void *m, unsigned flags) {
     note(flags & READ_LOCK ? RELS : REL, (u64)m, CALLER);
@@ -36,18 +39,35 @@ API void AnnotateHappensAfter(const char *file, int line, void *a) {
     note(SRD, (u64)a, CALLER);
 }
 
-#define NOTHING(name) \
-    API void *name(void) { return 0; }
-NOTHING(__tsan_mutex_create) NOTHING(__tsan_mutex_destroy) NOTHING(__tsan_mutex_pre_lock) NOTHING(__tsan_mutex_post_unlock)
-NOTHING(__tsan_mutex_pre_signal) NOTHING(__tsan_mutex_post_signal) NOTHING(__tsan_mutex_pre_divert) NOTHING(__tsan_mutex_post_divert)
-NOTHING(__tsan_get_current_fiber) NOTHING(__tsan_create_fiber) NOTHING(__tsan_destroy_fiber) NOTHING(__tsan_switch_to_fiber)
-NOTHING(__tsan_set_fiber_name) NOTHING(__tsan_flush_memory)
-NOTHING(AnnotateIgnoreReadsBegin) NOTHING(AnnotateIgnoreReadsEnd) NOTHING(AnnotateIgnoreWritesBegin) NOTHING(AnnotateIgnoreWritesEnd)
-NOTHING(AnnotateIgnoreSyncBegin) NOTHING(AnnotateIgnoreSyncEnd) NOTHING(AnnotateRWLockCreate) NOTHING(AnnotateRWLockCreateStatic)
-NOTHING(AnnotateRWLockDestroy) NOTHING(AnnotateBenignRace) NOTHING(AnnotateBenignRaceSized) NOTHING(AnnotateNewMemory)
-NOTHING(AnnotateEnableRaceDetection) NOTHING(AnnotateThreadName) NOTHING(AnnotateFlushState) NOTHING(AnnotateMutexIsUsedAsCondVar)
-NOTHING(AnnotatePublishMemoryRange) NOTHING(AnnotateUnpublishMemoryRange) NOTHING(AnnotateMemoryIsInitialized) NOTHING(AnnotateNoOp)
-NOTHING(AnnotatePCQCreate) NOTHING(AnnotatePCQDestroy) NOTHING(AnnotatePCQPut) NOTHING(AnnotatePCQGet) NOTHING(AnnotateTraceMemory)
-NOTHING(AnnotateExpectRace) NOTHING(AnnotateMemoryIsUninitialized) NOTHING(AnnotateCondVarSignal) NOTHING(AnnotateCondVarSignalAll)
-NOTHING(AnnotateCondVarWait) NOTHING(WTFAnnotateHappensBefore) NOTHING(WTFAnnotateHappensAfter) NOTHING(WTFAnnotateBenignRaceSized)
-API int RunningOnValgrind(void) { return 0; }
+#define NOTHING(name)                                                                              \
+    API void *name(void) {                                                                         \
+        return 0;                                                                                  \
+    }
+NOTHING(__tsan_mutex_create)
+NOTHING(__tsan_mutex_destroy) NOTHING(__tsan_mutex_pre_lock) NOTHING(
+    __tsan_mutex_post_unlock) NOTHING(__tsan_mutex_pre_signal) NOTHING(__tsan_mutex_post_signal)
+    NOTHING(__tsan_mutex_pre_divert) NOTHING(__tsan_mutex_post_divert) NOTHING(
+        __tsan_get_current_fiber) NOTHING(__tsan_create_fiber) NOTHING(__tsan_destroy_fiber)
+        NOTHING(__tsan_switch_to_fiber) NOTHING(__tsan_set_fiber_name) NOTHING(
+            __tsan_flush_memory) NOTHING(AnnotateIgnoreReadsBegin) NOTHING(AnnotateIgnoreReadsEnd)
+            NOTHING(AnnotateIgnoreWritesBegin) NOTHING(AnnotateIgnoreWritesEnd) NOTHING(
+                AnnotateIgnoreSyncBegin) NOTHING(AnnotateIgnoreSyncEnd)
+                NOTHING(AnnotateRWLockCreate) NOTHING(AnnotateRWLockCreateStatic) NOTHING(
+                    AnnotateRWLockDestroy) NOTHING(AnnotateBenignRace)
+                    NOTHING(AnnotateBenignRaceSized) NOTHING(AnnotateNewMemory) NOTHING(
+                        AnnotateEnableRaceDetection) NOTHING(AnnotateThreadName)
+                        NOTHING(AnnotateFlushState) NOTHING(AnnotateMutexIsUsedAsCondVar) NOTHING(
+                            AnnotatePublishMemoryRange) NOTHING(AnnotateUnpublishMemoryRange)
+                            NOTHING(AnnotateMemoryIsInitialized) NOTHING(AnnotateNoOp)
+                                NOTHING(AnnotatePCQCreate) NOTHING(AnnotatePCQDestroy)
+                                    NOTHING(AnnotatePCQPut) NOTHING(AnnotatePCQGet) NOTHING(
+                                        AnnotateTraceMemory) NOTHING(AnnotateExpectRace)
+                                        NOTHING(AnnotateMemoryIsUninitialized) NOTHING(
+                                            AnnotateCondVarSignal) NOTHING(AnnotateCondVarSignalAll)
+                                            NOTHING(AnnotateCondVarWait)
+                                                NOTHING(WTFAnnotateHappensBefore)
+                                                    NOTHING(WTFAnnotateHappensAfter)
+                                                        NOTHING(WTFAnnotateBenignRaceSized) API
+    int RunningOnValgrind(void) {
+    return 0;
+}

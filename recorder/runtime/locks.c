@@ -1,4 +1,5 @@
-// Mutexes, spin locks, reader-writer locks. An acquire is noted once the lock is held, a release while it still is.
+// Mutexes, spin locks, reader-writer locks. An acquire is noted once the lock is held, a release
+// while it still is.
 #include "runtime.h"
 #include <errno.h>
 #include <sys/syscall.h>
@@ -12,7 +13,8 @@ typedef pthread_spinlock_t spinlock;
 
 // ---- reader-writer locks: which of them the thread holds alone, since their unlock is one call
 static void alone(struct self *t, void *m) {
-    if (t->nwrites < 64) t->writes[t->nwrites++] = m;
+    if (t->nwrites < 64)
+        t->writes[t->nwrites++] = m;
 }
 static int was_alone(struct self *t, void *m) {
     for (int i = t->nwrites; i-- > 0;)
@@ -23,58 +25,68 @@ static int was_alone(struct self *t, void *m) {
     return 0;
 }
 
-static int got(int r) { return !r || r == EOWNERDEAD; }
+static int got(int r) {
+    return !r || r == EOWNERDEAD;
+}
 static void acquired(struct self *t, int r, int kind, int flags, void *m, int is_rwlock, u64 code) {
-    if (!t) return;
+    if (!t)
+        return;
     if (got(r)) {
-        if (is_rwlock && kind == ACQ) alone(t, m);
+        if (is_rwlock && kind == ACQ)
+            alone(t, m);
         sync_event(t, kind | flags << 8, M, code);
     }
     leave(t);
 }
 // Locks that wait: by turns they try, and wait for their turn.
-#define LOCK(name, parameters, arguments, type, try, kind, what, until)                             \
-    API int name parameters {                                                                       \
-        REAL(name);                                                                                 \
-        struct self *t = enter();                                                                   \
-        int r;                                                                                      \
-        if (TURNS(t)) {                                                                             \
-            REAL(try);                                                                              \
-            u64 end = until;                                                                        \
-            while ((r = real_##try(m)) == EBUSY)                                                    \
-                if (wait_turn(t, what, m, end, CALLER)) {                                           \
-                    r = ETIMEDOUT;                                                                  \
-                    break;                                                                          \
-                }                                                                                   \
-        } else {                                                                                    \
-            if (t) leave(t);                                                                        \
-            r = real_##name arguments;                                                              \
-            t = t ? enter() : 0;                                                                    \
-        }                                                                                           \
-        acquired(t, r, kind, 0, (void *)m, what == FOR_RWLOCK, CALLER);                             \
-        return r;                                                                                   \
+#define LOCK(name, parameters, arguments, type, try, kind, what, until)                            \
+    API int name parameters {                                                                      \
+        REAL(name);                                                                                \
+        struct self *t = enter();                                                                  \
+        int r;                                                                                     \
+        if (TURNS(t)) {                                                                            \
+            REAL(try);                                                                             \
+            u64 end = until;                                                                       \
+            while ((r = real_##try(m)) == EBUSY)                                                   \
+                if (wait_turn(t, what, m, end, CALLER)) {                                          \
+                    r = ETIMEDOUT;                                                                 \
+                    break;                                                                         \
+                }                                                                                  \
+        } else {                                                                                   \
+            if (t)                                                                                 \
+                leave(t);                                                                          \
+            r = real_##name arguments;                                                             \
+            t = t ? enter() : 0;                                                                   \
+        }                                                                                          \
+        acquired(t, r, kind, 0, (void *)m, what == FOR_RWLOCK, CALLER);                            \
+        return r;                                                                                  \
     }
-#define TRY(name, type, kind, is_rwlock)                                                            \
-    API int name(type *m) {                                                                         \
-        REAL(name);                                                                                 \
-        struct self *t = enter();                                                                   \
-        int r = real_##name(m);                                                                     \
-        acquired(t, r, kind, TRIED, (void *)m, is_rwlock, CALLER);                                  \
-        return r;                                                                                   \
+#define TRY(name, type, kind, is_rwlock)                                                           \
+    API int name(type *m) {                                                                        \
+        REAL(name);                                                                                \
+        struct self *t = enter();                                                                  \
+        int r = real_##name(m);                                                                    \
+        acquired(t, r, kind, TRIED, (void *)m, is_rwlock, CALLER);                                 \
+        return r;                                                                                  \
     }
-#define UNLOCK(name, type, kind)                                                                    \
-    API int name(type *m) {                                                                         \
-        REAL(name);                                                                                 \
-        struct self *t = enter();                                                                   \
-        if (t) sync_event(t, kind, M, CALLER);                                                      \
-        int r = real_##name(m);                                                                     \
-        if (TURNS(t)) wake(m, 1), turn(t);                                                          \
-        if (t) leave(t);                                                                            \
-        return r;                                                                                   \
+#define UNLOCK(name, type, kind)                                                                   \
+    API int name(type *m) {                                                                        \
+        REAL(name);                                                                                \
+        struct self *t = enter();                                                                  \
+        if (t)                                                                                     \
+            sync_event(t, kind, M, CALLER);                                                        \
+        int r = real_##name(m);                                                                    \
+        if (TURNS(t))                                                                              \
+            wake(m, 1), turn(t);                                                                   \
+        if (t)                                                                                     \
+            leave(t);                                                                              \
+        return r;                                                                                  \
     }
 typedef const struct timespec *when;
 
-static int owns(mutex *m) { return m->__data.__owner == (int)syscall(SYS_gettid); }
+static int owns(mutex *m) {
+    return m->__data.__owner == (int)syscall(SYS_gettid);
+}
 static int lock_mutex(mutex *m, u64 code) {
     REAL(pthread_mutex_lock);
     REAL(pthread_mutex_trylock);
@@ -89,7 +101,8 @@ static int lock_mutex(mutex *m, u64 code) {
             wait_turn(t, FOR_MUTEX, m, 0, code);
         }
     } else {
-        if (t) leave(t);
+        if (t)
+            leave(t);
         r = real_pthread_mutex_lock(m);
         t = t ? enter() : 0;
     }
@@ -106,35 +119,64 @@ static int try_mutex(mutex *m, u64 code) {
 static int unlock_mutex(mutex *m, u64 code) {
     REAL(pthread_mutex_unlock);
     struct self *t = enter();
-    if (t) sync_event(t, REL, M, code);
+    if (t)
+        sync_event(t, REL, M, code);
     int r = real_pthread_mutex_unlock(m);
-    if (TURNS(t)) wake(m, 1), turn(t);
-    if (t) leave(t);
+    if (TURNS(t))
+        wake(m, 1), turn(t);
+    if (t)
+        leave(t);
     return r;
 }
-API int pthread_mutex_lock(mutex *m) { return lock_mutex(m, CALLER); }
-API int pthread_mutex_trylock(mutex *m) { return try_mutex(m, CALLER); }
-API int pthread_mutex_unlock(mutex *m) { return unlock_mutex(m, CALLER); }
-LOCK(pthread_mutex_timedlock, (mutex *m, when x), (m, x), mutex, pthread_mutex_trylock, ACQ, FOR_MUTEX, deadline(x, CLOCK_REALTIME))
-LOCK(pthread_mutex_clocklock, (mutex *m, clockid_t c, when x), (m, c, x), mutex, pthread_mutex_trylock, ACQ, FOR_MUTEX, deadline(x, c))
+API int pthread_mutex_lock(mutex *m) {
+    return lock_mutex(m, CALLER);
+}
+API int pthread_mutex_trylock(mutex *m) {
+    return try_mutex(m, CALLER);
+}
+API int pthread_mutex_unlock(mutex *m) {
+    return unlock_mutex(m, CALLER);
+}
+LOCK(pthread_mutex_timedlock, (mutex * m, when x), (m, x), mutex, pthread_mutex_trylock, ACQ,
+     FOR_MUTEX, deadline(x, CLOCK_REALTIME))
+LOCK(pthread_mutex_clocklock, (mutex * m, clockid_t c, when x), (m, c, x), mutex,
+     pthread_mutex_trylock, ACQ, FOR_MUTEX, deadline(x, c))
 
-LOCK(pthread_spin_lock, (spinlock *m), (m), spinlock, pthread_spin_trylock, ACQ, FOR_SPIN, 0)
+LOCK(pthread_spin_lock, (spinlock * m), (m), spinlock, pthread_spin_trylock, ACQ, FOR_SPIN, 0)
 TRY(pthread_spin_trylock, spinlock, ACQ, 0)
 UNLOCK(pthread_spin_unlock, spinlock, REL)
 
-LOCK(pthread_rwlock_rdlock, (rwlock *m), (m), rwlock, pthread_rwlock_tryrdlock, ACQS, FOR_RWLOCK, 0)
-LOCK(pthread_rwlock_timedrdlock, (rwlock *m, when x), (m, x), rwlock, pthread_rwlock_tryrdlock, ACQS, FOR_RWLOCK, deadline(x, CLOCK_REALTIME))
-LOCK(pthread_rwlock_clockrdlock, (rwlock *m, clockid_t c, when x), (m, c, x), rwlock, pthread_rwlock_tryrdlock, ACQS, FOR_RWLOCK, deadline(x, c))
-LOCK(pthread_rwlock_wrlock, (rwlock *m), (m), rwlock, pthread_rwlock_trywrlock, ACQ, FOR_RWLOCK, 0)
-LOCK(pthread_rwlock_timedwrlock, (rwlock *m, when x), (m, x), rwlock, pthread_rwlock_trywrlock, ACQ, FOR_RWLOCK, deadline(x, CLOCK_REALTIME))
-LOCK(pthread_rwlock_clockwrlock, (rwlock *m, clockid_t c, when x), (m, c, x), rwlock, pthread_rwlock_trywrlock, ACQ, FOR_RWLOCK, deadline(x, c))
+LOCK(pthread_rwlock_rdlock, (rwlock * m), (m), rwlock, pthread_rwlock_tryrdlock, ACQS, FOR_RWLOCK,
+     0)
+LOCK(pthread_rwlock_timedrdlock, (rwlock * m, when x), (m, x), rwlock, pthread_rwlock_tryrdlock,
+     ACQS, FOR_RWLOCK, deadline(x, CLOCK_REALTIME))
+LOCK(pthread_rwlock_clockrdlock, (rwlock * m, clockid_t c, when x), (m, c, x), rwlock,
+     pthread_rwlock_tryrdlock, ACQS, FOR_RWLOCK, deadline(x, c))
+LOCK(pthread_rwlock_wrlock, (rwlock * m), (m), rwlock, pthread_rwlock_trywrlock, ACQ, FOR_RWLOCK, 0)
+LOCK(pthread_rwlock_timedwrlock, (rwlock * m, when x), (m, x), rwlock, pthread_rwlock_trywrlock,
+     ACQ, FOR_RWLOCK, deadline(x, CLOCK_REALTIME))
+LOCK(pthread_rwlock_clockwrlock, (rwlock * m, clockid_t c, when x), (m, c, x), rwlock,
+     pthread_rwlock_trywrlock, ACQ, FOR_RWLOCK, deadline(x, c))
 TRY(pthread_rwlock_tryrdlock, rwlock, ACQS, 1)
 TRY(pthread_rwlock_trywrlock, rwlock, ACQ, 1)
 UNLOCK(pthread_rwlock_unlock, rwlock, was_alone(t, m) ? REL : RELS)
 
 // ---- C11
-static int c11(int r) { return got(r) ? thrd_success : r == EBUSY ? thrd_busy : r == ETIMEDOUT ? thrd_timedout : thrd_error; }
-API int mtx_lock(mtx_t *m) { return c11(lock_mutex((mutex *)m, CALLER)); }
-API int mtx_trylock(mtx_t *m) { return c11(try_mutex((mutex *)m, CALLER)); }
-API int mtx_unlock(mtx_t *m) { return c11(unlock_mutex((mutex *)m, CALLER)); }
-API int mtx_timedlock(mtx_t *m, when x) { return c11(pthread_mutex_timedlock((mutex *)m, x)); }
+static int c11(int r) {
+    return got(r)           ? thrd_success
+           : r == EBUSY     ? thrd_busy
+           : r == ETIMEDOUT ? thrd_timedout
+                            : thrd_error;
+}
+API int mtx_lock(mtx_t *m) {
+    return c11(lock_mutex((mutex *)m, CALLER));
+}
+API int mtx_trylock(mtx_t *m) {
+    return c11(try_mutex((mutex *)m, CALLER));
+}
+API int mtx_unlock(mtx_t *m) {
+    return c11(unlock_mutex((mutex *)m, CALLER));
+}
+API int mtx_timedlock(mtx_t *m, when x) {
+    return c11(pthread_mutex_timedlock((mutex *)m, x));
+}

@@ -1,4 +1,5 @@
-// Noise: before one event in N, by the seed, a thread yields or waits, so that rare schedules come about.
+// Noise: before one event in N, by the seed, a thread yields or waits, so that rare schedules come
+// about.
 #include "runtime.h"
 #include <errno.h>
 #include <sys/syscall.h>
@@ -11,15 +12,20 @@ void noise_open(u64 seed) {
     noise_seed = seed;
 }
 void make_noise(struct self *t) {
-    if (!t->chance) t->chance = scramble(noise_seed * 0x10001 + t->id);
+    if (!t->chance)
+        t->chance = scramble(noise_seed * 0x10001 + t->id);
     u64 d = draw(&t->chance);
-    if (d % noise || head->stopped) return;
+    if (d % noise || head->stopped)
+        return;
     COUNT(noise);
     int e = errno;
     d = draw(&t->chance);
     struct timespec some = {0, (d >> 8) % 300000};
-    if (TURNS(t)) yield_turn(t);
-    else if (d % 4) syscall(SYS_sched_yield);
-    else syscall(SYS_nanosleep, &some, 0);
+    if (TURNS(t))
+        yield_turn(t);
+    else if (d % 4)
+        syscall(SYS_sched_yield);
+    else
+        syscall(SYS_nanosleep, &some, 0);
     errno = e;
 }

@@ -22,15 +22,15 @@ typedef uint64_t u64;
 #define unlikely(x) __builtin_expect(!!(x), 0)
 
 // The function that stands behind ours.
-#define REAL(f)                                               \
-    static __typeof__(f) *real_##f;                           \
-    if (unlikely(!real_##f))                                  \
+#define REAL(f)                                                                                    \
+    static __typeof__(f) *real_##f;                                                                \
+    if (unlikely(!real_##f))                                                                       \
     real_##f = (__typeof__(f) *)next_function(#f)
 void *next_function(const char *name);
 
 // ---- a thread
-#define DEEP 4096  // blocks that are followed
-#define HELD 2     // lines that a small access may lie in
+#define DEEP 4096 // blocks that are followed
+#define HELD 2    // lines that a small access may lie in
 struct frame {
     u64 function, at, from;
     struct record *begun; // its BEGIN, once written
@@ -43,34 +43,37 @@ struct self {
     u32 high;                  // upper half of the code addresses in its stream
     struct record *next, *end; // room in its chunk
     // the last access
-    u32 held[HELD];            // the lines that it holds, and how many of them
+    u32 held[HELD]; // the lines that it holds, and how many of them
     int holds;
-    int spans;                 // and of ranges
+    int spans; // and of ranges
     struct span {
         u32 first, last;
     } span[4];
-    struct record *unread;     // its value is read at the next hook
+    struct record *unread; // its value is read at the next hook
     u64 unread_at;
     u8 unread_size;
     u64 last_at, last_epoch;
-    u8 last_size, last_kinds, alone; // alone: no other thread was at the line since this one's last time
+    u8 last_size, last_kinds,
+        alone; // alone: no other thread was at the line since this one's last time
     // blocks
-    u64 epoch;                 // moves at each event and block boundary
-    int depth, told;           // open blocks; those whose begins are written
-    u64 allocates;             // operator new: who called it
-    void *writes[64];          // reader-writer locks that it holds alone
+    u64 epoch;        // moves at each event and block boundary
+    int depth, told;  // open blocks; those whose begins are written
+    u64 allocates;    // operator new: who called it
+    void *writes[64]; // reader-writer locks that it holds alone
     int nwrites;
-    struct self *unused;       // a list of those whose threads have ended
-    u64 chance;                // of noise
-    u64 code_low, code_bytes;  // of the module whose block began last
+    struct self *unused;      // a list of those whose threads have ended
+    u64 chance;               // of noise
+    u64 code_low, code_bytes; // of the module whose block began last
     struct frame frame[DEEP];
 };
 extern __thread struct self *own __attribute__((tls_model("initial-exec")));
 extern struct self *adopt(void);
-static inline struct self *self(void) { return likely(own != 0) ? own : adopt(); }
+static inline struct self *self(void) {
+    return likely(own != 0) ? own : adopt();
+}
 
 // ---- settings and counts
-extern int on;       // hooks do something
+extern int on; // hooks do something
 extern int mode, values;
 extern struct head *head;
 u64 setting(const char *name, u64 other);
@@ -92,20 +95,27 @@ static inline struct record *write_record(struct self *t, u64 what, u64 where) {
     STORE(r->what, what);
     return r;
 }
-static inline u64 word(int kind, unsigned size, u64 at) { return at << 16 | (u64)(kind >> 8) << 13 | (u64)size << 5 | (kind & 31); }
-// A record of the thread's stamp, with room for two MORE behind it. Flags stand above the kind's 8 bits.
+static inline u64 word(int kind, unsigned size, u64 at) {
+    return at << 16 | (u64)(kind >> 8) << 13 | (u64)size << 5 | (kind & 31);
+}
+// A record of the thread's stamp, with room for two MORE behind it. Flags stand above the kind's 8
+// bits.
 static inline struct record *record(struct self *t, int kind, unsigned size, u64 at, u64 code) {
-    if (unlikely(t->end - t->next < 4) && !open_chunk(t)) return 0;
+    if (unlikely(t->end - t->next < 4) && !open_chunk(t))
+        return 0;
     if (unlikely(code >> 32 != t->high)) {
         t->high = code >> 32;
         write_record(t, word(HIGH, 0, t->high), 0);
     }
     return write_record(t, word(kind, size, at), (u64)t->clock << 32 | (u32)code);
 }
-static inline void more(struct self *t, int flags, u64 number) { write_record(t, word(MORE | flags << 8, 0, 0), number); }
+static inline void more(struct self *t, int flags, u64 number) {
+    write_record(t, word(MORE | flags << 8, 0, 0), number);
+}
 // An event in the open blocks, whose begins are written first. Its stamp is taken already.
 static inline struct record *event(struct self *t, int kind, unsigned size, u64 at, u64 code) {
-    if (t->told < t->depth && !tell_begins(t)) return 0;
+    if (t->told < t->depth && !tell_begins(t))
+        return 0;
     t->epoch++;
     return record(t, kind, size, at, code);
 }
@@ -128,7 +138,9 @@ int hold_ranges(struct self *t, u64 a, u64 n, u64 b, u64 k);
 void let_go(struct self *t);
 void read_value(struct self *t);
 void forget_lines(u64 a, u64 n);
-static inline u32 line_of(u64 a) { return (a >> 6) % LINES; }
+static inline u32 line_of(u64 a) {
+    return (a >> 6) % LINES;
+}
 // A stamp above all that the thread has seen; close to those that others give out at the time.
 static inline void stamp_alone(struct self *t) {
     if (mode == SERIAL) {
@@ -136,13 +148,16 @@ static inline void stamp_alone(struct self *t) {
         return;
     }
     u32 c = t->clock, k = __atomic_load_n(&tick, __ATOMIC_RELAXED);
-    if (k > c) c = k;
-    else if (c - k > 64) __atomic_store_n(&tick, c, __ATOMIC_RELAXED);
+    if (k > c)
+        c = k;
+    else if (c - k > 64)
+        __atomic_store_n(&tick, c, __ATOMIC_RELAXED);
     t->clock = c + 1;
 }
 // The same, of an event on a line that the thread holds.
 static inline void stamp(struct self *t, struct line *l) {
-    if (l->clock > t->clock) t->clock = l->clock;
+    if (l->clock > t->clock)
+        t->clock = l->clock;
     stamp_alone(t);
     l->clock = t->clock;
 }
@@ -150,13 +165,16 @@ static inline void stamp(struct self *t, struct line *l) {
 static inline int take(struct self *t, struct line *l) {
     u32 none = 0, me = t->id + 1;
     int late = 0;
-    if (unlikely(!__atomic_compare_exchange_n(&l->owner, &none, me, 0, __ATOMIC_ACQUIRE, __ATOMIC_RELAXED))) late = take_slowly(t, l);
+    if (unlikely(!__atomic_compare_exchange_n(&l->owner, &none, me, 0, __ATOMIC_ACQUIRE,
+                                              __ATOMIC_RELAXED)))
+        late = take_slowly(t, l);
     t->alone = l->last == me;
     l->last = me;
     return late;
 }
 static inline void give_back(struct self *t, struct line *l) {
-    if (likely(__atomic_load_n(&l->owner, __ATOMIC_RELAXED) == t->id + 1)) STORE(l->owner, 0);
+    if (likely(__atomic_load_n(&l->owner, __ATOMIC_RELAXED) == t->id + 1))
+        STORE(l->owner, 0);
 }
 
 // ---- turns.c: the scheduler of serial mode
@@ -165,7 +183,8 @@ void turns_open(u64 seed);
 void turns_watch(void);
 void turns_reset(void);
 void turn(struct self *t);
-int wait_turn(struct self *t, enum wait what, const volatile void *at, u64 until, u64 code); // 1: its time is up
+int wait_turn(struct self *t, enum wait what, const volatile void *at, u64 until,
+              u64 code); // 1: its time is up
 void wake(const volatile void *at, int all);
 void rest(struct self *t, u64 nanoseconds, u64 code);
 void yield_turn(struct self *t);
@@ -202,14 +221,16 @@ u32 thread_of_tid(int tid); // plus one
 int is_asleep(u32 id);
 
 // ---- repeats
-// Whether an access does what the thread's last event did, with no other thread at the line since: it has no edge that this
-// one has not, whatever the blocks are.
+// Whether an access does what the thread's last event did, with no other thread at the line since:
+// it has no edge that this one has not, whatever the blocks are.
 static inline int repeats(const struct self *t, int reads, u64 a, unsigned size) {
-    if (!t->alone || t->last_epoch != t->epoch || t->last_at != a || t->last_size != size) return 0;
+    if (!t->alone || t->last_epoch != t->epoch || t->last_at != a || t->last_size != size)
+        return 0;
     return t->last_kinds & (reads ? 3 : 2);
 }
 static inline void remember(struct self *t, int reads, u64 a, unsigned size) {
-    int chained = t->alone && t->last_epoch + 1 == t->epoch && t->last_at == a && t->last_size == size;
+    int chained =
+        t->alone && t->last_epoch + 1 == t->epoch && t->last_at == a && t->last_size == size;
     t->last_kinds = (chained ? t->last_kinds : 0) | (reads ? 1 : 2);
     t->last_at = a, t->last_size = size, t->last_epoch = t->epoch;
 }
@@ -217,21 +238,27 @@ static inline void remember(struct self *t, int reads, u64 a, unsigned size) {
 // ---- memory that is given back. What is done with it comes before what the next owner does.
 static inline void raise_memory_clock(struct self *t) {
     u32 c = __atomic_load_n(&memory_clock, __ATOMIC_RELAXED);
-    while (c < t->clock && !__atomic_compare_exchange_n(&memory_clock, &c, t->clock, 0, __ATOMIC_RELEASE, __ATOMIC_RELAXED)) {}
+    while (c < t->clock && !__atomic_compare_exchange_n(&memory_clock, &c, t->clock, 0,
+                                                        __ATOMIC_RELEASE, __ATOMIC_RELAXED)) {
+    }
 }
 
 // ---- hooks
 // The thread's last access is done: its value is there, its lines are free.
 static inline void settle(struct self *t) {
-    if (unlikely(t->unread != 0)) read_value(t);
-    if (t->holds || t->spans) let_go(t);
+    if (unlikely(t->unread != 0))
+        read_value(t);
+    if (t->holds || t->spans)
+        let_go(t);
 }
 // A hook begins: its thread, or 0 if there is nothing to do. What the thread holds, it holds still.
 static inline struct self *enter_holding(void) {
-    if (!likely(on)) return 0;
+    if (!likely(on))
+        return 0;
     struct self *t = self();
     if (unlikely(t->busy)) {
-        if (t->busy == 1) COUNT(lost);
+        if (t->busy == 1)
+            COUNT(lost);
         return 0;
     }
     t->busy = 1;
@@ -239,18 +266,25 @@ static inline struct self *enter_holding(void) {
 }
 static inline struct self *enter(void) {
     struct self *t = enter_holding();
-    if (!t) return 0;
+    if (!t)
+        return 0;
     settle(t);
-    if (unlikely(noise)) make_noise(t);
-    if (mode == SERIAL) turn(t);
+    if (unlikely(noise))
+        make_noise(t);
+    if (mode == SERIAL)
+        turn(t);
     return t;
 }
-static inline void leave(struct self *t) { t->busy = 0; }
+static inline void leave(struct self *t) {
+    t->busy = 0;
+}
 // Whether VELODROME_SITES leaves this access out.
 static inline int left_out(u64 code) {
-    if (likely(!sites) || !on || is_listed(code)) return 0;
+    if (likely(!sites) || !on || is_listed(code))
+        return 0;
     struct self *t = self();
-    if (!t->busy && mode == EXACT) settle(t);
+    if (!t->busy && mode == EXACT)
+        settle(t);
     return 1;
 }
 void note(int kind, u64 at, u64 code);

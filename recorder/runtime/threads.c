@@ -25,19 +25,25 @@ static struct {
 static u32 born;
 static pthread_key_t last_key;
 
-u32 thread_number(void) { return __atomic_fetch_add(&born, 1, __ATOMIC_SEQ_CST); }
+u32 thread_number(void) {
+    return __atomic_fetch_add(&born, 1, __ATOMIC_SEQ_CST);
+}
 static struct self *unused;
 static int unused_guard;
 static struct self *take_unused(void) {
-    while (__atomic_exchange_n(&unused_guard, 1, __ATOMIC_ACQUIRE)) syscall(SYS_sched_yield);
+    while (__atomic_exchange_n(&unused_guard, 1, __ATOMIC_ACQUIRE))
+        syscall(SYS_sched_yield);
     struct self *t = unused;
-    if (t) unused = t->unused;
+    if (t)
+        unused = t->unused;
     STORE(unused_guard, 0);
-    if (t) memset(t, 0, offsetof(struct self, frame));
+    if (t)
+        memset(t, 0, offsetof(struct self, frame));
     return t ? t : mmap(0, sizeof *t, PROT_READ | PROT_WRITE, MAP_PRIVATE | MAP_ANONYMOUS, -1, 0);
 }
 static void give_unused(struct self *t) {
-    while (__atomic_exchange_n(&unused_guard, 1, __ATOMIC_ACQUIRE)) syscall(SYS_sched_yield);
+    while (__atomic_exchange_n(&unused_guard, 1, __ATOMIC_ACQUIRE))
+        syscall(SYS_sched_yield);
     t->unused = unused, unused = t;
     STORE(unused_guard, 0);
 }
@@ -45,19 +51,22 @@ static struct self *new_self(u32 id) {
     struct self *t = take_unused();
     if (t == MAP_FAILED) {
         static int told;
-        if (!__atomic_exchange_n(&told, 1, __ATOMIC_RELAXED)) say("no memory for another thread: it is not recorded");
+        if (!__atomic_exchange_n(&told, 1, __ATOMIC_RELAXED))
+            say("no memory for another thread: it is not recorded");
         COUNT(lost);
         return &nobody;
     }
     t->id = id, t->begun = 1;
-    if (id < KNOWN) STORE(known[id].self, t);
+    if (id < KNOWN)
+        STORE(known[id].self, t);
     return t;
 }
 // A thread that came another way than by pthread_create.
 struct self *adopt(void) {
     own = &nobody;
     struct self *t = new_self(thread_number());
-    if (t == &nobody) return t;
+    if (t == &nobody)
+        return t;
     t->busy = 1;
     own = t;
     begin_thread(t, 0);
@@ -66,15 +75,19 @@ struct self *adopt(void) {
     return t;
 }
 // A thread of the runtime's own.
-void hide_thread(void) { own = &nobody; }
+void hide_thread(void) {
+    own = &nobody;
+}
 static u32 find(pthread_t p) { // plus one
     for (u32 n = LOAD(born) < KNOWN ? LOAD(born) : KNOWN; n > 0; n--)
-        if (known[n - 1].there && known[n - 1].handle == p) return n;
+        if (known[n - 1].there && known[n - 1].handle == p)
+            return n;
     return 0;
 }
 u32 thread_of_tid(int tid) { // plus one
     for (u32 n = LOAD(born) < KNOWN ? LOAD(born) : KNOWN; n > 0; n--)
-        if (known[n - 1].tid == tid && !known[n - 1].ended) return n;
+        if (known[n - 1].tid == tid && !known[n - 1].ended)
+            return n;
     return 0;
 }
 // Whether a thread sleeps in the kernel, outside of the runtime.
@@ -82,12 +95,14 @@ int is_asleep(u32 id) {
     char path[48], text[256], *end;
     struct self *t = id < KNOWN ? LOAD(known[id].self) : 0;
     int tid = t && !LOAD(t->busy) ? known[id].tid : 0;
-    if (!tid) return 0;
+    if (!tid)
+        return 0;
     int e = errno;
     snprintf(path, sizeof path, "/proc/self/task/%d/stat", tid);
     int fd = syscall(SYS_openat, AT_FDCWD, path, O_RDONLY | O_CLOEXEC, 0);
     ssize_t n = fd < 0 ? 0 : syscall(SYS_read, fd, text, sizeof text - 1);
-    if (fd >= 0) syscall(SYS_close, fd);
+    if (fd >= 0)
+        syscall(SYS_close, fd);
     errno = e;
     text[n > 0 ? n : 0] = 0;
     end = strrchr(text, ')'); // behind its name
@@ -95,8 +110,10 @@ int is_asleep(u32 id) {
 }
 static void know(u32 id, pthread_t p) {
     static int told;
-    if (id < KNOWN) known[id].handle = p, STORE(known[id].there, 1);
-    else if (!__atomic_exchange_n(&told, 1, __ATOMIC_RELAXED)) say("more than %d threads: joins of later ones are not recorded", KNOWN);
+    if (id < KNOWN)
+        known[id].handle = p, STORE(known[id].there, 1);
+    else if (!__atomic_exchange_n(&told, 1, __ATOMIC_RELAXED))
+        say("more than %d threads: joins of later ones are not recorded", KNOWN);
 }
 
 // ---- start and end
@@ -104,20 +121,25 @@ void begin_thread(struct self *t, u64 routine) {
     pthread_attr_t a;
     void *at = 0;
     size_t size = 0;
-    if (t->id < KNOWN) known[t->id].tid = syscall(SYS_gettid);
+    if (t->id < KNOWN)
+        known[t->id].tid = syscall(SYS_gettid);
     if (!pthread_getattr_np(pthread_self(), &a)) {
         pthread_attr_getstack(&a, &at, &size);
         pthread_attr_destroy(&a);
     }
-    if (LOAD(memory_clock) > t->clock) t->clock = memory_clock;
+    if (LOAD(memory_clock) > t->clock)
+        t->clock = memory_clock;
     stamp_alone(t);
-    if (record(t, START, 0, (u64)at, routine)) more(t, 0, size);
+    if (record(t, START, 0, (u64)at, routine))
+        more(t, 0, size);
 }
 static void end_thread(struct self *t) {
-    while (t->depth) close_block(t, FRAME);
+    while (t->depth)
+        close_block(t, FRAME);
     stamp_alone(t);
     event(t, EXIT, 0, 0, 0);
-    if (t->id < KNOWN) known[t->id].clock = t->clock, STORE(known[t->id].ended, 1);
+    if (t->id < KNOWN)
+        known[t->id].clock = t->clock, STORE(known[t->id].ended, 1);
     raise_memory_clock(t);
 }
 static void last_destructor(void *round) { // behind the program's own
@@ -126,7 +148,8 @@ static void last_destructor(void *round) { // behind the program's own
         pthread_setspecific(last_key, (void *)((uintptr_t)round + 1));
         return;
     }
-    if (!on || !t || t == &nobody || !enter()) return;
+    if (!on || !t || t == &nobody || !enter())
+        return;
     end_thread(t);
     t->busy = 2;
     turns_end(t);
@@ -144,38 +167,49 @@ static void *run(void *p) {
     own = &nobody;
     free(p);
     struct self *t = new_self(w.id);
-    if (t == &nobody) return w.routine(w.argument);
+    if (t == &nobody)
+        return w.routine(w.argument);
     t->clock = w.clock, t->busy = 1;
     own = t;
-    if (w.id < KNOWN) know(w.id, pthread_self());
-    if (mode == SERIAL) turns_begin(t);
-    if (on) begin_thread(t, w.told);
+    if (w.id < KNOWN)
+        know(w.id, pthread_self());
+    if (mode == SERIAL)
+        turns_begin(t);
+    if (on)
+        begin_thread(t, w.told);
     pthread_setspecific(last_key, (void *)1);
     t->busy = 0;
     return w.routine(w.argument);
 }
-static int create(pthread_t *p, const pthread_attr_t *a, void *(*routine)(void *), void *argument, u64 told, u64 code) {
+static int create(pthread_t *p, const pthread_attr_t *a, void *(*routine)(void *), void *argument,
+                  u64 told, u64 code) {
     REAL(pthread_create);
     struct self *t = enter();
     struct work *w = t ? malloc(sizeof *w) : 0;
     if (!w) {
-        if (t) leave(t);
+        if (t)
+            leave(t);
         return real_pthread_create(p, a, routine, argument);
     }
     u32 id = thread_number();
     stamp_alone(t);
     event(t, FORK, 0, id, code);
     *w = (struct work){routine, argument, told, id, t->clock};
-    if (mode == SERIAL) turns_fork(id);
+    if (mode == SERIAL)
+        turns_fork(id);
     int r = real_pthread_create(p, a, run, w);
-    if (!r) know(id, *p);
-    else turns_unfork(id), free(w);
-    if (mode == SERIAL) turn(t);
+    if (!r)
+        know(id, *p);
+    else
+        turns_unfork(id), free(w);
+    if (mode == SERIAL)
+        turn(t);
     leave(t);
     return r;
 }
 void threads_start(void);
-API int pthread_create(pthread_t *p, const pthread_attr_t *a, void *(*routine)(void *), void *argument) {
+API int pthread_create(pthread_t *p, const pthread_attr_t *a, void *(*routine)(void *),
+                       void *argument) {
     threads_start();
     return create(p, a, routine, argument, (u64)routine, CALLER);
 }
@@ -185,22 +219,27 @@ static int begin_join(pthread_t p, u32 *n, u64 until, u64 code) { // 1: its time
     struct self *t = enter();
     int over = 0;
     *n = 0;
-    if (!t) return 0;
+    if (!t)
+        return 0;
     *n = find(p);
     stamp_alone(t);
     event(t, WAIT, 0, *n, code);
     if (TURNS(t) && *n)
-        while (!turns_ended(*n - 1) && !over) over = wait_turn(t, FOR_THREAD, turns_key(*n - 1), until, code);
+        while (!turns_ended(*n - 1) && !over)
+            over = wait_turn(t, FOR_THREAD, turns_key(*n - 1), until, code);
     int ends = over && cancelled(t);
     leave(t);
-    if (ends) pthread_testcancel();
+    if (ends)
+        pthread_testcancel();
     return over;
 }
 static void end_join(u32 n, u64 code) {
     struct self *t = n ? enter() : 0;
-    if (!t) return;
+    if (!t)
+        return;
     known[n - 1].there = 0;
-    if (known[n - 1].clock > t->clock) t->clock = known[n - 1].clock;
+    if (known[n - 1].clock > t->clock)
+        t->clock = known[n - 1].clock;
     stamp_alone(t);
     event(t, JOIN, 0, n - 1, code);
     leave(t);
@@ -208,40 +247,48 @@ static void end_join(u32 n, u64 code) {
 // By turns the thread has ended, and is about to exit: the turn is kept meanwhile.
 static int hold_turn(u32 n) {
     int holds = n && TURNS_HERE;
-    if (holds) own->busy = 1;
+    if (holds)
+        own->busy = 1;
     return holds;
 }
 static void end_hold(int holds) {
-    if (holds) own->busy = 0;
+    if (holds)
+        own->busy = 0;
 }
-#define JOIN_BY(name, parameters, arguments, until)                     \
-    API int name parameters {                                           \
-        REAL(name);                                                     \
-        u32 n;                                                          \
-        if (begin_join(p, &n, until, CALLER)) return ETIMEDOUT;         \
-        int left = mode == SERIAL && !n ? leave_turns() : 0;            \
-        int holds = hold_turn(n);                                       \
-        int r = real_##name arguments;                                  \
-        end_hold(holds);                                                \
-        rejoin_turns(left);                                             \
-        if (!r) end_join(n, CALLER);                                    \
-        return r;                                                       \
+#define JOIN_BY(name, parameters, arguments, until)                                                \
+    API int name parameters {                                                                      \
+        REAL(name);                                                                                \
+        u32 n;                                                                                     \
+        if (begin_join(p, &n, until, CALLER))                                                      \
+            return ETIMEDOUT;                                                                      \
+        int left = mode == SERIAL && !n ? leave_turns() : 0;                                       \
+        int holds = hold_turn(n);                                                                  \
+        int r = real_##name arguments;                                                             \
+        end_hold(holds);                                                                           \
+        rejoin_turns(left);                                                                        \
+        if (!r)                                                                                    \
+            end_join(n, CALLER);                                                                   \
+        return r;                                                                                  \
     }
 JOIN_BY(pthread_join, (pthread_t p, void **value), (p, value), 0)
-JOIN_BY(pthread_timedjoin_np, (pthread_t p, void **value, const struct timespec *x), (p, value, x), deadline(x, CLOCK_REALTIME))
-JOIN_BY(pthread_clockjoin_np, (pthread_t p, void **value, clockid_t c, const struct timespec *x), (p, value, c, x), deadline(x, c))
+JOIN_BY(pthread_timedjoin_np, (pthread_t p, void **value, const struct timespec *x), (p, value, x),
+        deadline(x, CLOCK_REALTIME))
+JOIN_BY(pthread_clockjoin_np, (pthread_t p, void **value, clockid_t c, const struct timespec *x),
+        (p, value, c, x), deadline(x, c))
 API int pthread_tryjoin_np(pthread_t p, void **value) {
     REAL(pthread_tryjoin_np);
     u32 n = on ? find(p) : 0;
     int r = real_pthread_tryjoin_np(p, value);
-    if (!r) end_join(n, CALLER);
+    if (!r)
+        end_join(n, CALLER);
     return r;
 }
 API int pthread_cancel(pthread_t p) {
     REAL(pthread_cancel);
     u32 n = on && mode == SERIAL ? find(p) : 0;
     int r = real_pthread_cancel(p);
-    if (n) turns_cancel(n - 1);
+    if (n)
+        turns_cancel(n - 1);
     return r;
 }
 
@@ -249,26 +296,32 @@ API int pthread_cancel(pthread_t p) {
 static void title(u32 n, const char *name, u64 code) {
     struct self *t = n ? enter() : 0;
     u64 text[2] = {0, 0};
-    if (!t) return;
-    for (int i = 0; i < 15 && name[i]; i++) ((char *)text)[i] = name[i];
+    if (!t)
+        return;
+    for (int i = 0; i < 15 && name[i]; i++)
+        ((char *)text)[i] = name[i];
     stamp_alone(t);
-    if (record(t, TITLE, 0, n - 1, code)) more(t, 0, text[0]), more(t, 0, text[1]);
+    if (record(t, TITLE, 0, n - 1, code))
+        more(t, 0, text[0]), more(t, 0, text[1]);
     leave(t);
 }
 API int pthread_setname_np(pthread_t p, const char *name) {
     REAL(pthread_setname_np);
     int r = real_pthread_setname_np(p, name);
-    if (!r && on) title(p == pthread_self() ? self()->id + 1 : find(p), name, CALLER);
+    if (!r && on)
+        title(p == pthread_self() ? self()->id + 1 : find(p), name, CALLER);
     return r;
 }
 API int prctl(int what, ...) {
     va_list l;
     unsigned long a[4];
     va_start(l, what);
-    for (int i = 0; i < 4; i++) a[i] = va_arg(l, unsigned long);
+    for (int i = 0; i < 4; i++)
+        a[i] = va_arg(l, unsigned long);
     va_end(l);
     int r = syscall(SYS_prctl, what, a[0], a[1], a[2], a[3]);
-    if (!r && what == PR_SET_NAME && on) title(self()->id + 1, (const char *)a[0], CALLER);
+    if (!r && what == PR_SET_NAME && on)
+        title(self()->id + 1, (const char *)a[0], CALLER);
     return r;
 }
 
@@ -285,10 +338,12 @@ static void *run_c11(void *p) {
 API int thrd_create(thrd_t *p, thrd_start_t routine, void *argument) {
     threads_start();
     struct c11 *c = malloc(sizeof *c);
-    if (!c) return thrd_nomem;
+    if (!c)
+        return thrd_nomem;
     *c = (struct c11){routine, argument};
     int r = create(p, 0, run_c11, c, (u64)routine, CALLER);
-    if (r) free(c);
+    if (r)
+        free(c);
     return !r ? thrd_success : r == ENOMEM || r == EAGAIN ? thrd_nomem : thrd_error;
 }
 API int thrd_join(thrd_t p, int *value) {
@@ -300,21 +355,26 @@ API int thrd_join(thrd_t p, int *value) {
     int r = real_pthread_join(p, &v);
     end_hold(holds);
     rejoin_turns(left);
-    if (!r) end_join(n, CALLER);
-    if (!r && value) *value = (int)(intptr_t)v;
+    if (!r)
+        end_join(n, CALLER);
+    if (!r && value)
+        *value = (int)(intptr_t)v;
     return r ? thrd_error : thrd_success;
 }
 
 // ---- the first thread, and the one of a fork's child
 void threads_open(void) {
     static int made;
-    if (!made++) pthread_key_create(&last_key, last_destructor);
+    if (!made++)
+        pthread_key_create(&last_key, last_destructor);
     struct self *t = own && own != &nobody ? own : new_self(0);
     born = 1, own = t;
     memset(known, 0, sizeof known);
     known[0].self = t;
-    t->id = 0, t->begun = 1, t->next = t->end = 0, t->unread = 0, t->holds = t->spans = 0, t->told = 0, t->clock = 0, t->turns = 0;
+    t->id = 0, t->begun = 1, t->next = t->end = 0, t->unread = 0, t->holds = t->spans = 0,
+    t->told = 0, t->clock = 0, t->turns = 0;
     t->high = 0, t->last_epoch = 0, t->code_low = t->code_bytes = 0;
-    if (t != &nobody) t->busy = 0;
+    if (t != &nobody)
+        t->busy = 0;
     know(0, pthread_self());
 }

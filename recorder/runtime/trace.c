@@ -1,5 +1,6 @@
-// The trace: a file that grows as it is written, mapped into memory, so that what was written stays whatever becomes of
-// the program. It grows by allocated blocks only: a full disk is told here, and never by a signal at a store.
+// The trace: a file that grows as it is written, mapped into memory, so that what was written stays
+// whatever becomes of the program. It grows by allocated blocks only: a full disk is told here, and
+// never by a signal at a store.
 #include "runtime.h"
 #include <errno.h>
 #include <fcntl.h>
@@ -14,7 +15,7 @@
 #include <sys/syscall.h>
 #include <unistd.h>
 
-#define STEP (4u << 20)  // the file grows by so many bytes
+#define STEP (4u << 20) // the file grows by so many bytes
 #ifndef MADV_POPULATE_WRITE
 #define MADV_POPULATE_WRITE 23
 #endif
@@ -45,11 +46,14 @@ void say(const char *format, ...) {
 // ---- the file
 static int allocate(int fd, u64 from, u64 n) {
     long r = syscall(SYS_fallocate, fd, 0, from, n);
-    if (!r) return 0;
-    if (errno != EOPNOTSUPP && errno != ENOSYS) return -1;
+    if (!r)
+        return 0;
+    if (errno != EOPNOTSUPP && errno != ENOSYS)
+        return -1;
     static const char zeros[4096];
     for (u64 at = from; at < from + n; at += sizeof zeros)
-        if (syscall(SYS_pwrite64, fd, zeros, sizeof zeros, at) != sizeof zeros) return -1;
+        if (syscall(SYS_pwrite64, fd, zeros, sizeof zeros, at) != sizeof zeros)
+            return -1;
     return 0;
 }
 // The file is opened anew each time: a program may close every descriptor that it finds.
@@ -57,10 +61,14 @@ static int grow(void) {
     struct stat s;
     int e = errno, fd = syscall(SYS_openat, AT_FDCWD, path, O_RDWR | O_CLOEXEC, 0);
     u64 n = room + STEP > mapped ? mapped - room : STEP;
-    int ok = fd >= 0 && !fstat(fd, &s) && s.st_dev == device && s.st_ino == inode && !allocate(fd, room, n);
-    if (fd >= 0) syscall(SYS_close, fd);
-    if (ok && head) madvise((char *)head + room, n, MADV_POPULATE_WRITE); // at once, where the kernel can
-    if (ok) STORE(room, room + n);
+    int ok = fd >= 0 && !fstat(fd, &s) && s.st_dev == device && s.st_ino == inode &&
+             !allocate(fd, room, n);
+    if (fd >= 0)
+        syscall(SYS_close, fd);
+    if (ok && head)
+        madvise((char *)head + room, n, MADV_POPULATE_WRITE); // at once, where the kernel can
+    if (ok)
+        STORE(room, room + n);
     errno = e;
     return ok;
 }
@@ -72,28 +80,36 @@ static int has_room(u64 bytes) {
         }
         int ok = room >= bytes || grow();
         STORE(growing, 0);
-        if (!ok) return 0;
+        if (!ok)
+            return 0;
     }
     return 1;
 }
 static u64 most_records(void) {
     struct rlimit limit;
     u64 most = setting("VELODROME_MOST", 64000000);
-    if (most > MOST) most = MOST;
+    if (most > MOST)
+        most = MOST;
     if (!getrlimit(RLIMIT_FSIZE, &limit) && limit.rlim_cur != RLIM_INFINITY) {
-        u64 fit = limit.rlim_cur > 2 * HEAD_BYTES ? (limit.rlim_cur - HEAD_BYTES) / sizeof(struct record) : 0;
-        if (most > fit) most = fit; // past it a signal would come
+        u64 fit = limit.rlim_cur > 2 * HEAD_BYTES
+                      ? (limit.rlim_cur - HEAD_BYTES) / sizeof(struct record)
+                      : 0;
+        if (most > fit)
+            most = fit; // past it a signal would come
     }
     return most;
 }
 static void absolute(char *to, size_t n, const char *name) {
     char folder[2000];
-    if (*name == '/' || !getcwd(folder, sizeof folder)) snprintf(to, n, "%s", name);
-    else snprintf(to, n, "%s/%s", folder, name);
+    if (*name == '/' || !getcwd(folder, sizeof folder))
+        snprintf(to, n, "%s", name);
+    else
+        snprintf(to, n, "%s/%s", folder, name);
 }
 int trace_open(void) {
     struct stat s;
-    if (!*base) absolute(base, sizeof base, getenv("VELODROME_OUT"));
+    if (!*base)
+        absolute(base, sizeof base, getenv("VELODROME_OUT"));
     snprintf(path, sizeof path, "%s.%d", base, (int)getpid());
     u64 most = most_records() / CHUNK * CHUNK;
     int fd = open(path, O_RDWR | O_CREAT | O_TRUNC | O_CLOEXEC, 0644);
@@ -106,7 +122,8 @@ int trace_open(void) {
     char *p = mmap(0, mapped, PROT_READ | PROT_WRITE, MAP_SHARED | MAP_NORESERVE, fd, 0);
     if (p == MAP_FAILED || !has_room(HEAD_BYTES)) {
         say("nothing is recorded: %s: %s", path, strerror(errno));
-        if (p != MAP_FAILED) munmap(p, mapped);
+        if (p != MAP_FAILED)
+            munmap(p, mapped);
         close(fd);
         return 0;
     }
@@ -123,32 +140,42 @@ int trace_open(void) {
 void trace_close(void) {
     u64 none = GOES_ON;
     trace_maps();
-    if (mode == SERIAL) return; // threads that go on still take turns
+    if (mode == SERIAL)
+        return; // threads that go on still take turns
     STORE(on, 0);
-    __atomic_compare_exchange_n(&head->stopped, &none, (u64)ENDED, 0, __ATOMIC_SEQ_CST, __ATOMIC_RELAXED);
+    __atomic_compare_exchange_n(&head->stopped, &none, (u64)ENDED, 0, __ATOMIC_SEQ_CST,
+                                __ATOMIC_RELAXED);
     u64 used = HEAD_BYTES + (LOAD(head->chunks) + 8) * CHUNK * sizeof(struct record);
-    if (used < LOAD(room) && truncate(path, used)) return; // what stays is zeros
+    if (used < LOAD(room) && truncate(path, used))
+        return; // what stays is zeros
 }
 void trace_leave(void) {
-    if (head) munmap(head, mapped);
+    if (head)
+        munmap(head, mapped);
     head = 0, records = 0;
 }
-// What is mapped where, for names and lines. Each time is appended: a module may be gone by the end.
+// What is mapped where, for names and lines. Each time is appended: a module may be gone by the
+// end.
 static struct { u64 low, high; } code[256]; // mapped code that was noted
 static u32 codes;
 static const char *hex(const char *s, u64 *n) {
     for (*n = 0;; s++) {
-        if (*s >= '0' && *s <= '9') *n = *n << 4 | (*s - '0');
-        else if (*s >= 'a' && *s <= 'f') *n = *n << 4 | (*s - 'a' + 10);
-        else return s;
+        if (*s >= '0' && *s <= '9')
+            *n = *n << 4 | (*s - '0');
+        else if (*s >= 'a' && *s <= 'f')
+            *n = *n << 4 | (*s - 'a' + 10);
+        else
+            return s;
     }
 }
 static void note_code(const char *line) { // LOW-HIGH rwxp ..
     u64 low, high;
     line = hex(line, &low);
-    if (*line++ != '-') return;
+    if (*line++ != '-')
+        return;
     line = hex(line, &high);
-    if (line[0] != ' ' || line[3] != 'x' || codes == 256) return;
+    if (line[0] != ' ' || line[3] != 'x' || codes == 256)
+        return;
     code[codes].low = low, code[codes].high = high;
     STORE(codes, codes + 1);
 }
@@ -159,10 +186,13 @@ static void copy_maps(int from, int to) {
     u32 at = 0;
     STORE(codes, 0);
     while ((n = syscall(SYS_read, from, text, sizeof text)) > 0) {
-        if (syscall(SYS_write, to, text, n) != n) return;
+        if (syscall(SYS_write, to, text, n) != n)
+            return;
         for (ssize_t i = 0; i < n; i++) {
-            if (at < sizeof line - 1) line[at++] = text[i];
-            if (text[i] != '\n') continue;
+            if (at < sizeof line - 1)
+                line[at++] = text[i];
+            if (text[i] != '\n')
+                continue;
             line[at] = 0, at = 0;
             note_code(line);
         }
@@ -172,13 +202,17 @@ void trace_maps(void) {
     static int busy;
     char name[4200];
     int e = errno;
-    if (__atomic_exchange_n(&busy, 1, __ATOMIC_ACQUIRE)) return;
+    if (__atomic_exchange_n(&busy, 1, __ATOMIC_ACQUIRE))
+        return;
     snprintf(name, sizeof name, "%s.maps", path);
     int from = syscall(SYS_openat, AT_FDCWD, "/proc/self/maps", O_RDONLY | O_CLOEXEC, 0);
     int to = syscall(SYS_openat, AT_FDCWD, name, O_WRONLY | O_CREAT | O_APPEND | O_CLOEXEC, 0644);
-    if (from >= 0 && to >= 0) copy_maps(from, to);
-    if (from >= 0) syscall(SYS_close, from);
-    if (to >= 0) syscall(SYS_close, to);
+    if (from >= 0 && to >= 0)
+        copy_maps(from, to);
+    if (from >= 0)
+        syscall(SYS_close, from);
+    if (to >= 0)
+        syscall(SYS_close, to);
     errno = e;
     STORE(busy, 0);
 }
@@ -191,22 +225,29 @@ static void look_for_module(struct self *t, u64 at) {
                 t->code_low = code[i].low, t->code_bytes = code[i].high - code[i].low;
                 return;
             }
-        if (again || __atomic_add_fetch(&times, 1, __ATOMIC_RELAXED) > 1000) return;
+        if (again || __atomic_add_fetch(&times, 1, __ATOMIC_RELAXED) > 1000)
+            return;
         trace_maps();
     }
 }
 void trace_stop(enum stop why) {
-    static const char *const reason[] = {"", "the trace is full (VELODROME_MOST)", "no room for the trace on its disk", ""};
+    static const char *const reason[] = {"", "the trace is full (VELODROME_MOST)",
+                                         "no room for the trace on its disk", ""};
     u64 none = GOES_ON;
-    if (!__atomic_compare_exchange_n(&head->stopped, &none, (u64)why, 0, __ATOMIC_SEQ_CST, __ATOMIC_RELAXED)) return;
-    if (mode != SERIAL) STORE(on, 0); // by turns the program goes on by turns, without a record
+    if (!__atomic_compare_exchange_n(&head->stopped, &none, (u64)why, 0, __ATOMIC_SEQ_CST,
+                                     __ATOMIC_RELAXED))
+        return;
+    if (mode != SERIAL)
+        STORE(on, 0); // by turns the program goes on by turns, without a record
     say("%s: the recording stops here, the program goes on", reason[why]);
 }
 
 // ---- records
 int open_chunk(struct self *t) {
-    if (head->stopped) return 0;
-    if (!t->begun) t->id = thread_number(), t->begun = 1;
+    if (head->stopped)
+        return 0;
+    if (!t->begun)
+        t->id = thread_number(), t->begun = 1;
     u64 n = __atomic_fetch_add(&head->chunks, 1, __ATOMIC_RELAXED);
     u64 end = (n + 1) * CHUNK;
     int fits = end <= head->most;
@@ -224,9 +265,11 @@ int open_chunk(struct self *t) {
 int tell_begins(struct self *t) {
     while (t->told < t->depth && t->told < DEEP) {
         struct frame *f = &t->frame[t->told++];
-        if (t->end - t->next < 4 && !open_chunk(t)) return 0;
+        if (t->end - t->next < 4 && !open_chunk(t))
+            return 0;
         f->begun = write_record(t, word(f->at ? BEGIN : NAMED, 0, f->from), f->function);
-        if (f->at && unlikely(f->function - t->code_low >= t->code_bytes)) look_for_module(t, f->function);
+        if (f->at && unlikely(f->function - t->code_low >= t->code_bytes))
+            look_for_module(t, f->function);
     }
     return 1;
 }

@@ -1,15 +1,16 @@
 // The trace that the runtime writes and velodrome-log reads.
 //
-// A page for the head, then chunks of CHUNK records of 16 bytes. The first record of a chunk has the thread plus one in
-// `what` and the upper half of its code addresses in `where`; the chunk ends at its first record whose `what` is 0.
-// The chunks of a thread, in the order of the file, are its stream.
+// A page for the head, then chunks of CHUNK records of 16 bytes. The first record of a chunk has
+// the thread plus one in `what` and the upper half of its code addresses in `where`; the chunk ends
+// at its first record whose `what` is 0. The chunks of a thread, in the order of the file, are its
+// stream.
 //
 //   what    address << 16 | flags << 13 | size << 5 | kind
 //   where   stamp << 32 | lower half of the code address
 //
-// Stamps rise along each stream, and from one event to a later one of another thread that it conflicts with: sorted by
-// stamps, streams merged, the records are a sequence that the program did. BEGIN, NAMED, END, MORE and HIGH have no stamp;
-// they belong to the event next to them.
+// Stamps rise along each stream, and from one event to a later one of another thread that it
+// conflicts with: sorted by stamps, streams merged, the records are a sequence that the program
+// did. BEGIN, NAMED, END, MORE and HIGH have no stamp; they belong to the event next to them.
 #pragma once
 #include <stdint.h>
 
@@ -18,40 +19,59 @@ struct record {
 };
 
 enum kind {
-    RD = 1, WR,   // an access of `size` bytes
-    RDS, WRS,     // of a range; MORE: bytes
-    ARD, AWR,     // an atomic one
-    BEGIN,        // address: where it was called; where: the function (whole)
-    NAMED,        // likewise of VELODROME_ATOMIC; where: the address of its name
-    END,          // address: the frame that ends
-    ACQ, REL,     // a lock alone
-    ACQS, RELS,   // a share of a lock
-    FORK, JOIN,   // address: the other thread
+    RD = 1,
+    WR, // an access of `size` bytes
+    RDS,
+    WRS, // of a range; MORE: bytes
+    ARD,
+    AWR,   // an atomic one
+    BEGIN, // address: where it was called; where: the function (whole)
+    NAMED, // likewise of VELODROME_ATOMIC; where: the address of its name
+    END,   // address: the frame that ends
+    ACQ,
+    REL, // a lock alone
+    ACQS,
+    RELS, // a share of a lock
+    FORK,
+    JOIN, // address: the other thread
     EXIT,
-    ALLOC,        // memory that begins anew; MORE: bytes
-    START,        // of a thread. address: its stack; code: its routine; MORE: bytes of the stack
-    SRD, SWR,     // what a semaphore, a barrier or a once orders
-    WAIT,         // the open blocks wait here
-    MORE,         // where: a number that belongs to the record before
-    HIGH,         // address: the upper half of the code addresses from here on
-    TITLE,        // the thread's name: two MORE of 8 bytes
-    STUCK,        // the thread waits in a deadlock. address: for what; size: a kind of `enum wait`; MORE: thread that holds it, plus one
+    ALLOC, // memory that begins anew; MORE: bytes
+    START, // of a thread. address: its stack; code: its routine; MORE: bytes of the stack
+    SRD,
+    SWR,   // what a semaphore, a barrier or a once orders
+    WAIT,  // the open blocks wait here
+    MORE,  // where: a number that belongs to the record before
+    HIGH,  // address: the upper half of the code addresses from here on
+    TITLE, // the thread's name: two MORE of 8 bytes
+    STUCK, // the thread waits in a deadlock. address: for what; size: a kind of `enum wait`; MORE:
+           // thread that holds it, plus one
 };
 
 enum flag {
-    LATE = 1,     // not surely in the order of the accesses
-    VALUED = 2,   // of MORE: it is the value of the access
-    TRIED = 4,    // of ACQ and ACQS: by a trylock
+    LATE = 1,   // not surely in the order of the accesses
+    VALUED = 2, // of MORE: it is the value of the access
+    TRIED = 4,  // of ACQ and ACQS: by a trylock
 };
 
 enum mode { FREE, EXACT, SERIAL };
-enum wait { FOR_TIME, FOR_MUTEX, FOR_RWLOCK, FOR_SPIN, FOR_CONDITION, FOR_SEMAPHORE, FOR_BARRIER, FOR_ONCE, FOR_THREAD, FOR_FUTEX };
+enum wait {
+    FOR_TIME,
+    FOR_MUTEX,
+    FOR_RWLOCK,
+    FOR_SPIN,
+    FOR_CONDITION,
+    FOR_SEMAPHORE,
+    FOR_BARRIER,
+    FOR_ONCE,
+    FOR_THREAD,
+    FOR_FUTEX
+};
 
 struct head {
     uint64_t magic, mode, seed, values;
-    uint64_t chunks, most;                       // chunks that were given out; most records
+    uint64_t chunks, most; // chunks that were given out; most records
     uint64_t lost, late, seized, switches, stuck, noise;
-    uint64_t stopped;                            // enum stop
+    uint64_t stopped; // enum stop
 };
 enum stop { GOES_ON, FULL, NO_SPACE, ENDED };
 

@@ -46,7 +46,9 @@ def memcached(port, requests, seed):
 
 
 def main(words):
-    client, port, clients, requests = {"http": http, "memcached": memcached}[words[0]], *map(int, words[1:])
+    client, port, clients, requests = {"http": http, "memcached": memcached}[words[0]], *map(
+        int, words[1:]
+    )
     threads = [threading.Thread(target=client, args=(port, requests, i)) for i in range(clients)]
     for t in threads:
         t.start()

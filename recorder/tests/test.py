@@ -19,9 +19,18 @@ only = None
 
 
 def sh(*words, env=None, ok=(0,), timeout=60):
-    done = subprocess.run(words, capture_output=True, text=True, errors="replace", env={**os.environ, **(env or {})}, timeout=timeout)
+    done = subprocess.run(
+        words,
+        capture_output=True,
+        text=True,
+        errors="replace",
+        env={**os.environ, **(env or {})},
+        timeout=timeout,
+    )
     if done.returncode not in ok:
-        raise RuntimeError(f"{' '.join(words)}: status {done.returncode}\n{done.stdout}{done.stderr}")
+        raise RuntimeError(
+            f"{' '.join(words)}: status {done.returncode}\n{done.stdout}{done.stderr}"
+        )
     return done
 
 
@@ -47,22 +56,41 @@ class Program:
             f.write(source)
         driver = "velodrome-c++" if suffix == "cpp" else "velodrome-cc"
         cxx = {"gcc": "g++"}.get(cc, cc + "++")
-        sh(f"{BIN}/{driver}", f"{self.path}.{suffix}", "-o", self.path, *(["-std=c++17"] if suffix == "cpp" else []), *flags, env={"VELODROME_CC": cc, "VELODROME_CXX": cxx})
+        sh(
+            f"{BIN}/{driver}",
+            f"{self.path}.{suffix}",
+            "-o",
+            self.path,
+            *(["-std=c++17"] if suffix == "cpp" else []),
+            *flags,
+            env={"VELODROME_CC": cc, "VELODROME_CXX": cxx},
+        )
 
     def run(self, mode, ok=(0,), timeout=60, out=None, **env):
         """Runs it, and returns its trace and what it said."""
         out = out or f"{self.room}/trace"
         for f in glob.glob(f"{out}.*"):
             os.unlink(f)
-        settings = {"VELODROME_OUT": out, "VELODROME_MODE": mode, "VELODROME_MOST": "4000000", **{k: str(v) for k, v in env.items()}}
+        settings = {
+            "VELODROME_OUT": out,
+            "VELODROME_MODE": mode,
+            "VELODROME_MOST": "4000000",
+            **{k: str(v) for k, v in env.items()},
+        }
         self.done = sh(self.path, env=settings, ok=ok, timeout=timeout)
-        found = [f for f in sorted(glob.glob(f"{out}.*"), key=os.path.getmtime) if re.search(r"\.\d+$", f)]
+        found = [
+            f
+            for f in sorted(glob.glob(f"{out}.*"), key=os.path.getmtime)
+            if re.search(r"\.\d+$", f)
+        ]
         return found[0] if found else None
 
 
 def log_of(room, trace, *options):
     said = sh(f"{BIN}/velodrome-log", trace, f"{room}/log", *options).stdout
-    with open(f"{room}/log", encoding="ascii") as f, open(f"{room}/log.names", encoding="utf-8") as n:
+    with open(f"{room}/log", encoding="ascii") as f, open(
+        f"{room}/log.names", encoding="utf-8"
+    ) as n:
         return f.read(), n.read(), said
 
 
@@ -89,6 +117,7 @@ def hooks(room, cc):
             continue
         program = Program(room, cc, f"case{i}", HEAD + source + TAIL)
         for mode in MODES:
+
             def body():
                 log, names, said = log_of(room, program.run(mode), *options)
                 lines = log.splitlines()[1:]
@@ -98,19 +127,30 @@ def hooks(room, cc):
                     right = canonical(lines) == canonical(want)
                 if CHECKER and right and mode == "exact":
                     check(room)
-                return True if right else f"\n  {lines}\n  {want if not callable(want) else said + names}"
+                return (
+                    True
+                    if right
+                    else f"\n  {lines}\n  {want if not callable(want) else said + names}"
+                )
+
             test(f"{cc} {mode} {name}", body)
     program = Program(room, cc, "cpp", CPP, "cpp")
     for mode in MODES:
+
         def body():
             lines = canonical(log_of(room, program.run(mode))[0].splitlines()[1:])
             return True if lines == canonical(CPP_LOG) else f"\n  {lines}\n  {canonical(CPP_LOG)}"
+
         test(f"{cc} {mode} C++", body)
 
 
 def trylocks(room, cc):
     """The positions of the acquires that came from a trylock."""
-    source = HEAD + "static pthread_mutex_t m = PTHREAD_MUTEX_INITIALIZER; void f(void) { pthread_mutex_lock(&m); pthread_mutex_unlock(&m); if (!pthread_mutex_trylock(&m)) pthread_mutex_unlock(&m); } void g(void) { f(); }" + TAIL
+    source = (
+        HEAD
+        + "static pthread_mutex_t m = PTHREAD_MUTEX_INITIALIZER; void f(void) { pthread_mutex_lock(&m); pthread_mutex_unlock(&m); if (!pthread_mutex_trylock(&m)) pthread_mutex_unlock(&m); } void g(void) { f(); }"
+        + TAIL
+    )
     made = Program(room, cc, "tried", source)
 
     def body():
@@ -119,6 +159,7 @@ def trylocks(room, cc):
             at = [int(x) for x in f.read().split()]
         acquires = [i for i, line in enumerate(log) if " acq " in line]
         return True if at == [acquires[1], acquires[3]] else f"{at} of {acquires}"
+
     test(f"{cc} acquires by trylock are told", body)
 
 
@@ -131,6 +172,7 @@ def noises(room, cc):
             made.run("exact", VELODROME_NOISE=10, VELODROME_SEED=seed, VELODROME_VERBOSE=1)
             seen.append(int(re.search(r"(\d+) waits by noise", made.done.stderr)[1]))
         return True if all(2000 < n < 40000 for n in seen) else seen
+
     test(f"{cc} noise", body)
 
 
@@ -142,7 +184,10 @@ def sites(room, cc):
         before = log_of(room, made.run("exact"), "--sites-out", f"{room}/sites")[2]
         after = log_of(room, made.run("exact", VELODROME_SITES=f"{room}/sites"))[2]
         fewer = number(after, "records") < number(before, "records") * 3 // 4
-        return True if fewer and number(after, "locks") == number(before, "locks") else before + after
+        return (
+            True if fewer and number(after, "locks") == number(before, "locks") else before + after
+        )
+
     test(f"{cc} a list of sites", body)
 
 
@@ -150,8 +195,17 @@ def seeds(room, cc):
     program = Program(room, cc, "lost", LOST)
 
     def body():
-        logs = {(k % 2, log_of(room, program.run("serial", ok=(0, 1), VELODROME_SEED=k % 2, VELODROME_VALUES=1))[0]) for k in range(6)}
+        logs = {
+            (
+                k % 2,
+                log_of(
+                    room, program.run("serial", ok=(0, 1), VELODROME_SEED=k % 2, VELODROME_VALUES=1)
+                )[0],
+            )
+            for k in range(6)
+        }
         return True if len(logs) == 2 else f"{len(logs)} logs of two seeds"
+
     test(f"{cc} the same seed gives the same log", body)
 
 
@@ -176,6 +230,7 @@ def races(room, cc):
     made = program(room, cc, "races")
     for mode in ("exact", "serial"):
         for noise in (0, 50):
+
             def body():
                 made.run(mode, VELODROME_VALUES=1, VELODROME_NOISE=noise)
                 log, _, said = log_of(room, glob.glob(f"{room}/trace.*[0-9]")[0])
@@ -190,6 +245,7 @@ def races(room, cc):
                     if "wrong value" not in sh(CHECKER, "check", f"{room}/log", ok=(4, 2)).stderr:
                         return "a changed value was taken"
                 return True
+
             test(f"{cc} {mode} noise {noise} races have their values", body)
 
 
@@ -206,14 +262,21 @@ def many_threads(room, cc):
     made = program(room, cc, "threads")
     for count, alive in ((200, 2), (200, 20), (64, 63), (640, 8)):
         for mode in ("exact", "serial"):
+
             def body():
                 trace = run_with(made, mode, count, alive)
                 log, _, said = log_of(room, trace)
-                if number(said, "threads") != count + 1 or number(said, "odd") or number(said, "dropped") or number(said, "lost"):
+                if (
+                    number(said, "threads") != count + 1
+                    or number(said, "odd")
+                    or number(said, "dropped")
+                    or number(said, "lost")
+                ):
                     return said
                 if CHECKER:
                     check(room)
                 return True
+
             test(f"{cc} {mode} {count} threads, {alive} at a time", body)
 
 
@@ -237,12 +300,21 @@ def check_then_act(room, cc):
         return
     made = program(room, cc, "cache")
     for mode in ("exact", "serial"):
+
         def body():
-            names, said = functions(room, run_with(made, mode, VELODROME_NOISE=0 if mode == "serial" else 20), "--innermost", "--quiet-waits")
+            names, said = functions(
+                room,
+                run_with(made, mode, VELODROME_NOISE=0 if mode == "serial" else 20),
+                "--innermost",
+                "--quiet-waits",
+            )
             if "look_up(int)" not in names:
                 return said
-            names, said = functions(room, run_with(made, mode, "whole"), "--innermost", "--quiet-waits")
+            names, said = functions(
+                room, run_with(made, mode, "whole"), "--innermost", "--quiet-waits"
+            )
             return True if not names else said
+
         test(f"{cc} {mode} a check-then-act is found by name", body)
 
 
@@ -256,18 +328,33 @@ def deadlocks(room, cc):
             if made.done.returncode == 97:
                 said = log_of(room, trace)[2]
                 pattern = r"deadlock\n  thread 0 .*the end of thread 1 forward   \S+:\d+\n  thread 1 forward waits for the mutex second, held by thread 2 backward   \S+:9\n  thread 2 backward waits for the mutex first, held by thread 1 forward   \S+:9"
-                if not re.search(pattern, said) or "deadlock. No thread can go on" not in made.done.stderr:
+                if (
+                    not re.search(pattern, said)
+                    or "deadlock. No thread can go on" not in made.done.stderr
+                ):
                     return said + made.done.stderr
                 told += 1
         return True if told else "no deadlock in 5 seeds"
+
     test(f"{cc} serial a deadlock is told", body)
 
 
 def endings(room, cc):
     """Whatever becomes of the program, its status is its own, and its trace can be read up to there."""
     made = program(room, cc, "endings")
-    for how, status in (("", 5), ("killed", -9), ("aborted", -6), ("crashed", -11), ("_exit", 0), ("closes", 5), ("stack", 5), ("forks", 5), ("signals", 5)):
+    for how, status in (
+        ("", 5),
+        ("killed", -9),
+        ("aborted", -6),
+        ("crashed", -11),
+        ("_exit", 0),
+        ("closes", 5),
+        ("stack", 5),
+        ("forks", 5),
+        ("signals", 5),
+    ):
         for mode in ("exact", "serial"):
+
             def body():
                 trace = run_with(made, mode, how, ok=(status,))
                 said = log_of(room, trace)[2]
@@ -276,13 +363,20 @@ def endings(room, cc):
                 if CHECKER:
                     check(room)
                 return True
+
             test(f"{cc} {mode} ends: {how or 'returns'}", body)
 
     def children():
         run_with(made, "exact", "forks", ok=(5,), VELODROME_FORKS=1)
         traces = [f for f in glob.glob(f"{room}/trace.*") if re.search(r"\.\d+$", f)]
         said = [log_of(room, t, "--all-variables")[2] for t in traces]
-        return True if len(traces) == 4 and all(number(s, "records") > 2000 and number(s, "threads") == 2 for s in said) else said
+        return (
+            True
+            if len(traces) == 4
+            and all(number(s, "records") > 2000 and number(s, "threads") == 2 for s in said)
+            else said
+        )
+
     test(f"{cc} children of fork have traces of their own", children)
 
 
@@ -290,11 +384,21 @@ def limits(room, cc):
     """What stops the recording is told in one line, and the program goes on."""
     made = program(room, cc, "endings")
     for mode in MODES:
+
         def full():
             trace = run_with(made, mode, "much", ok=(5,), VELODROME_MOST=20000)
             said = log_of(room, trace, "--all-variables")[2]
-            right = made.done.stderr.count("\n") == 1 and "the trace is full" in made.done.stderr and "(stopped)" in said
-            return True if right and 19000 < number(said, "records") <= 20000 else made.done.stderr + said
+            right = (
+                made.done.stderr.count("\n") == 1
+                and "the trace is full" in made.done.stderr
+                and "(stopped)" in said
+            )
+            return (
+                True
+                if right and 19000 < number(said, "records") <= 20000
+                else made.done.stderr + said
+            )
+
         test(f"{cc} {mode} a full trace", full)
 
     def file_limit():
@@ -307,18 +411,30 @@ def limits(room, cc):
         finally:
             made.path = path
         said = log_of(room, trace, "--all-variables")[2]
-        return True if "the trace is full" in made.done.stderr and os.path.getsize(trace) <= 1 << 20 else said + made.done.stderr
+        return (
+            True
+            if "the trace is full" in made.done.stderr and os.path.getsize(trace) <= 1 << 20
+            else said + made.done.stderr
+        )
+
     test(f"{cc} a limit on files", file_limit)
 
     def nowhere():
         made.run("exact", ok=(5,), out="/nowhere/at/all")
-        return True if re.fullmatch(r"velodrome: nothing is recorded: .*\n", made.done.stderr) else made.done.stderr
+        return (
+            True
+            if re.fullmatch(r"velodrome: nothing is recorded: .*\n", made.done.stderr)
+            else made.done.stderr
+        )
+
     test(f"{cc} no place for the trace", nowhere)
 
     def full_disk():
         disk = f"{room}/disk"
         os.makedirs(disk, exist_ok=True)
-        if subprocess.run(["mount", "-t", "tmpfs", "-o", "size=6m", "tmpfs", disk], capture_output=True).returncode:
+        if subprocess.run(
+            ["mount", "-t", "tmpfs", "-o", "size=6m", "tmpfs", disk], capture_output=True
+        ).returncode:
             print("  left out: no right to mount a small disk")
             return True
         try:
@@ -326,7 +442,12 @@ def limits(room, cc):
             said = log_of(room, trace, "--all-variables")[2]
         finally:
             subprocess.run(["umount", disk], check=False)
-        return True if "no room for the trace" in made.done.stderr and number(said, "records") > 100000 else said + made.done.stderr
+        return (
+            True
+            if "no room for the trace" in made.done.stderr and number(said, "records") > 100000
+            else said + made.done.stderr
+        )
+
     test(f"{cc} a full disk", full_disk)
 
 
@@ -336,12 +457,16 @@ def reductions(room, cc):
         return
     made = program(room, cc, "reduce")
     for seed in range(8):
+
         def body():
             lists = []
             for values, options in ((0, []), (1, ["--all-variables"])):
-                trace = made.run("serial", VELODROME_SEED=seed, VELODROME_PERIOD=7, VELODROME_VALUES=values)
+                trace = made.run(
+                    "serial", VELODROME_SEED=seed, VELODROME_PERIOD=7, VELODROME_VALUES=values
+                )
                 lists.append(functions(room, trace, *options)[0])
             return True if lists[0] == lists[1] and lists[0] else lists
+
         test(f"{cc} reductions of seed {seed}", body)
 
 
@@ -349,10 +474,23 @@ def main(words):
     global only
     if "-k" in words:
         only = words[words.index("-k") + 1]
-        words = words[:words.index("-k")]
+        words = words[: words.index("-k")]
     with tempfile.TemporaryDirectory() as room:
         for cc in words or ["gcc", "clang"]:
-            for part in (hooks, trylocks, seeds, noises, sites, races, many_threads, check_then_act, deadlocks, endings, limits, reductions):
+            for part in (
+                hooks,
+                trylocks,
+                seeds,
+                noises,
+                sites,
+                races,
+                many_threads,
+                check_then_act,
+                deadlocks,
+                endings,
+                limits,
+                reductions,
+            ):
                 part(room, cc)
     print(f"{counts[True]} passed, {counts[False]} failed")
     return counts[False] > 0 or not counts[True]

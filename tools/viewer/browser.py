@@ -9,7 +9,14 @@ import urllib.error
 import urllib.request
 
 ARGUMENTS = ["--headless=new", "--no-sandbox", "--disable-gpu", "--window-size=1400,1000"]
-KEYS = {"ArrowDown": "\ue015", "ArrowUp": "\ue013", "Home": "\ue011", "End": "\ue010", "Escape": "\ue00c", "Tab": "\ue004"}
+KEYS = {
+    "ArrowDown": "\ue015",
+    "ArrowUp": "\ue013",
+    "Home": "\ue011",
+    "End": "\ue010",
+    "Escape": "\ue00c",
+    "Tab": "\ue004",
+}
 ELEMENT = "element-6066-11e4-a52e-4f735466cecf"
 
 
@@ -28,11 +35,17 @@ class Browser:
     def __init__(self):
         self.port = free_port()
         command = ["chromedriver", f"--port={self.port}", "--silent"]
-        self.driver = subprocess.Popen(command, stdout=subprocess.DEVNULL, stderr=subprocess.DEVNULL)
+        self.driver = subprocess.Popen(
+            command, stdout=subprocess.DEVNULL, stderr=subprocess.DEVNULL
+        )
         self.session = ""
         self._wait()
         options = {"binary": shutil.which("chromium"), "args": ARGUMENTS}
-        wanted = {"browserName": "chrome", "goog:chromeOptions": options, "goog:loggingPrefs": {"browser": "ALL"}}
+        wanted = {
+            "browserName": "chrome",
+            "goog:chromeOptions": options,
+            "goog:loggingPrefs": {"browser": "ALL"},
+        }
         answer = self._call("POST", "/session", {"capabilities": {"alwaysMatch": wanted}})
         self.session = f"/session/{answer['sessionId']}"
 
@@ -47,7 +60,9 @@ class Browser:
     def _call(self, method, path, body=None):
         data = None if body is None else json.dumps(body).encode()
         address = f"http://127.0.0.1:{self.port}{self.session}{path}"
-        asked = urllib.request.Request(address, data, {"Content-Type": "application/json"}, method=method)
+        asked = urllib.request.Request(
+            address, data, {"Content-Type": "application/json"}, method=method
+        )
         try:
             with urllib.request.urlopen(asked, timeout=120) as answer:
                 return json.load(answer)["value"]
@@ -63,8 +78,14 @@ class Browser:
 
     def keys(self, *names):
         """Presses keys, one after another, where the focus is."""
-        presses = [{"type": kind, "value": KEYS.get(name, name)} for name in names for kind in ("keyDown", "keyUp")]
-        self._call("POST", "/actions", {"actions": [{"type": "key", "id": "keys", "actions": presses}]})
+        presses = [
+            {"type": kind, "value": KEYS.get(name, name)}
+            for name in names
+            for kind in ("keyDown", "keyUp")
+        ]
+        self._call(
+            "POST", "/actions", {"actions": [{"type": "key", "id": "keys", "actions": presses}]}
+        )
 
     def pick(self, identifier, *paths):
         """Gives files to an input, as a file picker does."""
@@ -73,7 +94,11 @@ class Browser:
 
     def scheme(self, value):
         features = [{"name": "prefers-color-scheme", "value": value}]
-        self._call("POST", "/goog/cdp/execute", {"cmd": "Emulation.setEmulatedMedia", "params": {"features": features}})
+        self._call(
+            "POST",
+            "/goog/cdp/execute",
+            {"cmd": "Emulation.setEmulatedMedia", "params": {"features": features}},
+        )
 
     def shot(self, path):
         path.write_bytes(base64.b64decode(self._call("GET", "/screenshot")))

@@ -61,12 +61,17 @@ def with_site(site):
     def change(audit):
         for event in events_of(audit):
             event["site"] = site
+
     return change
 
 
 def use(tools):
     """Says whose view.py and viewer/viewer.html are tested."""
-    Test.tools, Test.page, Test.view = tools, tools / "viewer" / "viewer.html", load(tools / "view.py")
+    Test.tools, Test.page, Test.view = (
+        tools,
+        tools / "viewer" / "viewer.html",
+        load(tools / "view.py"),
+    )
 
 
 class Test(unittest.TestCase):
@@ -118,7 +123,10 @@ class Test(unittest.TestCase):
     def wait(self, words):
         """Waits until an element is shown."""
         end = time.monotonic() + 10
-        while not self.run_in_page("return shown(arguments[0]).length", words) and time.monotonic() < end:
+        while (
+            not self.run_in_page("return shown(arguments[0]).length", words)
+            and time.monotonic() < end
+        ):
             time.sleep(0.05)
 
     def drop(self, text, awaited):

@@ -12,15 +12,31 @@ class Drawing(Test):
     def test_lanes(self):
         self.show()
         self.choose(5)
-        self.assertEqual(self.texts(".heads > *"), ["thread 1 thread_entry", "thread 2 thread_entry"])
-        self.assertEqual(self.texts("#lanes .line"), ["1712", "1714", "1717", "1720", "1722", "1723", "1726"])
-        self.assertEqual(self.texts("#lanes .gap"), ["1 line", "2 lines", "2 lines", "1 line", "2 lines"])
+        self.assertEqual(
+            self.texts(".heads > *"), ["thread 1 thread_entry", "thread 2 thread_entry"]
+        )
+        self.assertEqual(
+            self.texts("#lanes .line"), ["1712", "1714", "1717", "1720", "1722", "1723", "1726"]
+        )
+        self.assertEqual(
+            self.texts("#lanes .gap"), ["1 line", "2 lines", "2 lines", "1 line", "2 lines"]
+        )
         self.assertEqual(self.texts("#line-1714 > *"), ["acq 1 sink_mutex", "in 37 uninit_io"])
         tops = [place["top"] for place in self.places("#lanes .event")]
         self.assertEqual(tops, sorted(tops))
         heads = self.places(".heads > *")
-        for line, column in ((1712, 0), (1714, 0), (1717, 1), (1720, 1), (1722, 1), (1723, 0), (1726, 0)):
-            self.assertTrue(heads[column]["left"] <= self.place_of(line)["left"] < heads[column]["right"], line)
+        for line, column in (
+            (1712, 0),
+            (1714, 0),
+            (1717, 1),
+            (1720, 1),
+            (1722, 1),
+            (1723, 0),
+            (1726, 0),
+        ):
+            self.assertTrue(
+                heads[column]["left"] <= self.place_of(line)["left"] < heads[column]["right"], line
+            )
 
     def test_transactions(self):
         self.show()
@@ -36,21 +52,31 @@ class Drawing(Test):
         for chosen, finding in enumerate(SAMPLE["counts"]["labels"]):
             self.choose(chosen)
             edges = SAMPLE["alarms"][finding["round"]]["witness"]["edges"]
-            ends = self.run_in_page("""return shown('.arrow').map((arrow, at) => [arrow.getPointAtLength(0),
+            ends = self.run_in_page(
+                """return shown('.arrow').map((arrow, at) => [arrow.getPointAtLength(0),
                 shown('.head')[at].getPointAtLength(0)].map((point) => {
-                  const { x, y } = new DOMPoint(point.x, point.y).matrixTransform(arrow.getScreenCTM()); return { x, y }; }))""")
+                  const { x, y } = new DOMPoint(point.x, point.y).matrixTransform(arrow.getScreenCTM()); return { x, y }; }))"""
+            )
             self.assertEqual(len(ends), len(edges))
             for edge, points in zip(edges, ends):
                 boxes = [self.place_of(edge[end]["event"]["line"]) for end in ("from", "to")]
                 ahead = boxes[0]["left"] < boxes[1]["left"]
                 same = boxes[0]["left"] == boxes[1]["left"]
-                sides = ("right", "right") if same else ("right", "left") if ahead else ("left", "right")
+                sides = (
+                    ("right", "right")
+                    if same
+                    else ("right", "left")
+                    if ahead
+                    else ("left", "right")
+                )
                 for box, side, point in zip(boxes, sides, points):
                     self.assertTrue(box["top"] <= point["y"] <= box["bottom"], finding["label"])
                     self.assertLess(abs(box[side] - point["x"]), 4, finding["label"])
             drawing = self.places("svg")[0]
             for label in self.places("svg rect"):
-                self.assertTrue(drawing["left"] < label["left"] and label["right"] < drawing["right"])
+                self.assertTrue(
+                    drawing["left"] < label["left"] and label["right"] < drawing["right"]
+                )
             names = [f"T{at + 1}→T{(at + 1) % len(edges) + 1}" for at in range(len(edges))]
             self.assertEqual(self.texts("svg text"), names)
 
@@ -59,25 +85,37 @@ class Drawing(Test):
             witness = audit["alarms"][0]["witness"]
             witness["edges"] *= 3
             witness["transactions"] *= 3
+
         self.show(sample(change))
         places = self.places("svg rect")
         for at, one in enumerate(places):
             for other in places[:at]:
                 pairs = ((one, other), (other, one))
-                apart = [here["left"] >= there["right"] or here["top"] >= there["bottom"] for here, there in pairs]
+                apart = [
+                    here["left"] >= there["right"] or here["top"] >= there["bottom"]
+                    for here, there in pairs
+                ]
                 self.assertTrue(any(apart))
 
     def test_blame_is_marked(self):
         self.show()
         self.choose(7)
-        self.assertEqual(self.texts("#lanes .event:has(b.mark)"), ["T1▲begin 5 work", "▲begin 7 schedule"])
+        self.assertEqual(
+            self.texts("#lanes .event:has(b.mark)"), ["T1▲begin 5 work", "▲begin 7 schedule"]
+        )
         outer, inner = self.places(".stripe")
         self.assertLess(outer["right"], inner["left"])
-        self.assertTrue(self.places("#line-30")[0]["top"] >= outer["top"] and inner["top"] > outer["top"])
+        self.assertTrue(
+            self.places("#line-30")[0]["top"] >= outer["top"] and inner["top"] > outer["top"]
+        )
         self.assertGreaterEqual(inner["bottom"], self.place_of(1758)["bottom"])
         self.assertLess(inner["right"], self.place_of(46)["left"])
-        titles = self.run_in_page("return [shown('.stripe'), shown('.stripe.chosen')].map((all) => all.map((stripe) => stripe.title))")
-        self.assertEqual(titles, [["to blame: 5 work", "to blame: 7 schedule"], ["to blame: 7 schedule"]])
+        titles = self.run_in_page(
+            "return [shown('.stripe'), shown('.stripe.chosen')].map((all) => all.map((stripe) => stripe.title))"
+        )
+        self.assertEqual(
+            titles, [["to blame: 5 work", "to blame: 7 schedule"], ["to blame: 7 schedule"]]
+        )
         self.assertIn("● comes between: 5 work, 7 schedule", self.texts("#line-50 .mark"))
         self.assertIn("◆ closes the cycle", self.texts("#line-1758 .mark"))
 
@@ -86,11 +124,16 @@ class Drawing(Test):
             audit["alarms"][0].update(to_blame=False)
             audit["alarms"][0]["witness"]["reasons"] = []
             audit["counts"]["labels"][0].update(to_blame=0, innermost=0)
+
         self.show(sample(change))
         self.assertEqual(self.texts(".stripe, #lanes b.mark"), [])
         self.assertIn("no block alone", self.texts("#list .note")[0])
         self.assertIn("No block alone is to blame: ", self.texts("#words")[0])
-        self.assertTrue(self.texts("#summary")[0].startswith("No block alone is to blame. Round 1 of 8, closed in line 149."))
+        self.assertTrue(
+            self.texts("#summary")[0].startswith(
+                "No block alone is to blame. Round 1 of 8, closed in line 149."
+            )
+        )
 
     def test_zoom(self):
         self.show()
@@ -98,11 +141,15 @@ class Drawing(Test):
         wide = "return shown('.bar')[0].getBoundingClientRect().width / shown('svg')[0].getBoundingClientRect().width"
         before, share = self.run_in_page(size), self.run_in_page(wide)
         for act, factor in (
-            (lambda: self.chromium.keys("+"), 1.2), (lambda: self.chromium.keys("-", "-"), 1 / 1.2),
+            (lambda: self.chromium.keys("+"), 1.2),
+            (lambda: self.chromium.keys("-", "-"), 1 / 1.2),
             (lambda: self.chromium.keys("0"), 1),
-            (lambda: self.run_in_page("at('larger').click()"), 1.2), (lambda: self.run_in_page("at('smaller').click()"), 1),
+            (lambda: self.run_in_page("at('larger').click()"), 1.2),
+            (lambda: self.run_in_page("at('smaller').click()"), 1),
             (lambda: self.run_in_page("at('larger').click(); at('fit').click()"), 1),
-            (lambda: self.wheel(-100, True), 1.1), (lambda: self.wheel(100, True), 1), (lambda: self.wheel(-100, False), 1),
+            (lambda: self.wheel(-100, True), 1.1),
+            (lambda: self.wheel(100, True), 1),
+            (lambda: self.wheel(-100, False), 1),
         ):
             act()
             self.assertAlmostEqual(self.run_in_page(size) / before, factor, 2)
@@ -111,8 +158,12 @@ class Drawing(Test):
         self.assertAlmostEqual(self.run_in_page(size), 4 * 13, 1)
 
     def wheel(self, turn, ctrl):
-        self.run_in_page("""const [deltaY, ctrlKey] = arguments;
-            at('scroll').dispatchEvent(new WheelEvent('wheel', { deltaY, ctrlKey, cancelable: true }))""", turn, ctrl)
+        self.run_in_page(
+            """const [deltaY, ctrlKey] = arguments;
+            at('scroll').dispatchEvent(new WheelEvent('wheel', { deltaY, ctrlKey, cancelable: true }))""",
+            turn,
+            ctrl,
+        )
 
     def test_lines_of_the_log(self):
         log = LOG.read_text(encoding="utf-8")
@@ -134,9 +185,13 @@ class Drawing(Test):
         def change(audit):
             for alarm in audit["alarms"]:
                 alarm["witness"] = None
+
         self.show(sample(change))
         self.assertEqual(self.texts("#picture"), [])
         self.assertIn("This audit has no witnesses (--no-witness).", self.texts("#words")[0])
         self.choose(7)
-        items = ["block 5 work, from line 30 0 begin 5 work", "block 7 schedule, from line 41 0 begin 7 schedule"]
+        items = [
+            "block 5 work, from line 30 0 begin 5 work",
+            "block 7 schedule, from line 41 0 begin 7 schedule",
+        ]
         self.assertEqual(self.texts("#words li")[-2:], items)

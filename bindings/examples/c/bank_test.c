@@ -1,4 +1,5 @@
-/* bank_test NAME: one test, a session. It fails where its blocks were not atomic, and prints which. */
+/* bank_test NAME: one test, a session. It fails where its blocks were not atomic, and prints which.
+ */
 #include "bank.h"
 #include <stdio.h>
 #include <string.h>
@@ -13,8 +14,10 @@ static void *pay(void *a) {
 static void two_threads(void) {
     account a = ACCOUNT;
     vs_thread threads[2];
-    for (int i = 0; i < 2; i++) vs_thread_create(&threads[i], NULL, pay, &a);
-    for (int i = 0; i < 2; i++) vs_thread_join(&threads[i], NULL);
+    for (int i = 0; i < 2; i++)
+        vs_thread_create(&threads[i], NULL, pay, &a);
+    for (int i = 0; i < 2; i++)
+        vs_thread_join(&threads[i], NULL);
 }
 
 int main(int argc, char **argv) {
@@ -27,7 +30,8 @@ int main(int argc, char **argv) {
     char *report;
     bool fails;
     vs_finish(session, name, &report, &fails);
-    if (report) fputs(report, stderr);
+    if (report)
+        fputs(report, stderr);
     vs_free(report);
     return fails;
 }

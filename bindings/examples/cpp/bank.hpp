@@ -13,7 +13,8 @@ public:
         balance_ += amount;
     }
 
-    void deposit_carelessly(long amount) { // in two: another one may come between them, and is lost then
+    void
+    deposit_carelessly(long amount) { // in two: another one may come between them, and is lost then
         VELODROME_ATOMIC("deposit_carelessly");
         long before;
         {

@@ -8,8 +8,12 @@ static void two_threads(void (account::*deposit)(long)) {
     two.join();
 }
 
-TEST(Bank, Careful) { two_threads(&account::deposit); }
-TEST(Bank, Careless) { two_threads(&account::deposit_carelessly); } // fails, as soon as a schedule loses a deposit
+TEST(Bank, Careful) {
+    two_threads(&account::deposit);
+}
+TEST(Bank, Careless) {
+    two_threads(&account::deposit_carelessly);
+} // fails, as soon as a schedule loses a deposit
 
 int main(int argc, char **argv) {
     testing::InitGoogleTest(&argc, argv);

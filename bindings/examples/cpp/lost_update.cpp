@@ -1,4 +1,5 @@
-// A first program: another thread deposits between the read and the write of a block. It ends with status 3, as `velodrome check` does.
+// A first program: another thread deposits between the read and the write of a block. It ends with
+// status 3, as `velodrome check` does.
 #include <future>
 #include <iostream>
 #include <velodrome.hpp>

@@ -3,9 +3,9 @@ import pathlib
 
 import pytest
 
-pytest_plugins = ['pytester']
+pytest_plugins = ["pytester"]
 
-LOST = '''
+LOST = """
     import threading, time, velodrome
 
     class Account:
@@ -23,96 +23,132 @@ LOST = '''
         for thread in threads: thread.join()
 
     other = threading.Barrier(2)
-'''
+"""
 
 
 @pytest.fixture(autouse=True)
 def environment(monkeypatch):
-    for name in ('VELODROME_LOGS', 'VELODROME_INCOMPLETE', 'VELODROME_NOISE'):
+    for name in ("VELODROME_LOGS", "VELODROME_INCOMPLETE", "VELODROME_NOISE"):
         monkeypatch.delenv(name, raising=False)
 
 
 @pytest.fixture
 def run(pytester):
     """Runs a file, and returns its result."""
+
     def run(source, *arguments):
         pytester.makepyfile(source)
-        loaded = ['-p', 'velodrome.pytest_plugin'] if 'velodrome' not in installed() else []
+        loaded = ["-p", "velodrome.pytest_plugin"] if "velodrome" not in installed() else []
         return pytester.runpytest_subprocess(*loaded, *arguments)
+
     return run
 
 
 def installed():
     from importlib import metadata
+
     found = metadata.entry_points()
-    group = found.select(group='pytest11') if hasattr(found, 'select') else found.get('pytest11', [])
+    group = (
+        found.select(group="pytest11") if hasattr(found, "select") else found.get("pytest11", [])
+    )
     return {entry.name for entry in group}
 
 
 def test_an_alarm_fails_its_test(run, pytester):
-    result = run(LOST + '''
+    result = run(
+        LOST
+        + """
     def test_lost():
         account = Account()
         two(account.deposit)
 
     def test_fine():
         assert Account().balance == 0
-    ''', '--velodrome')
+    """,
+        "--velodrome",
+    )
     result.assert_outcomes(failed=1, passed=1)
-    result.stdout.fnmatch_lines(['*not atomic: Account.deposit (test_an_alarm_fails_its_test.py:*)',
-                                 '*velodrome explain */.velodrome/*test_lost.vlog --names *'])
-    result.stdout.no_fnmatch_line('*pytest_plugin.py*')
-    kept = sorted(path.name for path in pathlib.Path(pytester.path, '.velodrome').iterdir())
-    assert kept == [f'test_an_alarm_fails_its_test.py..test_lost.vlog{end}' for end in ('', '.names')]
-    names = pathlib.Path(pytester.path, '.velodrome', kept[1]).read_text()
-    assert 'variable 0 Account.balance\n' in names
+    result.stdout.fnmatch_lines(
+        [
+            "*not atomic: Account.deposit (test_an_alarm_fails_its_test.py:*)",
+            "*velodrome explain */.velodrome/*test_lost.vlog --names *",
+        ]
+    )
+    result.stdout.no_fnmatch_line("*pytest_plugin.py*")
+    kept = sorted(path.name for path in pathlib.Path(pytester.path, ".velodrome").iterdir())
+    assert kept == [
+        f"test_an_alarm_fails_its_test.py..test_lost.vlog{end}" for end in ("", ".names")
+    ]
+    names = pathlib.Path(pytester.path, ".velodrome", kept[1]).read_text()
+    assert "variable 0 Account.balance\n" in names
 
 
 def test_only_what_is_asked_for_is_watched(run):
-    source = LOST + '''
+    source = (
+        LOST
+        + """
     def test_lost():
         two(Account().deposit)
-    '''
+    """
+    )
     run(source).assert_outcomes(passed=1)
-    run(source.replace('    def test_lost', '    import pytest\n    @pytest.mark.velodrome\n    def test_lost')).assert_outcomes(failed=1)
+    run(
+        source.replace(
+            "    def test_lost", "    import pytest\n    @pytest.mark.velodrome\n    def test_lost"
+        )
+    ).assert_outcomes(failed=1)
 
 
 def test_incomplete(run):
-    source = '''
+    source = """
     import velodrome
     def test_long():
         x = velodrome.Var(0)
         with velodrome.atomic('long'):
             for _ in range(100): x.get()
-    '''.replace('def test_long', 'import pytest\n    @pytest.mark.velodrome(events=20)\n    def test_long')
+    """.replace(
+        "def test_long", "import pytest\n    @pytest.mark.velodrome(events=20)\n    def test_long"
+    )
     result = run(source)
     result.assert_outcomes(passed=1, warnings=1)
-    result.stdout.fnmatch_lines(['*Incomplete: *too many events while a block was open*'])
-    run(source, '--velodrome-incomplete', 'fail').assert_outcomes(failed=1)
+    result.stdout.fnmatch_lines(["*Incomplete: *too many events while a block was open*"])
+    run(source, "--velodrome-incomplete", "fail").assert_outcomes(failed=1)
 
 
 def test_a_failing_test_keeps_its_own_failure(run):
-    result = run(LOST + '''
+    result = run(
+        LOST
+        + """
     def test_lost():
         account = Account()
         two(account.deposit)
         assert account.balance == 3, 'a deposit is lost'
-    ''', '--velodrome')
+    """,
+        "--velodrome",
+    )
     result.assert_outcomes(failed=1)
-    result.stdout.fnmatch_lines(['*a deposit is lost*', '*velodrome*', 'not atomic: Account.deposit*'])
+    result.stdout.fnmatch_lines(
+        ["*a deposit is lost*", "*velodrome*", "not atomic: Account.deposit*"]
+    )
 
 
 def test_an_alarm_can_be_expected(run):
-    run(LOST + '''
+    run(
+        LOST
+        + """
     import pytest
     @pytest.mark.xfail(raises=velodrome.Alarm, strict=True)
     def test_lost():
         two(Account().deposit)
-    ''', '--velodrome').assert_outcomes(xfailed=1)
+    """,
+        "--velodrome",
+    ).assert_outcomes(xfailed=1)
 
 
 def test_repeat_until_it_shows(run):
-    result = run(LOST.replace('other.wait(30)', 'other.wait(30) if len(times) == 5 else None') + '''
+    result = run(
+        LOST.replace("other.wait(30)", "other.wait(30) if len(times) == 5 else None")
+        + """
     times = []
     def test_lost():
         times.append(1)
@@ -120,24 +156,31 @@ def test_repeat_until_it_shows(run):
 
     def test_times():
         assert len(times) == 5
-    ''', '--velodrome', '--velodrome-repeat', '1000')
+    """,
+        "--velodrome",
+        "--velodrome-repeat",
+        "1000",
+    )
     result.assert_outcomes(failed=1, passed=1)
-    result.stdout.fnmatch_lines(['FAILED *::test_lost*'])
+    result.stdout.fnmatch_lines(["FAILED *::test_lost*"])
 
 
 def test_unpatched(run):
-    source = '''
+    source = """
     import threading, velodrome
     def test_lock():
         assert (threading.Lock is velodrome.Lock) is {}
         assert threading.Thread is not velodrome.Thread or {}
-    '''
-    run(source.format(True, True), '--velodrome').assert_outcomes(passed=1)
-    run(source.format(False, False), '--velodrome', '-o', 'velodrome_patch=false').assert_outcomes(passed=1)
+    """
+    run(source.format(True, True), "--velodrome").assert_outcomes(passed=1)
+    run(source.format(False, False), "--velodrome", "-o", "velodrome_patch=false").assert_outcomes(
+        passed=1
+    )
 
 
 def test_unittest_and_fixtures(run):
-    run('''
+    run(
+        """
     import unittest, pytest, velodrome
 
     class Case(unittest.TestCase):
@@ -152,4 +195,6 @@ def test_unittest_and_fixtures(run):
     @pytest.mark.parametrize('n', [1, 2])
     def test_x(x, n):
         assert x.get() == 2
-    ''', '--velodrome').assert_outcomes(passed=3)
+    """,
+        "--velodrome",
+    ).assert_outcomes(passed=3)

@@ -12,11 +12,13 @@ static void both(pthread_mutex_t *a, pthread_mutex_t *b) {
     pthread_mutex_unlock(a);
 }
 static void *forward(void *a) {
-    for (int i = 0; i < 50; i++) both(&first, &second);
+    for (int i = 0; i < 50; i++)
+        both(&first, &second);
     return a;
 }
 static void *backward(void *a) {
-    for (int i = 0; i < 50; i++) both(&second, &first);
+    for (int i = 0; i < 50; i++)
+        both(&second, &first);
     return a;
 }
 int main(void) {

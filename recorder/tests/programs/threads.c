@@ -12,7 +12,8 @@ void add(void) {
     y++;
 }
 static void *work(void *together) {
-    if (together) pthread_barrier_wait(&all);
+    if (together)
+        pthread_barrier_wait(&all);
     add();
     return 0;
 }
@@ -23,8 +24,10 @@ int main(int n, char **v) {
     for (int i = 0; i < threads; i += alive) {
         int k = threads - i < alive ? threads - i : alive;
         for (int j = 0; j < k; j++)
-            if (pthread_create(&t[j], 0, work, k == alive ? &all : 0)) abort();
-        for (int j = 0; j < k; j++) pthread_join(t[j], 0);
+            if (pthread_create(&t[j], 0, work, k == alive ? &all : 0))
+                abort();
+        for (int j = 0; j < k; j++)
+            pthread_join(t[j], 0);
     }
     return x != threads;
 }

@@ -32,11 +32,23 @@ from velodrome import _session
 from velodrome._session import Lock, RLock, Var, field
 
 __all__ = [
-    'Alarm', 'Block', 'Lock', 'Outcome', 'RLock', 'Session', 'Thread', 'Var', 'atomic', 'field', 'patched', 'session', 'watch_tasks',
+    "Alarm",
+    "Block",
+    "Lock",
+    "Outcome",
+    "RLock",
+    "Session",
+    "Thread",
+    "Var",
+    "atomic",
+    "field",
+    "patched",
+    "session",
+    "watch_tasks",
 ]
-__version__ = '0.1.0'
+__version__ = "0.1.0"
 
-_Function = TypeVar('_Function', bound=Callable[..., Any])
+_Function = TypeVar("_Function", bound=Callable[..., Any])
 
 
 class Alarm(AssertionError):
@@ -47,28 +59,35 @@ class Alarm(AssertionError):
 class Outcome:
     """The outcome of a session. The text of an alarm says which blocks, by which events and where; that of an incomplete one, why."""
 
-    verdict: Literal['clean', 'alarm', 'incomplete']
+    verdict: Literal["clean", "alarm", "incomplete"]
     text: str
 
     @property
     def clean(self) -> bool:
         """Whether a serial order of the blocks explains all that was recorded."""
-        return self.verdict == 'clean'
+        return self.verdict == "clean"
 
 
-_Verdict = Literal['clean', 'alarm', 'incomplete']
-_VERDICTS: dict[int, _Verdict] = {0: 'clean', 3: 'alarm'}
+_Verdict = Literal["clean", "alarm", "incomplete"]
+_VERDICTS: dict[int, _Verdict] = {0: "clean", 3: "alarm"}
 
 
 def _outcome(verdict: int, text: str) -> Outcome:
-    word: _Verdict = _VERDICTS.get(verdict, 'incomplete')
-    return Outcome(word, text or ('it could not be watched' if word == 'incomplete' else ''))
+    word: _Verdict = _VERDICTS.get(verdict, "incomplete")
+    return Outcome(word, text or ("it could not be watched" if word == "incomplete" else ""))
 
 
 class Session:
     """A run that is watched, in all threads of the program. Use `session()`; sessions nest."""
 
-    def __init__(self, *, events: int | None = None, noise: int | None = None, seed: int | None = None, places: bool = True) -> None:
+    def __init__(
+        self,
+        *,
+        events: int | None = None,
+        noise: int | None = None,
+        seed: int | None = None,
+        places: bool = True,
+    ) -> None:
         self._outcome: Outcome | None = None
         self._number = 0
         self._number = _session.open(events, noise, seed, places)
@@ -76,7 +95,7 @@ class Session:
     @property
     def outcome(self) -> Outcome:
         """What it came to; so far, without the text, while it is open."""
-        return self._outcome or _outcome(_session.so_far(self._number), '')
+        return self._outcome or _outcome(_session.so_far(self._number), "")
 
     def save(self, path: str | os.PathLike[str]) -> bool:
         """PATH gets the log, and PATH.names the names: for `velodrome explain PATH --names PATH.names`. False where it could not."""
@@ -95,7 +114,7 @@ class Session:
         """
         if self._outcome is not None:
             return False
-        folder = os.environ.get('VELODROME_LOGS')
+        folder = os.environ.get("VELODROME_LOGS")
         if folder and not self.outcome.clean:
             with contextlib.suppress(OSError):
                 os.makedirs(folder, exist_ok=True)
@@ -113,7 +132,13 @@ class Session:
         self.close()
 
 
-def session(*, events: int | None = None, noise: int | None = None, seed: int | None = None, places: bool = True) -> Session:
+def session(
+    *,
+    events: int | None = None,
+    noise: int | None = None,
+    seed: int | None = None,
+    places: bool = True,
+) -> Session:
     """Watches the program until the session is closed, as by `with velodrome.session() as run:`.
 
     events: the most in a stretch in which some block is open, up to 16,777,216 (0: 1,048,576); a longer one ends the recording.
@@ -131,7 +156,9 @@ class Block(_session.Block):
         if isinstance(function, (staticmethod, classmethod)):
             return typing.cast(_Function, type(function)(self(function.__func__)))
         if inspect.isgeneratorfunction(function) or inspect.isasyncgenfunction(function):
-            raise TypeError(f'{function.__qualname__} is a generator: what it does between its yields is not one block')
+            raise TypeError(
+                f"{function.__qualname__} is a generator: what it does between its yields is not one block"
+            )
         if inspect.iscoroutinefunction(function):
 
             @functools.wraps(function)
@@ -150,11 +177,13 @@ class Block(_session.Block):
 
 
 @overload
-def atomic(what: str) -> Block: ...
+def atomic(what: str) -> Block:
+    ...
 
 
 @overload
-def atomic(what: _Function) -> _Function: ...
+def atomic(what: _Function) -> _Function:
+    ...
 
 
 def atomic(what: Any) -> Any:
@@ -164,10 +193,14 @@ def atomic(what: Any) -> Any:
     """
     if isinstance(what, str):
         return Block(what)
-    if not callable(what) and not isinstance(what, (staticmethod, classmethod)) or isinstance(what, type):
-        raise TypeError(f'atomic is for a function or the name of a block, not for {what!r}')
-    code = getattr(inspect.unwrap(what), '__code__', None)
-    place = f' ({os.path.basename(code.co_filename)}:{code.co_firstlineno})' if code else ''
+    if (
+        not callable(what)
+        and not isinstance(what, (staticmethod, classmethod))
+        or isinstance(what, type)
+    ):
+        raise TypeError(f"atomic is for a function or the name of a block, not for {what!r}")
+    code = getattr(inspect.unwrap(what), "__code__", None)
+    place = f" ({os.path.basename(code.co_filename)}:{code.co_firstlineno})" if code else ""
     return Block(f'{getattr(what, "__qualname__", what)}{place}')(what)
 
 
@@ -210,14 +243,18 @@ class _Itself(collections.abc.Coroutine):  # type: ignore[type-arg]
 
     __await__ = __iter__
 
-    def __getattr__(self, name: str) -> Any:  # what asyncio asks for to print a task: its name, its code, its frame
+    def __getattr__(
+        self, name: str
+    ) -> Any:  # what asyncio asks for to print a task: its name, its code, its frame
         return getattr(self._coroutine, name)
 
 
 def watch_tasks(loop: Any) -> None:
     """Each task that this loop makes from now on is a thread of its own, so that races between tasks are seen."""
     make = loop.get_task_factory() or _task
-    loop.set_task_factory(lambda loop, coroutine, **keywords: make(loop, _Itself(coroutine), **keywords))
+    loop.set_task_factory(
+        lambda loop, coroutine, **keywords: make(loop, _Itself(coroutine), **keywords)
+    )
 
 
 def _task(loop: Any, coroutine: Any, **keywords: Any) -> Any:
@@ -232,7 +269,9 @@ class Thread(threading.Thread):
     _velodrome: tuple[int, int] | None = None
 
     def __init__(self, *args: Any, **keywords: Any) -> None:
-        _REAL['Thread'].__init__(self, *args, **keywords)  # not super(): while patched, a threading.Timer comes here too
+        _REAL["Thread"].__init__(
+            self, *args, **keywords
+        )  # not super(): while patched, a threading.Timer comes here too
         _unwatch(self)
 
     def start(self) -> None:
@@ -241,7 +280,7 @@ class Thread(threading.Thread):
         try:
             super().start()
         except BaseException:
-            self.__dict__.pop('run', None)
+            self.__dict__.pop("run", None)
             _session.exit(*child)
             raise
         self._velodrome = child
@@ -255,7 +294,7 @@ class Thread(threading.Thread):
 
 def _run(thread: Thread, child: tuple[int, int], body: Callable[[], None]) -> None:
     """What a thread does: its own `run`, recorded."""
-    thread.__dict__.pop('run', None)  # else the thread would be a cycle
+    thread.__dict__.pop("run", None)  # else the thread would be a cycle
     _session.born(*child)
     try:
         body()
@@ -263,15 +302,15 @@ def _run(thread: Thread, child: tuple[int, int], body: Callable[[], None]) -> No
         _session.exit(*child)
 
 
-_REAL = {name: getattr(threading, name) for name in ('Lock', 'RLock', 'Thread')}
-_OURS = {'Lock': Lock, 'RLock': RLock, 'Thread': Thread}
+_REAL = {name: getattr(threading, name) for name in ("Lock", "RLock", "Thread")}
+_OURS = {"Lock": Lock, "RLock": RLock, "Thread": Thread}
 
 
 def _unwatch(thread: threading.Thread) -> None:
     """The event by which `start` waits for the thread is none of the program's: it is not recorded."""
-    started = getattr(thread, '_started', None)
-    if isinstance(getattr(started, '_cond', None), threading.Condition):
-        started._cond = threading.Condition(_REAL['Lock']())
+    started = getattr(thread, "_started", None)
+    if isinstance(getattr(started, "_cond", None), threading.Condition):
+        started._cond = threading.Condition(_REAL["Lock"]())
 
 
 @contextlib.contextmanager

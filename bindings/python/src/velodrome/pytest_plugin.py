@@ -11,7 +11,7 @@ import pytest
 
 import velodrome
 
-_LOGS, _INCOMPLETE = 'VELODROME_LOGS', 'VELODROME_INCOMPLETE'
+_LOGS, _INCOMPLETE = "VELODROME_LOGS", "VELODROME_INCOMPLETE"
 
 
 class Incomplete(pytest.PytestWarning):
@@ -19,23 +19,60 @@ class Incomplete(pytest.PytestWarning):
 
 
 def pytest_addoption(parser: pytest.Parser) -> None:
-    group = parser.getgroup('velodrome', 'atomic blocks (velodrome)')
-    group.addoption('--velodrome', action='store_true', help='watch the atomic blocks of every test')
-    group.addoption('--velodrome-noise', type=int, metavar='N',
-                    help='one event in N waits, so that more schedules happen (else VELODROME_NOISE)')
-    group.addoption('--velodrome-repeat', type=int, metavar='N', help='run each watched test up to N times, until it fails', default=1)
-    group.addoption('--velodrome-switch', type=float, metavar='SECONDS', help='switch threads so often (sys.setswitchinterval)')
-    group.addoption('--velodrome-logs', metavar='FOLDER', help=f'folder for the logs of alarms (else {_LOGS}, else .velodrome)')
-    group.addoption('--velodrome-incomplete', choices=('warn', 'fail'),
-                    help=f'for a test that was not watched to its end (else {_INCOMPLETE}, else warn)')
-    parser.addini('velodrome_patch', 'watch threading.Lock, RLock and Thread and the tasks of asyncio in watched tests', type='bool',
-                  default=True)
+    group = parser.getgroup("velodrome", "atomic blocks (velodrome)")
+    group.addoption(
+        "--velodrome", action="store_true", help="watch the atomic blocks of every test"
+    )
+    group.addoption(
+        "--velodrome-noise",
+        type=int,
+        metavar="N",
+        help="one event in N waits, so that more schedules happen (else VELODROME_NOISE)",
+    )
+    group.addoption(
+        "--velodrome-repeat",
+        type=int,
+        metavar="N",
+        help="run each watched test up to N times, until it fails",
+        default=1,
+    )
+    group.addoption(
+        "--velodrome-switch",
+        type=float,
+        metavar="SECONDS",
+        help="switch threads so often (sys.setswitchinterval)",
+    )
+    group.addoption(
+        "--velodrome-logs",
+        metavar="FOLDER",
+        help=f"folder for the logs of alarms (else {_LOGS}, else .velodrome)",
+    )
+    group.addoption(
+        "--velodrome-incomplete",
+        choices=("warn", "fail"),
+        help=f"for a test that was not watched to its end (else {_INCOMPLETE}, else warn)",
+    )
+    parser.addini(
+        "velodrome_patch",
+        "watch threading.Lock, RLock and Thread and the tasks of asyncio in watched tests",
+        type="bool",
+        default=True,
+    )
 
 
 def pytest_configure(config: pytest.Config) -> None:
-    config.addinivalue_line('markers', 'velodrome(events, noise, seed, places, repeat): watch the atomic blocks of this test')
-    chosen = {_LOGS: config.getoption('velodrome_logs') or os.environ.get(_LOGS) or str(config.rootpath / '.velodrome'),
-              _INCOMPLETE: config.getoption('velodrome_incomplete') or os.environ.get(_INCOMPLETE) or 'warn'}
+    config.addinivalue_line(
+        "markers",
+        "velodrome(events, noise, seed, places, repeat): watch the atomic blocks of this test",
+    )
+    chosen = {
+        _LOGS: config.getoption("velodrome_logs")
+        or os.environ.get(_LOGS)
+        or str(config.rootpath / ".velodrome"),
+        _INCOMPLETE: config.getoption("velodrome_incomplete")
+        or os.environ.get(_INCOMPLETE)
+        or "warn",
+    }
     before = {key: os.environ.get(key) for key in chosen}
     os.environ.update(chosen)
     config.add_cleanup(functools.partial(_set_back, before))
@@ -50,9 +87,12 @@ def _set_back(before: dict[str, str | None]) -> None:
 
 
 def pytest_itemcollected(item: pytest.Item) -> None:
-    marker = item.get_closest_marker('velodrome')
-    if marker or item.config.getoption('velodrome'):
-        options = {'noise': item.config.getoption('velodrome_noise'), 'repeat': item.config.getoption('velodrome_repeat')}
+    marker = item.get_closest_marker("velodrome")
+    if marker or item.config.getoption("velodrome"):
+        options = {
+            "noise": item.config.getoption("velodrome_noise"),
+            "repeat": item.config.getoption("velodrome_repeat"),
+        }
         options.update(marker.kwargs if marker else {})
         item.runtest = functools.partial(_run, item, item.runtest, **options)  # type: ignore[method-assign]
         item.repr_failure = functools.partial(_repr_failure, item.repr_failure)  # type: ignore[method-assign]
@@ -60,7 +100,7 @@ def pytest_itemcollected(item: pytest.Item) -> None:
 
 def _run(item: pytest.Item, body: Callable[[], None], *, repeat: int = 1, **options: Any) -> None:
     """The test, watched, up to `repeat` times."""
-    with _switching(item.config.getoption('velodrome_switch')):
+    with _switching(item.config.getoption("velodrome_switch")):
         for _ in range(repeat):
             _run_once(item, body, options)
 
@@ -68,12 +108,14 @@ def _run(item: pytest.Item, body: Callable[[], None], *, repeat: int = 1, **opti
 def _run_once(item: pytest.Item, body: Callable[[], None], options: dict[str, Any]) -> None:
     run = velodrome.session(**options)
     try:
-        with velodrome.patched() if item.config.getini('velodrome_patch') else contextlib.nullcontext():
+        with velodrome.patched() if item.config.getini(
+            "velodrome_patch"
+        ) else contextlib.nullcontext():
             body()
     except BaseException:
         run.finish(_name(item))
         if not run.outcome.clean:
-            item.add_report_section('call', 'velodrome', run.outcome.text)
+            item.add_report_section("call", "velodrome", run.outcome.text)
         raise
     if run.finish(_name(item)):
         raise velodrome.Alarm(run.outcome.text)
@@ -83,7 +125,7 @@ def _run_once(item: pytest.Item, body: Callable[[], None], options: dict[str, An
 
 def _name(item: pytest.Item) -> str:
     # the id of a test outside pytest's root folder has no path: its log would be a hidden file
-    return item.nodeid.lstrip('./:')
+    return item.nodeid.lstrip("./:")
 
 
 @contextlib.contextmanager
@@ -96,6 +138,15 @@ def _switching(seconds: float | None) -> Iterator[None]:
         sys.setswitchinterval(before)
 
 
-def _repr_failure(otherwise: Callable[..., Any], failure: pytest.ExceptionInfo[BaseException], *args: Any, **keywords: Any) -> Any:
+def _repr_failure(
+    otherwise: Callable[..., Any],
+    failure: pytest.ExceptionInfo[BaseException],
+    *args: Any,
+    **keywords: Any,
+) -> Any:
     """An alarm is its text: where it was raised is of no interest."""
-    return str(failure.value) if failure.errisinstance(velodrome.Alarm) else otherwise(failure, *args, **keywords)
+    return (
+        str(failure.value)
+        if failure.errisinstance(velodrome.Alarm)
+        else otherwise(failure, *args, **keywords)
+    )
