@@ -3,7 +3,7 @@ ghost use Rattle.std.specs.Prelude.{◌≡◌};
 ghost use Rattle.velo_arguments.specs.Together.{line_of_clash};
 
 /// Why the options of a request do not go together.
-#[derive(Clone, Copy, Debug, PartialEq, Eq)]
+#[derive(Clone, Copy, PartialEq, Eq)]
 pub enum Clash {
     /// The picture and the drawing of an alarm are to be saved at one path.
     DrawingIsPicture,

@@ -22,7 +22,7 @@ use velo_workload::WorkFault;
 const LINE_ROOM: usize = 64;
 
 /// How a command ended.
-#[derive(Clone, Copy, Debug, PartialEq, Eq)]
+#[derive(Clone, Copy, PartialEq, Eq)]
 pub enum Fate {
     /// It ended, with or without an alarm. A check is done.
     Finished { ending: Ending, alarm: bool },

@@ -7,7 +7,7 @@ use crate::fate::Fate;
 use velo_delivery::{Files, Operand, is_standard_input, open_at};
 
 /// A file that is to be written beside a command's target.
-#[derive(Clone, Copy, Debug)]
+#[derive(Clone, Copy)]
 pub struct Beside<'p> {
     /// Which it is.
     pub operand: Operand,

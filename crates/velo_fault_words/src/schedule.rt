@@ -14,7 +14,7 @@ use velo_explain::{Page, Piece};
 use velo_schedule_text::{MAX_SCHEDULE_BYTES, MAX_TURNS};
 
 /// What is wrong with a word of a schedule.
-#[derive(Clone, Copy, Debug, PartialEq, Eq)]
+#[derive(Clone, Copy, PartialEq, Eq)]
 pub enum TurnsFault {
     /// It is empty.
     Blank,

@@ -13,7 +13,7 @@ use velo_logtext::LogFault;
 use velo_request::Request;
 
 /// Why a file could not be opened, read or written.
-#[derive(Clone, Copy, Debug, PartialEq, Eq)]
+#[derive(Clone, Copy, PartialEq, Eq)]
 pub enum SystemReason {
     /// No file is there, or no directory for it.
     NotFound,
