@@ -243,9 +243,6 @@ is no log, OUT stays empty.
 LOG and OUT must be different files; otherwise the command stops before it writes. Standard input is
 not compared with OUT: if it comes from that file, the log is lost.
 
-With --why, or where standard error is a terminal, words come before the line on standard error: the
-path, the line and its text, and what is wrong with it.
-
 Statuses, each with the lines on standard error:
   0  done, or help
   2  usage; 'error: LOG and OUT are one file'; the text is no log: 'log fault K', 'log fault K line N'

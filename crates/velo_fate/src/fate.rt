@@ -4,10 +4,11 @@ ghost use Rattle.velo_delivery.specs.Writing.{BreaksOff, Writes, writing};
 ghost use Rattle.velo_fate.specs.Fate.{Ends, fate_of_failure, number_of, status_of, status_of_check, status_of_list, status_of_log, status_of_refused, status_of_ending, status_of_names, status_of_report, status_of_schedule, status_of_sites, status_of_work, place_of_work, last_line_of, line_of_check, line_of_log, line_of_ending, line_of_file_fault, line_of_ignored, line_of_no_summary, line_of_one_file, line_of_refused, line_of_schedule, line_of_unaudited, line_of_work, word_of};
 
 use crate::fault::CheckFault;
-use velo_bytes::{Sink, WriteFault, put_bytes, put_number, write_all};
+use std::alloc::Global;
+use velo_bytes::{Sink, WriteFault, append, put_bytes, put_number, write_all};
 use velo_claims::ReportFault;
 use velo_delivery::{Failure, Operand};
-use velo_events::{Refusal, ThreadId};
+use velo_events::{Memory, Refusal, ThreadId};
 use velo_logtext::LogFault;
 use velo_names::NamesFault;
 use velo_request::Ignorable;
@@ -456,6 +457,21 @@ pub fn end_line<S: Sink>(fate: &Fate, sink: &mut S) -> Result<u8, WriteFault>
         write_all(sink, &buffer[..end])?;
     }
     Ok(status_of(*fate))
+}
+
+/// The line with which a command ends that has this fate, and its line end; nothing where it ends
+/// without a line.
+///
+/// # Errors
+/// `Memory` if an allocation failed.
+pub fn last_line(alloc: Global, fate: Fate) -> Result<Vec<u8>, Memory>
+    ensures { IfOk result (λ line. line.items ≡ last_line_of fate) }
+{
+    let mut buffer = [0u8; LINE_ROOM];
+    let end = put_line(&mut buffer, fate);
+    let mut line = Vec::new(alloc);
+    append(&mut line, &buffer[..end])?;
+    Ok(line)
 }
 
 /// Reports how a run ended, and returns the status to end with: that of `end_line`, or [`FAILED`]

@@ -8,7 +8,7 @@ mod reading;
 mod saved;
 mod verdict;
 
-pub use fate::{Fate, end_line, end_with, fate_of_failure, number_of};
+pub use fate::{Fate, end_line, end_with, fate_of_failure, last_line, number_of};
 pub use fault::CheckFault;
 pub use files::{Beside, open_apart, open_input};
 pub use reading::read_file;

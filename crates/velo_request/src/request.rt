@@ -136,8 +136,6 @@ pub struct CarryOptions<'a> {
     pub input: &'a str,
     /// The path where it is saved.
     pub target: &'a str,
-    /// Whether what is wrong is said in words too.
-    pub why: bool,
 }
 
 /// The most states that a search may look at.

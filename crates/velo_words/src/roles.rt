@@ -84,7 +84,7 @@ pub fn asks_for_words(request: &Request) -> bool
     match request {
         Request::Check(options) => options.why,
         Request::CheckRest(options) => options.check.why,
-        Request::Carry(options) => options.why,
+        Request::Carry(_) => false,
         Request::Run(options) => options.why,
         Request::Replay(options) => options.run.why,
         _ => true,

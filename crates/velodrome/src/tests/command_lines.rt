@@ -49,7 +49,7 @@ static RIGHT_WORDS: [(&[&str], u8, &str); 9] = [
     (&["velodrome", "--help"], 0, ""),
 ];
 
-static WRONG_WORDS: [&[&str]; 50] = [
+static WRONG_WORDS: [&[&str]; 51] = [
     &["velodrome"],
     &["velodrome", "check"],
     &["velodrome", "race", "a.log"],
@@ -63,6 +63,7 @@ static WRONG_WORDS: [&[&str]; 50] = [
     &["velodrome", "carry", "a.log", "--log"],
     &["velodrome", "carry", "a.log", "b.log", "--log", "o.log"],
     &["velodrome", "carry", "a.log", "--log", "o.log", "--stop"],
+    &["velodrome", "carry", "a.log", "--log", "o.log", "--why"],
     &[
         "velodrome",
         "carry",
