@@ -67,7 +67,7 @@ scripts() {
 python() {
     scripts check_links.py check_definitions.py "definitions.py --check" "crate_picture.py --check" \
         "compare_help.py $program" "shell_pages.py --check $program" "colours.py $program" "watch.py $program" \
-        "formats.py $program docs/data/leveldb.log crates/velodrome/data/lost.log crates/velodrome/data/lbzip2.log" \
+        "formats.py $program docs/data/leveldb.log crates/velodrome/data/lost.log" \
         "verify.py $program 100" "rest.py $program 300" "explore.py $program 30" "predict.py $program 30"
 }
 
@@ -120,7 +120,6 @@ needs_of() {
 # is_here PART: whether the repository has it
 is_here() {
     case $1 in
-        memory) [ -f tools/memory.py ] ;;
         report | recorder | bindings) [ -n "$(git ls-files "$1" | head -n 1)" ] ;;
     esac
 }
