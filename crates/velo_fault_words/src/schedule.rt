@@ -150,7 +150,7 @@ fn add_bad_word(
     ensures { OnOk result
         (page.new ≡ page.old ++ bad_word_words place.now reason.now (bad_word bad.entry)) }
 {
-    add_file(page, place)?;
+    add_file(page, alloc, place)?;
     page.add(&[
         Piece::Text("word "),
         Piece::Number(bad.place as u64),
