@@ -1,4 +1,4 @@
--- Text from elsewhere, as it is shown in a line and on a terminal.
+-- Text from elsewhere, as it is shown in a line or on a terminal.
 use Rattle.std.specs.Prelude.{ℕ, ◌+◌, ◌/◌, ◌%◌, ◌==◌, ◌&&◌, ◌||◌, nat_le, nat_lt, Bool, false, List, [], ◌∷◌, ◌++◌, codes, if◌then◌else◌}
 
 -- U+0080 to U+009F are two bytes in UTF-8: 194, and one of these
@@ -17,17 +17,22 @@ is_control before b after =
 abbrev pub hex : ℕ → ℕ
 hex digit = if nat_lt digit 10 then 48 + digit else 87 + digit
 
--- \n, or \x1b
-abbrev pub escape : ℕ → List ℕ
-escape b = if b == 10 then codes "\\n" else codes "\\x" ++ hex (b / 16) ∷ hex (b % 16) ∷ []
+-- \x1b, and this for a newline
+abbrev pub escape : List ℕ → ℕ → List ℕ
+escape newline b = if b == 10 then newline else codes "\\x" ++ hex (b / 16) ∷ hex (b % 16) ∷ []
 
-abbrev pub escaped_byte : ℕ → ℕ → List ℕ → List ℕ
-escaped_byte before b after = if is_control before b after then escape b else b ∷ []
+abbrev pub escaped_byte : List ℕ → ℕ → ℕ → List ℕ → List ℕ
+escaped_byte newline before b after = if is_control before b after then escape newline b else b ∷ []
 
--- bytes after this byte, as they are shown
-abbrev pub escaped_after : ℕ → List ℕ → List ℕ
-escaped_after before [] = []
-escaped_after before (b ∷ bs) = escaped_byte before b bs ++ escaped_after b bs
+-- bytes after this byte, as they are shown with this for a newline
+abbrev pub escaped_after : List ℕ → ℕ → List ℕ → List ℕ
+escaped_after newline before [] = []
+escaped_after newline before (b ∷ bs) = escaped_byte newline before b bs ++ escaped_after newline b bs
 
+-- in a line
 abbrev pub escaped : List ℕ → List ℕ
-escaped bytes = escaped_after 0 bytes
+escaped bytes = escaped_after (codes "\\n") 0 bytes
+
+-- in lines: newlines stay
+abbrev pub escaped_lines : List ℕ → List ℕ
+escaped_lines bytes = escaped_after (codes "\n") 0 bytes
