@@ -64,9 +64,13 @@ label_text total listed = heading_text listed.label.now ++ place_text total list
 abbrev pub path_text : List ℕ → List ℕ
 path_text path = codes "unreadable " ++ escaped path
 
+-- a line, and a line end whether it has one or not
+abbrev pub line_text : List ℕ → List ℕ
+line_text line = escaped (strip_last 10 line) ++ codes "\n"
+
 -- and below it the line with which its audit ends
 abbrev pub reason_text : List ℕ → List ℕ → List ℕ
-reason_text path line = path_text path ++ codes "\n  " ++ escaped (strip_last 10 line) ++ codes "\n"
+reason_text path line = path_text path ++ codes "\n  " ++ line_text line
 
 abbrev pub reason_text_if : List ℕ → LogResult → List ℕ
 reason_text_if path (Audited labels) = []

@@ -3,7 +3,7 @@ ghost use Rattle.std.specs.Prelude.{◌≡◌, ◌++◌, decimal, length, IfOk, 
 ghost use Rattle.std.specs.Io.BufRead.{strip_last};
 ghost use Rattle.std.specs.List.{flat_map};
 ghost use Rattle.velo_many.specs.Summary.{count_logs};
-ghost use Rattle.velo_many.specs.Text.{IsSummary, counts_text, first_text, heading_text, label_text, logs_text, logs_word, name_text, path_text, place_text, reason_text, share_text, site_text, unreadable_text};
+ghost use Rattle.velo_many.specs.Text.{IsSummary, counts_text, first_text, heading_text, label_text, line_text, logs_text, logs_word, name_text, path_text, place_text, reason_text, share_text, site_text, unreadable_text};
 
 use crate::audits::{FoundLabel, LogAudit, LogResult, Verdict, count_logs};
 use crate::listing::{Listed, listing_of};
@@ -158,14 +158,21 @@ pub fn without_end(line: &[u8]) -> &[u8]
     }
 }
 
+/// Appends a line, and a line end whether it has one or not.
+fn append_line(text: &mut Vec<u8>, line: &[u8]) -> Result<(), Memory>
+    ensures { OnOk result (text.new.items ≡ text.old.items ++ line_text line.now) }
+{
+    append_escaped(text, without_end(line))?;
+    append(text, b"\n")
+}
+
 /// Appends that a log could not be judged, with its last line.
 fn append_reason(text: &mut Vec<u8>, path: &[u8], line: &[u8]) -> Result<(), Memory>
     ensures { OnOk result (text.new.items ≡ text.old.items ++ reason_text path.now line.now) }
 {
     append_path(text, path)?;
     append(text, b"\n  ")?;
-    append_escaped(text, without_end(line))?;
-    append(text, b"\n")
+    append_line(text, line)
 }
 
 /// Appends why a log could not be judged, if this is so.
