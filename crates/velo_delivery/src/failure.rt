@@ -3,7 +3,7 @@ use thiserror::Error;
 use velo_events::Memory;
 
 /// A file of a command, by its word on the command line.
-#[derive(Clone, Copy, PartialEq, Eq)]
+#[derive(Clone, Copy, Debug, PartialEq, Eq)]
 pub enum Operand {
     /// `LOG`, a recorded log.
     Log,
