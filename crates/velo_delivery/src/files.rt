@@ -26,10 +26,17 @@ pub trait Files {
         ensures { IsOpened (disk self.now) (codes "-")
             Self.Input.remaining Self.Input.failures result };
 
-    /// Whether the file at a path is the file at another one, which is to be emptied: where this is not known, it is another
-    /// file.
+    /// Whether the file at a path is the file at another one, which is to be emptied; or would be, where neither is there yet.
+    /// Where this is not known, it is another file. The path `-` is that of a file here.
     fn are_one(&self, input: &str, target: &str) -> bool
         ensures { IsTrue result → (disk self.now).one input.now target.now }
+    {
+        false
+    }
+
+    /// Whether standard input is the file at a path, which is to be emptied. Where this is not known, it is another file.
+    fn is_input(&self, target: &str) -> bool
+        ensures { IsTrue result → (disk self.now).one (codes "-") target.now }
     {
         false
     }

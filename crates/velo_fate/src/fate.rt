@@ -358,9 +358,9 @@ fn put_ignored(buffer: &mut [u8], what: Ignorable) -> usize
 
 /// Puts the word of an operand at a place of a buffer, and returns the place after it.
 fn put_operand(buffer: &mut [u8], at: usize, operand: Operand) -> usize
-    requires { at + 5 ≤ length buffer.old }
+    requires { at + 12 ≤ length buffer.old }
     ensures text { take result buffer.new ≡ take at buffer.old ++ word_of operand }
-    ensures end { result ≤ at + 5 }
+    ensures end { result ≤ at + 12 }
 {
     match operand {
         Operand::Log => put_bytes(buffer, at, b"LOG"),
@@ -369,6 +369,11 @@ fn put_operand(buffer: &mut [u8], at: usize, operand: Operand) -> usize
         Operand::NamesOut => put_bytes(buffer, at, b"NAMES"),
         Operand::Map => put_bytes(buffer, at, b"MAP"),
         Operand::Svg => put_bytes(buffer, at, b"SVG"),
+        Operand::Names => put_bytes(buffer, at, b"--names"),
+        Operand::Sites => put_bytes(buffer, at, b"--sites"),
+        Operand::NotAtomic => put_bytes(buffer, at, b"--not-atomic"),
+        Operand::Ignore => put_bytes(buffer, at, b"--ignore"),
+        Operand::Turns => put_bytes(buffer, at, b"--turns"),
     }
 }
 

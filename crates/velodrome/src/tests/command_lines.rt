@@ -144,7 +144,7 @@ static WRONG_WORDS: [&[&str]; 51] = [
 ];
 
 /// Right words that do not go together, with the line that says so.
-static WORDS_APART: [(&[&str], &str); 45] = [
+static WORDS_APART: [(&[&str], &str); 42] = [
     (
         &["velodrome", "check", "-", "--names", "-"],
         "error: standard input can be read once\n",
@@ -197,14 +197,6 @@ static WORDS_APART: [(&[&str], &str); 45] = [
     (
         &["velodrome", "explore", "w", "--names-out", "n"],
         "error: --names-out goes only with --log\n",
-    ),
-    (
-        &["velodrome", "replay", "w", "--log", "o", "--names-out", "o"],
-        "error: OUT and NAMES are one file\n",
-    ),
-    (
-        &["velodrome", "explore", "w", "--names-out=o", "--log=o"],
-        "error: OUT and NAMES are one file\n",
     ),
     (
         &[
@@ -264,10 +256,6 @@ static WORDS_APART: [(&[&str], &str); 45] = [
     (
         &["velodrome", "watch", "-", "--endless", "--names=-"],
         "error: standard input can be read once\n",
-    ),
-    (
-        &["velodrome", "thin", "a.log", "--log", "o", "--map", "o"],
-        "error: OUT and MAP are one file\n",
     ),
     (
         &["velodrome", "thin", "-", "--log", "o", "--not-atomic=-"],
