@@ -49,11 +49,12 @@ static RIGHT_WORDS: [(&[&str], u8, &str); 9] = [
     (&["velodrome", "--help"], 0, ""),
 ];
 
-static WRONG_WORDS: [&[&str]; 51] = [
+static WRONG_WORDS: [&[&str]; 52] = [
     &["velodrome"],
     &["velodrome", "check"],
     &["velodrome", "race", "a.log"],
     &["velodrome", "check", "a.log", "b.log"],
+    &["velodrome", "check", "a.log", "b\u{1b}.log"],
     &["velodrome", "check", "a.log", "--events", "0"],
     &["velodrome", "check", "a.log", "--events", "16777217"],
     &["velodrome", "check", "a.log", "--nodes", "0"],
@@ -400,7 +401,8 @@ fn right_command_lines(rt: HostRuntime) {
     drop(folder);
 }
 
-/// A fault of usage goes to standard error, where it is called an error once.
+/// A fault of usage goes to standard error, where it is called an error once. The control characters of
+/// the words are escaped.
 fn compare_wrong(rt: &impl Abort, shown: &Shown, words: &[&str]) {
     let told = (shown.status, shown.out.as_slice().is_empty());
     assert!(rt; told == (2, true), "{words:?}");
@@ -408,6 +410,7 @@ fn compare_wrong(rt: &impl Abort, shown: &Shown, words: &[&str]) {
     let fault = err.strip_prefix("error: ");
     let is_told_once = fault.is_some_and(|fault| !fault.contains("error: "));
     assert!(rt; is_told_once, "{words:?}: {err}");
+    assert!(rt; !err.contains('\u{1b}'), "{words:?}: {err}");
 }
 
 #[test]
