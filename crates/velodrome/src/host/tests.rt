@@ -39,6 +39,24 @@ fn one_file_at_two_paths(rt: HostRuntime) {
     drop(files);
 }
 
+/// Paths, and whether what is there opens as a regular file.
+static REGULAR: [(&str, bool); 4] = [
+    ("/proc/self/exe", true),
+    ("/proc/self/none", false),
+    ("/dev/null", false),
+    ("/proc", false),
+];
+
+#[test]
+fn regular_files_open(rt: HostRuntime) {
+    let notes = Notes::new();
+    let files = HostFiles::new(&rt, &notes);
+    for (path, opens) in &REGULAR {
+        assert!(&rt; files.open_regular(*path).is_some() == *opens, "{path}");
+    }
+    drop(files);
+}
+
 const LOG: &str = "vlog 2 1 0 0\n0 begin 7\n0 end\n";
 
 const WORK: &str = "thread main\nbegin get\nend\n";
