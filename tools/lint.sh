@@ -3,9 +3,9 @@
 #
 #     tools/lint.sh [--but-crates]
 #
-# Rattle by `rt fmt`, but not with --but-crates, as `rt ci` looks too; C and C++ by clang-format, and what ships of them by a few
-# checks of clang-tidy (.clang-tidy); Python by black, and what ships of it by mypy --strict; scripts by shellcheck. All of these but
-# `rt` are Debian's packages. Files that git does not know are left out. The last line is `N passed, N failed`.
+# Rattle by the kit's formatter, but not with --but-crates, as `rt ci` looks too; C and C++ by clang-format, and what ships of them by a few
+# checks of clang-tidy (.clang-tidy); Python by black, and what ships of it by mypy --strict; scripts by shellcheck. All but the kit
+# are Debian's packages. Files that git does not know are left out. The last line is `N passed, N failed`.
 set -uo pipefail
 cd "$(dirname "$0")/.." || exit 2
 passed=0
@@ -47,12 +47,9 @@ scripts_in() {
     done
 }
 
+# rt itself can only write the layout
 crates_look_alike() {
-    local crate status=0
-    for crate in crates/*/; do
-        (cd "$crate" && rt fmt --check) || status=1
-    done
-    return $status
+    files crates -- rt antt | xargs "$(dirname "$(rt doc)")/bin/rattle" fmt --check
 }
 
 # tidy LANGUAGE STANDARD FILE..: each file by itself, two at a time
@@ -72,7 +69,7 @@ annotated() {
     return $status
 }
 
-[ "${1:-}" = --but-crates ] || look "rt fmt: crates" crates_look_alike
+[ "${1:-}" = --but-crates ] || look "layout: crates" crates_look_alike
 mapfile -t sources < <(files recorder bindings -- c h cpp hpp)
 look "clang-format: recorder, bindings" clang-format --dry-run -Werror "${sources[@]}"
 mapfile -t sources < <(files recorder/runtime bindings/c/velodrome.c bindings/session/session.c -- c)
