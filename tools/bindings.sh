@@ -73,7 +73,7 @@ there() {
     [ $# -gt 0 ] && [ "$(id -u)" -eq 0 ] && command -v apt-get >/dev/null || return 1
     echo "installs: $*"
     apt-get -qq update >/dev/null 2>&1
-    DEBIAN_FRONTEND=noninteractive apt-get -qq --no-install-recommends install "$@" >/dev/null 2>&1
+    DEBIAN_FRONTEND=noninteractive apt-get -qq -o DPkg::Lock::Timeout=300 --no-install-recommends install "$@" >/dev/null 2>&1
     $test >/dev/null 2>&1
 }
 

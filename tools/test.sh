@@ -98,7 +98,8 @@ needs() {
     if [ "$(id -u)" -eq 0 ] && command -v apt-get >/dev/null; then
         {
             apt-get -qq update
-            DEBIAN_FRONTEND=noninteractive apt-get -qq --no-install-recommends install "${packages[@]}"
+            # bindings.sh may be at it too
+            DEBIAN_FRONTEND=noninteractive apt-get -qq -o DPkg::Lock::Timeout=300 --no-install-recommends install "${packages[@]}"
         } >/dev/null 2>&1
     fi
     for each in "$@"; do
@@ -107,12 +108,17 @@ needs() {
     echo "${lacking[*]}"
 }
 
+# the library cannot be built over crates that the gate did not prove
+is_without_gate() {
+    [ -f "$room/gate.ended" ] && ! grep -q '^0 ' "$room/gate.ended"
+}
+
 # what the part needs beside Python and the kit
 needs_of() {
     case $1 in
         report) needs make ;;
         recorder) needs make gcc g++ clang ;;
-        bindings) needs make gcc g++ clang ld:binutils ;;
+        bindings) if is_without_gate; then echo "a gate that passed"; else needs make gcc g++ clang ld:binutils; fi ;;
         lint) needs clang-format clang-tidy black mypy shellcheck ;;
     esac
 }
@@ -132,7 +138,7 @@ is_wanted() {
 run() {
     local part=$1 begun=$SECONDS lacking status
     is_here "$part" && is_wanted "$part" || return 0
-    lacking=$(flock "$room/packages" bash -c "$(declare -f needs needs_of); needs_of $part")
+    lacking=$(flock "$room/packages" bash -c "room='$room'; $(declare -f needs needs_of is_without_gate); needs_of $part")
     if [ -n "$lacking" ]; then
         echo "$lacking" >"$room/$part.lacking"
         return
