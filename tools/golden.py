@@ -41,7 +41,6 @@ FENCE = re.compile(r"^```(\w+)(?: (\S+))?\n(.*?)^```$", re.M | re.S)
 INLINE = re.compile(r"(?<!`)`(velodrome [^`\n]* [^`\n]+|velodrome --[^`\n]+)`(?!`)")
 PLACEHOLDER = re.compile(r"\b[A-Z]{2,}\b|\.\. |\.\.$| \.\.")
 STATUS = re.compile(r"\s+# status (\d+)$")
-ERROR_MARK = "2> "
 NO_NEWLINE = "\\ no newline\n"
 SECONDS = 300
 
@@ -77,6 +76,17 @@ def whole_lines(output):
     return text if not text or text.endswith("\n") else f"{text}\n{NO_NEWLINE}"
 
 
+def environment(path):
+    """The environment of a command: the same on every terminal."""
+    without = {name: value for name, value in os.environ.items() if name != "NO_COLOR"}
+    return dict(without, PATH=path, TOP=TOP, TERM="xterm", LC_ALL="C.UTF-8")
+
+
+def marked(errors):
+    """The lines of standard error, as they stand in a page."""
+    return "".join(f"2> {line}".rstrip() + "\n" for line in errors.split("\n")[:-1])
+
+
 class Page:
     """A page, the folder in which its commands run, and what became of them."""
 
@@ -96,7 +106,7 @@ class Page:
             done = subprocess.run(
                 ["bash", "-c", command],
                 cwd=self.folder,
-                env=dict(os.environ, PATH=path, TOP=TOP),
+                env=environment(path),
                 stdin=subprocess.DEVNULL,
                 stdout=subprocess.PIPE,
                 stderr=subprocess.PIPE if self.is_apart else subprocess.STDOUT,
@@ -105,9 +115,7 @@ class Page:
             )
         except subprocess.TimeoutExpired:
             return f"no end in {SECONDS} seconds\n", -1
-        told = whole_lines(done.stderr or b"").splitlines(keepends=True)
-        marked = "".join(ERROR_MARK + line for line in told)
-        return whole_lines(done.stdout) + marked, done.returncode
+        return whole_lines(done.stdout) + marked(whole_lines(done.stderr or b"")), done.returncode
 
     def expect(self, right, command, wanted, seen):
         self.passed, self.failed = self.passed + right, self.failed + (not right)
