@@ -320,6 +320,7 @@ static ROWS: [Row; 31] = [
 ];
 
 /// What a run shows: its report, with its certificate or without, and its log.
+#[derive(Drop)]
 struct Told {
     out: Text,
     log: Text,
