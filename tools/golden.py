@@ -34,6 +34,7 @@ import re
 import subprocess
 import sys
 import tempfile
+from typing import Dict, Iterator, List, Match, Tuple
 
 TOP = os.path.dirname(os.path.dirname(os.path.abspath(__file__)))
 RECORDER = os.path.join(TOP, "recorder", "out", "bin")
@@ -45,44 +46,46 @@ NO_NEWLINE = "\\ no newline\n"
 SECONDS = 300
 
 
-def pages():
-    below = [glob.glob(os.path.join(TOP, it, "**", "*.md"), recursive=True) for it in ("docs", "tests")]
+def pages() -> List[str]:
+    below = [
+        glob.glob(os.path.join(TOP, it, "**", "*.md"), recursive=True) for it in ("docs", "tests")
+    ]
     return [os.path.join(TOP, "README.md")] + sorted(below[0]) + sorted(below[1])
 
 
-def commands(session):
+def commands(session: str) -> Iterator[Tuple[str, str]]:
     """Each line of a session with a command, and what it prints."""
     for part in re.split(r"^\$ ", session, flags=re.M)[1:]:
         line, _, printed = part.partition("\n")
         yield line, printed
 
 
-def status_of(line):
+def status_of(line: str) -> int:
     """The status that a line of a session says."""
     status = STATUS.search(line)
     return int(status[1]) if status else 0
 
 
-def with_status(line, status):
+def with_status(line: str, status: int) -> str:
     """A line of a session, with the status as it came."""
     if status == status_of(line):
         return line
     return STATUS.sub("", line) + (f"  # status {status}" if status else "")
 
 
-def whole_lines(output):
+def whole_lines(output: bytes) -> str:
     """An output as lines, of which the last says where a newline is missing."""
     text = output.decode("utf-8", "backslashreplace")
     return text if not text or text.endswith("\n") else f"{text}\n{NO_NEWLINE}"
 
 
-def environment(path):
+def environment(path: str) -> Dict[str, str]:
     """The environment of a command: the same on every terminal."""
     without = {name: value for name, value in os.environ.items() if name != "NO_COLOR"}
     return dict(without, PATH=path, TOP=TOP, TERM="xterm", LC_ALL="C.UTF-8")
 
 
-def marked(errors):
+def marked(errors: str) -> str:
     """The lines of standard error, as they stand in a page."""
     return "".join(f"2> {line}".rstrip() + "\n" for line in errors.split("\n")[:-1])
 
@@ -90,16 +93,16 @@ def marked(errors):
 class Page:
     """A page, the folder in which its commands run, and what became of them."""
 
-    def __init__(self, page, folder, path):
+    def __init__(self, page: str, folder: str, path: str) -> None:
         self.path, self.folder, self.programs = page, folder, path
         self.name = os.path.relpath(page, TOP)
         self.is_apart = self.name.split(os.sep)[0] == "tests"
         self.passed = self.failed = self.left = 0
-        self.complaints = []
+        self.complaints: List[str] = []
         with open(page, encoding="utf-8") as it:
             self.text = it.read()
 
-    def ran(self, command):
+    def ran(self, command: str) -> Tuple[str, int]:
         """What a command prints, and its status."""
         path = os.pathsep.join((self.programs, RECORDER, os.environ["PATH"]))
         try:
@@ -117,14 +120,14 @@ class Page:
             return f"no end in {SECONDS} seconds\n", -1
         return whole_lines(done.stdout) + marked(whole_lines(done.stderr or b"")), done.returncode
 
-    def expect(self, right, command, wanted, seen):
+    def expect(self, right: bool, command: str, wanted: str, seen: Tuple[str, int]) -> None:
         self.passed, self.failed = self.passed + right, self.failed + (not right)
         if not right:
             self.complaints.append(
                 f"{self.name}: {command}\nexpected {wanted}came, with status {seen[1]}:\n{seen[0]}"
             )
 
-    def run_session(self, session):
+    def run_session(self, session: str) -> str:
         """Runs a session; answers it as it went."""
         went = []
         for line, printed in commands(session):
@@ -134,13 +137,13 @@ class Page:
             went.append(f"$ {with_status(line, seen[1])}\n{seen[0]}")
         return "".join(went)
 
-    def write_file(self, name, body):
+    def write_file(self, name: str, body: str) -> None:
         path = os.path.join(self.folder, name)
         os.makedirs(os.path.dirname(path), exist_ok=True)
         with open(path, "w", encoding="utf-8") as it:
             it.write(body)
 
-    def run_block(self, block):
+    def run_block(self, block: Match[str]) -> str:
         """Does what a block says; answers its text as it went."""
         kind, name, body = block.groups(default="")
         if "." in name:
@@ -152,20 +155,20 @@ class Page:
             return f"{head}\n{self.run_session(body)}```"
         return block[0]
 
-    def run_inline(self):
+    def run_inline(self) -> None:
         for command in INLINE.findall(FENCE.sub("", self.text)):
             if not PLACEHOLDER.search(command):
                 seen = self.ran(command)
                 self.expect(seen[1] in (0, 3, 4), command, "no error\n", seen)
 
-    def run(self):
+    def run(self) -> str:
         """Runs the whole page; answers its text as it went."""
         went = FENCE.sub(self.run_block, self.text)
         self.run_inline()
         return went
 
 
-def judged(page, program, update):
+def judged(page: str, program: str, update: bool) -> Page:
     with tempfile.TemporaryDirectory() as room:
         path, folder = os.path.join(room, "path"), os.path.join(room, "work")
         os.mkdir(folder)
@@ -179,7 +182,7 @@ def judged(page, program, update):
     return found
 
 
-def arguments(words):
+def arguments(words: List[str]) -> argparse.Namespace:
     parser = argparse.ArgumentParser(
         description=__doc__, formatter_class=argparse.RawDescriptionHelpFormatter
     )
@@ -194,7 +197,7 @@ def arguments(words):
     return asked
 
 
-def main(words):
+def main(words: List[str]) -> int:
     asked = arguments(words)
     program = os.path.abspath(asked.program)
     all_pages = [os.path.abspath(page) for page in asked.page] or pages()

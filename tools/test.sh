@@ -33,12 +33,7 @@ gate() {
 }
 
 pages() {
-    # until all pages are run by one script
-    if [ -f tools/golden.py ]; then
-        python3 tools/golden.py "$program"
-    else
-        python3 tools/documents.py "$program"
-    fi
+    python3 tools/golden.py "$program"
 }
 
 bodies() {
