@@ -67,7 +67,7 @@ static RIGHT: [&[&str]; 15] = [
 ];
 
 /// Words that are not.
-static WRONG: [&[&str]; 38] = [
+static WRONG: [&[&str]; 39] = [
     &["velodrome"],
     &["velodrome", "race", "a.log"],
     &["velodrome", "check"],
@@ -130,6 +130,7 @@ static WRONG: [&[&str]; 38] = [
         "--nodes",
         "4",
     ],
+    &["velodrome", "carry", "a.log", "--log", "o.log", "--why"],
 ];
 
 /// Whether the words are taken.
