@@ -28,6 +28,8 @@ mod turns;
 #[cfg(test)]
 mod usage;
 #[cfg(test)]
+mod watch;
+#[cfg(test)]
 mod words;
 #[cfg(test)]
 mod worker;
