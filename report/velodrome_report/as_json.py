@@ -1,0 +1,109 @@
+"""A report as JSON, and back: what `--format json` prints and `--merge` reads."""
+
+from __future__ import annotations
+
+import dataclasses
+import enum
+import json
+import typing
+from typing import Any, Dict
+
+from .model import Report
+
+# It changes if a member goes away or means something else.
+SCHEMA = 1
+
+
+class NotAReport(Exception):
+    """The text is no report in JSON; its words say why."""
+
+
+def write(report: Report) -> str:
+    """The report as one object of JSON, with a newline at its end."""
+    value: Dict[str, Any] = {
+        "schema": SCHEMA,
+        "tool": "velodrome-report",
+        "status": report.status(),
+    }
+    value.update(_plain(report))
+    return json.dumps(value, ensure_ascii=False, separators=(",", ":")) + "\n"
+
+
+def read(text: str) -> Report:
+    """The report that `write` made this text of. Raises `NotAReport`."""
+    try:
+        value = json.loads(text)
+    except ValueError as reason:
+        raise NotAReport(f"no JSON: {reason}") from None
+    if not isinstance(value, dict) or value.get("tool") != "velodrome-report":
+        raise NotAReport("no answer of velodrome-report --format json")
+    if value.get("schema") != SCHEMA:
+        raise NotAReport(f"of another version: its schema is {value.get('schema')}, not {SCHEMA}")
+    report = _typed(Report, value, "the report")
+    assert isinstance(report, Report)
+    return report
+
+
+def _plain(value: Any) -> Any:
+    """A value of the model as JSON has it."""
+    if isinstance(value, enum.Enum):
+        return value.value
+    if dataclasses.is_dataclass(value):
+        return {
+            member.name: _plain(getattr(value, member.name)) for member in dataclasses.fields(value)
+        }
+    if isinstance(value, dict):
+        return {key: _plain(item) for key, item in value.items()}
+    if isinstance(value, (list, tuple)):
+        return [_plain(item) for item in value]
+    return value
+
+
+def _typed(wanted: Any, value: Any, where: str) -> Any:
+    """The value of the wanted type that this JSON stands for."""
+    origin, inner = typing.get_origin(wanted), typing.get_args(wanted)
+    if origin is typing.Union:
+        return None if value is None else _typed(inner[0], value, where)
+    if origin in (list, tuple):
+        items = _of(list, value, where)
+        if origin is tuple and inner[-1] is not Ellipsis:
+            if len(items) != len(inner):
+                raise NotAReport(f"{where} has {len(items)} items and not {len(inner)}")
+            return tuple(_typed(kind, item, where) for kind, item in zip(inner, items))
+        return origin(_typed(inner[0], item, where) for item in items)
+    if origin is dict:
+        entries = _of(dict, value, where)
+        return {key: _typed(inner[1], item, where) for key, item in entries.items()}
+    if isinstance(wanted, type) and issubclass(wanted, enum.Enum):
+        return _member(wanted, value, where)
+    if dataclasses.is_dataclass(wanted):
+        return _record(wanted, value, where)
+    return _of(wanted, value, where)
+
+
+def _of(wanted: Any, value: Any, where: str) -> Any:
+    if isinstance(value, wanted) and not (wanted is int and isinstance(value, bool)):
+        return value
+    raise NotAReport(f"{where} is no {wanted.__name__}")
+
+
+def _member(wanted: Any, value: Any, where: str) -> Any:
+    try:
+        return wanted(value)
+    except ValueError:
+        raise NotAReport(f"{where} is unknown: {value}") from None
+
+
+def _record(wanted: Any, value: Any, where: str) -> Any:
+    """A dataclass; members that it does not have are passed over, for versions to come."""
+    members = _of(dict, value, where)
+    kinds = typing.get_type_hints(wanted)
+    found = {
+        member.name: _typed(kinds[member.name], members[member.name], member.name)
+        for member in dataclasses.fields(wanted)
+        if member.name in members
+    }
+    try:
+        return wanted(**found)
+    except TypeError:
+        raise NotAReport(f"{where} lacks a member") from None
