@@ -198,6 +198,53 @@ class Counts:
     to_blame: int = 0
 
 
+@dataclass(frozen=True)
+class GapTrait:
+    """The most telling gap of a finding: two events of the block, and who came in between.
+
+    `tier` is 0 where a value is carried over the gap, 1 where it is looked at again, 2 where a
+    variable is only seen twice, 3 for a lock alone.
+    """
+
+    # one call of another block, `callee`, has the whole gap
+    inside_callee: bool = False
+    # the gap is a wait
+    in_wait: bool = False
+    # a count that is changed by operations which cannot be interrupted
+    counts: bool = False
+    # both ends are at one place of a loop
+    in_loop: bool = False
+    tier: int = 3
+    # somebody came in between, in some run; else it could have been
+    seen: bool = False
+    target: str = ""
+    callee: str = ""
+
+    def key(self) -> Tuple[bool, bool, bool, bool, int, bool, str, str]:
+        """The lesser key is the more telling gap."""
+        return (
+            self.inside_callee,
+            self.in_wait,
+            self.counts,
+            self.in_loop,
+            self.tier,
+            not self.seen,
+            self.target,
+            self.callee,
+        )
+
+
+@dataclass(frozen=True)
+class Traits:
+    """What the runs together say of a finding, from which its place in the list is made."""
+
+    gap: Optional[GapTrait] = None
+    # variables alone, without any lock, make it not atomic, in some run
+    data: bool = False
+    # the logs had all variables, in each run
+    all_variables: bool = True
+
+
 @dataclass
 class Finding:
     """One entry of the list.
@@ -219,35 +266,12 @@ class Finding:
     why: str = ""
     under: Optional[str] = None
     repeat: Optional[str] = None
-    traits: Traits = field(default_factory=lambda: Traits())
+    traits: Traits = Traits()
 
     @property
     def place(self) -> Optional[Place]:
         """The one place of the finding, the same in every form: that of its function."""
         return self.function.place
-
-
-@dataclass
-class Traits:
-    """What the runs together say of a finding, from which its rank is made.
-
-    Each is true if it is so in some run; `callees` are the names of all functions that were
-    called inside the blamed blocks.
-    """
-
-    # a variable read before the gap is written after it, and was not read again
-    carries: bool = False
-    # gives up a lock and takes it again, around a read and a write of the same data
-    regains: bool = False
-    # a variable of the program, not only a lock's own order, makes the cycle
-    data: bool = False
-    # the gap is no wait, in some run
-    outside_waits: bool = False
-    # the cycle has another variable than a count, in some run
-    beside_counts: bool = False
-    # no callee that is listed makes the cycle by itself, in some run
-    own: bool = False
-    callees: Tuple[str, ...] = ()
 
 
 @dataclass
