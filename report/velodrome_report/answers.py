@@ -113,6 +113,8 @@ class Audit:
     alarms: Tuple[Alarm, ...]
     counts: Dict[int, Tuple[int, int]]
     atomic: int
+    # the labels that the options leave out
+    left_out: Tuple[int, ...] = ()
 
 
 @dataclass(frozen=True)
@@ -157,6 +159,7 @@ def audit(text: str) -> Audit:
             alarms=tuple(_alarm(alarm) for alarm in value["alarms"]),
             counts={item["label"]["number"]: (item["blocks"], item["to_blame"]) for item in listed},
             atomic=value["atomic"],
+            left_out=tuple(label["number"] for label in value["left_out"]["labels"]),
         )
     except (KeyError, TypeError, IndexError, ValueError, AttributeError):
         raise NotAnAnswer("no answer of velodrome audit --format json") from None

@@ -15,6 +15,8 @@ from dataclasses import dataclass, field
 from enum import IntEnum
 from typing import Dict, FrozenSet, List, Optional, Sequence, Set, Tuple
 
+from .sites import Sites
+
 # A longer log is not read for the order of the list.
 MOST_EVENTS = 4_000_000
 
@@ -403,7 +405,7 @@ def _note(gaps: Dict[Tuple[bool, int], Gap], gap: Gap) -> None:
 
 def scan(
     log: str,
-    sites: Optional[str],
+    sites: Sites,
     wanted: Set[int],
     left_out: Set[int],
     atomic: Optional[Sequence[int]] = None,
@@ -415,7 +417,6 @@ def scan(
     Raises `OSError` where the log cannot be read. What is no event is passed over: the checker
     judges the log.
     """
-    numbers = _site_numbers(sites, most)
     state = Scan(wanted, left_out, atomic)
     with open(log, encoding="ascii", errors="replace") as opened:
         opened.readline()
@@ -424,22 +425,8 @@ def scan(
                 state.found.whole = False
                 break
             try:
-                site = numbers[position] if position < len(numbers) else 0
-                state.event(position, line.split(), site)
+                state.event(position, line.split(), sites.number(position))
             except (ValueError, IndexError):
                 continue
             state.found.events = position + 1
     return state.ended()
-
-
-def _site_numbers(sites: Optional[str], most: int) -> List[int]:
-    """The number of each event's site, in the order of the log; none where they are not known."""
-    if sites is None:
-        return []
-    try:
-        with open(sites, encoding="utf-8", errors="replace") as opened:
-            for _ in range(int(opened.readline().split()[2])):
-                opened.readline()
-            return [int(line) for _, line in zip(range(most), opened)]
-    except (OSError, ValueError, IndexError):
-        return []
