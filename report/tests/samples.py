@@ -98,7 +98,7 @@ def pool_finding(many: int = 20) -> Finding:
     )
     return Finding(
         Kind.NOT_ATOMIC,
-        "0f3a6c1d2b4e5968",
+        "pool_acquire",
         Function("Pool::acquire()", "Pool::acquire()", Place("people/pool.cpp", 24)),
         names[: max(1, many // 5)],
         names,
@@ -150,7 +150,7 @@ def three_threads() -> Finding:
     )
     return Finding(
         Kind.NOT_ATOMIC,
-        "77aa77aa77aa77aa",
+        "table_move",
         Function("table_move", "table_move", Place("lib/table.c", 9)),
         ("r/1",),
         ("r/1",),
@@ -189,7 +189,7 @@ def deadlock(kind: Kind = Kind.DEADLOCK) -> Finding:
     )
     return Finding(
         kind,
-        f"dead{kind.value}",
+        kind.value,
         Function(
             "transfer(Account&, Account&)",
             "transfer(Account&, Account&)",
@@ -224,7 +224,7 @@ def stale() -> Finding:
     )
     return Finding(
         Kind.STALE_WRITE,
-        "5ta1e5ta1e",
+        "worker_counter",
         Function("worker()", "worker()", Place("people/counter.cpp", 9)),
         ("r/1", "r/2"),
         ("r/1", "r/2"),
@@ -245,7 +245,7 @@ def every_kind() -> Report:
     looked_at[1].warnings = ("worker() loops and was no block: give it one for each turn",)
     moved = Run("r/4", reasons=("the program was moved", "no function is known"))
     folded = pool_finding(3)
-    folded.id, folded.section, folded.under = "f01ded", Section.FOLDED, "0f3a6c1d2b4e5968"
+    folded.id, folded.section, folded.under = "client_folded", Section.FOLDED, "pool_acquire"
     folded.function = Function(
         "client(Pool&, int, int*)", "client(..)", Place("people/pool.cpp", 29)
     )

@@ -8,6 +8,7 @@ from __future__ import annotations
 
 import re
 import unicodedata
+from typing import List
 from xml.sax import saxutils
 
 _UNSAFE = re.compile(
@@ -69,3 +70,22 @@ def shortened_at_end(text: str, room: int) -> str:
     if columns_of(text) <= room:
         return text
     return _start_of(text, room - len(CUT)) + CUT
+
+
+def wrapped(text: str, room: int) -> List[str]:
+    """Returns the text in lines of at most this many columns (2 at least), broken at blanks where it can be."""
+    lines: List[str] = []
+    for word in text.split():
+        if lines and columns_of(f"{lines[-1]} {word}") <= room:
+            lines[-1] += f" {word}"
+        else:
+            lines += _pieces(word, room)
+    return lines
+
+
+def _pieces(word: str, room: int) -> List[str]:
+    pieces = []
+    while word:
+        pieces.append(_start_of(word, room))
+        word = word[len(pieces[-1]) :]
+    return pieces

@@ -55,10 +55,22 @@ def _thread(column: int, drawing: Drawing) -> str:
     return out + "  }\n"
 
 
+def _in_order(column: int, drawing: Drawing) -> str:
+    """The events of a thread, one after another."""
+    rows = [
+        f"E{row}"
+        for row, box in enumerate(drawing.boxes)
+        if box.column == column and not box.is_begin
+    ]
+    return f"  {' -> '.join(rows)} [style=dotted, arrowhead=none];\n" if len(rows) > 1 else ""
+
+
 def write(drawing: Drawing) -> str:
     """Returns the drawing in the language of Graphviz: a cluster for each thread and each block, a node for each event."""
+    columns = range(len(drawing.columns))
     out = f"digraph finding {{\n  label={_quoted([drawing.sentence, *drawing.below])};\n"
     out += "  labelloc=t; labeljust=l; rankdir=LR; node [shape=box, fontname=monospace];\n"
-    out += "".join(_thread(column, drawing) for column in range(len(drawing.columns)))
+    out += "".join(_thread(column, drawing) for column in columns)
+    out += "".join(_in_order(column, drawing) for column in columns)
     out += "".join(f"  E{arrow.start} -> E{arrow.end};\n" for arrow in drawing.arrows)
     return out + "}\n"

@@ -56,7 +56,7 @@ def _header(report: Report) -> str:
     for kind, texts in (("Not looked at", words.unsaid(report)), ("Warning", words.warned(report))):
         out += "".join(f'<p class="warning">{kind}: {_isolated(text)}</p>\n' for text in texts)
     if report.known:
-        names = ", ".join(_isolated(name) for name in report.known)
+        names = ", ".join(_isolated(words.name(name)) for name in report.known)
         out += f'<p class="muted">Known, and left out: {names}</p>\n'
     return out + "</header>\n"
 

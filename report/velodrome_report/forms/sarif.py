@@ -108,7 +108,7 @@ def _properties(finding: Finding, report: Report) -> Object:
         "section": finding.section.value,
     }
     if finding.repeat:
-        properties["repeat"] = finding.repeat
+        properties["repeat"] = visible(finding.repeat)
     return properties
 
 

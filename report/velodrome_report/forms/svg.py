@@ -2,10 +2,9 @@
 
 from __future__ import annotations
 
-import textwrap
 from dataclasses import dataclass
 
-from .characters import columns_of, shortened, shortened_at_end, visible, xml
+from .characters import columns_of, shortened, shortened_at_end, visible, wrapped, xml
 from .drawing import Arrow, Bar, Box, Drawing
 
 LETTER = 8
@@ -149,7 +148,7 @@ def _layout_of(drawing: Drawing, heading: list[tuple[str, str]]) -> _Layout:
 
 
 def _wrapped(text: str, room: int) -> list[str]:
-    return textwrap.wrap(visible(text), room)
+    return wrapped(visible(text), room)
 
 
 def _text(kind: str, x: int, y: int, text: str) -> str:

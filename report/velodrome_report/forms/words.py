@@ -2,7 +2,7 @@
 
 from __future__ import annotations
 
-from typing import List, Optional, Sequence
+from typing import Dict, List, Optional, Sequence, Tuple
 
 from ..model import Event, Finding, Kind, Place, Report, Run, Section
 from .characters import columns_of, shortened, shortened_at_end, visible
@@ -11,6 +11,7 @@ from .characters import columns_of, shortened, shortened_at_end, visible
 NAME_ROOM = 100
 PLACE_ROOM = 60
 SOURCE_ROOM = 100
+UNSAID = "nothing can be said"
 
 KIND_IN_WORDS = {
     Kind.NOT_ATOMIC: "not atomic",
@@ -133,18 +134,23 @@ def outcome(report: Report) -> str:
     return f"{looked_at(report)}: {plural(len(report.findings), 'finding')}"
 
 
-def not_looked_at(run: Run) -> str:
-    """Returns why nothing can be said of a run."""
-    return f"{name(run.name)}: {'; '.join(run.reasons) or 'nothing can be said'}"
-
-
 def unsaid(report: Report) -> List[str]:
-    """Returns each reason for which something cannot be said."""
-    runs = [not_looked_at(run) for run in report.runs if not run.looked_at]
-    return [*report.reasons, *runs]
+    """Returns each reason for which something cannot be said, once, with the runs that have it."""
+    runs = [(run, "; ".join(run.reasons) or UNSAID) for run in report.runs if not run.looked_at]
+    return [*report.reasons, *_once(runs)]
 
 
 def warned(report: Report) -> List[str]:
-    """Returns each warning, that of a run with its name."""
-    runs = [f"{name(run.name)}: {warning}" for run in report.runs for warning in run.warnings]
-    return [*report.warnings, *runs]
+    """Returns each warning once, with the runs that have it."""
+    runs = [(run, warning) for run in report.runs for warning in run.warnings]
+    return [*report.warnings, *_once(runs)]
+
+
+def _once(told: List[Tuple[Run, str]]) -> List[str]:
+    runs_of: Dict[str, List[str]] = {}
+    for run, text in told:
+        runs_of.setdefault(text, []).append(name(run.name))
+    return [
+        f"{runs[0]}: {text}" + (f" (and {len(runs) - 1:,} more)" if len(runs) > 1 else "")
+        for text, runs in runs_of.items()
+    ]
