@@ -7,7 +7,7 @@ import shutil
 import subprocess
 import sys
 from dataclasses import dataclass
-from typing import List, Optional, Sequence
+from typing import List, Optional, Sequence, Set
 
 HERE = os.path.dirname(os.path.abspath(__file__))
 # where they are in the repository, from this folder
@@ -16,6 +16,9 @@ LOG_BUILT = os.path.join(HERE, "..", "..", "recorder", "out", "bin", "velodrome-
 # statuses of the checker with an answer: nothing found, something found
 ANSWERED = (0, 3)
 LONGEST_WORDS = 300
+
+# what runs now, to end it if the call is interrupted
+_running: Set["subprocess.Popen[str]"] = set()
 
 
 @dataclass(frozen=True)
@@ -53,20 +56,28 @@ def _program(named: Optional[str], name: str, built: str) -> Optional[str]:
 def call(words: Sequence[str], answered: Sequence[int] = ANSWERED) -> Done:
     """Runs a program to its end. It never raises: what goes wrong is in `why`."""
     try:
-        done = subprocess.run(
+        started = subprocess.Popen(
             list(words),
             stdin=subprocess.DEVNULL,
             stdout=subprocess.PIPE,
             stderr=subprocess.PIPE,
             encoding="utf-8",
             errors="replace",
-            check=False,
         )
     except OSError as reason:
         return Done(-1, "", f"{os.path.basename(words[0])}: {reason.strerror}")
-    if done.returncode in answered:
-        return Done(done.returncode, done.stdout, None)
-    return Done(done.returncode, done.stdout, _why(words[0], done.returncode, done.stderr))
+    _running.add(started)
+    out, said = started.communicate()
+    _running.discard(started)
+    if started.returncode in answered:
+        return Done(started.returncode, out, None)
+    return Done(started.returncode, out, _why(words[0], started.returncode, said))
+
+
+def end_all() -> None:
+    """Ends what is still running, where nobody wants the answer any more."""
+    for started in list(_running):
+        started.kill()
 
 
 def _why(program: str, status: int, said: str) -> str:

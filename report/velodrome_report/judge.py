@@ -100,6 +100,7 @@ def _described(source: Source) -> Run:
         name=source.name,
         trace=source.path if source.kind is SourceKind.TRACE else None,
         log=source.path if source.kind is SourceKind.LOG else None,
+        folder=source.folder,
         command=tuple(str(word) for word in command) if isinstance(command, list) else (),
         seed=_number(description.get("seed")),
         mode=description.get("mode") if isinstance(description.get("mode"), str) else None,

@@ -281,6 +281,8 @@ class Run:
     name: str
     trace: Optional[str] = None
     log: Optional[str] = None
+    # where the program ran
+    folder: Optional[str] = None
     command: Tuple[str, ...] = ()
     seed: Optional[int] = None
     mode: Optional[str] = None

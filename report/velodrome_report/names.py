@@ -51,16 +51,6 @@ def short_names(names: Iterable[str]) -> Dict[str, str]:
     return {name: short[name] if times[short[name]] == 1 else plain(name) for name in every}
 
 
-def cut(text: str, room: int) -> str:
-    """The text in at most `room` columns: what is too long loses its middle."""
-    if len(text) <= room:
-        return text
-    if room < 5:
-        return text[: max(room, 0)]
-    behind = (room - 2) * 2 // 3
-    return text[: room - 2 - behind] + ".." + text[len(text) - behind :]
-
-
 def _without_defaults(name: str) -> str:
     """Takes default arguments of templates out, from the inside to the outside."""
     for word in DEFAULTS:

@@ -82,3 +82,8 @@ def _tier(finding: Finding) -> int:
         return CARRIED
     gap = finding.traits.gap
     return SEEN_TWICE if gap is None and finding.traits.data else LOCK if gap is None else gap.tier
+
+
+def by_count(findings: List[Finding]) -> List[Finding]:
+    """The findings with the most calls to blame first; of as many in the order of the list."""
+    return sorted(findings, key=lambda finding: -finding.counts.to_blame)

@@ -12,7 +12,7 @@ from typing import Callable, Dict, Optional
 from .. import as_json
 from ..model import Finding, Report
 from ..source import Sources
-from . import dot, github, html, junit, lanes, markdown, sarif, svg
+from . import dot, github, html, junit, lanes, markdown, sarif, svg, text
 
 
 @dataclass
@@ -67,8 +67,13 @@ def _dot(report: Report, settings: Settings) -> str:
     return dot.write(lanes.of_one(report, settings.finding))
 
 
+def _text(report: Report, settings: Settings) -> str:
+    return text.write(report, settings.width, settings.colours, settings.explain)
+
+
 # what --format takes
 FORMATS: Dict[str, Form] = {
+    "text": _text,
     "json": _json,
     "sarif": _sarif,
     "junit": _junit,
