@@ -11,6 +11,7 @@ of a lock and written under a later hold of it.
 
 from __future__ import annotations
 
+from bisect import bisect_left, bisect_right
 from dataclasses import dataclass, field
 from enum import IntEnum
 from typing import Dict, FrozenSet, List, Optional, Sequence, Set, Tuple
@@ -19,6 +20,10 @@ from .sites import Sites
 
 # A longer log is not read for the order of the list.
 MOST_EVENTS = 4_000_000
+# of a thread's events on one variable so many are kept, the first and the latest ones
+MOST_KEPT = 128
+# so often a possible gap of one function and one variable is looked at
+MOST_POSSIBLE = 32
 
 
 class Tier(IntEnum):
@@ -36,7 +41,7 @@ class Tier(IntEnum):
 
 @dataclass(frozen=True)
 class Gap:
-    """A gap; the lesser of two is the more telling one."""
+    """A gap by the positions of its three events; the lesser key is the more telling one."""
 
     # whether one call of another block has all of it
     inside_callee: bool
@@ -56,15 +61,12 @@ class Gap:
     # the label of the callee that has all of it
     callee: int = -1
 
-    def key(self) -> Tuple[bool, bool, bool, bool, int, int]:
-        return (
-            self.inside_callee,
-            self.in_wait,
-            self.counts,
-            self.in_loop,
-            int(self.tier),
-            self.after - self.before,
-        )
+    def key(self) -> Tuple[bool, bool, bool, bool, int]:
+        return (self.inside_callee, self.in_wait, self.counts, self.in_loop, int(self.tier))
+
+
+# no gap is more telling
+BEST = (False, False, False, False, int(Tier.CARRIED))
 
 
 @dataclass
@@ -85,50 +87,75 @@ class Scanned:
     counters: FrozenSet[int] = frozenset()
     events: int = 0
     threads: int = 0
-    # of each label that was asked for the labels that were called inside of it
-    callees: Dict[int, Set[int]] = field(default_factory=dict)
+    # whether all of the log was read
     whole: bool = True
 
 
 class _Block:
-    """An open block, and what its own events were up to now."""
+    """An open block."""
 
-    __slots__ = ("label", "begin", "site", "wanted", "reads", "writes", "last_read", "releases")
+    __slots__ = ("label", "begin", "site", "parent", "wanted")
 
-    def __init__(self, label: int, begin: int, site: int, wanted: bool) -> None:
+    def __init__(
+        self, label: int, begin: int, site: int, parent: Optional[_Block], wanted: bool
+    ) -> None:
         self.label = label
         self.begin = begin
         self.site = site
+        self.parent = parent
         self.wanted = wanted
-        # of each variable the first access, and the latest one of another call than the last
-        self.reads: Dict[int, List[_Own]] = {}
-        self.writes: Dict[int, List[_Own]] = {}
-        self.last_read: Dict[int, int] = {}
-        self.releases: Dict[int, List[_Own]] = {}
 
 
 class _Own:
-    """An event of a block: where it stands, in which call, under which holds."""
+    """An event of a thread inside its blocks: in which block, under which holds."""
 
-    __slots__ = ("position", "call", "place", "holds", "whole", "label")
+    __slots__ = ("position", "is_write", "site", "block", "holds", "whole")
 
     def __init__(
-        self,
-        position: int,
-        call: int,
-        place: Tuple[str, int],
-        label: int,
-        holds: Dict[int, int],
+        self, position: int, is_write: bool, site: int, block: _Block, holds: Dict[int, int]
     ) -> None:
         self.position = position
-        # the begin of the call inside the block, -1 for the block's own line
-        self.call = call
-        # the line in the block, as far as it is known: equal for two passes of a loop
-        self.place = place
-        self.label = label
+        self.is_write = is_write
+        self.site = site
+        self.block = block
+        # of each lock that is held the position of its acquire
         self.holds = holds
         # whether it is the read of an operation that cannot be interrupted
         self.whole = False
+
+
+class _Owns:
+    """A thread's events on one target, in their order, since it had no block open."""
+
+    __slots__ = ("positions", "events")
+
+    def __init__(self) -> None:
+        self.positions: List[int] = []
+        self.events: List[_Own] = []
+
+    def add(self, own: _Own) -> None:
+        if len(self.events) == MOST_KEPT:
+            middle = MOST_KEPT // 2
+            del self.events[middle], self.positions[middle]
+        self.events.append(own)
+        self.positions.append(own.position)
+
+    def between(self, low: int, high: int) -> List[_Own]:
+        """The first and the latest event behind `low` and before `high`."""
+        first = bisect_right(self.positions, low)
+        end = bisect_left(self.positions, high)
+        if first >= end:
+            return []
+        if end - first == 1:
+            return [self.events[first]]
+        return [self.events[end - 1], self.events[first]]
+
+    def last_read(self) -> int:
+        """The position of the latest read, -1 if there is none."""
+        for own in reversed(self.events):
+            if not own.is_write:
+                return own.position
+        return -1
 
 
 class _Others:
@@ -138,12 +165,12 @@ class _Others:
 
     def __init__(self) -> None:
         self.latest: Dict[int, Tuple[int, int]] = {}
-        self.other: Dict[int, Tuple[int, int]] = {}
+        self.other: Dict[int, int] = {}
 
     def put(self, target: int, position: int, thread: int) -> None:
         latest = self.latest.get(target)
         if latest is not None and latest[1] != thread:
-            self.other[target] = latest
+            self.other[target] = latest[0]
         self.latest[target] = (position, thread)
 
     def of(self, target: int, thread: int) -> int:
@@ -151,27 +178,36 @@ class _Others:
         latest = self.latest.get(target)
         if latest is None:
             return -1
-        if latest[1] != thread:
-            return latest[0]
-        other = self.other.get(target)
-        return -1 if other is None else other[0]
+        return latest[0] if latest[1] != thread else self.other.get(target, -1)
 
 
 class _Thread:
     """What a thread has open and holds."""
 
-    __slots__ = ("stack", "wanted", "holds", "released", "waits", "previous")
+    __slots__ = ("number", "stack", "top", "wanted", "holds", "released", "waits", "owns", "last")
 
-    def __init__(self) -> None:
-        self.stack: List[_Block] = []
+    def __init__(self, number: int) -> None:
+        self.number = number
+        # None for a block that is left out
+        self.stack: List[Optional[_Block]] = []
+        self.top: Optional[_Block] = None
+        # how many open blocks are wanted
         self.wanted = 0
-        # of each lock that is held the position of its acquire
         self.holds: Dict[int, int] = {}
         # of each lock the position and the site of its latest release
         self.released: Dict[int, Tuple[int, int]] = {}
         # from a release to the acquire by the same call: a wait
         self.waits: List[Tuple[int, int]] = []
-        self.previous: Tuple[str, int, int, int] = ("", -1, -1, -1)
+        # of each target, by whether it is a lock and its number
+        self.owns: Dict[Tuple[bool, int], _Owns] = {}
+        # the latest event if it is a read: its variable, its site and its position
+        self.last: Tuple[int, int, int] = (-1, -1, -1)
+
+    def add(self, target: Tuple[bool, int], own: _Own) -> None:
+        owns = self.owns.get(target)
+        if owns is None:
+            owns = self.owns[target] = _Owns()
+        owns.add(own)
 
 
 class Scan:
@@ -179,7 +215,6 @@ class Scan:
 
     def __init__(self, wanted: Set[int], left_out: Set[int], atomic: Optional[Sequence[int]]):
         self.found = Scanned(gaps={label: Gaps() for label in wanted})
-        self.found.callees = {label: set() for label in wanted}
         self._left_out = left_out
         self._threads: Dict[int, _Thread] = {}
         self._reads, self._writes = _Others(), _Others()
@@ -189,6 +224,7 @@ class Scan:
         self._changed: Set[int] = set()
         self._plainly: Set[int] = set()
         self._atomic = None if atomic is None else frozenset(atomic)
+        self._possible: Dict[Tuple[int, int], int] = {}
 
     def ended(self) -> Scanned:
         """What was found."""
@@ -203,195 +239,199 @@ class Scan:
         number = int(words[0])
         thread = self._threads.get(number)
         if thread is None:
-            thread = self._threads[number] = _Thread()
+            thread = self._threads[number] = _Thread(number)
         word = words[1]
         if word == "rd":
-            self._read(position, number, thread, int(words[2]), site)
-        elif word == "wr":
-            self._write(position, number, thread, int(words[2]), site)
-        elif word in ("acq", "acqs"):
-            self._acquire(position, number, thread, int(words[2]), site, word == "acq")
-        elif word in ("rel", "rels"):
-            self._release(position, thread, int(words[2]), site)
+            self._read(position, thread, int(words[2]), site)
+            return
+        if word == "wr":
+            self._write(position, thread, int(words[2]), site)
         elif word == "begin":
             self._begin(position, thread, int(words[2]), site)
-        elif word == "end" and thread.stack:
-            block = thread.stack.pop()
-            thread.wanted -= block.wanted
-            if not thread.wanted:
-                thread.waits.clear()
-        thread.previous = (word, int(words[2]) if len(words) > 2 else -1, site, position)
+        elif word == "end":
+            self._end(thread)
+        elif word in ("acq", "acqs"):
+            self._acquire(position, thread, int(words[2]), site, word == "acq")
+        elif word in ("rel", "rels"):
+            self._release(position, thread, int(words[2]), site)
+        thread.last = (-1, -1, -1)
 
     def _begin(self, position: int, thread: _Thread, label: int, site: int) -> None:
-        known = label in self._left_out
-        if not known:
-            self.found.calls[label] = self.found.calls.get(label, 0) + 1
-        wanted = not known and label in self.found.gaps
-        if thread.wanted and not known:
-            for block in thread.stack:
-                if block.wanted and block.label != label:
-                    self.found.callees[block.label].add(label)
-        thread.stack.append(_Block(-1 if known else label, position, site, wanted))
-        thread.wanted += wanted
+        if label in self._left_out:
+            thread.stack.append(None)
+            return
+        self.found.calls[label] = self.found.calls.get(label, 0) + 1
+        block = _Block(label, position, site, thread.top, label in self.found.gaps)
+        thread.stack.append(block)
+        thread.top = block
+        thread.wanted += block.wanted
 
-    def _own(self, thread: _Thread, index: int, position: int, site: int) -> _Own:
-        """This event as one of the block at `index` of the thread's stack."""
-        inner = thread.stack[index + 1] if index + 1 < len(thread.stack) else None
-        if inner is None or inner.label < 0:
-            return _Own(position, -1, ("line", site or position), -1, dict(thread.holds))
-        place = ("call", inner.site) if inner.site else ("callee", inner.label)
-        return _Own(position, inner.begin, place, inner.label, dict(thread.holds))
+    def _end(self, thread: _Thread) -> None:
+        block = thread.stack.pop() if thread.stack else None
+        if block is None:
+            return
+        thread.top = block.parent
+        thread.wanted -= block.wanted
+        if not thread.wanted:
+            thread.waits.clear()
+            thread.owns.clear()
 
     def _use(self, variable: int, number: int) -> None:
-        owner = self._owner.get(variable)
-        if owner is None:
-            self._owner[variable] = number
-        elif owner != number:
+        if self._owner.setdefault(variable, number) != number:
             self._owner[variable] = -1
 
-    def _read(self, position: int, number: int, thread: _Thread, variable: int, site: int) -> None:
+    def _read(self, position: int, thread: _Thread, variable: int, site: int) -> None:
+        number = thread.number
         self._use(variable, number)
-        if thread.wanted:
+        if thread.wanted and thread.top is not None:
+            own = _Own(position, False, site, thread.top, thread.holds)
             between = self._writes.of(variable, number)
-            for index, block in enumerate(thread.stack):
-                if not block.wanted:
-                    continue
-                own = self._own(thread, index, position, site)
-                for kept in block.reads.get(variable, ()):
-                    self._told(thread, block, variable, kept, between, own, Tier.SEEN_TWICE)
-                for kept in block.writes.get(variable, ()):
-                    self._told(thread, block, variable, kept, between, own, Tier.SEEN_TWICE)
-                _keep(block.reads, variable, own)
-                block.last_read[variable] = position
+            self._told(thread, (False, variable), between, own, Tier.SEEN_TWICE)
+            thread.add((False, variable), own)
         self._reads.put(variable, position, number)
+        thread.last = (variable, site, position)
 
-    def _write(self, position: int, number: int, thread: _Thread, variable: int, site: int) -> None:
+    def _write(self, position: int, thread: _Thread, variable: int, site: int) -> None:
+        number = thread.number
         self._use(variable, number)
         written = self._writes.of(variable, number)
-        word, target, at, before = thread.previous
-        whole = word == "rd" and target == variable and at == site and written < before
+        whole = thread.last[:2] == (variable, site) and written < thread.last[2]
         if self._owner[variable] < 0:
             (self._changed if whole else self._plainly).add(variable)
-        if thread.wanted:
-            read = self._reads.of(variable, number)
-            for index, block in enumerate(thread.stack):
-                if not block.wanted:
-                    continue
-                own = self._own(thread, index, position, site)
-                last_read = block.last_read.get(variable, -1)
-                for kept in block.reads.get(variable, ()):
-                    if whole and kept.position == before:
-                        kept.whole = True
-                    tier = Tier.LOOKED_AT_AGAIN if last_read > written else Tier.CARRIED
-                    self._told(thread, block, variable, kept, written, own, tier)
-                    self._could(thread, block, variable, kept, own, last_read)
-                for kept in block.writes.get(variable, ()):
-                    between = max(read, written)
-                    self._told(thread, block, variable, kept, between, own, Tier.SEEN_TWICE)
-                _keep(block.writes, variable, own)
+        if thread.wanted and thread.top is not None:
+            target = (False, variable)
+            own = _Own(position, True, site, thread.top, thread.holds)
+            owns = thread.owns.get(target)
+            if owns is not None:
+                if whole:
+                    owns.events[-1].whole = True
+                again = owns.last_read() > written
+                tier = Tier.LOOKED_AT_AGAIN if again else Tier.CARRIED
+                self._told(thread, target, written, own, tier)
+                self._told(thread, target, self._reads.of(variable, number), own, None)
+                self._could(thread, variable, owns, own)
+            thread.add(target, own)
         self._writes.put(variable, position, number)
+
+    def _acquire(self, position: int, thread: _Thread, lock: int, site: int, alone: bool) -> None:
+        released = thread.released.get(lock)
+        if released is not None and site and released[1] == site:
+            thread.waits.append((released[0], position))
+        if thread.wanted and thread.top is not None:
+            between = (self._acquires if alone else self._alone).of(lock, thread.number)
+            own = _Own(position, True, site, thread.top, thread.holds)
+            self._told(thread, (True, lock), between, own, Tier.LOCK)
+        self._acquires.put(lock, position, thread.number)
+        if alone:
+            self._alone.put(lock, position, thread.number)
+        thread.holds = {**thread.holds, lock: position}
+
+    def _release(self, position: int, thread: _Thread, lock: int, site: int) -> None:
+        if thread.wanted and thread.top is not None:
+            thread.add((True, lock), _Own(position, False, site, thread.top, thread.holds))
+        thread.holds = {held: since for held, since in thread.holds.items() if held != lock}
+        thread.released[lock] = (position, site)
 
     def _told(
         self,
         thread: _Thread,
-        block: _Block,
-        variable: int,
-        kept: _Own,
+        target: Tuple[bool, int],
         between: int,
         own: _Own,
-        tier: Tier,
+        tier: Optional[Tier],
     ) -> None:
-        """Notes the gap if another thread came between."""
-        if kept.position < between < own.position:
-            counts = kept.whole or tier is Tier.SEEN_TWICE
-            gap = _gap(thread, False, variable, kept, between, own, tier, counts)
-            _note(self.found.gaps[block.label].seen, gap)
+        """Notes the gaps of all open blocks into which another thread came with this event.
 
-    def _could(
-        self,
-        thread: _Thread,
-        block: _Block,
-        variable: int,
-        kept: _Own,
-        own: _Own,
-        last_read: int,
-    ) -> None:
-        """Notes the gap if a lock was let go between the read and the write."""
-        let_go = -1
-        for lock, since in thread.holds.items():
-            if lock not in kept.holds:
-                continue
-            if kept.holds[lock] == since:
-                return
-            let_go = max(let_go, since)
-        if let_go < 0:
+        Without a tier it read what this thread wrote before and writes again.
+        """
+        owns = thread.owns.get(target)
+        if owns is None or between < owns.positions[0]:
             return
-        tier = Tier.LOOKED_AT_AGAIN if last_read > let_go else Tier.CARRIED
-        gap = _gap(thread, False, variable, kept, let_go, own, tier, kept.whole)
-        _note(self.found.gaps[block.label].possible, gap)
+        block: Optional[_Block] = own.block
+        while block is not None:
+            if block.wanted and block.begin < between:
+                gaps = self.found.gaps[block.label].seen
+                known = gaps.get(target)
+                if known is None or known.key() != BEST:
+                    for kept in owns.between(block.begin, between):
+                        if tier is None and not kept.is_write:
+                            continue
+                        _note(gaps, _gap(thread, block, target, kept, between, own, tier))
+            block = block.parent
 
-    def _acquire(
-        self, position: int, number: int, thread: _Thread, lock: int, site: int, alone: bool
-    ) -> None:
-        released = thread.released.get(lock)
-        if released is not None and site and released[1] == site:
-            thread.waits.append((released[0], position))
-        if thread.wanted:
-            between = (self._acquires if alone else self._alone).of(lock, number)
-            for index, block in enumerate(thread.stack):
-                if not block.wanted:
-                    continue
-                for kept in block.releases.get(lock, ()):
-                    if kept.position < between:
-                        own = self._own(thread, index, position, site)
-                        gap = _gap(thread, True, lock, kept, between, own, Tier.LOCK, False)
-                        _note(self.found.gaps[block.label].seen, gap)
-        self._acquires.put(lock, position, number)
-        if alone:
-            self._alone.put(lock, position, number)
-        thread.holds[lock] = position
+    def _could(self, thread: _Thread, variable: int, owns: _Owns, own: _Own) -> None:
+        """Notes the gaps of all open blocks where a lock was let go between a read and a write."""
+        if not own.holds:
+            return
+        newest = max(own.holds.values())
+        if newest < owns.positions[0]:
+            return
+        tier = Tier.LOOKED_AT_AGAIN if owns.last_read() > newest else Tier.CARRIED
+        block: Optional[_Block] = own.block
+        while block is not None:
+            if block.wanted and block.begin < newest and self._may_look(block.label, variable):
+                for kept in owns.between(block.begin, newest):
+                    if not kept.is_write and _let_go(kept, own):
+                        gap = _gap(thread, block, (False, variable), kept, newest, own, tier)
+                        _note(self.found.gaps[block.label].possible, gap)
+            block = block.parent
 
-    def _release(self, position: int, thread: _Thread, lock: int, site: int) -> None:
-        for index, block in enumerate(thread.stack):
-            if block.wanted:
-                _keep(block.releases, lock, self._own(thread, index, position, site))
-        thread.holds.pop(lock, None)
-        thread.released[lock] = (position, site)
+    def _may_look(self, label: int, variable: int) -> bool:
+        """Whether a possible gap of both was not looked at too often."""
+        times = self._possible.get((label, variable), 0)
+        self._possible[(label, variable)] = times + 1
+        return times < MOST_POSSIBLE
 
 
-def _keep(places: Dict[int, List[_Own]], target: int, own: _Own) -> None:
-    """Keeps the first event on a target, and the latest one of another call than the next."""
-    kept = places.get(target)
-    if kept is None:
-        places[target] = [own]
-    elif len(kept) == 1 or kept[-1].call != own.call or own.call < 0:
-        places[target] = [kept[0], kept[-1], own] if len(kept) > 1 else [kept[0], own]
+def _let_go(kept: _Own, own: _Own) -> bool:
+    """Whether some lock is held at both events, and each such lock was let go in between."""
+    common = [lock for lock in own.holds if lock in kept.holds]
+    return bool(common) and all(kept.holds[lock] != own.holds[lock] for lock in common)
+
+
+def _call(block: _Block, own: _Own) -> Optional[_Block]:
+    """The call of the block that an event is in, None for a line of the block itself."""
+    inner = own.block
+    if inner is block:
+        return None
+    while inner.parent is not None and inner.parent is not block:
+        inner = inner.parent
+    return inner
+
+
+def _line(call: Optional[_Block], own: _Own) -> Tuple[str, int]:
+    """Where an event is in the block, as far as it is known: equal for two passes of a loop."""
+    if call is None:
+        return ("line", own.site or -own.position)
+    return ("call", call.site) if call.site else ("callee", call.label)
 
 
 def _gap(
     thread: _Thread,
-    is_lock: bool,
-    number: int,
+    block: _Block,
+    target: Tuple[bool, int],
     kept: _Own,
     between: int,
     own: _Own,
-    tier: Tier,
-    counts: bool,
+    tier: Optional[Tier],
 ) -> Gap:
-    inside = kept.call >= 0 and kept.call == own.call
-    in_wait = any(low <= between <= high for low, high in thread.waits if low >= kept.position)
+    first, second = _call(block, kept), _call(block, own)
+    inside = first is not None and first is second
+    if tier is None or (tier < Tier.SEEN_TWICE and kept.is_write):
+        tier = Tier.SEEN_TWICE
+    low = kept.position
     return Gap(
         inside_callee=inside,
-        in_wait=in_wait,
-        in_loop=not inside and kept.place == own.place,
+        in_wait=any(low <= start and start <= between <= end for start, end in thread.waits),
+        in_loop=not inside and _line(first, kept) == _line(second, own),
         tier=tier,
-        counts=counts,
-        is_lock=is_lock,
-        number=number,
+        counts=kept.whole or tier is Tier.SEEN_TWICE,
+        is_lock=target[0],
+        number=target[1],
         before=kept.position,
         between=between,
         after=own.position,
-        callee=own.label if inside else -1,
+        callee=first.label if inside and first is not None else -1,
     )
 
 
@@ -418,6 +458,8 @@ def scan(
     judges the log.
     """
     state = Scan(wanted, left_out, atomic)
+    event, numbers = state.event, sites.numbers
+    known = len(numbers)
     with open(log, encoding="ascii", errors="replace") as opened:
         opened.readline()
         for position, line in enumerate(opened):
@@ -425,7 +467,7 @@ def scan(
                 state.found.whole = False
                 break
             try:
-                state.event(position, line.split(), sites.number(position))
+                event(position, line.split(), numbers[position] if position < known else 0)
             except (ValueError, IndexError):
                 continue
             state.found.events = position + 1

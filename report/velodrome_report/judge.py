@@ -268,7 +268,7 @@ def _ask(looked: Looked, asked: Asked) -> None:
     else:
         looked.predictions = answers.predictions(done.out)
     _scan(looked, _found_labels(looked))
-    closer.look(looked.closer, looked.scanned, program, log, looked.beside, leaving)
+    closer.look(looked.closer, looked.scanned, program, log, names, looked.sites)
     for one in looked.beside.notes.stale:
         _ask_about_stale(looked, program, one)
 

@@ -25,7 +25,7 @@ class Sites:
     def at(self, position: int) -> Tuple[Optional[Place], Optional[str]]:
         """The place and the function of the event at this position."""
         number = self.number(position)
-        if not 0 < number <= len(self._texts):
+        if position < 0 or not 0 < number <= len(self._texts):
             return None, None
         return site(self._texts[number - 1])
 
