@@ -13,7 +13,7 @@ from xml.etree import ElementTree
 import golden
 import sarif_2_1_0
 import samples
-from velodrome_report import forms
+from velodrome_report import as_json, forms
 from velodrome_report.model import Function, Place, Report
 from velodrome_report.forms import characters, words
 
@@ -81,6 +81,21 @@ class Shortening(unittest.TestCase):
 
     def test_source_keeps_its_start(self) -> None:
         self.assertEqual(characters.shortened_at_end("return pop(); // now", 12), "return pop..")
+
+
+class Json(unittest.TestCase):
+    def test_what_is_read_back_is_the_report(self) -> None:
+        for name, report in samples.REPORTS.items():
+            with self.subTest(name):
+                text = golden.printed(name, "json", report)
+                self.assertEqual(as_json.read(text), report)
+                self.assertEqual(as_json.read(text.encode("utf-8").decode("utf-8")), report)
+
+    def test_it_says_its_version_and_status(self) -> None:
+        value = json.loads(golden.printed("", "json", samples.REPORTS["pool"]))
+        self.assertEqual(
+            (value["schema"], value["tool"], value["status"]), (1, "velodrome-report", 3)
+        )
 
 
 class Sarif(unittest.TestCase):

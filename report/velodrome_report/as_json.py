@@ -5,6 +5,7 @@ from __future__ import annotations
 import dataclasses
 import enum
 import json
+import re
 import typing
 from typing import Any, Dict
 
@@ -12,6 +13,9 @@ from .model import Report
 
 # It changes if a member goes away or means something else.
 SCHEMA = 1
+
+# a byte of a name that is no UTF-8: JSON has it as an escape
+_SURROGATE = re.compile("[\ud800-\udfff]")
 
 
 class NotAReport(Exception):
@@ -26,7 +30,8 @@ def write(report: Report) -> str:
         "status": report.status(),
     }
     value.update(_plain(report))
-    return json.dumps(value, ensure_ascii=False, separators=(",", ":")) + "\n"
+    text = json.dumps(value, ensure_ascii=False, separators=(",", ":"))
+    return _SURROGATE.sub(lambda found: f"\\u{ord(found[0]):04x}", text) + "\n"
 
 
 def read(text: str) -> Report:
