@@ -76,7 +76,8 @@ EDITS: List[Edit] = [
     ("sarif.py", "if 0 < place.line <= LAST_LINE:", "if True:"),
     ("sarif.py", 'safe="/-._~"', 'safe="/-._~ "'),
     ("sarif.py", 'f"file://{path}"', "path"),
-    ("sarif.py", "reversed(event.stack)", "event.stack"),
+    ("words.py", "reversed(event.stack)", "event.stack"),
+    ("words.py", "if frame.function not in report.known]", "]"),
     ("sarif.py", "visible(finding.repeat)", "finding.repeat"),
     ("sarif.py", "_location(event.place, event.source)", "_location(event.at, event.source)"),
     ("sarif.py", '"runs": len(report.looked_at())', '"runs": len(report.runs)'),
@@ -170,7 +171,7 @@ EDITS: List[Edit] = [
     ("html.py", 'mark = ">" if number in marked', 'mark = ">" if number not in marked'),
     ("html.py", "lines[number - 1]", "lines[number - 2]"),
     ("html.py", "if name not in finding.seen", "if name in finding.seen"),
-    ("html.py", "reversed(event.stack)", "event.stack"),
+    ("html.py", "[\"at\", event.at", "[\"at\", event.place"),
     (
         "html.py",
         "' class=\"between\"' if event.interrupts",
