@@ -171,7 +171,7 @@ EDITS: List[Edit] = [
     ("html.py", 'mark = ">" if number in marked', 'mark = ">" if number not in marked'),
     ("html.py", "lines[number - 1]", "lines[number - 2]"),
     ("html.py", "if name not in finding.seen", "if name in finding.seen"),
-    ("html.py", "[\"at\", event.at", "[\"at\", event.place"),
+    ("html.py", '("at", event.at, ', '("at", event.place, '),
     (
         "html.py",
         "' class=\"between\"' if event.interrupts",
