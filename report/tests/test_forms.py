@@ -44,10 +44,16 @@ class Golden(unittest.TestCase):
 class Hostile(unittest.TestCase):
     def test_no_character_is_obeyed(self) -> None:
         for name in ALL:
-            for form in ("sarif", "junit", "github", "markdown", "html", "svg", "dot"):
+            for form in ("text", "sarif", "junit", "github", "markdown", "html", "svg", "dot"):
                 with self.subTest(f"{name} as {form}"):
                     text = golden.printed(name, form, samples.REPORTS[name])
                     self.assertIsNone(UNSAFE.search(text))
+
+    def test_no_character_is_obeyed_in_full(self) -> None:
+        for name in samples.HOSTILE_REPORTS:
+            for finding in samples.REPORTS[name].findings:
+                text = golden.explained(samples.REPORTS[name], finding)
+                self.assertIsNone(UNSAFE.search(text), name)
 
     def test_forbidden_characters_are_visible(self) -> None:
         for form in ("junit", "html", "svg", "markdown", "github"):
@@ -345,6 +351,7 @@ class AllForms(unittest.TestCase):
             with self.subTest(form):
                 text = golden.printed("pool", form, report)
                 self.assertEqual(text.count("client(Pool"), 1 if form == "html" else 0)
+        self.assertNotIn("client(Pool", golden.explained(report, report.findings[0]))
 
     def test_table(self) -> None:
         self.assertLessEqual({"json", "sarif", "junit", "github", "markdown"}, set(forms.FORMATS))
