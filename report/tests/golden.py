@@ -21,6 +21,12 @@ def printed(name: str, form: str, report: model.Report) -> str:
     return table[form](report, settings)
 
 
+def explained(report: model.Report, finding: model.Finding, width: int = 80) -> str:
+    """What --explain gives for a finding."""
+    settings = forms.Settings(width=width, explain=finding)
+    return forms.FORMATS["text"](report, settings)
+
+
 def without_looks(page: str) -> str:
     """The page without its style and its script, which tests of the browser look at."""
     for element in ("style", "script"):
@@ -28,10 +34,11 @@ def without_looks(page: str) -> str:
     return page
 
 
-def drawings() -> Iterator[Tuple[str, str]]:
-    """The drawings of each kind of finding."""
+def single() -> Iterator[Tuple[str, str]]:
+    """Each kind of finding, drawn and in full."""
     report = samples.every_kind()
     for finding in report.findings:
+        yield f"{finding.id}.explained", explained(report, finding)
         for form in OF_ONE_FINDING:
             settings = forms.Settings(finding=finding)
             yield f"{finding.id}.{form}", forms.FILES[form](report, settings)
@@ -39,7 +46,7 @@ def drawings() -> Iterator[Tuple[str, str]]:
 
 def pages() -> Iterator[Tuple[str, str]]:
     """Each golden file by its name."""
-    yield from drawings()
+    yield from single()
     for name in NAMES:
         for form in (*forms.FORMATS, "html"):
             yield f"{name}.{form}", without_looks(printed(name, form, samples.REPORTS[name]))

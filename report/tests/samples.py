@@ -138,7 +138,14 @@ def three_threads() -> Finding:
     names = [lock("table.lock"), lock(None, 4), lock("0x7ffd0b44f3b0")]
 
     def event(thread: Thread, action: Action, what: Target, position: int, line: int) -> Event:
-        return Event(thread, action, what, position, Place("lib/table.c", line))
+        return Event(
+            thread,
+            action,
+            what,
+            position,
+            Place("lib/table.c", line),
+            interrupts=thread is not a,
+        )
 
     events = (
         event(a, Action.UNLOCKS, names[0], 10, 11),

@@ -17,6 +17,8 @@ from velodrome_report.forms import characters, dot, lanes, svg
 from velodrome_report.forms.drawing import Arrow, Bar, Box, Drawing
 
 SEEDS = 60
+# of so many drawings Graphviz, which is slow, reads one
+FEW = 7
 ABOVE, BELOW = 11, 3
 
 
@@ -208,7 +210,7 @@ class Dot(unittest.TestCase):
     def test_graphviz_reads_it(self) -> None:
         if not shutil.which("dot"):
             self.skipTest("dot is not installed")
-        for drawing in drawings():
+        for drawing in drawings()[::FEW]:
             done = subprocess.run(
                 ["dot", "-Tplain"],
                 input=dot.write(drawing),

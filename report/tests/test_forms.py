@@ -2,19 +2,21 @@
 
 from __future__ import annotations
 
+import copy
 import html.parser
 import json
 import os
 import re
 import unittest
+from dataclasses import replace
 from typing import Any, Dict, List, Optional, Set, Tuple
 from xml.etree import ElementTree
 
 import golden
 import sarif_2_1_0
 import samples
-from velodrome_report import forms
-from velodrome_report.model import Function, Place, Report
+from velodrome_report import as_json, forms
+from velodrome_report.model import Function, Place, Report, Thread, Witness
 from velodrome_report.forms import characters, words
 
 ALL = tuple(samples.REPORTS)
@@ -22,6 +24,11 @@ ALL = tuple(samples.REPORTS)
 UNSAFE = re.compile(
     "[\x00-\x09\x0b-\x1f\x7f-\x9f\u2028-\u202e\u2066-\u2069\ufffe\uffff\ud800-\udfff]"
 )
+
+
+def without_names_of_threads(witness: Witness) -> Witness:
+    events = tuple(replace(event, thread=Thread(event.thread.number)) for event in witness.events)
+    return replace(witness, events=events)
 
 
 class Golden(unittest.TestCase):
@@ -37,10 +44,16 @@ class Golden(unittest.TestCase):
 class Hostile(unittest.TestCase):
     def test_no_character_is_obeyed(self) -> None:
         for name in ALL:
-            for form in ("sarif", "junit", "github", "markdown", "html", "svg", "dot"):
+            for form in ("text", "sarif", "junit", "github", "markdown", "html", "svg", "dot"):
                 with self.subTest(f"{name} as {form}"):
                     text = golden.printed(name, form, samples.REPORTS[name])
                     self.assertIsNone(UNSAFE.search(text))
+
+    def test_no_character_is_obeyed_in_full(self) -> None:
+        for name in samples.HOSTILE_REPORTS:
+            for finding in samples.REPORTS[name].findings:
+                text = golden.explained(samples.REPORTS[name], finding)
+                self.assertIsNone(UNSAFE.search(text), name)
 
     def test_forbidden_characters_are_visible(self) -> None:
         for form in ("junit", "html", "svg", "markdown", "github"):
@@ -81,6 +94,58 @@ class Shortening(unittest.TestCase):
 
     def test_source_keeps_its_start(self) -> None:
         self.assertEqual(characters.shortened_at_end("return pop(); // now", 12), "return pop..")
+
+
+class Json(unittest.TestCase):
+    def test_what_is_read_back_is_the_report(self) -> None:
+        for name, report in samples.REPORTS.items():
+            with self.subTest(name):
+                text = golden.printed(name, "json", report)
+                self.assertEqual(as_json.read(text), report)
+                self.assertEqual(as_json.read(text.encode("utf-8").decode("utf-8")), report)
+
+    def test_what_is_no_report_is_refused(self) -> None:
+        good = json.loads(golden.printed("", "json", samples.REPORTS["pool"]))
+
+        def with_edge(value: Any) -> None:
+            value["findings"][0]["witness"]["edges"][0] = [0, 99]
+
+        def without_events(value: Any) -> None:
+            value["findings"][0]["witness"]["events"] = []
+
+        def seen_elsewhere(value: Any) -> None:
+            value["findings"][0]["seen"] = ["no such run"]
+
+        def of_another_kind(value: Any) -> None:
+            value["findings"][0]["kind"] = "race"
+
+        def without_runs(value: Any) -> None:
+            value["runs"] = 3
+
+        def of_another_version(value: Any) -> None:
+            value["schema"] = 2
+
+        bad = []
+        for change in (
+            with_edge,
+            without_events,
+            seen_elsewhere,
+            of_another_kind,
+            without_runs,
+            of_another_version,
+        ):
+            value = copy.deepcopy(good)
+            change(value)
+            bad.append(json.dumps(value))
+        for text in [*bad, "", "{", "[]", "null", "[" * 200_000]:
+            with self.subTest(text[:60]):
+                self.assertRaises(as_json.NotAReport, as_json.read, text)
+
+    def test_it_says_its_version_and_status(self) -> None:
+        value = json.loads(golden.printed("", "json", samples.REPORTS["pool"]))
+        self.assertEqual(
+            (value["schema"], value["tool"], value["status"]), (1, "velodrome-report", 3)
+        )
 
 
 class Sarif(unittest.TestCase):
@@ -276,6 +341,17 @@ class AllForms(unittest.TestCase):
             with self.subTest(form):
                 text = golden.printed("pool", form, samples.REPORTS["pool"])
                 self.assertRegex(text, r"people/pool\.cpp[:,](line=)?24")
+
+    def test_no_block_is_shown_that_is_left_out(self) -> None:
+        report = samples.pool()
+        report.known = ("client(Pool&, int, int*)",)
+        report.findings[0].witness = without_names_of_threads(report.findings[0].witness)
+        self.assertIn("client(Pool", golden.printed("pool", "html", samples.pool()))
+        for form in ("sarif", "html"):
+            with self.subTest(form):
+                text = golden.printed("pool", form, report)
+                self.assertEqual(text.count("client(Pool"), 1 if form == "html" else 0)
+        self.assertNotIn("client(Pool", golden.explained(report, report.findings[0]))
 
     def test_table(self) -> None:
         self.assertLessEqual({"json", "sarif", "junit", "github", "markdown"}, set(forms.FORMATS))

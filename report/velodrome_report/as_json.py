@@ -5,13 +5,17 @@ from __future__ import annotations
 import dataclasses
 import enum
 import json
+import re
 import typing
 from typing import Any, Dict
 
-from .model import Report
+from .model import Finding, Report
 
 # It changes if a member goes away or means something else.
 SCHEMA = 1
+
+# a byte of a name that is no UTF-8: JSON has it as an escape
+_SURROGATE = re.compile("[\ud800-\udfff]")
 
 
 class NotAReport(Exception):
@@ -26,7 +30,8 @@ def write(report: Report) -> str:
         "status": report.status(),
     }
     value.update(_plain(report))
-    return json.dumps(value, ensure_ascii=False, separators=(",", ":")) + "\n"
+    text = json.dumps(value, ensure_ascii=False, separators=(",", ":"))
+    return _SURROGATE.sub(lambda found: f"\\u{ord(found[0]):04x}", text) + "\n"
 
 
 def read(text: str) -> Report:
@@ -35,13 +40,28 @@ def read(text: str) -> Report:
         value = json.loads(text)
     except ValueError as reason:
         raise NotAReport(f"no JSON: {reason}") from None
+    except RecursionError:
+        raise NotAReport("no JSON of a report: it nests too deep") from None
     if not isinstance(value, dict) or value.get("tool") != "velodrome-report":
         raise NotAReport("no answer of velodrome-report --format json")
     if value.get("schema") != SCHEMA:
         raise NotAReport(f"of another version: its schema is {value.get('schema')}, not {SCHEMA}")
     report = _typed(Report, value, "the report")
     assert isinstance(report, Report)
+    for finding in report.findings:
+        _check(finding)
     return report
+
+
+def _check(finding: Finding) -> None:
+    """What a form takes for granted of a finding."""
+    many = len(finding.witness.events)
+    if not many:
+        raise NotAReport(f"finding {finding.id} has no events")
+    if any(not 0 <= event < many for edge in finding.witness.edges for event in edge):
+        raise NotAReport(f"an edge of finding {finding.id} has no such event")
+    if not set(finding.seen) <= set(finding.possible):
+        raise NotAReport(f"finding {finding.id} was seen in a run in which it is not possible")
 
 
 def _plain(value: Any) -> Any:

@@ -112,7 +112,7 @@ def _article(number: int, finding: Finding, report: Report, sources: Sources) ->
     if finding.repeat:
         out += f"<h3>To repeat</h3>\n<pre>{xml(finding.repeat)}</pre>\n"
     out += f"<h3>Thread by thread</h3>\n<figure>\n{svg.within_page(lanes.of(finding, report))}</figure>\n"
-    out += _excerpts(finding, sources) + _stacks(finding.witness.events)
+    out += _excerpts(finding, sources) + _stacks(finding.witness.events, report)
     return out + f"{_runs(finding)}</article>\n"
 
 
@@ -136,17 +136,17 @@ def _runs(finding: Finding) -> str:
     return out + "</details>\n"
 
 
-def _stacks(events: Sequence[Event]) -> str:
+def _stacks(events: Sequence[Event], report: Report) -> str:
     """The blocks that were open around each event, innermost first."""
     if not any(event.stack for event in events):
         return ""
-    rows = "".join(_row(event) + "".join(_calls(event)) for event in events)
+    rows = "".join(_row(event) + "".join(_calls(event, report)) for event in events)
     return f"<details>\n<summary>Calls around each event</summary>\n<table>\n{rows}</table>\n</details>\n"
 
 
-def _calls(event: Event) -> List[str]:
+def _calls(event: Event, report: Report) -> List[str]:
     lines = [("at", event.at, event.at_source or "")]
-    lines += [("in", frame.called_at, frame.function) for frame in reversed(event.stack)]
+    lines += [("in", frame.called_at, frame.function) for frame in words.frames(event, report)]
     return [
         f'<tr class="call"><td></td><td>{word}</td><td>{_isolated(words.place(at))}</td>'
         f"<td>{_isolated(words.name(text))}</td><td></td></tr>\n"

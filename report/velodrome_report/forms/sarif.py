@@ -7,7 +7,7 @@ from typing import Any, Dict, List, Optional
 from urllib.parse import quote
 
 from .. import VERSION
-from ..model import Event, Finding, Kind, Place, Report, Section
+from ..model import Event, Finding, Frame, Kind, Place, Report, Section
 from . import words
 from .characters import visible
 
@@ -94,7 +94,7 @@ def _result(finding: Finding, report: Report) -> Object:
         "message": _message(words.sentence(finding, report)),
         "locations": [_location(finding.place) | _function(finding)],
         "partialFingerprints": {FINGERPRINT: finding.id},
-        "codeFlows": [{"threadFlows": _thread_flows(finding)}],
+        "codeFlows": [{"threadFlows": _thread_flows(finding, report)}],
         "properties": _properties(finding, report),
     }
     return result
@@ -141,14 +141,14 @@ def _location(place: Optional[Place], source: Optional[str] = None) -> Object:
     return {"physicalLocation": physical}
 
 
-def _thread_flows(finding: Finding) -> List[Object]:
+def _thread_flows(finding: Finding, report: Report) -> List[Object]:
     """A flow for each thread; `executionOrder` says how they alternate."""
     return [
         {
             "id": str(thread),
             "message": _message(f"{thread} {thread.name or ''}".rstrip()),
             "locations": [
-                _step(order, event)
+                _step(order, event, report)
                 for order, event in enumerate(finding.witness.events, 1)
                 if event.thread.number == thread.number
             ],
@@ -157,21 +157,21 @@ def _thread_flows(finding: Finding) -> List[Object]:
     ]
 
 
-def _step(order: int, event: Event) -> Object:
+def _step(order: int, event: Event, report: Report) -> Object:
     message = {"message": _message(f"{event.thread} {event.does()}")}
     step: Object = {
         "executionOrder": order,
         "location": _location(event.place, event.source) | message,
         "importance": "essential",
     }
-    if event.stack:
-        step["stack"] = {"frames": [_frame(event.does(), event.at)] + _frames(event)}
+    around = words.frames(event, report)
+    if around:
+        step["stack"] = {"frames": [_frame(event.does(), event.at)] + list(map(_call, around))}
     return step
 
 
-def _frames(event: Event) -> List[Object]:
-    """The open blocks, innermost first as the standard has it; each with where it was called."""
-    return [_frame(frame.function, frame.called_at) for frame in reversed(event.stack)]
+def _call(frame: Frame) -> Object:
+    return _frame(frame.function, frame.called_at)
 
 
 def _frame(text: str, place: Optional[Place]) -> Object:

@@ -134,7 +134,8 @@ class Text:
             room = self.width - len(number) - columns_of(place) - GAP
             name = shortened(visible(one.function.short), max(room, LEAST_SOURCE))
             lines.append(number + name + " " * max(room - columns_of(name) + GAP, GAP) + place)
-            lines += self._indented(f"{words.how_often(one, self.report)}: {one.why}")
+            often = words.how_often(one, self.report)
+            lines += self._indented(f"{often}: {one.why}" if one.why else often)
         return lines
 
     def number(self, one: Finding) -> int:
@@ -192,7 +193,7 @@ class Text:
             if event.at is not None:
                 source = visible(event.at_source or "")
                 lines.append(self._cut(f"        at {self.place(event.at)}  {source}".rstrip()))
-            for frame in reversed(event.stack):
+            for frame in words.frames(event, self.report):
                 name = words.name(frame.function, max(self.width - 30, NARROWEST))
                 called = f", called at {self.place(frame.called_at)}" if frame.called_at else ""
                 mark = " (to blame)" if frame.to_blame else ""
@@ -218,11 +219,12 @@ class Text:
     def _hints(self, title: str, told: Sequence[str]) -> List[str]:
         lines: List[str] = []
         for text in told:
-            lines += self._wrapped(f"{self.colours.warn(title)}: {text}", "    ", "").split("\n")
+            line = f"{self.colours.warn(title)}: {visible(text)}"
+            lines += self._wrapped(line, "    ", "").split("\n")
         return lines
 
     def _indented(self, text: str) -> List[str]:
-        return self._wrapped(text, "      ").split("\n")
+        return self._wrapped(visible(text), "      ").split("\n")
 
     def _wrapped(self, text: str, indent: str, first: Optional[str] = None) -> str:
         """The text in lines of the width, each but perhaps the first one indented."""

@@ -4,7 +4,7 @@ from __future__ import annotations
 
 from typing import Dict, List, Optional, Sequence, Tuple
 
-from ..model import Event, Finding, Kind, Place, Report, Run, Section
+from ..model import Event, Finding, Frame, Kind, Place, Report, Run, Section
 from .characters import columns_of, shortened, shortened_at_end, visible
 
 # columns of a name in a sentence, of a place and of a line of source
@@ -115,6 +115,11 @@ def rows(events: Sequence[Event]) -> List[str]:
 def _joined(line: List[str], widths: List[int]) -> str:
     padded = [cell + " " * (width - columns_of(cell)) for cell, width in zip(line, widths) if width]
     return "  ".join([*padded, line[-1]])
+
+
+def frames(event: Event, report: Report) -> List[Frame]:
+    """Returns the blocks that were open around an event, innermost first, without those left out."""
+    return [frame for frame in reversed(event.stack) if frame.function not in report.known]
 
 
 def looked_at(report: Report) -> str:
