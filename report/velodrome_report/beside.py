@@ -44,7 +44,9 @@ class Wait:
     at: Optional[Place]
     function: Optional[str]
     held_by: Optional[int]
-    holds: Tuple[Held, ...]
+    holds: Tuple[Held, ...] = ()
+    # by itself, after a time
+    ends: bool = False
 
 
 @dataclass(frozen=True)
@@ -63,10 +65,16 @@ class Notes:
 
     stopped: Optional[str] = None
     cut: bool = False
+    # why the functions of the program cannot be named; None if they can
+    cannot_name: Optional[str] = None
+    # whether the log was made with all variables
+    all_variables: bool = False
     counts: Dict[str, int] = field(default_factory=dict)
-    # the path and the state of each module that is not as it was
-    modules: Tuple[Tuple[str, str], ...] = ()
+    # the path and the state of each module that is not as it was, and what of it is not
+    modules: Tuple[Tuple[str, str, Tuple[str, ...]], ...] = ()
     waits: Tuple[Wait, ...] = ()
+    # threads that wait for each other
+    circles: Tuple[Tuple[int, ...], ...] = ()
     loops: Tuple[Tuple[str, Optional[Place]], ...] = ()
     stale: Tuple[Stale, ...] = ()
     # None where it is not known which variables atomic operations alone write
@@ -153,12 +161,15 @@ def _notes(value: Any, folder: str) -> Notes:
         stopped=value.get("stopped") or None,
         cut=bool(value.get("cut")),
         counts={name: int(value[name]) for name in COUNTS if value.get(name)},
+        cannot_name=value.get("cannot_name") or None,
+        all_variables=bool(value.get("all_variables")),
         modules=tuple(
-            (module["path"], module["state"])
+            (module["path"], module["state"], tuple(module.get("objects") or ()))
             for module in value.get("modules") or ()
-            if module.get("state") not in (None, "same")
+            if _matters(module)
         ),
-        waits=tuple(_wait(wait) for wait in value.get("waits") or ()),
+        waits=tuple(_wait(wait) for wait in value.get("waits") or () if wait.get("for")),
+        circles=tuple(tuple(circle) for circle in value.get("circles") or ()),
         loops=tuple(
             (loop["function"], site(loop.get("place"))[0]) for loop in value.get("loops") or ()
         ),
@@ -175,15 +186,22 @@ def _notes(value: Any, folder: str) -> Notes:
     )
 
 
+def _matters(module: Any) -> bool:
+    """Whether a module is not what it was when its code ran, or has none that is recorded."""
+    state = module.get("state")
+    return state == "unhooked" or (state not in (None, "same") and module.get("ran", True))
+
+
 def _wait(value: Any) -> Wait:
     at, function = site(value.get("site"))
     return Wait(
         thread=int(value["thread"]),
-        what=value.get("for") or "lock",
+        what=value["for"],
         name=value.get("name") or "?",
         at=at,
         function=function,
         held_by=value.get("held_by"),
+        ends=bool(value.get("ends")),
         holds=tuple(
             Held(held.get("name") or "?", *site(held.get("site")))
             for held in value.get("holds") or ()

@@ -29,12 +29,13 @@ def look(
     log: str,
     names: Optional[str],
     sites: Sites,
+    left_out: Set[int],
 ) -> None:
     """Adds an alarm for the most telling gap of each function."""
     gaps = _most_telling(scanned)
     if not gaps:
         return
-    surroundings = _Surroundings(log, gaps)
+    surroundings = _Surroundings(log, gaps, left_out)
     for gap in gaps:
         small = surroundings.small_log(gap)
         if small is not None:
@@ -79,7 +80,8 @@ class SmallLog:
 class _Surroundings:
     """What is around the events of gaps: the open blocks, and the whole holds of locks."""
 
-    def __init__(self, log: str, gaps: Iterable[Gap]) -> None:
+    def __init__(self, log: str, gaps: Iterable[Gap], left_out: Set[int]) -> None:
+        self._left_out = {str(label) for label in left_out}
         self._texts: Dict[int, str] = {}
         self._open: Dict[int, Tuple[int, ...]] = {}
         self._taken: Dict[int, int] = {}
@@ -117,8 +119,13 @@ class _Surroundings:
                         self._taken[position] = taken[(thread, words[2])]
                 if position in wanted:
                     self._texts[position] = line
-                    self._texts.update(stacks.get(thread, ()))
-                    self._open[position] = tuple(begin for begin, _ in stacks.get(thread, ()))
+                    around = [one for one in stacks.get(thread, ()) if self._is_block(one[1])]
+                    self._texts.update(around)
+                    self._open[position] = tuple(begin for begin, _ in around)
+
+    def _is_block(self, begin: str) -> bool:
+        """Whether a begin is not one of those that are left out."""
+        return begin.split()[2] not in self._left_out
 
     def small_log(self, gap: Gap) -> Optional[SmallLog]:
         """The log of the three events of a gap and of what is around them."""

@@ -4,7 +4,7 @@ from __future__ import annotations
 
 import hashlib
 import re
-from dataclasses import dataclass
+from dataclasses import dataclass, replace
 from typing import Dict, List, Optional, Sequence, Tuple
 
 from .answers import Waiting, site
@@ -17,6 +17,12 @@ WAITS = re.compile(
     r"  thread (\d+)(?: (.*?))? waits for (?:the end of thread (\d+)|the ([a-z -]+?) (\S.*?))"
     r"(?:, held by thread (\d+).*?)?   (\S+)$"
 )
+
+
+# what a thread waits for that waits for the end of another one
+THREAD = "thread"
+# what threads hold, and so can wait for each other for
+HELD = ("mutex", "reader-writer lock", "spin lock")
 
 
 @dataclass(frozen=True)
@@ -41,23 +47,33 @@ def printed(text: str) -> Tuple[Wait, ...]:
         found.append(
             Wait(
                 thread=int(words[1]),
-                what=words[4] or "end of thread",
+                what=words[4] or THREAD,
                 name=words[5] or f"thread {words[3]}",
                 at=at,
                 function=function,
                 held_by=None if held_by is None else int(held_by),
-                holds=(),
             )
         )
     return tuple(found)
 
 
-def circle(waits: Sequence[Wait]) -> Optional[Circle]:
-    """The threads that wait for one another; None if nobody waits in a circle.
+def circles(waits: Sequence[Wait], known: Sequence[Sequence[int]]) -> List[Circle]:
+    """The threads that wait for one another: those that are known to, or else one circle.
 
-    What a thread of the circle holds is also known of who waits for it.
+    What a thread of a circle holds is also known of who waits for it.
     """
     by_thread = {wait.thread: wait for wait in waits}
+    found = list(known) or [_followed(by_thread)]
+    made = [[by_thread[number] for number in one if number in by_thread] for one in found]
+    return [
+        Circle(tuple(_with_hold(wait, members) for wait in members))
+        for members in made
+        if len(members) > 1
+    ]
+
+
+def _followed(by_thread: Dict[int, Wait]) -> List[int]:
+    """The threads of a circle, by who holds what is waited for; none if there is no circle."""
     for start in sorted(by_thread):
         path: List[int] = []
         thread: Optional[int] = start
@@ -65,9 +81,19 @@ def circle(waits: Sequence[Wait]) -> Optional[Circle]:
             path.append(thread)
             thread = by_thread[thread].held_by
         if thread is not None and thread in path:
-            members = [by_thread[number] for number in path[path.index(thread) :]]
-            return Circle(tuple(_with_hold(wait, members) for wait in members))
-    return None
+            return path[path.index(thread) :]
+    return []
+
+
+def unended(waits: Sequence[Wait]) -> List[str]:
+    """The waits for locks that had not ended, in words, where nobody waits in a circle."""
+    told = []
+    for wait in waits:
+        if wait.what in HELD and not wait.ends:
+            holder = "" if wait.held_by is None else f", held by thread {wait.held_by}"
+            where = f" at {wait.at}" if wait.at else ""
+            told.append(f"at its end thread {wait.thread} waited{where} for {wait.name}{holder}")
+    return told
 
 
 def _with_hold(wait: Wait, members: Sequence[Wait]) -> Wait:
@@ -77,17 +103,10 @@ def _with_hold(wait: Wait, members: Sequence[Wait]) -> Wait:
     missing = tuple(
         Held(other.name, None, None)
         for other in wanted
-        if other.name not in names and other.what != "end of thread"
+        if other.name not in names and other.what != THREAD
     )
-    return Wait(
-        wait.thread,
-        wait.what,
-        wait.name,
-        wait.at,
-        wait.function,
-        wait.held_by,
-        wait.holds + missing,
-    )
+    holds = tuple(held for held in wait.holds if held.name in {other.name for other in wanted})
+    return replace(wait, holds=holds + missing)
 
 
 def predicted(log: str, sites: Sites, waiting: Tuple[Waiting, ...]) -> Circle:
@@ -166,7 +185,7 @@ def witness(run: str, found: Circle, names: Dict[int, str], happened: bool) -> W
             target = Target(TargetKind.LOCK, None, held.name)
             events.append(_event(thread, Action.HOLDS, target, len(events), held.at))
         waits[wait.thread] = len(events)
-        kind = TargetKind.THREAD if wait.what == "end of thread" else TargetKind.LOCK
+        kind = TargetKind.THREAD if wait.what == THREAD else TargetKind.LOCK
         target = Target(kind, None, wait.name)
         events.append(_event(thread, Action.WAITS, target, len(events), wait.at))
     edges = [

@@ -118,7 +118,6 @@ class Entry:
     gap: Optional[GapTrait] = None
     data: bool = False
     all_variables: bool = True
-    calls: int = 0
     to_blame: int = 0
 
 
@@ -206,8 +205,7 @@ class Gathering:
     # ---- deadlocks
 
     def _take_deadlocks(self, looked: Looked) -> None:
-        happened = deadlocks.circle(looked.waits)
-        if happened is not None:
+        for happened in deadlocks.circles(looked.waits, looked.beside.notes.circles):
             self._take_circle(looked, happened, True)
         if looked.predictions is not None and looked.log is not None:
             for waiting in looked.predictions.circles:
@@ -298,7 +296,7 @@ def _finding(entry: Entry) -> Finding:
         seen=tuple(entry.seen),
         possible=tuple(entry.possible),
         witness=entry.witnesses[0],
-        counts=Counts(entry.calls, entry.to_blame),
+        counts=Counts(0, entry.to_blame),
         traits=Traits(entry.gap, entry.data, entry.all_variables),
     )
 

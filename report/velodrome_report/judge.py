@@ -3,12 +3,11 @@
 from __future__ import annotations
 
 import os
-import re
 import tempfile
 from dataclasses import dataclass, field
 from typing import Any, Dict, List, Optional, Sequence, Set, Tuple
 
-from . import answers, beside, checker, closer, deadlocks, gaps
+from . import answers, beside, checker, closer, deadlocks, gaps, making
 from .answers import Alarm, Audit, NotAnAnswer, Predictions
 from .beside import Beside, Stale, Wait
 from .known import Known
@@ -16,18 +15,13 @@ from .model import Run
 from .runs import Source, SourceKind
 from .sites import Sites
 
-# what velodrome-log prints first
-PRINTED = re.compile(
-    r"records (\d+)(?P<stopped> \(stopped\))? events (?P<events>\d+)(?P<cut> \(cut\))?"
-    r" threads (?P<threads>\d+) .*?dropped (?P<dropped>\d+)\).*? functions (?P<functions>\d+)"
-    r"(?:.*? odd (?P<odd>\d+) late (?P<late>\d+) lost (?P<lost>\d+))?"
-)
 STATES = {
     "changed": "was built again since the run",
     "gone": "is not there any more: was it moved?",
     "stripped": "has no names: it was stripped",
     "unhooked": "has code that was not compiled by velodrome-cc",
 }
+MOST_OBJECTS = 4
 WEAKENS = {
     "dropped": "variables or locks were too many to be looked at",
     "odd": "events do not fit together, and were left out",
@@ -171,6 +165,8 @@ def _look_at_log(looked: Looked, asked: Asked) -> None:
     looked.beside = beside.read(looked.log)
     looked.run.warnings += tuple(looked.beside.warnings)
     looked.waits = looked.beside.notes.waits or looked.waits
+    if not deadlocks.circles(looked.waits, looked.beside.notes.circles):
+        looked.run.warnings += tuple(deadlocks.unended(looked.waits))
     _judge_notes(looked)
     _ask(looked, asked)
     _count_calls(looked)
@@ -178,63 +174,32 @@ def _look_at_log(looked: Looked, asked: Asked) -> None:
 
 
 def _make_log(looked: Looked, asked: Asked) -> bool:
-    """Makes the log of a trace: with all variables if they fit, else with those that matter."""
-    if asked.programs.log is None:
-        looked.run.reasons = (
-            "velodrome-log was not found: make -C recorder, and put it on the path",
-        )
-        return False
-    trace = looked.source.path
-    log = trace + ".log"
-    if not os.access(os.path.dirname(os.path.abspath(trace)), os.W_OK):
-        looked.folder = tempfile.TemporaryDirectory(prefix="velodrome-report-")
-        log = os.path.join(looked.folder.name, os.path.basename(trace) + ".log")
-    words = [asked.programs.log, trace, log, *asked.for_log]
-    done = checker.call(words + ["--all-variables"], answered=(0,))
-    said = PRINTED.search(done.out)
-    if done.why is None and said and (said["cut"] or said["dropped"] != "0"):
-        looked.all_variables = False
-        done = checker.call(words, answered=(0,))
-        said = PRINTED.search(done.out)
-    if done.why is not None:
-        looked.run.reasons = (done.why,)
-        return False
-    looked.log = log
-    looked.waits = deadlocks.printed(done.out)
-    if said:
-        _judge_printed(looked, said)
-    return True
-
-
-def _judge_printed(looked: Looked, said: "re.Match[str]") -> None:
-    """What velodrome-log says of the trace."""
+    """Makes the log of a trace; false if there is none."""
+    made = making.make(asked.programs.log, looked.source.path, asked.for_log)
     run = looked.run
-    run.events, run.threads = int(said["events"]), int(said["threads"])
-    if run.events == 0:
-        run.reasons += ("there is no event in its trace: was it cut off?",)
-    if said["stopped"]:
-        run.reasons += ("its trace ended before the program did",)
-    if said["cut"]:
-        run.reasons += ("its log was cut off: it has too many events",)
-    counts = {name: int(said[name] or 0) for name in ("dropped", "odd", "late", "lost")}
-    run.warnings += _weakened(counts)
+    run.reasons += made.reasons
+    run.events, run.threads = made.events, made.threads
+    run.warnings += _weakened(dict(made.counts))
+    looked.log, looked.folder, looked.waits = made.log, made.folder, made.waits
+    looked.all_variables = made.all_variables
+    return made.log is not None
 
 
 def _weakened(counts: Dict[str, int]) -> Tuple[str, ...]:
-    return tuple(f"{counts[name]} {words}" for name, words in WEAKENS.items() if counts.get(name))
+    return tuple(f"{counts[name]:,} {words}" for name, words in WEAKENS.items() if counts.get(name))
 
 
 def _judge_notes(looked: Looked) -> None:
     """What the recorder notes of the run."""
     run, notes = looked.run, looked.beside.notes
-    stopped = "its trace ended before the program did"
     if notes.stopped:
-        run.reasons = tuple(reason for reason in run.reasons if reason != stopped)
-        run.reasons += (f"{stopped}: {notes.stopped}",)
-    if notes.cut and not any("cut off" in reason for reason in run.reasons):
-        run.reasons += ("its log was cut off: it has too many events",)
-    for path, state in notes.modules:
-        run.reasons += (f"{path} {STATES.get(state, state)}",)
+        run.reasons = tuple(reason for reason in run.reasons if reason != making.STOPPED)
+        run.reasons += (f"{making.STOPPED}: {notes.stopped}",)
+    if notes.cut and making.CUT not in run.reasons:
+        run.reasons += (making.CUT,)
+    for path, state, objects in notes.modules:
+        some = f" ({', '.join(objects[:MOST_OBJECTS])})" if objects else ""
+        run.reasons += (f"{path} {STATES.get(state, state)}{some}",)
     run.warnings += tuple(words for words in _weakened(notes.counts) if words not in run.warnings)
     for function, place in notes.loops:
         where = f" ({place})" if place else ""
@@ -268,7 +233,7 @@ def _ask(looked: Looked, asked: Asked) -> None:
     else:
         looked.predictions = answers.predictions(done.out)
     _scan(looked, _found_labels(looked))
-    closer.look(looked.closer, looked.scanned, program, log, names, looked.sites)
+    closer.look(looked.closer, looked.scanned, program, log, names, looked.sites, _left_out(looked))
     for one in looked.beside.notes.stale:
         _ask_about_stale(looked, program, one)
 

@@ -5,9 +5,13 @@ from __future__ import annotations
 from dataclasses import replace
 from typing import List, Optional, Tuple
 
-from .model import Finding, Kind, Section, Traits
+from .model import Finding, Kind, Section, TargetKind, Traits
 
 CARRIED, LOOKED_AT_AGAIN, SEEN_TWICE, LOCK = range(4)
+SAID = {
+    CARRIED: "is read, and later written without being read again",
+    LOOKED_AT_AGAIN: "is read, and later read again and written",
+}
 
 
 def by_design(finding: Finding) -> Optional[str]:
@@ -31,13 +35,11 @@ def by_design(finding: Finding) -> Optional[str]:
 def why(finding: Finding) -> str:
     """What is wrong, in a few words; empty where the events say it."""
     gap = finding.traits.gap
-    if finding.kind is not Kind.NOT_ATOMIC or gap is None:
+    if finding.kind is not Kind.NOT_ATOMIC or gap is None or gap.tier not in SAID:
         return ""
-    if gap.tier == CARRIED:
-        return f"{gap.target} is read, and later written without being read again"
-    if gap.tier == LOOKED_AT_AGAIN:
-        return f"{gap.target} is read, and later read again and written"
-    return ""
+    targets = finding.witness.targets()
+    variable = len(targets) == 1 and targets[0].kind is TargetKind.VARIABLE
+    return f"{targets[0] if variable else gap.target} {SAID[gap.tier]}"
 
 
 def ranked(findings: List[Finding]) -> List[Finding]:
