@@ -310,7 +310,7 @@ def _judge_what_was_seen(looked: Looked) -> None:
         run.reasons += (f"{looked.beside.names} is of another log: it lacks a name",)
     elif not run.calls and not looked.stale:
         run.reasons += (_no_function(looked),)
-    elif run.threads == 1:
+    elif run.threads == 1 and not looked.stale:
         run.reasons += ("only one thread ran, so nothing could be interrupted",)
 
 

@@ -325,6 +325,11 @@ class Report:
         """The runs of which something can be said."""
         return [run for run in self.runs if run.looked_at]
 
+    def counted(self) -> int:
+        """How many runs a finding is counted over: those looked at, or in which one was found."""
+        found = {name for finding in self.findings for name in finding.possible}
+        return sum(run.looked_at or run.name in found for run in self.runs)
+
     def functions(self) -> int:
         """How many functions were called in the runs that were looked at."""
         return len({name for run in self.looked_at() for name in run.calls})

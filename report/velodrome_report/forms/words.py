@@ -47,6 +47,9 @@ def _threads(finding: Finding) -> str:
 
 def _written(finding: Finding) -> str:
     """Returns the name of what a stale write writes."""
+    gap = finding.traits.gap
+    if gap is not None and gap.target:
+        return gap.target
     own = [event for event in finding.witness.events if not event.interrupts]
     return str(own[-1].target) if own else "a variable"
 
@@ -65,7 +68,7 @@ def claim(finding: Finding, room: int = NAME_ROOM) -> str:
 
 def how_often(finding: Finding, report: Report) -> str:
     """Returns in how many runs it was seen and is possible."""
-    runs = len(report.looked_at())
+    runs = report.counted()
     return (
         f"seen in {len(finding.seen)} of {plural(runs, 'run')}, possible in {len(finding.possible)}"
     )
