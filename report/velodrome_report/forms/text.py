@@ -207,7 +207,7 @@ class Text:
         if place is None:
             return ""
         file = self._files.get(place.file, place.file)
-        return visible(str(Place(file, place.line)))
+        return shortened(visible(str(Place(file, place.line))), self.width * 2 // 5)
 
     def _runs(self, title: str, runs: Sequence[str]) -> List[str]:
         if not runs:
