@@ -2,6 +2,7 @@
 
 from __future__ import annotations
 
+import functools
 import random
 import re
 import shutil
@@ -16,9 +17,9 @@ import samples
 from velodrome_report.forms import characters, dot, lanes, svg
 from velodrome_report.forms.drawing import Arrow, Bar, Box, Drawing
 
-SEEDS = 60
+SEEDS = 30
 # of so many drawings Graphviz, which is slow, reads one
-FEW = 7
+FEW = 9
 ABOVE, BELOW = 11, 3
 
 
@@ -138,17 +139,20 @@ def drawings() -> List[Drawing]:
     return real + hostile + [drawing_of(seed) for seed in range(SEEDS)]
 
 
+@functools.lru_cache(maxsize=None)
+def pictures() -> List[Tuple[Drawing, Picture]]:
+    return [(drawing, Picture(svg.write(drawing))) for drawing in drawings()]
+
+
 class Svg(unittest.TestCase):
     def test_arrows_strike_no_text(self) -> None:
-        for drawing in drawings():
-            picture = Picture(svg.write(drawing))
+        for drawing, picture in pictures():
             for segment in picture.segments():
                 for text in picture.texts:
                     self.assertFalse(segment.meets(text), drawing)
 
     def test_arrows_go_from_side_to_side_of_their_events(self) -> None:
-        for drawing in drawings():
-            picture = Picture(svg.write(drawing))
+        for drawing, picture in pictures():
             rows = [row for row, box in enumerate(drawing.boxes) if not box.is_begin]
             place_of = dict(zip(rows, picture.events))
             for arrow, path in zip(drawing.arrows, picture.arrows):
@@ -158,23 +162,31 @@ class Svg(unittest.TestCase):
                 self.assertLess(min(abs(path[3][0] - end.left), abs(path[3][0] - end.right)), 8)
                 self.assertTrue(end.top < path[3][1] < end.bottom)
 
+    def test_no_arrow_runs_down_another(self) -> None:
+        for drawing, picture in pictures():
+            runs = []
+            for path in picture.arrows:
+                (x, y), (_, z) = path[1:3]
+                runs.append((x, min(y, z), max(y, z)))
+            distinct = len(set(drawing.arrows)) == len(drawing.arrows)
+            for place, (x, y, z) in enumerate(runs):
+                for other, top, bottom in runs[:place]:
+                    self.assertFalse(distinct and x == other and y < bottom and top < z, drawing)
+
     def test_arrows_cross_no_event(self) -> None:
-        for drawing in drawings():
-            picture = Picture(svg.write(drawing))
+        for drawing, picture in pictures():
             inner = [Rect(e.left + 1, e.top + 1, e.right - 1, e.bottom - 1) for e in picture.events]
             for segment in picture.segments():
                 self.assertFalse(any(segment.meets(event) for event in inner), drawing)
 
     def test_texts_stay_in_the_page_and_apart(self) -> None:
-        for drawing in drawings():
-            picture = Picture(svg.write(drawing))
+        for drawing, picture in pictures():
             for place, text in enumerate(picture.texts):
                 self.assertTrue(picture.page.holds(text), drawing)
                 self.assertFalse(any(text.meets(other) for other in picture.texts[:place]), drawing)
 
     def test_events_hold_their_texts(self) -> None:
-        for drawing in drawings():
-            picture = Picture(svg.write(drawing))
+        for drawing, picture in pictures():
             for event in picture.events:
                 for text in picture.texts:
                     self.assertTrue(event.holds(text) or not event.meets(text), drawing)

@@ -16,7 +16,7 @@ import golden
 import sarif_2_1_0
 import samples
 from velodrome_report import as_json, forms
-from velodrome_report.model import Function, Place, Report, Thread, Witness
+from velodrome_report.model import Function, Place, Report, Run, Thread, Witness
 from velodrome_report.forms import characters, words
 
 ALL = tuple(samples.REPORTS)
@@ -146,6 +146,66 @@ class Json(unittest.TestCase):
         self.assertEqual(
             (value["schema"], value["tool"], value["status"]), (1, "velodrome-report", 3)
         )
+
+
+class Words(unittest.TestCase):
+    def test_plural(self) -> None:
+        told = [words.plural(many, "run") for many in (0, 1, 2, 1000)]
+        self.assertEqual(told, ["0 runs", "1 run", "2 runs", "1,000 runs"])
+
+    def test_lists(self) -> None:
+        told = [words.listed(list(letters)) for letters in ("", "a", "ab", "abc")]
+        self.assertEqual(told, ["", "a", "a and b", "a, b and c"])
+
+    def test_what_is_written_is_what_the_thread_writes(self) -> None:
+        finding = samples.stale()
+        events = list(finding.witness.events)
+        events[1] = replace(events[1], target=samples.lock("another"))
+        finding.witness = replace(finding.witness, events=tuple(events))
+        self.assertEqual(words.claim(finding), "worker(): counter is written from an old value")
+
+    def test_what_many_runs_say_is_told_once(self) -> None:
+        report = Report([Run(f"r/{number}", reasons=("moved",)) for number in range(3)])
+        self.assertEqual(words.unsaid(report), ["r/0: moved (and 2 more)"])
+
+    def test_runs_that_were_not_looked_at_do_not_count(self) -> None:
+        report = samples.every_kind()
+        self.assertIn("of 3 runs", words.how_often(report.findings[0], report))
+        self.assertEqual(words.outcome(samples.nothing_looked_at()), "nothing was looked at")
+
+
+class Text(unittest.TestCase):
+    # what is to be copied from the list stays on one line
+    COMMANDS = ("      to repeat: ", "      in full: ")
+
+    def printed(self, name: str, width: int, colours: bool = False) -> str:
+        settings = forms.Settings(width=width, colours=colours)
+        return forms.FORMATS["text"](samples.REPORTS[name], settings)
+
+    def test_it_keeps_to_its_width(self) -> None:
+        for name in samples.REPORTS:
+            for width in (80, 120):
+                for line in self.printed(name, width).splitlines():
+                    if not line.startswith(self.COMMANDS) and " " in line.strip():
+                        self.assertLessEqual(characters.columns_of(line), width, f"{name}: {line}")
+
+    def test_one_finding_keeps_to_its_width(self) -> None:
+        for name, report in samples.REPORTS.items():
+            for finding in report.findings:
+                for line in golden.explained(report, finding).splitlines():
+                    if not line.startswith(self.COMMANDS) and " " in line.strip():
+                        self.assertLessEqual(characters.columns_of(line), 80, f"{name}: {line}")
+
+    def test_colours_change_no_word(self) -> None:
+        for name in samples.REPORTS:
+            plain, painted = self.printed(name, 80), self.printed(name, 80, True)
+            self.assertNotIn("\x1b", plain)
+            self.assertEqual(re.sub("\x1b\\[[0-9]*m", "", painted).split(), plain.split())
+
+    def test_each_thread_has_its_colour(self) -> None:
+        painted = self.printed("pool", 80, True)
+        found = re.findall("  [> ] (\x1b\\[[0-9]*m)(thread [0-9])", painted)
+        self.assertEqual([len(found), len(set(found))], [4, 2])
 
 
 class Sarif(unittest.TestCase):

@@ -14,6 +14,8 @@ PADDING = 8
 BETWEEN_ROWS = 12
 BESIDE_BOX = 10
 SLOT = 14
+HEAD = 7
+APART = 5
 LEAST_ROOM = 14
 MOST_ROOM = 42
 LEAST_WIDTH = 480
@@ -210,21 +212,24 @@ def _xml_of_lines(text: str) -> str:
     return "\n".join(map(xml, text.split("\n")))
 
 
+def _turn_of(gutter: int, slot: int, layout: _Layout) -> int:
+    """Where an arrow runs down: each arrow of a gutter at a place of its own."""
+    if gutter == 0:
+        return layout.columns[0].left - BESIDE_BOX - SLOT * (slot + 1)
+    return layout.columns[gutter - 1].right + BESIDE_BOX + SLOT * (slot + 1)
+
+
 def _arrow(arrow: Arrow, drawing: Drawing, layout: _Layout) -> str:
+    """An arrow leaves an event below its middle, and comes to one above it."""
     gutter = _gutter_of(arrow, drawing.boxes)
-    slot = _gutters_of(drawing)[gutter].index(arrow)
+    turn = _turn_of(gutter, _gutters_of(drawing)[gutter].index(arrow), layout)
     start, end = (layout.columns[drawing.boxes[row].column] for row in (arrow.start, arrow.end))
-    to_left = gutter == drawing.boxes[arrow.start].column
-    if to_left:
-        turn = start.left - BESIDE_BOX - SLOT * (slot + 1)
-    else:
-        turn = start.right + BESIDE_BOX + SLOT * (slot + 1)
-    from_x = start.left if to_left else start.right
-    to_x = end.left if end.left > start.left else end.right
+    from_x = start.left if turn < start.left else start.right
+    to_x = end.left if turn < end.left else end.right
     tip = -1 if to_x == end.left else 1
-    y, z = layout.middle(arrow.start), layout.middle(arrow.end)
+    y, z = layout.middle(arrow.start) + APART, layout.middle(arrow.end) - APART
     return (
-        f'<path class="arrow" d="M{from_x} {y}H{turn}V{z}H{to_x + 7 * tip}"/>\n'
+        f'<path class="arrow" d="M{from_x} {y}H{turn}V{z}H{to_x + HEAD * tip}"/>\n'
         f'<path class="head" d="M{to_x} {z}l{8 * tip} -4v8z"/>\n'
     )
 

@@ -188,7 +188,8 @@ class Text:
         """Each event with its own line and the calls around it, innermost first."""
         lines: List[str] = []
         for event in one.witness.events:
-            row = f"{event.thread} {self.does(event, self.width - 12)}"
+            thread = str(event.thread)
+            row = f"{thread} {self.does(event, self.width - MARGIN - len(thread) - 1)}"
             lines.append("    " + self.colours.thread(event.thread.number, row))
             if event.at is not None:
                 source = visible(event.at_source or "")
@@ -207,7 +208,7 @@ class Text:
         if place is None:
             return ""
         file = self._files.get(place.file, place.file)
-        return visible(str(Place(file, place.line)))
+        return shortened(visible(str(Place(file, place.line))), self.width * 2 // 5)
 
     def _runs(self, title: str, runs: Sequence[str]) -> List[str]:
         if not runs:

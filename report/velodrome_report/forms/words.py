@@ -60,7 +60,8 @@ def claim(finding: Finding, room: int = NAME_ROOM) -> str:
     if finding.kind is Kind.NOT_ATOMIC:
         return f"{function} is not atomic"
     if finding.kind is Kind.STALE_WRITE:
-        return f"{function}: {name(_written(finding), room)} is written from an old value"
+        function = name(finding.function.short, room // 2)
+        return f"{function}: {name(_written(finding), room // 2)} is written from an old value"
     if finding.kind is Kind.DEADLOCK:
         return f"deadlock: {_threads(finding)} wait for each other"
     return f"deadlock possible: {_threads(finding)} can wait for each other"
