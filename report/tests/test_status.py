@@ -7,6 +7,7 @@ import subprocess
 import sys
 import time
 import unittest
+from typing import Any, Dict, List, Tuple
 
 import support
 from support import Log
@@ -81,7 +82,7 @@ class Unsaid(support.InFolder):
 
     @support.needs_checker
     def test_what_the_recorder_notes(self) -> None:
-        for notes, words in (
+        noted: List[Tuple[Dict[str, Any], str]] = [
             ({"stopped": "full"}, "ended before the program did: full"),
             ({"cut": True}, "its log was cut off"),
             ({"modules": [{"path": "/a", "state": "changed"}]}, "/a was built again"),
@@ -91,10 +92,11 @@ class Unsaid(support.InFolder):
                 {"modules": [{"path": "/a", "state": "unhooked", "objects": ["b.o"]}]},
                 "not compiled by velodrome-cc (b.o)",
             ),
-        ):
+        ]
+        for notes, words in noted:
             with self.subTest(words):
                 log = support.right()
-                log.notes = {"schema": 1, **notes}  # type: ignore[dict-item]
+                log.notes = {"schema": 1, **notes}
                 log.write(self.path("run.log"))
                 self.unsaid(words, "run.log")
 
