@@ -197,7 +197,7 @@ class Lists(support.InFolder):
         done = self.run_command("run.log")
         said = " ".join(done.stdout.split())
         self.assertIn("worker(): counter is written from an old value: seen in 1 of 1", said)
-        self.assertIn("worker() (counter.cpp:5) is a thread's routine that loops", said)
+        self.assertIn("worker() (counter.cpp:5), the routine of a thread, loops", said)
         self.assertEqual(done.returncode, 3)
 
     def test_how_to_repeat_it(self) -> None:

@@ -40,6 +40,7 @@ def _arranged(runs: List[Run], findings: List[Finding], reasons: Iterable[str]) 
     every += [name for one in findings if one.kind is Kind.NOT_ATOMIC for name in _mentioned(one)]
     short = names.short_names(every)
     by_name = {run.name: run for run in runs}
+    findings = _without_doubles(findings)
     listed = [_counted(_renamed(one, short), runs) for one in findings]
     listed = ranking.ranked(folding.folded(listed))
     return Report(
@@ -47,6 +48,31 @@ def _arranged(runs: List[Run], findings: List[Finding], reasons: Iterable[str]) 
         findings=[replace(one, repeat=repeat(one, by_name)) for one in listed],
         reasons=tuple(reasons),
     )
+
+
+def _without_doubles(findings: List[Finding]) -> List[Finding]:
+    """The findings without a stale write that a function's own finding tells, too."""
+    functions = {one.function.name: one for one in findings if one.kind is Kind.NOT_ATOMIC}
+    kept: List[Finding] = []
+    for one in findings:
+        other = functions.get(one.function.name)
+        if one.kind is Kind.STALE_WRITE and other is not None and _tells(other, one):
+            functions[one.function.name] = replace(
+                other,
+                seen=tuple(dict.fromkeys(other.seen + one.seen)),
+                possible=tuple(dict.fromkeys(other.possible + one.possible)),
+            )
+        elif one.kind is not Kind.NOT_ATOMIC:
+            kept.append(one)
+    return [*functions.values(), *kept]
+
+
+def _tells(one: Finding, stale: Finding) -> bool:
+    """Whether a function's finding is about the variable that it writes from an old value."""
+    gap, other = one.traits.gap, stale.traits.gap
+    if gap is None or other is None or gap.inside_callee:
+        return False
+    return other.target in (gap.target, *(str(target) for target in one.witness.targets()))
 
 
 def _mentioned(one: Finding) -> List[str]:

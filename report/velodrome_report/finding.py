@@ -28,6 +28,10 @@ from .model import (
 )
 
 
+# how the recorder's names begin of memory that was allocated and has no other name
+HEAP = "heap "
+
+
 def identity(kind: Kind, *words: str) -> str:
     """What is the same of a finding in each recording of the program: twelve hex digits."""
     return hashlib.sha1("\n".join([kind.value, *words]).encode()).hexdigest()[:12]
@@ -243,6 +247,14 @@ class Gathering:
             variables = [str(t) for t in made.targets() if t.kind is TargetKind.VARIABLE]
             variable: str = one.variable or (variables[0] if variables else "a variable")
             run = (looked.run.name,)
+            own = [event for event in made.events if not event.interrupts]
+            calls = [event.call for event in (*own[:1], *own[-1:])]
+            trait = GapTrait(
+                tier=0,
+                seen=True,
+                target=variable,
+                used_again=variable.startswith(HEAP) and None not in calls,
+            )
             self._put(
                 Finding(
                     kind=Kind.STALE_WRITE,
@@ -251,7 +263,7 @@ class Gathering:
                     seen=run,
                     possible=run,
                     witness=made,
-                    traits=Traits(gap=GapTrait(tier=0, seen=True, target=variable), data=True),
+                    traits=Traits(gap=trait, data=True),
                 )
             )
 
@@ -305,6 +317,7 @@ def _trait(gap: Gap, seen: bool, looked: Looked, counters: "frozenset[int]") -> 
     names = looked.beside.locks if gap.is_lock else looked.beside.variables
     word = "lock" if gap.is_lock else "variable"
     labels = looked.beside.labels
+    target = names.get(gap.number, f"{word} {gap.number}")
     return GapTrait(
         inside_callee=gap.inside_callee,
         in_wait=gap.in_wait,
@@ -312,7 +325,8 @@ def _trait(gap: Gap, seen: bool, looked: Looked, counters: "frozenset[int]") -> 
         in_loop=gap.in_loop,
         tier=int(gap.tier),
         seen=seen,
-        target=names.get(gap.number, f"{word} {gap.number}"),
+        target=target,
+        used_again=gap.across_calls and target.startswith(HEAP),
         callee="" if gap.callee < 0 else labels.get(gap.callee, f"block {gap.callee}"),
     )
 

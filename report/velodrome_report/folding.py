@@ -3,7 +3,7 @@
 from __future__ import annotations
 
 from dataclasses import replace
-from typing import Dict, List
+from typing import Dict, List, Optional
 
 from .model import Finding, Kind, Section
 
@@ -32,16 +32,22 @@ def _folded(finding: Finding, by_name: Dict[str, Finding]) -> Finding:
     )
 
 
-def _root(finding: Finding, by_name: Dict[str, Finding]) -> "Finding | None":
-    """The innermost callee that has all of the fault; None if it is the function's own."""
-    passed = {finding.function.name}
+def _root(finding: Finding, by_name: Dict[str, Finding]) -> Optional[Finding]:
+    """The innermost callee that has all of the fault; None if it is the function's own.
+
+    Of functions that call one another the first by name stays.
+    """
+    path = [finding]
     while True:
-        gap = finding.traits.gap
-        if finding.kind is not Kind.NOT_ATOMIC or gap is None or not gap.inside_callee:
+        gap = path[-1].traits.gap
+        if path[-1].kind is not Kind.NOT_ATOMIC or gap is None or not gap.inside_callee:
             break
         callee = by_name.get(gap.callee)
-        if callee is None or callee.function.name in passed:
+        if callee is None:
             break
-        passed.add(callee.function.name)
-        finding = callee
-    return finding if len(passed) > 1 else None
+        if callee in path:
+            circle = path[path.index(callee) :]
+            path.append(min(circle, key=lambda one: one.function.name))
+            break
+        path.append(callee)
+    return None if path[-1] is finding else path[-1]

@@ -11,7 +11,8 @@ from . import answers, beside, checker, closer, deadlocks, gaps, making
 from .answers import Alarm, Audit, NotAnAnswer, Predictions
 from .beside import Beside, Stale, Wait
 from .known import Known
-from .model import Run
+from .model import Place, Run
+from .names import without_parameters
 from .runs import Source, SourceKind
 from .sites import Sites
 
@@ -201,12 +202,20 @@ def _judge_notes(looked: Looked) -> None:
         some = f" ({', '.join(objects[:MOST_OBJECTS])})" if objects else ""
         run.reasons += (f"{path} {STATES.get(state, state)}{some}",)
     run.warnings += tuple(words for words in _weakened(notes.counts) if words not in run.warnings)
-    for function, place in notes.loops:
-        where = f" ({place})" if place else ""
-        run.warnings += (
-            f"{function}{where} is a thread's routine that loops, and so was no block:"
-            " put what must not be interrupted into a function of its own",
-        )
+    if notes.loops:
+        run.warnings += (_loops(notes.loops),)
+
+
+def _loops(loops: Sequence[Tuple[str, Optional[Place]]]) -> str:
+    """The routines of threads that were no block, and how to make them one."""
+    told = [
+        without_parameters(function) + (f" ({place})" if place else "") for function, place in loops
+    ]
+    if len(told) == 1:
+        what = f"{told[0]}, the routine of a thread, loops, and so was no block"
+    else:
+        what = f"{', '.join(told)}, routines of threads, loop, and so were no blocks"
+    return f"{what}: put what must not be interrupted into a function of its own"
 
 
 def _ask(looked: Looked, asked: Asked) -> None:

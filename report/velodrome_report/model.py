@@ -214,19 +214,22 @@ class GapTrait:
     counts: bool = False
     # both ends are at one place of a loop
     in_loop: bool = False
+    # a piece of the heap that one call reads and another one writes: used again, perhaps
+    used_again: bool = False
     tier: int = 3
     # somebody came in between, in some run; else it could have been
     seen: bool = False
     target: str = ""
     callee: str = ""
 
-    def key(self) -> Tuple[bool, bool, bool, bool, int, bool, str, str]:
+    def key(self) -> Tuple[bool, bool, bool, bool, bool, int, bool, str, str]:
         """The lesser key is the more telling gap."""
         return (
             self.inside_callee,
             self.in_wait,
             self.counts,
             self.in_loop,
+            self.used_again,
             self.tier,
             not self.seen,
             self.target,

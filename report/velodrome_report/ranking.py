@@ -16,9 +16,11 @@ SAID = {
 
 def by_design(finding: Finding) -> Optional[str]:
     """Why a finding is probably no mistake, None if it may be one."""
+    gap = finding.traits.gap
+    if gap is not None and gap.used_again:
+        return f"one call reads {gap.target} and another one writes it: it is used again, perhaps"
     if finding.kind is not Kind.NOT_ATOMIC:
         return None
-    gap = finding.traits.gap
     if gap is None:
         return None if _may_matter(finding.traits) else "no variable makes it so, only locks do"
     if gap.in_wait:

@@ -128,10 +128,10 @@ def frames(event: Event, report: Report) -> List[Frame]:
 
 def looked_at(report: Report) -> str:
     """Returns what was looked at."""
-    return (
-        f"{plural(report.calls(), 'call')} of {plural(report.functions(), 'function')}"
-        f" in {plural(len(report.looked_at()), 'run')}"
-    )
+    runs = plural(len(report.looked_at()), "run")
+    if not report.functions():
+        return f"no function in {runs}"
+    return f"{plural(report.calls(), 'call')} of {plural(report.functions(), 'function')} in {runs}"
 
 
 def outcome(report: Report) -> str:
