@@ -179,7 +179,7 @@ class Folding(unittest.TestCase):
                 found("b", GapTrait(inside_callee=True, callee="a")),
             ]
         )
-        self.assertEqual([one.section for one in findings], [Section.FOLDED, Section.LIKELY])
+        self.assertEqual([one.section for one in findings], [Section.LIKELY, Section.FOLDED])
 
 
 class Whole(unittest.TestCase):
