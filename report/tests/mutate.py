@@ -7,19 +7,27 @@ line, or where more than LEFT were not seen.
 
 from __future__ import annotations
 
+import atexit
 import os
 import shutil
-import subprocess
+import signal
 import sys
 import tempfile
+import unittest
 from typing import List, Optional, Tuple
+
+# what the tests need is loaded once, not in each process
+import html.parser  # noqa: F401
+import json  # noqa: F401
+import subprocess  # noqa: F401
+import xml.etree.ElementTree  # noqa: F401
 
 HERE = os.path.dirname(os.path.abspath(__file__))
 REPORT = os.path.dirname(HERE)
 LEFT = 2
-SECONDS = 300
+SECONDS = 1200
 # the quick ones first: an edit is seen by the first test that fails
-TESTS = ("test_forms", "test_drawing")
+TESTS = ("test_forms.Golden", "test_forms", "test_drawing")
 PAGE = ("page.js", "page.css", "html.py")
 
 Edit = Tuple[str, str, str]
@@ -50,7 +58,7 @@ EDITS: List[Edit] = [
     ("words.py", "report.calls(), 'call'", "report.functions(), 'call'"),
     # characters
     ("characters.py", "\\ufffe\\uffff", "\\ufffe"),
-    ("characters.py", "\\u202e", "\\u202d"),
+    ("characters.py", "\\u2028-\\u202e", "\\u2028-\\u202d"),
     ("characters.py", "\\ud800-\\udfff", "\\ud800-\\udbff"),
     ("characters.py", "\\x7f-\\x9f", "\\x7f"),
     ("characters.py", '{\'"\': "&quot;", "\'": "&#39;"}', "{}"),
@@ -251,17 +259,33 @@ def copied(edit: Edit) -> Optional[str]:
 def is_seen(folder: str, name: str) -> bool:
     """Says whether a test fails."""
     tests = [*TESTS, *(["test_page"] if name in PAGE else [])]
-    for test in tests:
-        done = subprocess.run(
-            [sys.executable, "-B", "-m", "unittest", "-q", "-f", test],
-            cwd=os.path.join(folder, "tests"),
-            capture_output=True,
-            timeout=SECONDS,
-            check=False,
-        )
-        if done.returncode:
-            return True
-    return False
+    return any(fails(folder, test) for test in tests)
+
+
+def fails(folder: str, test: str) -> bool:
+    """Says whether these tests fail, or never end, in a process of their own."""
+    child = os.fork()
+    if child == 0:
+        signal.alarm(SECONDS)
+        status = run(folder, test)
+        # ends the browser of the tests
+        atexit._run_exitfuncs()
+        os._exit(status)
+    return os.waitpid(child, 0)[1] != 0
+
+
+def run(folder: str, test: str) -> int:
+    """Runs the tests of a folder, and returns 1 if one fails."""
+    sys.dont_write_bytecode = True
+    sys.path[:0] = [os.path.join(folder, "tests"), folder]
+    with open(os.devnull, "w", encoding="utf-8") as nowhere:
+        sys.stderr = nowhere
+        try:
+            suite = unittest.defaultTestLoader.loadTestsFromName(test)
+            runner = unittest.TextTestRunner(nowhere, failfast=True)
+            return 0 if runner.run(suite).wasSuccessful() else 1
+        except Exception:  # an edit may break anything
+            return 1
 
 
 def main(wanted: List[str]) -> int:
