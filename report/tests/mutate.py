@@ -35,7 +35,7 @@ EDITS: List[Edit] = [
     # what every form says
     ("words.py", "{len(finding.seen)} of", "{len(finding.possible)} of"),
     ("words.py", "possible in {len(finding.possible)}", "possible in {len(finding.seen)}"),
-    ("words.py", "len(report.looked_at())\n    return", "len(report.runs)\n    return"),
+    ("words.py", "runs = report.counted()", "runs = len(report.runs)"),
     ("words.py", "if many == 1 else 's'", "if many <= 1 else 's'"),
     ("words.py", '" and ".join', '" or ".join'),
     (
@@ -50,8 +50,8 @@ EDITS: List[Edit] = [
     ("words.py", "place(event.place), source", "place(event.at), source"),
     ("words.py", '">" if event.interrupts else " "', '" " if event.interrupts else ">"'),
     ("words.py", "source(event.source), does", "source(event.at_source), does"),
-    ("words.py", "if not report.looked_at():", "if not report.runs:"),
-    ("words.py", "if not report.findings:", "if report.findings:"),
+    ("words.py", "looked_at(report) if report.looked_at()", "looked_at(report) if report.runs"),
+    ("words.py", 'no mistake found" if report.looked_at()', 'no mistake found" if report.runs'),
     ("words.py", "if not run.looked_at]", "if run.looked_at]"),
     ("words.py", "for warning in run.warnings]", "for warning in run.warnings[1:]]"),
     ("words.py", "len(runs) - 1:,} more", "len(runs):,} more"),
@@ -88,7 +88,7 @@ EDITS: List[Edit] = [
     ("words.py", "if frame.function not in report.known]", "]"),
     ("sarif.py", "visible(finding.repeat)", "finding.repeat"),
     ("sarif.py", "_location(event.place, event.source)", "_location(event.at, event.source)"),
-    ("sarif.py", '"runs": len(report.looked_at())', '"runs": len(report.runs)'),
+    ("sarif.py", '"runs": report.counted()', '"runs": len(report.runs)'),
     # JUnit
     ("junit.py", "findings[0].place", "None"),
     ("junit.py", "if not findings and not report.looked_at():", "if False:"),

@@ -172,6 +172,9 @@ class Words(unittest.TestCase):
         report = samples.every_kind()
         self.assertIn("of 3 runs", words.how_often(report.findings[0], report))
         self.assertEqual(words.outcome(samples.nothing_looked_at()), "nothing was looked at")
+        report = samples.nothing_looked_at()
+        report.findings = [samples.deadlock()]
+        self.assertEqual(words.outcome(report), "nothing was looked at: 1 finding")
 
 
 class Text(unittest.TestCase):
