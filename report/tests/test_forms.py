@@ -172,6 +172,9 @@ class Words(unittest.TestCase):
         report = samples.every_kind()
         self.assertIn("of 3 runs", words.how_often(report.findings[0], report))
         self.assertEqual(words.outcome(samples.nothing_looked_at()), "nothing was looked at")
+        report = samples.nothing_looked_at()
+        report.findings = [samples.deadlock()]
+        self.assertEqual(words.outcome(report), "nothing was looked at: 1 finding")
 
 
 class Text(unittest.TestCase):
@@ -246,6 +249,16 @@ class Sarif(unittest.TestCase):
             self.assertEqual(
                 told, [f"{event.thread} {event.does()}" for event in finding.witness.events]
             )
+
+    def test_a_line_that_is_none_has_no_region(self) -> None:
+        for line in (0, 2**31):
+            finding = samples.pool_finding(1)
+            finding.function = Function("f", "f", Place("a.c", line))
+            report = Report(samples.runs(1, {}), [finding])
+            log = json.loads(golden.printed("", "sarif", report))
+            self.assertEqual(sarif_2_1_0.faults(log), [])
+            location = log["runs"][0]["results"][0]["locations"][0]["physicalLocation"]
+            self.assertNotIn("region", location)
 
     def test_a_path_is_a_uri(self) -> None:
         place = Place("/home/a b/ü%.c", 3)

@@ -6,7 +6,7 @@ import shlex
 from dataclasses import replace
 from typing import Dict, Iterable, List, Optional, Sequence
 
-from . import finding, folding, names, ranking
+from . import apart, finding, folding, names, ranking
 from .judge import Looked
 from .model import Counts, Event, Finding, Kind, Report, Run, Witness
 from .source import Sources
@@ -23,6 +23,7 @@ def report(every: Sequence[Looked], reasons: Iterable[str] = ()) -> Report:
 def merged(reports: Sequence[Report]) -> Report:
     """One report of several, as if all their runs had been looked at by one call."""
     found: Dict[str, Finding] = {}
+    reports = apart.named_apart(reports)
     for part in reports:
         for one in part.findings:
             known = found.get(one.id)

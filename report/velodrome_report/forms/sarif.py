@@ -104,7 +104,7 @@ def _properties(finding: Finding, report: Report) -> Object:
     properties: Object = {
         "seen": len(finding.seen),
         "possible": len(finding.possible),
-        "runs": len(report.looked_at()),
+        "runs": report.counted(),
         "section": finding.section.value,
     }
     if finding.repeat:

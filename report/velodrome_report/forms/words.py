@@ -136,11 +136,10 @@ def looked_at(report: Report) -> str:
 
 def outcome(report: Report) -> str:
     """Returns what was looked at, and how much was found in it."""
-    if not report.looked_at():
-        return "nothing was looked at"
-    if not report.findings:
-        return f"{looked_at(report)}: no mistake found"
-    return f"{looked_at(report)}: {plural(len(report.findings), 'finding')}"
+    looked = looked_at(report) if report.looked_at() else "nothing was looked at"
+    if report.findings:
+        return f"{looked}: {plural(len(report.findings), 'finding')}"
+    return f"{looked}: no mistake found" if report.looked_at() else looked
 
 
 def unsaid(report: Report) -> List[str]:
