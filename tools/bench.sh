@@ -10,7 +10,10 @@ set -euo pipefail
 rounds=${ROUNDS:-7}
 logs=()
 while [ $# -gt 0 ] && [ "$1" != -- ]; do logs+=("$1"); shift; done
-[ ${#logs[@]} -gt 0 ] && [ $# -gt 1 ] || { sed -n '2,4s/^# \{0,1\}//p' "$0" >&2; exit 2; }
+if [ ${#logs[@]} -eq 0 ] || [ $# -le 1 ]; then
+    sed -n '2,4s/^# \{0,1\}//p' "$0" >&2
+    exit 2
+fi
 shift
 programs=("$@")
 

@@ -44,14 +44,20 @@ status() {
 says() {
     local text=$1
     shift
-    ! "$@" >"$out/said.log" 2>&1 && grep -q -- "$text" "$out/said.log" || { cat "$out/said.log"; return 1; }
+    if "$@" >"$out/said.log" 2>&1 || ! grep -q -- "$text" "$out/said.log"; then
+        cat "$out/said.log"
+        return 1
+    fi
 }
 
 # warns TEXT COMMAND..: passes where the command passes and its output has the text
 warns() {
     local text=$1
     shift
-    "$@" >"$out/said.log" 2>&1 && grep -q -- "$text" "$out/said.log" || { cat "$out/said.log"; return 1; }
+    if ! "$@" >"$out/said.log" 2>&1 || ! grep -q -- "$text" "$out/said.log"; then
+        cat "$out/said.log"
+        return 1
+    fi
 }
 
 # kept LOG: an alarm's log and names are there
@@ -67,7 +73,7 @@ there() {
     [ $# -gt 0 ] && [ "$(id -u)" -eq 0 ] && command -v apt-get >/dev/null || return 1
     echo "installs: $*"
     apt-get -qq update >/dev/null 2>&1
-    DEBIAN_FRONTEND=noninteractive apt-get -qq --no-install-recommends install "$@" >/dev/null 2>&1
+    DEBIAN_FRONTEND=noninteractive apt-get -qq -o DPkg::Lock::Timeout=300 --no-install-recommends install "$@" >/dev/null 2>&1
     $test >/dev/null 2>&1
 }
 
@@ -206,7 +212,8 @@ if wants c; then
     done
     if have valgrind; then
         for program in "test $top/bindings/c/data" memory threads cost pthreads "renew 300"; do
-            valgrinds "c: ${program%% *}" $out/$program
+            # shellcheck disable=SC2086 # a program and its words
+            valgrinds "c: ${program%% *}" "$out"/$program
         done
     fi
 fi
@@ -276,8 +283,8 @@ if wants examples && have cmake; then
         step "examples: cpp with WATCH=OFF" ctest --test-dir "$out/build_off" --output-on-failure
     fi
     if have pkg-config pkgconf; then
-        flags=$(PKG_CONFIG_PATH=$prefix/lib/pkgconfig pkg-config --cflags --libs velodrome)
-        step "install: pkg-config" sh -c "g++ -std=c++17 -o '$out/by_pkg_config' '$top/bindings/examples/cpp/lost_update.cpp' $flags -Wl,-rpath,'$prefix/lib'"
+        by_pkg_config=$(PKG_CONFIG_PATH=$prefix/lib/pkgconfig pkg-config --cflags --libs velodrome)
+        step "install: pkg-config" sh -c "g++ -std=c++17 -o '$out/by_pkg_config' '$top/bindings/examples/cpp/lost_update.cpp' $by_pkg_config -Wl,-rpath,'$prefix/lib'"
         step "install: linked with libvelodrome.so.0" status 3 "$out/by_pkg_config"
     fi
 fi

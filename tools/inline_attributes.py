@@ -1,4 +1,4 @@
-"""Gives a module that was made without proof the inline attributes of the sources, for tools/unproved.sh.
+"""Gives a module that was made without proof the inline attributes of the sources, for tools/build.sh --unproved.
 
     python3 tools/inline_attributes.py IN.ll OUT.ll
 

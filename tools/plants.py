@@ -1,6 +1,10 @@
-"""Tries the second line of edits, crates/NAME/plants/*.edit, of the crates that are named, or of every crate that has some.
+"""Tries the second line of edits, crates/NAME/plants/*.edit: of the crates that are named, or of every crate that has some.
 
     python3 tools/plants.py [NAME..]
+    python3 tools/plants.py --changed [BASE]
+
+With --changed, those of each crate that differs from where this branch left BASE (origin/main). When each was last tried stands in
+tools/plants.tsv, a line for each edit: crate, edit, commit, what became of it. A commit that ends in `-dirty` had changes beside it.
 
 Edits of different functions are tried in one check of a copy of the crate, so nothing here changes, and of the edited
 functions alone; an edit that no goal refuses there is tried again by itself, and then with the whole crate. The copy has the
@@ -16,6 +20,9 @@ import sys
 import tempfile
 
 from edits import TOP, parsed, trouble
+
+RECORD = f"{TOP}/tools/plants.tsv"
+PARTS = ("src", "specs", "proofs")
 
 # What the prover says of a place, but for advice.
 SAID = re.compile(r"(?:note: )?(?:\./)?((?:src|specs|proofs)/[^:\s]+):(\d+):(\d+): (.*)")
@@ -178,8 +185,10 @@ class Copy:
     def restored(self, crate):
         """The folder of the crate, with its own text."""
         folder = f"{self.room}/crates/{crate}"
-        shutil.rmtree(f"{folder}/src")
-        shutil.copytree(f"{TOP}/crates/{crate}/src", f"{folder}/src")
+        for part in PARTS:
+            if os.path.isdir(f"{TOP}/crates/{crate}/{part}"):
+                shutil.rmtree(f"{folder}/{part}")
+                shutil.copytree(f"{TOP}/crates/{crate}/{part}", f"{folder}/{part}")
         return folder
 
     def try_edits(self, crate, batch):
@@ -261,37 +270,83 @@ def judged(copy, crate, batch):
     return found
 
 
-def main():
-    names = sys.argv[1:] or sorted(
-        it for it in os.listdir(f"{TOP}/crates") if os.path.isdir(f"{TOP}/crates/{it}/plants")
+def git(*words):
+    return subprocess.run(
+        ["git", "-C", TOP, *words], check=True, stdout=subprocess.PIPE, text=True
+    ).stdout
+
+
+def has_plants(crate):
+    return os.path.isdir(f"{TOP}/crates/{crate}/plants")
+
+
+def crates_changed(base):
+    """The crates with plants that differ from where this branch left the base, with what is not committed or not known to git."""
+    left = git("merge-base", base, "HEAD").strip()
+    paths = git("diff", "--name-only", "--no-renames", left).splitlines()
+    paths += git("ls-files", "--others", "--exclude-standard").splitlines()
+    parts = [path.split("/") for path in paths]
+    folders = (*PARTS, "plants")
+    found = {it[1] for it in parts if it[0] == "crates" and len(it) > 3 and it[2] in folders}
+    return sorted(filter(has_plants, found))
+
+
+def record(crate, lines):
+    """Writes down what became of the crate's plants, in the place of what stood there of this crate."""
+    kept = []
+    if os.path.exists(RECORD):
+        with open(RECORD, encoding="utf-8") as file:
+            kept = [line for line in file if line.split("\t")[0] != crate]
+    commit = git("describe", "--always", "--dirty", "--exclude", "*").strip()
+    tried = [f"{crate}\t{edit}\t{commit}\t{what}\n" for what, edit, _ in lines]
+    with open(RECORD, "w", encoding="utf-8") as file:
+        file.writelines(sorted(kept + tried))
+
+
+def tried_of(copy, crate):
+    """What became of each plant of the crate, its name, and why."""
+    folder = f"{TOP}/crates/{crate}"
+    paths = sorted(
+        f"{folder}/plants/{it}" for it in os.listdir(f"{folder}/plants") if it.endswith(".edit")
     )
-    unknown = [it for it in names if not os.path.isdir(f"{TOP}/crates/{it}/plants")]
+    bad = {it: trouble(it) for it in paths}
+    lines = [
+        ("BAD", os.path.basename(it).removesuffix(".edit"), why) for it, why in bad.items() if why
+    ]
+    for batch in batches_of([Edit(it, folder) for it in paths if not bad[it]]):
+        found = judged(copy, crate, batch)
+        lines += [(what, edit.name, why) for edit, (what, why) in found.items()]
+    copy.restored(crate)
+    return lines
+
+
+def crates_asked_for(words):
+    """The crates whose plants are to be tried, by the words of the command line."""
+    if words[:1] == ["--changed"]:
+        return crates_changed((words[1:] or ["origin/main"])[0])
+    return words or sorted(filter(has_plants, os.listdir(f"{TOP}/crates")))
+
+
+def main():
+    try:
+        names = crates_asked_for(sys.argv[1:])
+    except subprocess.CalledProcessError as error:
+        return error.returncode
+    unknown = [it for it in names if not has_plants(it)]
     if unknown:
         print(f"plants: crates/{unknown[0]} has no folder plants", file=sys.stderr)
         return 2
     copy, counts = Copy(), {}
     try:
         for crate in names:
-            folder = f"{TOP}/crates/{crate}"
-            paths = sorted(
-                f"{folder}/plants/{it}"
-                for it in os.listdir(f"{folder}/plants")
-                if it.endswith(".edit")
-            )
-            bad = {it: trouble(it) for it in paths}
-            lines = [("BAD", os.path.basename(it), why) for it, why in bad.items() if why]
-            for batch in batches_of([Edit(it, folder) for it in paths if not bad[it]]):
-                lines += [
-                    (what, edit.name, why)
-                    for edit, (what, why) in judged(copy, crate, batch).items()
-                ]
-            copy.restored(crate)
+            lines = tried_of(copy, crate)
+            record(crate, lines)
             for what, edit, why in lines:
                 counts[what] = counts.get(what, 0) + 1
                 print(f"{crate}/{edit}: {what}: {why}", flush=True)
     finally:
         shutil.rmtree(copy.room, ignore_errors=True)
-    print(", ".join(f"{count} {what}" for what, count in sorted(counts.items())))
+    print(", ".join(f"{count} {what}" for what, count in sorted(counts.items())) or "none to try")
     return 1 if counts.get("BAD") or counts.get("NOT REFUSED") else 0
 
 

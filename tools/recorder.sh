@@ -16,12 +16,12 @@ passed=0
 failed=0
 left=0
 jobs=${JOBS:-2}
-release=$(. /etc/os-release && echo "$VERSION_CODENAME")
+release=$(sed -n 's/^VERSION_CODENAME=//p' /etc/os-release)
 make -s -C "$top/recorder" || exit 1
 export PATH=$top/recorder/out/bin:$PATH
 mkdir -p "$room/apt/lists/partial" "$room/apt/cache/archives/partial"
 room=$(cd "$room" && pwd)
-no_autotools="AUTOMAKE=: AUTOCONF=: ACLOCAL=: AUTOHEADER=:"
+no_autotools=(AUTOMAKE=: AUTOCONF=: ACLOCAL=: AUTOHEADER=:)
 
 apt=(apt-get -qq -o "Dir::Etc::SourceList=$room/apt/sources.list" -o Dir::Etc::SourceParts=/dev/null
     -o "Dir::State::Lists=$room/apt/lists" -o "Dir::Cache=$room/apt/cache" -o APT::Sandbox::User=root)
@@ -122,7 +122,7 @@ fi
 
 build_libmicrohttpd() {
     ./configure -q CC=velodrome-cc --disable-https --disable-doc --disable-curl --disable-shared --enable-static &&
-        make -s -j"$jobs" $no_autotools -C src/microhttpd && make -s $no_autotools -C src/examples benchmark
+        make -s -j"$jobs" "${no_autotools[@]}" -C src/microhttpd && make -s "${no_autotools[@]}" -C src/examples benchmark
 }
 if build libmicrohttpd build_libmicrohttpd; then
     { python3 "$top/recorder/tests/load.py" http 18083 4 40 >/dev/null; sleep 1; echo; } |
@@ -134,10 +134,10 @@ fi
 
 build_libevent() {
     ./configure -q CC=velodrome-cc --disable-openssl --disable-samples --disable-shared --disable-libevent-regress --prefix="$room/libevent.made" &&
-        make -s -j"$jobs" $no_autotools install
+        make -s -j"$jobs" "${no_autotools[@]}" install
 }
 build_memcached() {
-    ./configure -q CC=velodrome-cc --with-libevent="$room/libevent.made" && make -s -j"$jobs" $no_autotools memcached
+    ./configure -q CC=velodrome-cc --with-libevent="$room/libevent.made" && make -s -j"$jobs" "${no_autotools[@]}" memcached
 }
 if build libevent build_libevent && build memcached build_memcached; then
     serve memcached INT "$room/memcached/memcached" -u "$(id -un)" -l 127.0.0.1 -p 18084 -U 0 -t 4 -- python3 "$top/recorder/tests/load.py" memcached 18084 6 300

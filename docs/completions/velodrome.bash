@@ -11,7 +11,7 @@ _velodrome() {
         replay) words="--schedule --turns --stop --why --log --names-out --events --nodes --certificate --help" ;;
         run) words="--stop --why --log --names-out --events --nodes --certificate --help" ;;
         explain) words="--dot --svg --stacks --format --names --sites --source --not-atomic --ignore --ignore-label --ignore-lock --ignore-locks --ignore-variable --help" ;;
-        carry) words="--log --why --help" ;;
+        carry) words="--log --help" ;;
         explore) words="--states --seconds --first --progress --random --seed --format --not-atomic --ignore --ignore-label --ignore-lock --ignore-locks --ignore-variable --log --names-out --events --nodes --certificate --help" ;;
         watch) words="--names --sites --source --stop --endless --not-atomic --ignore --ignore-label --ignore-lock --ignore-locks --ignore-variable --events --nodes --certificate --help" ;;
         audit) words="--no-witness --counts --by-count --innermost --summary --merge --format --names --sites --source --not-atomic --ignore --ignore-label --ignore-lock --ignore-locks --ignore-variable --events --nodes --help" ;;

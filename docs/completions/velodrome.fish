@@ -55,7 +55,6 @@ complete -c velodrome -n '__fish_seen_subcommand_from explain' -l ignore-locks -
 complete -c velodrome -n '__fish_seen_subcommand_from explain' -l ignore-variable -x -d 'Leave out the events on this variable, a number or a name; may be repeated'
 complete -c velodrome -n '__fish_seen_subcommand_from explain' -l help -d 'Print help'
 complete -c velodrome -n '__fish_seen_subcommand_from carry' -l log -r -d 'Write the log to OUT, which is emptied first'
-complete -c velodrome -n '__fish_seen_subcommand_from carry' -l why -d 'Say on standard error in words, too, what is wrong and where'
 complete -c velodrome -n '__fish_seen_subcommand_from carry' -l help -d 'Print help'
 complete -c velodrome -n '__fish_seen_subcommand_from explore' -l states -x -d 'The most states that the search may look at, 1 to 16777216 [default: 2097152]'
 complete -c velodrome -n '__fish_seen_subcommand_from explore' -l seconds -x -d 'The most seconds that the search may take, 1 to 1000000'

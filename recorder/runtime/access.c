@@ -101,10 +101,16 @@ static inline void access_small(int kind, u64 a, unsigned size, u64 code) {
     BOTH(prefix##read_write##size, size)
 #define SIZES(prefix)                                                                              \
     FORMS(prefix, 1)                                                                               \
-    FORMS(prefix, 2) FORMS(prefix, 4) FORMS(prefix, 8) WIDE(prefix##read16, RD)                    \
-        WIDE(prefix##write16, WR)
+    FORMS(prefix, 2)                                                                               \
+    FORMS(prefix, 4)                                                                               \
+    FORMS(prefix, 8)                                                                               \
+    WIDE(prefix##read16, RD)                                                                       \
+    WIDE(prefix##write16, WR)
 SIZES()
-SIZES(unaligned_) SIZES(volatile_) SIZES(unaligned_volatile_) API void __tsan_vptr_read(void **a) {
+SIZES(unaligned_)
+SIZES(volatile_)
+SIZES(unaligned_volatile_)
+API void __tsan_vptr_read(void **a) {
     access_small(RD, (u64)a, 8, CALLER);
 }
 API void __tsan_vptr_update(void **a, void *v) {
@@ -193,12 +199,16 @@ static inline void fill(void *d, int c, size_t n) {
         return d;                                                                                  \
     }
 COPY(memcpy)
-COPY(memmove) COPY(__tsan_memcpy) COPY(__tsan_memmove) FILL(memset) FILL(__tsan_memset)
+COPY(memmove)
+COPY(__tsan_memcpy)
+COPY(__tsan_memmove)
+FILL(memset)
+FILL(__tsan_memset)
 
-    // ---- other events
-    // An event on an object that orders threads: its stamp comes from the clock of the object's
-    // line.
-    void sync_event(struct self *t, int kind, u64 at, u64 code) {
+// ---- other events
+// An event on an object that orders threads: its stamp comes from the clock of the object's
+// line.
+void sync_event(struct self *t, int kind, u64 at, u64 code) {
     struct line *l = &lines[line_of(at)];
     if (mode == SERIAL)
         stamp_alone(t);

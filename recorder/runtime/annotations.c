@@ -44,30 +44,52 @@ API void AnnotateHappensAfter(const char *file, int line, void *a) {
         return 0;                                                                                  \
     }
 NOTHING(__tsan_mutex_create)
-NOTHING(__tsan_mutex_destroy) NOTHING(__tsan_mutex_pre_lock) NOTHING(
-    __tsan_mutex_post_unlock) NOTHING(__tsan_mutex_pre_signal) NOTHING(__tsan_mutex_post_signal)
-    NOTHING(__tsan_mutex_pre_divert) NOTHING(__tsan_mutex_post_divert) NOTHING(
-        __tsan_get_current_fiber) NOTHING(__tsan_create_fiber) NOTHING(__tsan_destroy_fiber)
-        NOTHING(__tsan_switch_to_fiber) NOTHING(__tsan_set_fiber_name) NOTHING(
-            __tsan_flush_memory) NOTHING(AnnotateIgnoreReadsBegin) NOTHING(AnnotateIgnoreReadsEnd)
-            NOTHING(AnnotateIgnoreWritesBegin) NOTHING(AnnotateIgnoreWritesEnd) NOTHING(
-                AnnotateIgnoreSyncBegin) NOTHING(AnnotateIgnoreSyncEnd)
-                NOTHING(AnnotateRWLockCreate) NOTHING(AnnotateRWLockCreateStatic) NOTHING(
-                    AnnotateRWLockDestroy) NOTHING(AnnotateBenignRace)
-                    NOTHING(AnnotateBenignRaceSized) NOTHING(AnnotateNewMemory) NOTHING(
-                        AnnotateEnableRaceDetection) NOTHING(AnnotateThreadName)
-                        NOTHING(AnnotateFlushState) NOTHING(AnnotateMutexIsUsedAsCondVar) NOTHING(
-                            AnnotatePublishMemoryRange) NOTHING(AnnotateUnpublishMemoryRange)
-                            NOTHING(AnnotateMemoryIsInitialized) NOTHING(AnnotateNoOp)
-                                NOTHING(AnnotatePCQCreate) NOTHING(AnnotatePCQDestroy)
-                                    NOTHING(AnnotatePCQPut) NOTHING(AnnotatePCQGet) NOTHING(
-                                        AnnotateTraceMemory) NOTHING(AnnotateExpectRace)
-                                        NOTHING(AnnotateMemoryIsUninitialized) NOTHING(
-                                            AnnotateCondVarSignal) NOTHING(AnnotateCondVarSignalAll)
-                                            NOTHING(AnnotateCondVarWait)
-                                                NOTHING(WTFAnnotateHappensBefore)
-                                                    NOTHING(WTFAnnotateHappensAfter)
-                                                        NOTHING(WTFAnnotateBenignRaceSized) API
-    int RunningOnValgrind(void) {
+NOTHING(__tsan_mutex_destroy)
+NOTHING(__tsan_mutex_pre_lock)
+NOTHING(__tsan_mutex_post_unlock)
+NOTHING(__tsan_mutex_pre_signal)
+NOTHING(__tsan_mutex_post_signal)
+NOTHING(__tsan_mutex_pre_divert)
+NOTHING(__tsan_mutex_post_divert)
+NOTHING(__tsan_get_current_fiber)
+NOTHING(__tsan_create_fiber)
+NOTHING(__tsan_destroy_fiber)
+NOTHING(__tsan_switch_to_fiber)
+NOTHING(__tsan_set_fiber_name)
+NOTHING(__tsan_flush_memory)
+NOTHING(AnnotateIgnoreReadsBegin)
+NOTHING(AnnotateIgnoreReadsEnd)
+NOTHING(AnnotateIgnoreWritesBegin)
+NOTHING(AnnotateIgnoreWritesEnd)
+NOTHING(AnnotateIgnoreSyncBegin)
+NOTHING(AnnotateIgnoreSyncEnd)
+NOTHING(AnnotateRWLockCreate)
+NOTHING(AnnotateRWLockCreateStatic)
+NOTHING(AnnotateRWLockDestroy)
+NOTHING(AnnotateBenignRace)
+NOTHING(AnnotateBenignRaceSized)
+NOTHING(AnnotateNewMemory)
+NOTHING(AnnotateEnableRaceDetection)
+NOTHING(AnnotateThreadName)
+NOTHING(AnnotateFlushState)
+NOTHING(AnnotateMutexIsUsedAsCondVar)
+NOTHING(AnnotatePublishMemoryRange)
+NOTHING(AnnotateUnpublishMemoryRange)
+NOTHING(AnnotateMemoryIsInitialized)
+NOTHING(AnnotateNoOp)
+NOTHING(AnnotatePCQCreate)
+NOTHING(AnnotatePCQDestroy)
+NOTHING(AnnotatePCQPut)
+NOTHING(AnnotatePCQGet)
+NOTHING(AnnotateTraceMemory)
+NOTHING(AnnotateExpectRace)
+NOTHING(AnnotateMemoryIsUninitialized)
+NOTHING(AnnotateCondVarSignal)
+NOTHING(AnnotateCondVarSignalAll)
+NOTHING(AnnotateCondVarWait)
+NOTHING(WTFAnnotateHappensBefore)
+NOTHING(WTFAnnotateHappensAfter)
+NOTHING(WTFAnnotateBenignRaceSized)
+API int RunningOnValgrind(void) {
     return 0;
 }

@@ -3,7 +3,7 @@ ghost use Rattle.std.specs.Prelude.{◌≡◌};
 ghost use Rattle.velo_arena.specs.Heirs.{renamed};
 
 /// A node by its slot and its stamp. It names no node any more once that node was freed.
-#[derive(Clone, Copy, Debug, Default, PartialEq, Eq)]
+#[derive(Clone, Copy, Default, PartialEq, Eq)]
 pub struct Step {
     /// The slot into which the node was put.
     pub slot: u16,
@@ -12,7 +12,7 @@ pub struct Step {
 }
 
 /// What a slot in use bears.
-#[derive(Clone, Copy, Debug, PartialEq, Eq)]
+#[derive(Clone, Copy, PartialEq, Eq)]
 pub struct Node {
     /// The stamp that the node was given.
     pub stamp: u32,
@@ -21,7 +21,7 @@ pub struct Node {
 }
 
 /// The node with the first stamp gives way to that of the step.
-#[derive(Clone, Copy, Debug, PartialEq, Eq)]
+#[derive(Clone, Copy, PartialEq, Eq)]
 pub struct Heir {
     /// The stamp of the node that gives way.
     pub of: u32,

@@ -232,8 +232,7 @@ an_explanation rows word =
 a_carrying : (rows : List Row) → HasWord (codes "LOG") rows → HasWord (codes "log") rows → (options : CarryOptions) × AsksCarry rows options
 unfolding a_path
 a_carrying rows word out =
-    let why = one_of (codes "why") rows in
-    (record { input = a_path word.0; target = a_path out.0; why = is_true why }, (word.1, out.1, is_flag why))
+    (record { input = a_path word.0; target = a_path out.0 }, (word.1, out.1))
 
 a_seed : (rows : List Row) → MayHave (codes "seed") rows (HasWide (codes "seed") rows) → (seed : ℕ) × IsSeed rows seed
 a_seed rows (inl none) = (DEFAULT_SEED, inl (none, refl))

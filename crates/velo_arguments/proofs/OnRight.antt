@@ -260,7 +260,7 @@ explain_right words e =
 pub carry_right : (words : List Text) → AreFaultless carry words
     → HasWord (codes "LOG") (rows_of_leaf carry words) × HasWord (codes "log") (rows_of_leaf carry words)
 carry_right words e =
-    let level = level_has limits (leaf carry) words refl (makes_word (codes "LOG") refl, (makes_needed (codes "log") refl, (makes_flag (codes "why") refl, (makes_help, tt)))) e in
+    let level = level_has limits (leaf carry) words refl (makes_word (codes "LOG") refl, (makes_needed (codes "log") refl, (makes_help, tt))) e in
     (word_there (codes "LOG") (rows_of_leaf carry words) level.passes (level.given.0 refl), word_there (codes "log") (rows_of_leaf carry words) level.passes (level.given.1.0 refl))
 
 pub verify_right : (words : List Text) → AreFaultless verify words

@@ -203,9 +203,9 @@ carry_is_right : faults_of carry_words ≡ []
 unfolding faults_of walk_fault walked defaults_fault
 carry_is_right = refl
 
-carry_asks : (options : CarryOptions) → options.input.now ≡ codes "a" → options.target.now ≡ codes "b" → options.why ≡ false → AsksFor (asked_by carry_words) (Carry options)
+carry_asks : (options : CarryOptions) → options.input.now ≡ codes "a" → options.target.now ≡ codes "b" → AsksFor (asked_by carry_words) (Carry options)
 unfolding asked_by walked
-carry_asks options log out why = (refl, (ap Some (sym log), ap Some (sym out), is_unset options.why why))
+carry_asks options log out = (refl, (ap Some (sym log), ap Some (sym out)))
 
 -- a number by its digits
 writes : (text : Text) (bits n : ℕ) → accepts false (Unsigned 0 18446744073709551615) text ≡ true → nat_lt (digits_value 10 (without_leading_plus text)) (2 ^ bits) ≡ true

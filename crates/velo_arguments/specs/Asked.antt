@@ -168,7 +168,6 @@ abbrev pub AsksCarry : List Row → CarryOptions → Type 0
 AsksCarry rows options =
     (first_of (codes "LOG") rows ≡ Some options.input.now)
     × (first_of (codes "log") rows ≡ Some options.target.now)
-    × IsFlag (one_of (codes "why") rows) options.why
 
 -- the seed that is given, or the one by default
 abbrev pub IsSeed : List Row → ℕ → Type 0

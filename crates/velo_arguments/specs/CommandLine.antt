@@ -133,7 +133,7 @@ explain = subcommand (codes "explain")
 
 abbrev pub carry : Shape
 carry = subcommand (codes "carry")
-    (word (codes "LOG") ∷ needed (codes "log") ∷ flag (codes "why") ∷ [])
+    (word (codes "LOG") ∷ needed (codes "log") ∷ [])
 
 abbrev pub explore : Shape
 explore = subcommand (codes "explore") (word (codes "FILE") ∷ search_options)

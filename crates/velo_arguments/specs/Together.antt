@@ -27,7 +27,7 @@ use Rattle.velo_request.specs.declared.request.ThinOptions.{ThinOptions}
 use Rattle.velo_request.specs.declared.request.WatchRestOptions.{WatchRestOptions}
 use Rattle.velo_arguments.specs.Asked.{Matches, AsksFor, form_named, is_auto, leaves_out, text_or_json_named}
 use Rattle.velo_arguments.specs.declared.clash.Clash.{Clash}
-use Rattle.velo_arguments.specs.declared.clash.Clash.TheVariants.{DrawingIsPicture, EndlessCertificate, EndlessRest, EndlessSites, FileOfOneLog, InputTwice, JsonCertificate, MapIsLog, MergeAlone, NamesWithoutLog, NeitherTextNorJson, NoSuchForm, OneLogAlone, OnePath, RestByChance, RestCertificate, SearchByChance, SeedAlone, SitesCertificate, SourceWithoutSites, TwoLists, TwoSchedules}
+use Rattle.velo_arguments.specs.declared.clash.Clash.TheVariants.{EndlessCertificate, EndlessRest, EndlessSites, FileOfOneLog, InputTwice, JsonCertificate, MergeAlone, NamesWithoutLog, NeitherTextNorJson, NoSuchForm, OneLogAlone, RestByChance, RestCertificate, SearchByChance, SeedAlone, SitesCertificate, SourceWithoutSites, TwoLists, TwoSchedules}
 use Rattle.velo_arguments.specs.declared.given.Given.{Given}
 
 -- ---- paths
@@ -48,24 +48,11 @@ abbrev pub clash_of_inputs : List (List ℕ) → Option Clash
 clash_of_inputs paths =
     if nat_lt 1 (count_by (λ path. bytes_eq path (codes "-")) paths) then Some InputTwice else None
 
--- the names of a run are saved without its log, or at the path of its log
+-- the names of a run are saved without its log
 abbrev pub clash_of_targets : Option (Bor (List ℕ)) → Option (Bor (List ℕ)) → Option Clash
 clash_of_targets log None = None
 clash_of_targets None (Some names) = Some NamesWithoutLog
-clash_of_targets (Some log) (Some names) =
-    if bytes_eq log.now names.now then Some OnePath else None
-
--- the map of a thinned log is saved at the path of the log
-abbrev pub clash_of_map : List ℕ → Option (Bor (List ℕ)) → Option Clash
-clash_of_map log None = None
-clash_of_map log (Some map) = if bytes_eq log map.now then Some MapIsLog else None
-
--- the drawing of an alarm is saved at the path of its picture
-abbrev pub clash_of_drawing : Option (Bor (List ℕ)) → Option (Bor (List ℕ)) → Option Clash
-clash_of_drawing None drawing = None
-clash_of_drawing (Some picture) None = None
-clash_of_drawing (Some picture) (Some drawing) =
-    if bytes_eq picture.now drawing.now then Some DrawingIsPicture else None
+clash_of_targets (Some log) (Some names) = None
 
 -- ---- what the words give
 
@@ -240,20 +227,18 @@ clash_of_explore_rest options given =
 -- ---- an explanation
 
 -- it is asked for in a form that does not exist; or standard input is read twice, there are no sites
--- for sources, there are two lists, or one path is written twice
+-- for sources, or two lists
 abbrev pub clash_of_explain : ExplainOptions → Given → Option Clash
 clash_of_explain options given =
     if given.neither_text_nor_json
     then Some NeitherTextNorJson
     else option_or
     (option_or
-    (option_or
     (clash_of_inputs
     (options.input.now ∷ path_if options.names ++ path_if options.sites
     ++ path_if options.ignored.known))
     (clash_of_source options.sites options.source))
-    (clash_of_lists options.ignored given.not_atomic))
-    (clash_of_drawing options.target options.drawing)
+    (clash_of_lists options.ignored given.not_atomic)
 
 -- ---- an audit
 
@@ -317,14 +302,12 @@ clash_of_predict options given =
 
 -- ---- a thinning
 
--- standard input is read twice, there are two lists, or one path is written twice
+-- standard input is read twice, or there are two lists
 abbrev pub clash_of_thin : ThinOptions → Bool → Option Clash
 clash_of_thin options has_known =
     option_or
-    (option_or
     (clash_of_inputs (options.input.now ∷ path_if options.names ++ path_if options.ignored.known))
-    (clash_of_lists options.ignored has_known))
-    (clash_of_map options.target.now options.map)
+    (clash_of_lists options.ignored has_known)
 
 -- ---- a watch of what is left, or with places
 
@@ -402,7 +385,6 @@ line_of_clash EndlessSites =
     codes "error: --endless goes with neither --sites nor --source\n"
 line_of_clash FileOfOneLog = codes "error: for a summary --names and --sites take auto alone\n"
 line_of_clash MergeAlone = codes "error: --merge goes with no option but --format\n"
-line_of_clash OnePath = codes "error: OUT and NAMES are one file\n"
 line_of_clash RestByChance =
     codes "error: --random does not go with what leaves events out of the log\n"
 line_of_clash RestCertificate =
@@ -415,8 +397,6 @@ line_of_clash SearchByChance =
     codes "error: --random goes with neither --states nor --seconds nor --first nor --progress\n"
 line_of_clash TwoSchedules = codes "error: --schedule does not go with --turns\n"
 line_of_clash SeedAlone = codes "error: --seed goes only with --random\n"
-line_of_clash MapIsLog = codes "error: OUT and MAP are one file\n"
-line_of_clash DrawingIsPicture = codes "error: OUT and SVG are one file\n"
 line_of_clash EndlessCertificate = codes "error: --endless does not go with --certificate\n"
 line_of_clash EndlessRest =
     codes "error: --endless does not go with what leaves events out of the log\n"

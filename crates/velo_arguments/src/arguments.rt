@@ -142,7 +142,7 @@ fn carry<'a>(alloc: Global) -> Result<Command<'a>, Memory>
     ensures { IfOk result (IsSubcommand carry) }
 {
     let about = "Reads a recorded log and writes it in the newest version";
-    let arguments = [LOG, CARRIED_LOG, WHY];
+    let arguments = [LOG, CARRIED_LOG];
     subcommand(alloc, "carry", about, help::OF_CARRY, &arguments)
 }
 

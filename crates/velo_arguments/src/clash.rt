@@ -3,10 +3,8 @@ ghost use Rattle.std.specs.Prelude.{◌≡◌};
 ghost use Rattle.velo_arguments.specs.Together.{line_of_clash};
 
 /// Why the options of a request do not go together.
-#[derive(Clone, Copy, Debug, PartialEq, Eq)]
+#[derive(Clone, Copy, PartialEq, Eq)]
 pub enum Clash {
-    /// The picture and the drawing of an alarm are to be saved at one path.
-    DrawingIsPicture,
     /// An endless watch is to have a certificate.
     EndlessCertificate,
     /// An endless watch is to leave something out of the log.
@@ -19,8 +17,6 @@ pub enum Clash {
     InputTwice,
     /// A JSON object is to have a certificate behind it.
     JsonCertificate,
-    /// A thinned log and its map are to be saved at one path.
-    MapIsLog,
     /// Summaries are to be merged, with an option of an audit of logs.
     MergeAlone,
     /// The names of a run are to be saved, and its log is not.
@@ -32,8 +28,6 @@ pub enum Clash {
     NoSuchForm,
     /// Logs are to have one summary, with an option of the audit of one.
     OneLogAlone,
-    /// The log and the names of a run are to be saved at one path.
-    OnePath,
     /// Random runs are asked for, and something is to be left out of their logs.
     RestByChance,
     /// What is left of a log is to have a certificate.
@@ -57,7 +51,6 @@ pub fn line_of_clash(clash: Clash) -> &'static [u8]
     ensures { result.now ≡ line_of_clash clash }
 {
     match clash {
-        Clash::DrawingIsPicture => b"error: OUT and SVG are one file\n",
         Clash::EndlessCertificate => b"error: --endless does not go with --certificate\n",
         Clash::EndlessRest => {
             b"error: --endless does not go with what leaves events out of the log\n"
@@ -66,7 +59,6 @@ pub fn line_of_clash(clash: Clash) -> &'static [u8]
         Clash::FileOfOneLog => b"error: for a summary --names and --sites take auto alone\n",
         Clash::InputTwice => b"error: standard input can be read once\n",
         Clash::JsonCertificate => b"error: --format json does not go with --certificate\n",
-        Clash::MapIsLog => b"error: OUT and MAP are one file\n",
         Clash::MergeAlone => b"error: --merge goes with no option but --format\n",
         Clash::NamesWithoutLog => b"error: --names-out goes only with --log\n",
         Clash::NeitherTextNorJson => b"error: --format takes text or json\n",
@@ -74,7 +66,6 @@ pub fn line_of_clash(clash: Clash) -> &'static [u8]
         Clash::OneLogAlone => {
             b"error: a summary goes with no option but --format, --names, --sites, --events, --nodes and what leaves events out\n"
         }
-        Clash::OnePath => b"error: OUT and NAMES are one file\n",
         Clash::RestByChance => {
             b"error: --random does not go with what leaves events out of the log\n"
         }

@@ -63,7 +63,7 @@ pub fn has_option_of_logs(found: &ArgMatches) -> bool
 }
 
 /// Which of the options the words give that a request does not show.
-#[derive(Clone, Copy, Debug, PartialEq, Eq)]
+#[derive(Clone, Copy, PartialEq, Eq)]
 pub struct Given {
     /// `--states`.
     pub states: bool,

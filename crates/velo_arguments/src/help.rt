@@ -114,8 +114,8 @@ standard input. Only one of FILE and PATH can be -.
 The names: --names-out writes the names of the workload to NAMES, after the log, for
 'velodrome explain OUT --names NAMES'. It needs --log.
 
-FILE, OUT and NAMES must be different files; otherwise the command stops before it writes to them.
-Standard input is not compared with OUT and NAMES.
+OUT and NAMES must be two files, and none that the command reads, by whatever path or on standard
+input; otherwise it stops before it writes to them. Devices and pipes may be given twice.
 
 With --why, or where standard error is a terminal, words come before the line on standard error: the
 path, the line and its text, and what is wrong with it.
@@ -124,8 +124,7 @@ Statuses, each with the lines on standard error:
   0  the run ended without an alarm, or help
   2  usage; 'error: standard input can be read once'; 'error: --names-out goes only with --log';
      'error: --schedule does not go with --turns'; 'bad schedule'; 'error: FILE and OUT are one file',
-     the same of FILE and NAMES, and of OUT and NAMES; the text is no workload:
-     'workload fault K line N'
+     the same of --turns, and of NAMES; the text is no workload: 'workload fault K line N'
   3  an alarm: no serial reordering of the run exists
   4  the run could not go on: 'stuck', 'refused K thread T'; the report is printed, and may have an alarm
   5  memory or a device failed: 'out of memory', 'read failed', 'write failed', 'cannot open'
@@ -155,8 +154,8 @@ a cycle of waiting threads, the run ends as 'stuck'.
 The names: --names-out writes the names of the workload to NAMES, after the log, for
 'velodrome explain OUT --names NAMES'. It needs --log.
 
-FILE, OUT and NAMES must be different files; otherwise the command stops before it writes to them.
-Standard input is not compared with OUT and NAMES.
+OUT and NAMES must be two files, and none that the command reads, by whatever path or on standard
+input; otherwise it stops before it writes to them. Devices and pipes may be given twice.
 
 With --why, or where standard error is a terminal, words come before the line on standard error: the
 path, the line and its text, and what is wrong with it.
@@ -164,7 +163,7 @@ path, the line and its text, and what is wrong with it.
 Statuses, each with the lines on standard error:
   0  the run ended without an alarm, or help
   2  usage; 'error: --names-out goes only with --log'; 'error: FILE and OUT are one file', the same of
-     FILE and NAMES, and of OUT and NAMES; the text is no workload: 'workload fault K line N'
+     NAMES; the text is no workload: 'workload fault K line N'
   3  an alarm: no serial reordering of the run exists
   4  the run could not go on: 'stuck', 'refused K thread T'; the report is printed, and may have an alarm
   5  memory or a device failed: 'out of memory', 'read failed', 'write failed', 'cannot open'; memory
@@ -206,19 +205,19 @@ the lines of the whole log. What was left out is printed first, as 'velodrome au
 
 It uses the greatest limits, 16777216 events and 4096 nodes, which no log exceeds.
 
-LOG, OUT and SVG must be different files; otherwise the command stops before it writes. Standard input
-is not compared with OUT and SVG.
+OUT and SVG must be two files, and none that the command reads, by whatever path or on standard input;
+otherwise it stops before it writes to them. Devices and pipes may be given twice.
 
 Statuses, each with the lines on standard error:
   0  no alarm, or help
   2  usage; 'error: standard input can be read once'; 'error: --format takes text or json';
      'error: --source goes only with --sites'; 'error: --ignore does not go with --not-atomic';
-     'error: LOG and OUT are one file', the same of LOG and SVG, and of OUT and SVG; the text is no log:
-     'log fault K', 'log fault K line N'; an event cannot happen: 'refused K at P', 'wrong value at P';
-     the text of --names is no file of names: 'names fault K line N'; the text of --sites is no file of
-     sites, or of another log: 'sites fault K line N'; the text of --not-atomic or --ignore is no list:
-     'list fault K line N'; a word of --ignore-label, --ignore-lock or --ignore-variable means nothing:
-     'ignored fault K'
+     'error: LOG and OUT are one file', the same of --names, --sites, --not-atomic and --ignore, and of
+     SVG; the text is no log: 'log fault K', 'log fault K line N'; an event cannot happen:
+     'refused K at P', 'wrong value at P'; the text of --names is no file of names:
+     'names fault K line N'; the text of --sites is no file of sites, or of another log:
+     'sites fault K line N'; the text of --not-atomic or --ignore is no list: 'list fault K line N'; a
+     word of --ignore-label, --ignore-lock or --ignore-variable means nothing: 'ignored fault K'
   3  an alarm: no serial reordering of the log, or of what is left of it, exists
   5  memory or a device failed: 'out of memory', 'read failed', 'write failed', 'cannot open'
 
@@ -240,11 +239,8 @@ It writes the same log to new.log, with 'vlog 2' in its first line. It reads a l
 and does not judge whether the events can happen. It empties OUT before it reads the log; if the text
 is no log, OUT stays empty.
 
-LOG and OUT must be different files; otherwise the command stops before it writes. Standard input is
-not compared with OUT: if it comes from that file, the log is lost.
-
-With --why, or where standard error is a terminal, words come before the line on standard error: the
-path, the line and its text, and what is wrong with it.
+LOG and OUT must be different files, by whatever path or on standard input; otherwise the command stops
+before it writes.
 
 Statuses, each with the lines on standard error:
   0  done, or help
@@ -301,15 +297,15 @@ there each line stays, at most one in two seconds.
 
 The names: --names-out writes the names of the workload to NAMES, after the log. It needs --log.
 
-FILE, OUT and NAMES must be different files; otherwise the command stops before it writes to them.
-Standard input is not compared with OUT and NAMES.
+OUT and NAMES must be two files, and none that the command reads, by whatever path or on standard
+input; otherwise it stops before it writes to them. Devices and pipes may be given twice.
 
 Statuses, each with the lines on standard error:
   0  every schedule was tried, or every run made, and nothing was found; or help
   2  usage; 'error: --random goes with neither --states nor --seconds nor --first nor --progress';
      'error: --seed goes only with --random'; 'error: --format takes text or json';
      'error: --format json does not go with --certificate'; 'error: --names-out goes only with --log';
-     'error: FILE and OUT are one file', the same of FILE and NAMES, and of OUT and NAMES;
+     'error: FILE and OUT are one file', the same of --not-atomic and --ignore, and of NAMES;
      'error: --certificate does not go with what leaves events out of the log';
      'error: --random does not go with what leaves events out of the log'; 'error: standard input can be
      read once'; 'error: --ignore does not go with --not-atomic'; the text is no workload:
@@ -402,19 +398,19 @@ variables, locks and labels keep their numbers, so a file of names still fits. P
 those of OUT, of what is left. MAP tells them in LOG: it gets a line for each event of OUT, its position
 in LOG, from 0. Do not give OUT to 'velodrome predict', which needs all reads.
 
-LOG, OUT and MAP must be different files; otherwise the command stops before it writes. Standard input
-is not compared with OUT and MAP. If LOG has a fault, or an event that cannot happen, OUT and MAP are
-not opened. LOG may have up to 16777216 events. Only one of LOG and the files of --names, --not-atomic
-and --ignore can be -.
+OUT and MAP must be two files, and none that the command reads, by whatever path or on standard input;
+otherwise it stops before it writes to them. Devices and pipes may be given twice. If LOG has a fault,
+or an event that cannot happen, OUT and MAP are not opened. LOG may have up to 16777216 events. Only one
+of LOG and the files of --names, --not-atomic and --ignore can be -.
 
 Statuses, each with the lines on standard error:
   0  done, whatever the verdict, or help
   2  usage; 'error: standard input can be read once'; 'error: --ignore does not go with --not-atomic';
-     'error: LOG and OUT are one file', the same of LOG and MAP, and of OUT and MAP; the text is no log:
-     'log fault K', 'log fault K line N'; an event cannot happen: 'refused K at P', 'wrong value at P';
-     the text of --names is no file of names: 'names fault K line N'; the text of --not-atomic or
-     --ignore is no list: 'list fault K line N'; a word of --ignore-label, --ignore-lock or
-     --ignore-variable means nothing: 'ignored fault K'
+     'error: LOG and OUT are one file', the same of --names, --not-atomic and --ignore, and of MAP; the
+     text is no log: 'log fault K', 'log fault K line N'; an event cannot happen: 'refused K at P',
+     'wrong value at P'; the text of --names is no file of names: 'names fault K line N'; the text of
+     --not-atomic or --ignore is no list: 'list fault K line N'; a word of --ignore-label,
+     --ignore-lock or --ignore-variable means nothing: 'ignored fault K'
   5  memory or a device failed: 'out of memory', 'read failed', 'write failed', 'cannot open'
 
 Lists, ignored words: see 'velodrome audit --help'. Log, names, faults and refusals: see

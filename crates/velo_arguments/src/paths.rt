@@ -1,8 +1,8 @@
-//! Paths that do not go together: of what is read, and of what is saved.
+//! Paths that do not go together.
 ghost use Rattle.std.specs.Prelude.{◌≡◌, ◌∷◌, ◌++◌, codes, count_by, false, map};
 ghost use Rattle.std.specs.Option.{option_map_or};
 ghost use Rattle.std.specs.Str.{bytes_eq};
-ghost use Rattle.velo_arguments.specs.Together.{clash_of_drawing, clash_of_inputs, clash_of_map, clash_of_targets, path_if, schedule_path_if};
+ghost use Rattle.velo_arguments.specs.Together.{clash_of_inputs, clash_of_targets, path_if, schedule_path_if};
 
 use crate::clash::Clash;
 use velo_request::ScheduleSource;
@@ -79,34 +79,12 @@ pub fn clash_of_many_inputs(known: Option<&str>, logs: &[&str]) -> Option<Clash>
     }
 }
 
-/// The names of a run are saved beside its log, and at another path.
+/// The names of a run are saved beside its log.
 pub fn clash_of_targets(log: Option<&str>, names: Option<&str>) -> Option<Clash>
     ensures { result ≡ clash_of_targets log.entry names.entry }
 {
     match (log, names) {
-        (_, None) => None,
         (None, Some(_)) => Some(Clash::NamesWithoutLog),
-        (Some(log), Some(names)) if log == names => Some(Clash::OnePath),
-        (Some(_), Some(_)) => None,
-    }
-}
-
-/// The map of a thinned log is saved at another path than the log.
-pub fn clash_of_map(log: &str, map: Option<&str>) -> Option<Clash>
-    ensures { result ≡ clash_of_map log.now map.entry }
-{
-    match map {
-        Some(map) if log == map => Some(Clash::MapIsLog),
-        _ => None,
-    }
-}
-
-/// The drawing of an alarm is saved at another path than its picture.
-pub fn clash_of_drawing(picture: Option<&str>, drawing: Option<&str>) -> Option<Clash>
-    ensures { result ≡ clash_of_drawing picture.entry drawing.entry }
-{
-    match (picture, drawing) {
-        (Some(picture), Some(drawing)) if picture == drawing => Some(Clash::DrawingIsPicture),
         _ => None,
     }
 }

@@ -188,7 +188,6 @@ fn carry_options<'a>(found: &ArgMatches<'a>) -> Option<CarryOptions<'a>>
     Some(CarryOptions {
         input: found.get_str("LOG")?,
         target: found.get_str("log")?,
-        why: found.get_flag("why"),
     })
 }
 

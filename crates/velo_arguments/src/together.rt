@@ -8,8 +8,7 @@ use crate::clash::Clash;
 use crate::given::{Given, given_by};
 use crate::ignored::leaves_out;
 use crate::paths::{
-    clash_of_drawing, clash_of_files, clash_of_inputs, clash_of_many_inputs, clash_of_map,
-    clash_of_targets, path_of_schedule,
+    clash_of_files, clash_of_inputs, clash_of_many_inputs, clash_of_targets, path_of_schedule,
 };
 use crate::requests::request_of;
 use clap::ArgMatches;
@@ -78,7 +77,6 @@ fn clash_of_explain(options: &ExplainOptions, given: Given) -> Option<Clash>
     )
     .or(clash_of_source(options.sites, options.source))
     .or(clash_of_lists(&options.ignored, given.not_atomic))
-    .or(clash_of_drawing(options.target, options.drawing))
 }
 
 /// An audit has a form that there is, and no clash of its paths.
@@ -152,9 +150,10 @@ fn clash_of_predict(options: &PredictOptions, given: Given) -> Option<Clash>
 fn clash_of_thin(options: &ThinOptions, has_known: bool) -> Option<Clash>
     ensures { result ≡ clash_of_thin options.now has_known }
 {
-    clash_of_files(options.input, options.names, None, options.ignored.known)
-        .or(clash_of_lists(&options.ignored, has_known))
-        .or(clash_of_map(options.target, options.map))
+    clash_of_files(options.input, options.names, None, options.ignored.known).or(clash_of_lists(
+        &options.ignored,
+        has_known,
+    ))
 }
 
 /// What is left of a log is checked without a certificate, and without a clash of its paths.

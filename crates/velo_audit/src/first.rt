@@ -15,7 +15,7 @@ use velo_filter::LeftOut;
 use velo_traces::Trace;
 
 /// An alarm, and what explains it. All positions are those of the log as read.
-#[derive(Drop, Debug)]
+#[derive(Drop)]
 pub struct FirstAlarm {
     /// Of the event that closes the cycle.
     pub position: usize,

@@ -14,7 +14,7 @@ use velo_traces::{Block, Trace};
 use velo_world::Alarm;
 
 /// What a round reports. Its positions are those of the log as read.
-#[derive(Drop, Debug)]
+#[derive(Drop)]
 pub struct Told {
     /// Of the event that closes the first cycle of the rest.
     pub closing: usize,

@@ -14,13 +14,13 @@ use Rattle.velo_request.specs.declared.request.PredictOptions.{PredictOptions}
 use Rattle.velo_delivery.specs.declared.failure.Operand.TheVariants.{Log}
 use Rattle.velo_audit_commands.specs.Auditing.{IsAuditAnswer}
 use Rattle.velo_fate.specs.Delivery.{CommandAnswer, IsDelivered}
-use Rattle.velo_fate.specs.Barred.{DoesNotRead}
+use Rattle.velo_fate.specs.Barred.{DoesNotRead, DoesNotReadApart, nothing_beside}
 use Rattle.velo_delivery.specs.Disk.{Store}
 use Rattle.velo_audit_commands.specs.Predicting.{IsPredictAnswer}
 use Rattle.velo_fate.specs.Failures.{FailuresAsTold}
 use Rattle.velo_delivery.specs.Reading.{Reading}
 use Rattle.velo_delivery.specs.Writing.{Writing}
-use Rattle.velo_inputs.specs.Context.{IsContext, KnowsNoContext}
+use Rattle.velo_inputs.specs.Context.{IsContext, KnowsNoContext, reads_of}
 use Rattle.velo_inputs.specs.declared.context.ContextOptions.{ContextOptions}
 
 -- ---- velodrome audit LOG [--names FILE] [--sites FILE] [--source FOLDER] [--not-atomic FILE]
@@ -61,18 +61,6 @@ DoesAudit options store stdout f =
 -- ---- [--ignore-lock WORD].. [--ignore-locks] [--ignore-variable WORD].. [--values] [--tries N] [--seed S]
 -- ---- [--log OUT] [--format FORM] [--events N] [--nodes N]
 
--- LOG is read whole and judged as by a check. Without what `asked` leaves out it is audited, and then
--- searched for what other runs can show. The trace of the first prediction is saved at OUT, if there is
--- one, and then the page goes to standard output, in the form that was asked for, by these names and
--- with these sites; or nothing, for a reason (`Predicting`). If nothing is predicted, OUT is not opened.
-abbrev pub PredictsLog : NameLists → Option Table → Asked → PredictOptions → Store → Writing → Fate → Type 0
-PredictsLog names sites asked options store stdout f =
-    DoesNotRead store Log options.input.now options.target stdout f
-    ⊎ ((read : Reading) × (answer : CommandAnswer)
-    × store.disk.gives options.input.now read × FailuresAsTold read f
-    × IsPredictAnswer names sites asked options read.bytes answer
-    × IsDelivered store options.target stdout answer f)
-
 -- what it knows before is in `Context` of `velo_inputs`
 abbrev pub context_of_predict : PredictOptions → ContextOptions
 context_of_predict options =
@@ -82,6 +70,19 @@ context_of_predict options =
       sites = options.sites;
       source = options.source;
     }
+
+-- LOG is read whole and judged as by a check. Without what `asked` leaves out it is audited, and then
+-- searched for what other runs can show. The trace of the first prediction is saved at OUT, if there is
+-- one, and then the page goes to standard output, in the form that was asked for, by these names and
+-- with these sites; or nothing, for a reason (`Predicting`). If nothing is predicted, OUT is not opened.
+abbrev pub PredictsLog : NameLists → Option Table → Asked → PredictOptions → Store → Writing → Fate → Type 0
+PredictsLog names sites asked options store stdout f =
+    DoesNotReadApart store Log options.input.now (reads_of (context_of_predict options))
+    options.target nothing_beside stdout f
+    ⊎ ((read : Reading) × (answer : CommandAnswer)
+    × store.disk.gives options.input.now read × FailuresAsTold read f
+    × IsPredictAnswer names sites asked options read.bytes answer
+    × IsDelivered store options.target stdout answer f)
 
 abbrev pub DoesPredict : PredictOptions → Store → Writing → Fate → Type 0
 DoesPredict options store stdout f =

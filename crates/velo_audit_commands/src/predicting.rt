@@ -14,7 +14,7 @@ ghost use Rattle.velo_delivery.specs.Writing.{writing};
 ghost use Rattle.velo_fate.specs.declared.fate.Fate.TheVariants.{Finished};
 ghost use Rattle.velo_audit_commands.specs.Auditing.{AreRoundsOf, left_out_at_last};
 ghost use Rattle.velo_inputs.specs.Leaving.{left_out_at_first};
-ghost use Rattle.velo_audit_commands.specs.Commands.{DoesPredict, PredictsLog};
+ghost use Rattle.velo_audit_commands.specs.Commands.{DoesPredict, PredictsLog, context_of_predict};
 ghost use Rattle.velo_audit_commands.specs.Predicting.{ArePredictionsOf, Predicts, PredictsIfOf, PredictsInput, first_trace, predicted};
 ghost use Rattle.velo_inputs.specs.Sending.{DeliversOrLacks};
 
@@ -28,11 +28,11 @@ use velo_bytes::{Sink, Source};
 use velo_delays::{Deadlock, Draws, PredictedCycle, search, search_deadlocks, with_lines};
 use velo_delivery::{Files, Operand};
 use velo_events::{Bounds, Config, Event, Memory};
-use velo_fate::{Fate, open_input};
+use velo_fate::{Beside, Fate, open_apart};
 use velo_filter::LeftOut;
 use velo_inputs::{
     ContextOptions, InContext, are_of_log, config_of_rounds, do_in_context, do_input, left_out,
-    print, save_text,
+    print, reads_of, save_text,
 };
 use velo_names::Names;
 use velo_predict_text::{PredictedFindings, is_something_told, trace_text};
@@ -298,6 +298,18 @@ fn predict_log<I: Source, F: Files, O: Sink>(
     }
 }
 
+/// What is known before the log is opened.
+fn context_of<'a>(options: &PredictOptions<'a>) -> ContextOptions<'a>
+    ensures { result ≡ context_of_predict options.now }
+{
+    ContextOptions {
+        names: options.names,
+        ignored: options.ignored,
+        sites: options.sites,
+        source: options.source,
+    }
+}
+
 /// Predicts by the log that was asked for.
 fn predict_input<F: Files, O: Sink>(
     inquiry: &Inquiry<PredictOptions>,
@@ -308,7 +320,19 @@ fn predict_input<F: Files, O: Sink>(
         (store F.disk files.old files.new) (writing O.contents O.failures out.old out.new) result }
 {
     let options = inquiry.options;
-    match open_input(files, Operand::Log, options.input, options.target) {
+    let reads = reads_of(&context_of(options));
+    let nothing = Beside {
+        operand: Operand::Out,
+        path: None,
+    };
+    match open_apart(
+        files,
+        Operand::Log,
+        options.input,
+        &reads,
+        options.target,
+        nothing,
+    ) {
         Ok(mut log) => predict_log(inquiry, &mut log, files, out),
         Err(fate) => fate,
     }
@@ -348,11 +372,11 @@ pub fn predict_file<F: Files, O: Sink>(
     ensures { DoesPredict options.now (store F.disk files.old files.new)
         (writing O.contents O.failures out.old out.new) result }
 {
-    let context = ContextOptions {
-        names: options.names,
-        ignored: options.ignored,
-        sites: options.sites,
-        source: options.source,
-    };
-    do_in_context(alloc, &Command { options }, &context, files, out)
+    do_in_context(
+        alloc,
+        &Command { options },
+        &context_of(options),
+        files,
+        out,
+    )
 }

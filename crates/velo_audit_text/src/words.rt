@@ -8,7 +8,7 @@ use velo_explain::{Page, Piece};
 use velo_names::{NameKind, Names};
 
 /// What was to be left out.
-#[derive(Clone, Copy, Debug)]
+#[derive(Clone, Copy)]
 pub struct Asked<'a> {
     /// The labels.
     pub labels: &'a [Label],

@@ -19,7 +19,7 @@ use velo_traces::Block;
 
 /// Which open blocks are to blame where an event closes the first cycle, without a look at the
 /// events before it. They were noted as they came.
-#[derive(Debug, Drop)]
+#[derive(Drop)]
 pub struct Clocks {
     tables: ClockTables,
     bounds: Bounds,

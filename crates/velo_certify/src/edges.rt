@@ -22,7 +22,7 @@ use velo_traces::Trace;
 
 /// Two conflicting events of two transactions. They make an edge from the first one's transaction
 /// to the second one's.
-#[derive(Clone, Copy, Debug, PartialEq, Eq)]
+#[derive(Clone, Copy, PartialEq, Eq)]
 pub struct EdgeEvents {
     /// The position of the earlier event.
     pub from: usize,

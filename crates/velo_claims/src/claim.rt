@@ -14,7 +14,7 @@ use velo_events::Memory;
 use velo_names::split_line;
 
 /// The alarm that a report claims.
-#[derive(Clone, Copy, Debug, PartialEq, Eq)]
+#[derive(Clone, Copy, PartialEq, Eq)]
 pub struct ClaimedAlarm {
     /// The position of the event that closes the first cycle.
     pub position: usize,
@@ -41,7 +41,7 @@ pub enum Part {
 
 /// What a report claims of a log: how many events it has, an alarm or none, and a list that
 /// certifies this: a serial order, or with an alarm a cycle.
-#[derive(Debug, Drop)]
+#[derive(Drop)]
 pub struct Claim {
     events: usize,
     alarm: Option<ClaimedAlarm>,

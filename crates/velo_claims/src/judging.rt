@@ -9,7 +9,7 @@ use velo_events::Memory;
 use velo_traces::Trace;
 
 /// Why a certificate does not bear out what a report claims.
-#[derive(Clone, Copy, Debug, PartialEq, Eq)]
+#[derive(Clone, Copy, PartialEq, Eq)]
 pub enum Reason {
     /// The report is of a log with another number of events.
     OtherEvents,
@@ -25,7 +25,7 @@ pub enum Reason {
 }
 
 /// What became of a claim.
-#[derive(Clone, Copy, Debug, PartialEq, Eq)]
+#[derive(Clone, Copy, PartialEq, Eq)]
 pub enum Outcome {
     /// The log has no cycle, as claimed.
     Clean,

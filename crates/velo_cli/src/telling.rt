@@ -13,12 +13,19 @@ use clap::error::ErrorKind;
 use std::alloc::Global;
 use velo_arguments::{Clash, line_of_clash, text_of};
 use velo_bytes::{Sink, write_all};
+use velo_escapes::escaped_lines;
 use velo_events::Memory;
 use velo_fate::{Fate, end_with};
 use velo_request::status::{DONE, FAILED};
 
 /// The status of a fault of usage.
 const BAD_USAGE: u8 = 2;
+
+/// The text of an error. It may repeat words of the command line, whose control characters are escaped.
+fn words_of(alloc: Global, error: &Error) -> Result<Vec<u8>, Memory> {
+    let text = text_of(alloc, error)?;
+    escaped_lines(alloc, text.as_bytes())
+}
 
 /// Reports an error of the words: help on the one sink, a fault of usage on the other. Returns the
 /// status to end with.
@@ -31,11 +38,11 @@ pub fn tell_error<O: Sink, E: Sink>(alloc: Global, error: &Error, out: &mut O, e
     if error.kind() == ErrorKind::OutOfMemory {
         return end_with(&Fate::Memory, err);
     }
-    let text = match text_of(alloc, error) {
+    let text = match words_of(alloc, error) {
         Ok(text) => text,
         Err(Memory) => return end_with(&Fate::Memory, err),
     };
-    let status = tell_text(error.kind(), text.as_bytes(), out, err);
+    let status = tell_text(error.kind(), &text, out, err);
     drop(text);
     status
 }

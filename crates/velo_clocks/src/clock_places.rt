@@ -20,7 +20,7 @@ use velo_events::{Access, Event, Memory, Resolved, ThreadId};
 /// does so beside others.
 ///
 /// An event that learns nothing shares the row of its thread's last event, so that what it knows is written down by one epoch.
-#[derive(Debug, Drop)]
+#[derive(Drop)]
 pub(crate) struct PlaceClocks {
     /// What the events at the places know.
     pub rows: SharedRows,

@@ -11,7 +11,7 @@ use velo_events::{Config, Event, Memory, Resolved, ThreadId};
 
 /// How far the events at each place know each thread: the last event of each thread, the last write of each variable or lock,
 /// and its reads since then. To take or leave a lock alone is to write it, to do so beside others to read it.
-#[derive(Debug, Drop)]
+#[derive(Drop)]
 pub struct ClockTables {
     places: PlaceClocks,
     /// For the clock of an event that forks or joins, so that noting takes no memory.

@@ -5,7 +5,7 @@ ghost use Rattle.velo_clocks.specs.Epochs.{blank_epoch};
 use velo_events::ThreadId;
 
 /// An event at a place: when it came in its thread, and what it knows.
-#[derive(Clone, Copy, Debug)]
+#[derive(Clone, Copy)]
 pub(crate) struct Epoch {
     /// Its thread. What others know is what is known, but nothing of this thread itself.
     pub by: ThreadId,

@@ -10,7 +10,7 @@ use velo_events::growth::{reserve, resize};
 use velo_events::{Memory, ThreadId};
 
 /// Rows of numbers, all of one width. They stand one after another in one list, so that a row is found by its number alone.
-#[derive(Debug, Drop)]
+#[derive(Drop)]
 pub(crate) struct NumberRows {
     width: usize,
     count: usize,

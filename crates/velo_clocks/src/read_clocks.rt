@@ -17,7 +17,7 @@ use velo_events::growth::fill_up_to;
 use velo_events::{Memory, ThreadId};
 
 /// Whose reads stand at a place.
-#[derive(Clone, Copy, Debug)]
+#[derive(Clone, Copy)]
 pub(crate) enum ReadBy {
     /// No reads.
     Nobody,
@@ -28,7 +28,7 @@ pub(crate) enum ReadBy {
 }
 
 /// The reads of a variable since its last write.
-#[derive(Clone, Copy, Debug)]
+#[derive(Clone, Copy)]
 pub(crate) struct ReadPlace {
     /// Whose they are.
     pub by: ReadBy,
@@ -37,7 +37,7 @@ pub(crate) struct ReadPlace {
 }
 
 /// What the reads of each variable since its last write know, by number of the variable.
-#[derive(Debug, Drop)]
+#[derive(Drop)]
 pub(crate) struct ReadClocks {
     /// By number of the lists: the last read of each thread, where reads of several stand.
     pub own: NumberRows,

@@ -14,7 +14,7 @@ use velo_events::{Memory, ThreadId};
 /// What events know of the threads: one row for all events of a thread that know the same of the others.
 ///
 /// The first row says that nothing is known, and is always in use.
-#[derive(Debug, Drop)]
+#[derive(Drop)]
 pub(crate) struct SharedRows {
     /// The rows.
     pub rows: NumberRows,

@@ -1,6 +1,6 @@
 -- Why the program comes to want of memory.
 use Rattle.std.proofs.Common.{◌≡◌, ◌+◌, ⊎_elim, inl, inr, subst, sym}
-use Rattle.std.specs.Prelude.{◌⊎◌, ℕ, Bool, true, false, List, Option, Some, None, if◌then◌else◌}
+use Rattle.std.specs.Prelude.{◌⊎◌, ◌∷◌, [], ℕ, Bool, true, false, List, Option, Some, None, if◌then◌else◌}
 use Rattle.std.specs.Borrow.{Bor}
 use Rattle.velo_events.specs.declared.config.Bounds.{Bounds}
 use Rattle.velo_events.specs.declared.event.Event.{Event}
@@ -58,12 +58,12 @@ use Rattle.velo_inputs.specs.Input.{IsFaultOfInput}
 use Rattle.velo_fate.specs.Delivery.{CommandAnswer, DeliversBy, FailsSaving, IsDelivered, IsDeliveredInTurn, IsPrinted, LacksMemory, printing, silent}
 use Rattle.velo_delivery.specs.Disk.{Disk, Store, behind}
 use Rattle.velo_fate.specs.declared.files.Beside.{Beside}
-use Rattle.velo_fate.specs.Barred.{IsBarred, IsBarredApart, IsBarredRun, names_beside}
+use Rattle.velo_fate.specs.Barred.{IsBarred, IsBarredApart, IsBarredRun, list_beside, names_beside, nothing_beside}
 use Rattle.velo_log_commands.specs.Explaining.{IsExplainAnswer}
 use Rattle.velo_workload_commands.specs.Exploring.{IsExploreAnswer}
 use Rattle.velo_workload_commands.specs.ExploringRest.{LacksOwnNames}
 use Rattle.velo_audit_commands.specs.Commands.{AuditsLog, PredictsLog, context_of_audit, context_of_predict}
-use Rattle.velo_inputs.specs.Context.{LacksContext}
+use Rattle.velo_inputs.specs.Context.{LacksContext, reads_of}
 use Rattle.velo_inputs.specs.declared.context.ContextOptions.{ContextOptions}
 use Rattle.velo_inputs.specs.Ignoring.{AsksInVain, MeanNothing}
 use Rattle.velo_fate.specs.Format.{LacksGiven, SaysNone}
@@ -82,7 +82,7 @@ use Rattle.velo_request.specs.declared.request.TextOrJson.{TextOrJson}
 use Rattle.velo_commands.specs.Program.{Does}
 use Rattle.velo_workload_commands.specs.Commands.{DoesExploreRest, DoesPlay}
 use Rattle.velo_schedule_text.specs.Schedule.{IsFaultOfSchedule, IsFaultOfTurns}
-use Rattle.velo_workload_commands.specs.Scheduling.{HaveFaultOfSchedule, LacksSchedule, turns_file}
+use Rattle.velo_workload_commands.specs.Scheduling.{HaveFaultOfSchedule, LacksSchedule, turns_file, schedule_beside}
 use Rattle.velo_log_commands.specs.Watching.{EndsAfter, IsFaultOfHeader, IsFaultWithin, IsWatchAnswer, Terms, Watches, terms_of_watch}
 use Rattle.velo_log_commands.specs.Endless.{IsFaultOfWhole, terms_of_endless}
 use Rattle.velo_log_commands.specs.WatchingRest.{IsFaultWithout, terms_of_rest}
@@ -236,14 +236,16 @@ unread : (needs : Needs) (disk : Disk) (operand : Operand) (input : List ℕ) (t
 unread needs disk operand input target f (inl closed) = subst (ComesByRefusal needs) (sym closed.0) tt
 unread needs disk operand input target f (inr one) = subst (ComesByRefusal needs) (sym one.0) tt
 
-unread_apart : (needs : Needs) (disk : Disk) (operand : Operand) (input : List ℕ) (target : Option (Bor (List ℕ))) (beside : Beside) (f : Fate) → IsBarredApart disk operand input target beside f → ComesByRefusal needs f
-unread_apart needs disk operand input target beside f (inl barred) = unread needs disk operand input target f barred
-unread_apart needs disk operand input target beside f (inr (inl one)) = subst (ComesByRefusal needs) (sym one.0) tt
-unread_apart needs disk operand input target beside f (inr (inr one)) = subst (ComesByRefusal needs) (sym one.0) tt
+unread_apart : (needs : Needs) (disk : Disk) (operand : Operand) (input : List ℕ) (reads : List Beside) (target : Option (Bor (List ℕ))) (beside : Beside) (f : Fate) → IsBarredApart disk operand input reads target beside f → ComesByRefusal needs f
+unread_apart needs disk operand input reads target beside f (inl barred) = unread needs disk operand input target f barred
+unread_apart needs disk operand input reads target beside f (inr (inl (inl one))) = subst (ComesByRefusal needs) (sym one.0) tt
+unread_apart needs disk operand input reads target beside f (inr (inl (inr one))) = subst (ComesByRefusal needs) (sym one.0) tt
+unread_apart needs disk operand input reads target beside f (inr (inr (read, among, inl one))) = subst (ComesByRefusal needs) (sym one.0) tt
+unread_apart needs disk operand input reads target beside f (inr (inr (read, among, inr one))) = subst (ComesByRefusal needs) (sym one.0) tt
 
 -- nor is a workload that is not read
-unplayed : (needs : Needs) (disk : Disk) (input : List ℕ) (target names : Option (Bor (List ℕ))) (f : Fate) → IsBarredRun disk input target names f → ComesByRefusal needs f
-unplayed needs disk input target names f barred = unread_apart needs disk File input target (names_beside names) f barred
+unplayed : (needs : Needs) (disk : Disk) (input : List ℕ) (reads : List Beside) (target names : Option (Bor (List ℕ))) (f : Fate) → IsBarredRun disk input reads target names f → ComesByRefusal needs f
+unplayed needs disk input reads target names f barred = unread_apart needs disk File input reads target (names_beside names) f barred
 
 -- nor names
 of_names : (read : Option (List ℕ)) (f : NamesFault) → HaveFaultOfNames read f → NamesByGrowth f
@@ -331,17 +333,17 @@ of_rest_checked names asked options store stdout f (inl (shown, are, inr h)) = o
 of_rest_checked names asked options store stdout f (inr lacks) = subst (ComesByRefusal Growths) (sym lacks.1) lacks.0
 
 of_explained : (names : NameLists) (asked : Asked) (options : ExplainOptions) (store : Store) (stdout : Writing) (f : Fate) (sites : Option Table) → ExplainsLog names sites asked options store stdout f → ComesByRefusal Growths f
-of_explained names asked options store stdout f sites (inl h) = unread_apart Growths store.disk Log options.input.now options.target (drawing_of options) f h.0
+of_explained names asked options store stdout f sites (inl h) = unread_apart Growths store.disk Log options.input.now (reads_of (context_of_explain options)) options.target (drawing_of options) f h.0
 of_explained names asked options store stdout f sites (inr h) =
     of_in_turn Growths store options.target options.drawing h.2 stdout h.1 f (of_explanation Growths names sites asked options h.0.bytes h.1 h.2 tt h.5) h.6
 
 of_thinned : (asked : Asked) (options : ThinOptions) (store : Store) (stdout : Writing) (f : Fate) → ThinsAsked asked options store stdout f → ComesByRefusal Growths f
-of_thinned asked options store stdout f (inl (inl h)) = unread_apart Growths store.disk Log options.input.now (Some options.target) (map_of options) f h.0
+of_thinned asked options store stdout f (inl (inl h)) = unread_apart Growths store.disk Log options.input.now (reads_of (context_of_thin options)) (Some options.target) (map_of options) f h.0
 of_thinned asked options store stdout f (inl (inr h)) = of_thin Growths options asked h.0.bytes store stdout f tt h.3
 of_thinned asked options store stdout f (inr lacks) = subst (ComesByRefusal Growths) (sym lacks.1) lacks.0
 
 of_predicted : (names : NameLists) (asked : Asked) (options : PredictOptions) (store : Store) (stdout : Writing) (f : Fate) (sites : Option Table) → PredictsLog names sites asked options store stdout f → ComesByRefusal Growths f
-of_predicted names asked options store stdout f sites (inl h) = unread Growths store.disk Log options.input.now options.target f h.0
+of_predicted names asked options store stdout f sites (inl h) = unread_apart Growths store.disk Log options.input.now (reads_of (context_of_predict options)) options.target nothing_beside f h.0
 of_predicted names asked options store stdout f sites (inr h) = of_delivered Growths store options.target stdout h.1 f (of_prediction Growths names sites asked options h.0.bytes h.1 tt h.4) h.5
 
 -- of a workload whose schedules were tried
@@ -371,17 +373,17 @@ of_either answer cause (inr lacks) = of_lack Growths answer lacks
 
 of_rest_exploration : (options : ExploreRestOptions) (store : Store) (stdout : Writing) (f : Fate) → DoesExploreRest options store stdout f → ComesByRefusal Growths f
 of_rest_exploration options store stdout f (inl (inl broken, nowhere)) = of_unread Growths broken.read.bytes f broken.unsaid
-of_rest_exploration options store stdout f (inl (inr barred, nowhere)) = unplayed Growths store.disk options.explore.input.now options.explore.target options.explore.names_target f barred
+of_rest_exploration options store stdout f (inl (inr barred, nowhere)) = unplayed Growths store.disk options.explore.input.now (list_beside options.ignored ∷ []) options.explore.target options.explore.names_target f barred
 of_rest_exploration options store stdout f (inr (program, is, inl (lacks, nowhere))) = of_own_names program f lacks
 of_rest_exploration options store stdout f (inr (program, is, inr (names, are, inl (lacks, nowhere)))) = of_nothing_left_out names store.disk options.ignored f lacks
 of_rest_exploration options store stdout f (inr (program, is, inr (names, are, inr (omitted, left, (answer, explored, put))))) =
     of_in_turn Growths store options.explore.target options.explore.names_target (text_of_names program) stdout answer f (of_either answer (rest_caused omitted options.explore program answer) explored) put
 
 -- of a workload that was played
-played : (needs : Needs) (play : Play) (options : RunOptions) (store : Store) (stdout : Writing) (f : Fate)
-    → ((program : Program) (ended : Ending) (w : WorldState) → IsRunOf play options program ended w → EndsByRefusal needs ended) → DoesPlay play options store stdout f → ComesByRefusal needs f
-played needs play options store stdout f so (inl h) = unplayed needs store.disk options.input.now options.target options.names_target f h.0
-played needs play options store stdout f so (inr h) =
+played : (needs : Needs) (play : Play) (reads : List Beside) (options : RunOptions) (store : Store) (stdout : Writing) (f : Fate)
+    → ((program : Program) (ended : Ending) (w : WorldState) → IsRunOf play options program ended w → EndsByRefusal needs ended) → DoesPlay play reads options store stdout f → ComesByRefusal needs f
+played needs play reads options store stdout f so (inl h) = unplayed needs store.disk options.input.now reads options.target options.names_target f h.0
+played needs play reads options store stdout f so (inr h) =
     of_in_turn needs store options.target options.names_target h.2 stdout h.1 f (of_play needs play options h.0.bytes h.1 h.2 so h.5) h.6
 
 -- of a log that was watched
@@ -506,10 +508,10 @@ of_done store (request.Verify options) stdout f (inl h) = unclaimed Growths stor
 of_done store (request.Verify options) stdout f (inr (claim, read, inl h)) = unread Growths store.disk Log options.input.now None f h.0
 of_done store (request.Verify options) stdout f (inr (claim, read, inr (log, given, verifies, kept))) =
     of_printed Growths stdout verifies.1.0 f (of_verify_answer Growths claim log.bytes verifies.1.0 tt verifies.1.1) verifies.1.2
-of_done store (request.Run options) stdout f h = played GrowthsAndStarts ByThreads options store stdout f (λ program ended w run. run.cause) h
+of_done store (request.Run options) stdout f h = played GrowthsAndStarts ByThreads [] options store stdout f (λ program ended w run. run.cause) h
 of_done store (request.Replay options) stdout f (inl lacks) = unscheduled Growths store.disk options.schedule f lacks.0
-of_done store (request.Replay options) stdout f (inr h) = played Growths (ByTurns h.0) options.run store stdout f (λ program ended w run. run.cause) h.2
-of_done store (request.Explore options) stdout f (inl h) = unplayed Growths store.disk options.input.now options.target options.names_target f h.0
+of_done store (request.Replay options) stdout f (inr h) = played Growths (ByTurns h.0) (schedule_beside options.schedule ∷ []) options.run store stdout f (λ program ended w run. run.cause) h.2
+of_done store (request.Explore options) stdout f (inl h) = unplayed Growths store.disk options.input.now [] options.target options.names_target f h.0
 of_done store (request.Explore options) stdout f (inr h) =
     of_in_turn Growths store options.target options.names_target h.2 stdout h.1 f (of_exploration options h.0.bytes h.1 h.2 h.5) h.6
 of_done store (request.ExploreRest options) stdout f h = of_rest_exploration options store stdout f h

@@ -5,7 +5,7 @@ ghost use Rattle.velo_conflicts.specs.Places.{sizes_of, HasPlaces, AllHavePlaces
 use velo_events::{Access, Event};
 
 /// Numbers above those of all threads and cells that were named.
-#[derive(Clone, Copy, Debug, PartialEq, Eq)]
+#[derive(Clone, Copy, PartialEq, Eq)]
 pub struct Counts {
     /// Of threads.
     pub threads: usize,

@@ -10,7 +10,7 @@ use velo_events::growth::filled;
 use velo_events::{Access, Event, Memory};
 
 /// The greatest numbers of events, 0 where there is none. Events may be recorded in any order.
-#[derive(Debug, Drop)]
+#[derive(Drop)]
 pub struct ConflictTable {
     /// Of the events of each thread.
     threads: Vec<usize>,

@@ -20,7 +20,7 @@ use velo_predict::{Difference, differing_reads, predicts_cycle};
 use velo_traces::Trace;
 
 /// A read that has another value than in the log.
-#[derive(Clone, Copy, Debug, PartialEq, Eq)]
+#[derive(Clone, Copy, PartialEq, Eq)]
 pub struct Differing {
     /// Its position in the trace.
     pub position: usize,

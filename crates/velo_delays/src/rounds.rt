@@ -21,7 +21,7 @@ use velo_filter::{LabelSet, LeftOut, Thinned, thin};
 use velo_traces::{Block, Trace};
 
 /// How delays are drawn.
-#[derive(Clone, Copy, Debug)]
+#[derive(Clone, Copy)]
 pub struct Draws {
     /// How many for each label in each round.
     pub tries: u32,

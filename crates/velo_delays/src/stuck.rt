@@ -12,7 +12,7 @@ use velo_predict::{Waiting, predicts_deadlock};
 use velo_traces::Trace;
 
 /// What a thread waits to do.
-#[derive(Clone, Copy, Debug, PartialEq, Eq)]
+#[derive(Clone, Copy, PartialEq, Eq)]
 pub struct Awaited {
     /// The event.
     pub event: Event,

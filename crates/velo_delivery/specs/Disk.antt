@@ -83,11 +83,11 @@ abbrev pub IsTarget : Disk → List ℕ → Option (Bor (List ℕ)) → Type 0
 IsTarget disk input None = ⊥
 IsTarget disk input (Some target) = disk.one input target.now
 
--- the two files to be written are one
-abbrev pub AreOneTarget : Disk → Option (Bor (List ℕ)) → Option (Bor (List ℕ)) → Type 0
-AreOneTarget disk None names = ⊥
-AreOneTarget disk (Some target) None = ⊥
-AreOneTarget disk (Some target) (Some names) = disk.one target.now names.now
+-- two files, if there are both, are one
+abbrev pub AreOne : Disk → Option (Bor (List ℕ)) → Option (Bor (List ℕ)) → Type 0
+AreOne disk None target = ⊥
+AreOne disk (Some path) None = ⊥
+AreOne disk (Some path) (Some target) = disk.one path.now target.now
 
 -- ---- a file that is written
 

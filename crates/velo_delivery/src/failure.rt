@@ -17,6 +17,16 @@ pub enum Operand {
     Map,
     /// `SVG`, where a drawing is saved.
     Svg,
+    /// The file of `--names`, which is read.
+    Names,
+    /// The file of `--sites`.
+    Sites,
+    /// The file of `--not-atomic`, a list of labels.
+    NotAtomic,
+    /// The file of `--ignore`, a list of labels, locks and variables.
+    Ignore,
+    /// The file of `--turns`, a schedule.
+    Turns,
 }
 
 /// What failed, of memory and devices. What the files say is not at fault.

@@ -13,7 +13,7 @@ use velo_events::growth::resize;
 const PIECE: usize = 65_536;
 
 /// Why a file was not read.
-#[derive(Clone, Copy, Debug, PartialEq, Eq)]
+#[derive(Clone, Copy, PartialEq, Eq)]
 pub enum ReadFault {
     /// The source failed.
     Failed,

@@ -6,7 +6,7 @@ use crate::limits::{MAX_EVENTS, MAX_LOCKS, MAX_NODES, MAX_THREADS};
 use thiserror::Error;
 
 /// How many threads, variables and locks a run has. They are numbered from 0.
-#[derive(Clone, Copy, Debug, PartialEq, Eq)]
+#[derive(Clone, Copy, PartialEq, Eq)]
 pub struct Bounds {
     /// In a configuration 1 to [`MAX_THREADS`].
     pub threads: u8,
@@ -37,7 +37,7 @@ pub enum BadConfig {
 }
 
 /// What a run is opened with. Every value is in its range.
-#[derive(Clone, Copy, Debug, PartialEq, Eq)]
+#[derive(Clone, Copy, PartialEq, Eq)]
 pub struct Config {
     /// A number that the caller picks for the run. Runs that are alive together need different ones: a share carries the number
     /// of its run, and by this alone it is told from the shares of another run.

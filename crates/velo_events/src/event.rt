@@ -5,24 +5,24 @@ ghost use Rattle.velo_events.specs.Meaning.{action_of, is_live, is_unborn};
 ghost use Rattle.velo_events.specs.Conflict.{conflict};
 
 /// The number of a thread. A run has at most [`MAX_THREADS`](crate::MAX_THREADS); thread 0 is there from the start.
-#[derive(Clone, Copy, Debug, PartialEq, Eq, PartialOrd, Ord, Hash)]
+#[derive(Clone, Copy, PartialEq, Eq, PartialOrd, Ord, Hash)]
 pub struct ThreadId(pub u8);
 
 /// The number of a shared variable, which starts at the value 0.
-#[derive(Clone, Copy, Debug, PartialEq, Eq, PartialOrd, Ord, Hash)]
+#[derive(Clone, Copy, PartialEq, Eq, PartialOrd, Ord, Hash)]
 pub struct VarId(pub u16);
 
 /// The number of a lock. A run has at most [`MAX_LOCKS`](crate::MAX_LOCKS); all are free at the start, and none is
 /// re-entrant.
-#[derive(Clone, Copy, Debug, PartialEq, Eq, PartialOrd, Ord, Hash)]
+#[derive(Clone, Copy, PartialEq, Eq, PartialOrd, Ord, Hash)]
 pub struct LockId(pub u16);
 
 /// The label of an atomic block, which reports show. Blocks may share one.
-#[derive(Clone, Copy, Debug, Default, PartialEq, Eq, PartialOrd, Ord, Hash)]
+#[derive(Clone, Copy, Default, PartialEq, Eq, PartialOrd, Ord, Hash)]
 pub struct Label(pub u32);
 
 /// What a thread did, in one operation.
-#[derive(Clone, Copy, Debug, PartialEq, Eq)]
+#[derive(Clone, Copy, PartialEq, Eq)]
 pub enum Kind {
     /// It read this value from the variable.
     Read(VarId, u64),
@@ -49,7 +49,7 @@ pub enum Kind {
 }
 
 /// One operation of one thread.
-#[derive(Clone, Copy, Debug, PartialEq, Eq)]
+#[derive(Clone, Copy, PartialEq, Eq)]
 pub struct Event {
     /// The thread that did it.
     pub thread: ThreadId,
@@ -58,7 +58,7 @@ pub struct Event {
 }
 
 /// What a thread wants to do: as [`Kind`], but a read has no value yet.
-#[derive(Clone, Copy, Debug, PartialEq, Eq)]
+#[derive(Clone, Copy, PartialEq, Eq)]
 pub enum Action {
     /// To read the variable.
     Read(VarId),
@@ -85,7 +85,7 @@ pub enum Action {
 }
 
 /// A variable or a lock: what operations of several threads access. The variables have the even numbers, the locks the odd ones.
-#[derive(Clone, Copy, Debug, PartialEq, Eq, PartialOrd, Ord, Hash)]
+#[derive(Clone, Copy, PartialEq, Eq, PartialOrd, Ord, Hash)]
 pub struct Cell(pub u32);
 
 impl VarId {
@@ -109,7 +109,7 @@ impl LockId {
 }
 
 /// What an operation bears on beside its own thread.
-#[derive(Clone, Copy, Debug, PartialEq, Eq)]
+#[derive(Clone, Copy, PartialEq, Eq)]
 pub enum Access {
     /// A cell, as a read of a variable or a share of a lock: it does not conflict with others of this kind.
     Shared(Cell),
@@ -194,7 +194,7 @@ pub fn conflicts(earlier: &Event, later: &Event) -> bool
 }
 
 /// How far a thread has come.
-#[derive(Clone, Copy, Debug, PartialEq, Eq)]
+#[derive(Clone, Copy, PartialEq, Eq)]
 pub enum Status {
     /// Nobody has forked it, and it is not thread 0.
     Unborn,

@@ -7,7 +7,7 @@ use std::marker::Model;
 
 /// An event with what it bears on beside its own thread: its kind is matched once, where this is made. In contracts it is
 /// the event.
-#[derive(Debug, Drop)]
+#[derive(Drop)]
 pub struct Resolved<'a> {
     event: &'a Event,
     access: Access,

@@ -7,7 +7,7 @@ use crate::event::ThreadId;
 use crate::limits::MAX_THREADS;
 
 /// A set of threads, as one bit for each.
-#[derive(Clone, Copy, Debug, PartialEq, Eq, Hash)]
+#[derive(Clone, Copy, PartialEq, Eq, Hash)]
 pub struct ThreadSet(pub u64);
 
 impl ThreadSet {

@@ -13,7 +13,7 @@ use velo_events::growth::with_capacity;
 use velo_traces::{Block, Trace};
 
 /// A block to blame, and why.
-#[derive(Clone, Copy, Debug, PartialEq, Eq)]
+#[derive(Clone, Copy, PartialEq, Eq)]
 pub struct Blame {
     /// The block.
     pub block: Block,
@@ -23,7 +23,7 @@ pub struct Blame {
 }
 
 /// The evidence of an explanation.
-#[derive(Debug, Drop)]
+#[derive(Drop)]
 pub struct Evidence {
     /// The transactions of a cycle in its order, that of the closing event first.
     pub spans: Vec<Span>,

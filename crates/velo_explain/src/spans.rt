@@ -12,7 +12,7 @@ use velo_events::{Event, Memory};
 use velo_traces::Trace;
 
 /// The first and the last position of a transaction.
-#[derive(Clone, Copy, Debug, PartialEq, Eq)]
+#[derive(Clone, Copy, PartialEq, Eq)]
 pub struct Span {
     /// The first position.
     pub first: usize,

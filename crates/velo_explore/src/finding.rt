@@ -5,7 +5,7 @@ use crate::goal::Goal;
 use velo_events::ThreadId;
 
 /// A schedule whose replay shows a goal.
-#[derive(Debug, Drop)]
+#[derive(Drop)]
 pub struct Witness {
     /// What its replay shows.
     pub goal: Goal,
@@ -14,7 +14,7 @@ pub struct Witness {
 }
 
 /// What is known of a fault over some schedules of a workload, or over all.
-#[derive(Debug, Drop)]
+#[derive(Drop)]
 pub enum Finding {
     /// The replay by this one has it.
     Shown(Witness),
@@ -40,7 +40,7 @@ impl Finding {
 }
 
 /// What is known of each fault.
-#[derive(Debug, Drop)]
+#[derive(Drop)]
 pub struct Findings {
     /// Of logs that are not serializable.
     pub alarm: Finding,

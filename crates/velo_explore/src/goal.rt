@@ -6,7 +6,7 @@ use velo_events::{Refusal, ThreadId};
 use velo_search::Fault;
 
 /// What the replay by a schedule may show.
-#[derive(Clone, Copy, Debug, PartialEq, Eq)]
+#[derive(Clone, Copy, PartialEq, Eq)]
 pub enum Goal {
     /// An alarm: its log is not serializable.
     Alarm,

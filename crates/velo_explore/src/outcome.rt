@@ -13,7 +13,7 @@ use velo_worker::Ending;
 use velo_world::Closed;
 
 /// What a run came to.
-#[derive(Clone, Copy, Debug, PartialEq, Eq)]
+#[derive(Clone, Copy, PartialEq, Eq)]
 pub struct RunOutcome {
     /// Whether its log has a cycle.
     pub alarm: bool,

@@ -3,7 +3,7 @@ use velo_random::BlamedLabel;
 use velo_shrink::Shrunk;
 
 /// How the schedules of a workload were tried.
-#[derive(Clone, Copy, Debug, PartialEq, Eq)]
+#[derive(Clone, Copy, PartialEq, Eq)]
 pub enum Tried {
     /// All of them, by a search of states.
     All {
@@ -22,7 +22,7 @@ pub enum Tried {
 }
 
 /// Who is to blame for the alarms of some runs.
-#[derive(Debug, Drop)]
+#[derive(Drop)]
 pub struct ToBlame {
     /// How many of the runs have an alarm.
     pub alarms: u64,
@@ -31,7 +31,7 @@ pub struct ToBlame {
 }
 
 /// A survey: what is reported of the schedules of a workload.
-#[derive(Debug, Drop)]
+#[derive(Drop)]
 pub struct Survey {
     /// How they were tried.
     pub tried: Tried,

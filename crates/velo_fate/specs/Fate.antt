@@ -208,6 +208,11 @@ word_of operand.Out = codes "OUT"
 word_of operand.NamesOut = codes "NAMES"
 word_of operand.Map = codes "MAP"
 word_of operand.Svg = codes "SVG"
+word_of operand.Names = codes "--names"
+word_of operand.Sites = codes "--sites"
+word_of operand.NotAtomic = codes "--not-atomic"
+word_of operand.Ignore = codes "--ignore"
+word_of operand.Turns = codes "--turns"
 
 abbrev pub line_of_one_file : Operand → Operand → List ℕ
 line_of_one_file first second =

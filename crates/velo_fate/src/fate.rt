@@ -4,10 +4,11 @@ ghost use Rattle.velo_delivery.specs.Writing.{BreaksOff, Writes, writing};
 ghost use Rattle.velo_fate.specs.Fate.{Ends, fate_of_failure, number_of, status_of, status_of_check, status_of_list, status_of_log, status_of_refused, status_of_ending, status_of_names, status_of_report, status_of_schedule, status_of_sites, status_of_work, place_of_work, last_line_of, line_of_check, line_of_log, line_of_ending, line_of_file_fault, line_of_ignored, line_of_no_summary, line_of_one_file, line_of_refused, line_of_schedule, line_of_unaudited, line_of_work, word_of};
 
 use crate::fault::CheckFault;
-use velo_bytes::{Sink, WriteFault, put_bytes, put_number, write_all};
+use std::alloc::Global;
+use velo_bytes::{Sink, WriteFault, append, put_bytes, put_number, write_all};
 use velo_claims::ReportFault;
 use velo_delivery::{Failure, Operand};
-use velo_events::{Refusal, ThreadId};
+use velo_events::{Memory, Refusal, ThreadId};
 use velo_logtext::LogFault;
 use velo_names::NamesFault;
 use velo_request::Ignorable;
@@ -22,7 +23,7 @@ use velo_workload::WorkFault;
 const LINE_ROOM: usize = 64;
 
 /// How a command ended.
-#[derive(Clone, Copy, Debug, PartialEq, Eq)]
+#[derive(Clone, Copy, PartialEq, Eq)]
 pub enum Fate {
     /// It ended, with or without an alarm. A check is done.
     Finished { ending: Ending, alarm: bool },
@@ -357,9 +358,9 @@ fn put_ignored(buffer: &mut [u8], what: Ignorable) -> usize
 
 /// Puts the word of an operand at a place of a buffer, and returns the place after it.
 fn put_operand(buffer: &mut [u8], at: usize, operand: Operand) -> usize
-    requires { at + 5 ≤ length buffer.old }
+    requires { at + 12 ≤ length buffer.old }
     ensures text { take result buffer.new ≡ take at buffer.old ++ word_of operand }
-    ensures end { result ≤ at + 5 }
+    ensures end { result ≤ at + 12 }
 {
     match operand {
         Operand::Log => put_bytes(buffer, at, b"LOG"),
@@ -368,6 +369,11 @@ fn put_operand(buffer: &mut [u8], at: usize, operand: Operand) -> usize
         Operand::NamesOut => put_bytes(buffer, at, b"NAMES"),
         Operand::Map => put_bytes(buffer, at, b"MAP"),
         Operand::Svg => put_bytes(buffer, at, b"SVG"),
+        Operand::Names => put_bytes(buffer, at, b"--names"),
+        Operand::Sites => put_bytes(buffer, at, b"--sites"),
+        Operand::NotAtomic => put_bytes(buffer, at, b"--not-atomic"),
+        Operand::Ignore => put_bytes(buffer, at, b"--ignore"),
+        Operand::Turns => put_bytes(buffer, at, b"--turns"),
     }
 }
 
@@ -456,6 +462,21 @@ pub fn end_line<S: Sink>(fate: &Fate, sink: &mut S) -> Result<u8, WriteFault>
         write_all(sink, &buffer[..end])?;
     }
     Ok(status_of(*fate))
+}
+
+/// The line with which a command ends that has this fate, and its line end; nothing where it ends
+/// without a line.
+///
+/// # Errors
+/// `Memory` if an allocation failed.
+pub fn last_line(alloc: Global, fate: Fate) -> Result<Vec<u8>, Memory>
+    ensures { IfOk result (λ line. line.items ≡ last_line_of fate) }
+{
+    let mut buffer = [0u8; LINE_ROOM];
+    let end = put_line(&mut buffer, fate);
+    let mut line = Vec::new(alloc);
+    append(&mut line, &buffer[..end])?;
+    Ok(line)
 }
 
 /// Reports how a run ended, and returns the status to end with: that of `end_line`, or [`FAILED`]

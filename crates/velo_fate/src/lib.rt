@@ -8,9 +8,9 @@ mod reading;
 mod saved;
 mod verdict;
 
-pub use fate::{Fate, end_line, end_with, fate_of_failure, number_of};
+pub use fate::{Fate, end_line, end_with, fate_of_failure, last_line, number_of};
 pub use fault::CheckFault;
-pub use files::{Beside, open_apart, open_input};
+pub use files::{Beside, list_beside, open_apart, open_input};
 pub use reading::read_file;
 pub use saved::Saved;
 pub use verdict::{Verdict, is_alarm, order_or_cycle_of, verdict_of, write_output};

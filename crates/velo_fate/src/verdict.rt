@@ -15,7 +15,7 @@ use velo_traces::Trace;
 use velo_world::Closed;
 
 /// What a log shows.
-#[derive(Clone, Copy, Debug, PartialEq, Eq)]
+#[derive(Clone, Copy, PartialEq, Eq)]
 pub enum Verdict {
     /// Its atomic blocks can be serialized.
     Clean,

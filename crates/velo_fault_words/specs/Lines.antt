@@ -1,5 +1,6 @@
 -- The lines of a text, and how one is shown.
 use Rattle.std.specs.Prelude.{ℕ, ◌-◌, ◌&&◌, nat_le, Bool, Some, List, [], ◌∷◌, ◌++◌, codes, decimal, get_or, length, map, slice_get, take, if◌then◌else◌}
+use Rattle.velo_escapes.specs.Escaped.{escaped}
 use Rattle.velo_events.specs.Event.{are_same}
 use Rattle.velo_explain.specs.Pieces.{joined}
 use Rattle.velo_names.specs.Line.{lines}
@@ -32,8 +33,8 @@ shown_line line = codes "    " ++ (shown line ++ codes "\n")
 
 -- "velodrome: PATH: "
 unfoldable pub of_file : List ℕ → List ℕ
-of_file path = joined (codes "velodrome: " ∷ path ∷ codes ": " ∷ [])
+of_file path = joined (codes "velodrome: " ∷ escaped path ∷ codes ": " ∷ [])
 
 -- "velodrome: PATH:LINE: "
 unfoldable pub of_line : List ℕ → ℕ → List ℕ
-of_line path n = joined (codes "velodrome: " ∷ path ∷ codes ":" ∷ decimal n ∷ codes ": " ∷ [])
+of_line path n = joined (codes "velodrome: " ∷ escaped path ∷ codes ":" ∷ decimal n ∷ codes ": " ∷ [])

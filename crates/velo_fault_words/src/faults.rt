@@ -16,7 +16,7 @@ use velo_suppressions::ListFault;
 use velo_workload::{MAX_WORKLOAD_BYTES, WorkFault};
 
 /// What is wrong with a file.
-#[derive(Clone, Copy, Debug)]
+#[derive(Clone, Copy)]
 pub enum FileFault {
     /// It is no log.
     Log(LogFault),

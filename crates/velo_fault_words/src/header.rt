@@ -8,7 +8,7 @@ use velo_bytes::{after, number, spaced_number};
 use velo_events::{MAX_LOCKS, MAX_THREADS};
 
 /// What is wrong with the first line of a log.
-#[derive(Clone, Copy, Debug, PartialEq, Eq)]
+#[derive(Clone, Copy, PartialEq, Eq)]
 pub enum HeaderFault {
     /// It begins with a byte-order mark.
     Marked,

@@ -10,7 +10,7 @@ use velo_bytes::{after, number};
 const LONGEST: usize = 64;
 
 /// The word of an event.
-#[derive(Clone, Copy, Debug, PartialEq, Eq)]
+#[derive(Clone, Copy, PartialEq, Eq)]
 pub enum Word {
     /// `rd`
     Read,
@@ -31,7 +31,7 @@ pub enum Word {
 }
 
 /// What is wrong with the line of an event.
-#[derive(Clone, Copy, Debug, PartialEq, Eq)]
+#[derive(Clone, Copy, PartialEq, Eq)]
 pub enum LineFault {
     /// It is empty.
     Blank,

@@ -4,6 +4,7 @@ ghost use Rattle.velo_fault_words.specs.Lines.{ends_in_return, first_line, line_
 
 use std::alloc::Global;
 use velo_bytes::append;
+use velo_escapes::escaped;
 use velo_events::Memory;
 use velo_explain::{Page, Piece};
 use velo_names::split_line;
@@ -95,32 +96,34 @@ pub fn add_shown(page: &mut Page, alloc: Global, line: &[u8]) -> Result<(), Memo
     ])
 }
 
-/// Adds which file it is.
+/// Adds which file it is, with its control characters escaped.
 ///
 /// # Errors
 /// `Memory` if an allocation failed.
 #[tactic(auto, unfolding(crate::specs::Lines::of_file))]
-pub fn add_file(page: &mut Page, path: &str) -> Result<(), Memory>
+pub fn add_file(page: &mut Page, alloc: Global, path: &str) -> Result<(), Memory>
     ensures { OnOk result (page.new ≡ page.old ++ of_file path.now) }
 {
+    let path = escaped(alloc, path.as_bytes())?;
     page.add(&[
-        Piece::Text("velodrome: "),
-        Piece::Text(path),
+        Piece::Text("velodrome:"),
+        Piece::Name(Some(path.as_slice())),
         Piece::Text(": "),
     ])
 }
 
-/// Adds which line of a file it is.
+/// Adds which line of a file it is, the same.
 ///
 /// # Errors
 /// `Memory` if an allocation failed.
 #[tactic(auto, unfolding(crate::specs::Lines::of_line))]
-pub fn add_line(page: &mut Page, path: &str, n: usize) -> Result<(), Memory>
+pub fn add_line(page: &mut Page, alloc: Global, path: &str, n: usize) -> Result<(), Memory>
     ensures { OnOk result (page.new ≡ page.old ++ of_line path.now n) }
 {
+    let path = escaped(alloc, path.as_bytes())?;
     page.add(&[
-        Piece::Text("velodrome: "),
-        Piece::Text(path),
+        Piece::Text("velodrome:"),
+        Piece::Name(Some(path.as_slice())),
         Piece::Text(":"),
         Piece::Number(n as u64),
         Piece::Text(": "),

@@ -79,10 +79,10 @@ fn add_header_help(page: &mut Page, fault: HeaderFault) -> Result<(), Memory>
 
 /// Adds that there is no byte.
 #[tactic(auto, unfolding(crate::specs::Log::empty_words))]
-fn add_empty(page: &mut Page, path: &str) -> Result<(), Memory>
+fn add_empty(page: &mut Page, alloc: Global, path: &str) -> Result<(), Memory>
     ensures { OnOk result (page.new ≡ page.old ++ empty_words path.now) }
 {
-    add_file(page, path)?;
+    add_file(page, alloc, path)?;
     page.add(&[Piece::Text(
         "the log is empty\nhelp: did the program that records end before it wrote?\n",
     )])
@@ -94,7 +94,7 @@ fn add_first_line(page: &mut Page, alloc: Global, path: &str, bytes: &[u8]) -> R
     ensures { OnOk result (page.new ≡ page.old ++ first_line_words path.now bytes.now) }
 {
     let fault = header_fault_of(bytes);
-    add_line(page, path, 1)?;
+    add_line(page, alloc, path, 1)?;
     add_header_reason(page, fault)?;
     page.add(&[Piece::Text("\n")])?;
     add_shown(page, alloc, first_line(bytes))?;
@@ -106,7 +106,7 @@ fn add_header_words(page: &mut Page, alloc: Global, path: &str, bytes: &[u8]) ->
     ensures { OnOk result (page.new ≡ page.old ++ header_words path.now bytes.now) }
 {
     if bytes.is_empty() {
-        return add_empty(page, path);
+        return add_empty(page, alloc, path);
     }
     add_first_line(page, alloc, path, bytes)
 }
@@ -218,7 +218,7 @@ fn add_faulty_line(
 ) -> Result<(), Memory>
     ensures { OnOk result (page.new ≡ page.old ++ faulty_line_words path.now n line.now fault) }
 {
-    add_line(page, path, n)?;
+    add_line(page, alloc, path, n)?;
     add_plain_reason(page, fault)?;
     add_meant(page, fault)?;
     add_text(page, "\n")?;
@@ -251,7 +251,7 @@ fn add_cut_line(
 ) -> Result<(), Memory>
     ensures { OnOk result (page.new ≡ page.old ++ cut_line_words path.now bytes.now n) }
 {
-    add_line(page, path, n)?;
+    add_line(page, alloc, path, n)?;
     add_text(page, "the log is cut off in this line\n")?;
     add_shown(page, alloc, line_at(n, bytes))?;
     add_text(
@@ -263,10 +263,10 @@ fn add_cut_line(
 
 /// Adds that there are too many events.
 #[tactic(auto, unfolding(crate::specs::Log::too_long_words))]
-fn add_too_long(page: &mut Page, path: &str) -> Result<(), Memory>
+fn add_too_long(page: &mut Page, alloc: Global, path: &str) -> Result<(), Memory>
     ensures { OnOk result (page.new ≡ page.old ++ too_long_words path.now) }
 {
-    add_file(page, path)?;
+    add_file(page, alloc, path)?;
     page.add(&[Piece::Text("the log has more than 16777216 events\n")])
 }
 
@@ -284,7 +284,7 @@ fn add_log_words(
         LogFault::BadHeader => add_header_words(page, alloc, path, bytes),
         LogFault::BadLine(n) => add_bad_line(page, alloc, path, bytes, n),
         LogFault::Truncated(n) => add_cut_line(page, alloc, path, bytes, n),
-        LogFault::TooLong => add_too_long(page, path),
+        LogFault::TooLong => add_too_long(page, alloc, path),
         LogFault::Read | LogFault::Memory => Ok(()),
     }
 }

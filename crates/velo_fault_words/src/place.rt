@@ -20,10 +20,16 @@ pub struct Complaint<'a> {
 
 /// Adds what is wrong with a file.
 #[tactic(auto, unfolding(crate::specs::Place::whole_words))]
-fn add_whole(page: &mut Page, path: &str, reason: &str, help: &str) -> Result<(), Memory>
+fn add_whole(
+    page: &mut Page,
+    alloc: Global,
+    path: &str,
+    reason: &str,
+    help: &str,
+) -> Result<(), Memory>
     ensures { OnOk result (page.new ≡ page.old ++ whole_words path.now reason.now help.now) }
 {
-    add_file(page, path)?;
+    add_file(page, alloc, path)?;
     page.add(&[Piece::Text(reason), Piece::Text("\n"), Piece::Text(help)])
 }
 
@@ -38,7 +44,7 @@ fn add_line_words(
     ensures { OnOk result (page.new ≡ page.old ++ line_words path.now bytes.now complaint.entry.line
         complaint.entry.reason.now complaint.entry.help.now) }
 {
-    add_line(page, path, complaint.line)?;
+    add_line(page, alloc, path, complaint.line)?;
     add_text(page, complaint.reason)?;
     add_text(page, "\n")?;
     add_shown(page, alloc, line_at(complaint.line, bytes))?;
@@ -58,7 +64,7 @@ fn add_place(
         complaint.entry.reason.now complaint.entry.help.now) }
 {
     if complaint.line == 0 {
-        return add_whole(page, path, complaint.reason, complaint.help);
+        return add_whole(page, alloc, path, complaint.reason, complaint.help);
     }
     add_line_words(page, alloc, path, bytes, complaint)
 }

@@ -14,7 +14,7 @@ use velo_explain::{Page, Piece};
 use velo_schedule_text::{MAX_SCHEDULE_BYTES, MAX_TURNS};
 
 /// What is wrong with a word of a schedule.
-#[derive(Clone, Copy, Debug, PartialEq, Eq)]
+#[derive(Clone, Copy, PartialEq, Eq)]
 pub enum TurnsFault {
     /// It is empty.
     Blank,
@@ -150,7 +150,7 @@ fn add_bad_word(
     ensures { OnOk result
         (page.new ≡ page.old ++ bad_word_words place.now reason.now (bad_word bad.entry)) }
 {
-    add_file(page, place)?;
+    add_file(page, alloc, place)?;
     page.add(&[
         Piece::Text("word "),
         Piece::Number(bad.place as u64),

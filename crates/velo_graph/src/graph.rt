@@ -18,7 +18,7 @@ use velo_events::growth::filled;
 use velo_rows::Ancestors;
 
 /// What adding an edge came to.
-#[derive(Clone, Copy, Debug, PartialEq, Eq)]
+#[derive(Clone, Copy, PartialEq, Eq)]
 pub enum Edge {
     /// Both ends are one node.
     Same,

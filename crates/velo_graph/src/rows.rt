@@ -69,7 +69,7 @@ pub fn take_out<A: Ancestors>(rows: &mut [A], count: u16, slot: u16)
 }
 
 /// The slots of a set that have no ancestors.
-#[derive(Clone, Copy, Debug, PartialEq, Eq)]
+#[derive(Clone, Copy, PartialEq, Eq)]
 pub enum Roots {
     /// There is none.
     Zero,

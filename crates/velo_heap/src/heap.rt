@@ -20,7 +20,7 @@ use velo_events::{
 /// The variables, locks and threads of a run, each with its state.
 ///
 /// A heap keeps no log. It represents the trace of the events that were applied to it.
-#[derive(Debug, Drop)]
+#[derive(Drop)]
 pub struct Heap {
     values: Vec<u64>,
     locks: Vec<Lock>,

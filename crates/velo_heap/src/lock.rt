@@ -7,7 +7,7 @@ ghost use Rattle.velo_heap.specs.Steps.{acquire_in, acquire_shared_in, release_i
 use velo_events::{Kind, LockId, Refusal, ThreadId, ThreadSet};
 
 /// Who holds one lock.
-#[derive(Clone, Copy, Debug, PartialEq, Eq)]
+#[derive(Clone, Copy, PartialEq, Eq)]
 pub struct Lock {
     /// The thread that holds it alone.
     pub holder: Option<ThreadId>,

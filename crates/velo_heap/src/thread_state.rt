@@ -5,7 +5,7 @@ ghost use Rattle.velo_heap.specs.Steps.{begin_in, end_in, exit_in, fork_by, join
 use velo_events::{Kind, Label, MAX_OPEN_BLOCKS, Refusal, Status, ThreadId};
 
 /// The state of one thread.
-#[derive(Clone, Copy, Debug, PartialEq, Eq)]
+#[derive(Clone, Copy, PartialEq, Eq)]
 pub struct ThreadState {
     /// How far it has come.
     pub status: Status,

@@ -1,11 +1,13 @@
 -- What a command knows before it opens LOG: names, what is left out of the log, and sites.
-use Rattle.std.specs.Prelude.{◌⊎◌, ℕ, List, Option}
+use Rattle.std.specs.Prelude.{◌⊎◌, ◌∷◌, [], ℕ, List, Option}
 use Rattle.std.specs.Borrow.{Bor}
 use Rattle.velo_names.specs.Names.{NameLists}
 use Rattle.velo_audit_text.specs.declared.words.Asked.{Asked}
+use Rattle.velo_delivery.specs.declared.failure.Operand.TheVariants as operand
 use Rattle.velo_fate.specs.declared.fate.Fate.{Fate}
+use Rattle.velo_fate.specs.declared.files.Beside.{Beside}
 use Rattle.velo_request.specs.declared.request.Ignored.{Ignored}
-use Rattle.velo_fate.specs.Barred.{WritesNowhere}
+use Rattle.velo_fate.specs.Barred.{WritesNowhere, list_beside}
 use Rattle.velo_delivery.specs.Disk.{Disk, Store}
 use Rattle.velo_inputs.specs.Ignoring.{AsksInVain, IsAsked}
 use Rattle.velo_inputs.specs.Listing.{IsKnownOf, Known, LacksKnown, scope_of}
@@ -38,6 +40,14 @@ LacksContext disk options f =
     × (AsksInVain names options.ignored f
     ⊎ ((asked : Asked) × IsAsked names known options.ignored asked
     × LacksSites disk options.sites f)))))
+
+-- its files, which are read beside the log
+abbrev pub reads_of : ContextOptions → List Beside
+reads_of options =
+    record { operand = operand.Names; path = options.names }
+    ∷ list_beside options.ignored
+    ∷ record { operand = operand.Sites; path = options.sites }
+    ∷ []
 
 -- ---- nothing is done
 

@@ -1,10 +1,10 @@
 //! What a command knows before it opens its log: names, what is left out of the log, and sites.
-ghost use Rattle.std.specs.Prelude.{◌⊎◌, Option as OptionOf};
+ghost use Rattle.std.specs.Prelude.{◌≡◌, ◌⊎◌, Option as OptionOf};
 ghost use Rattle.velo_audit_text.specs.declared.words.Asked.{Asked as AskedOf};
 ghost use Rattle.velo_delivery.specs.Disk.{Store, store};
 ghost use Rattle.velo_delivery.specs.Writing.{Writing, writing};
 ghost use Rattle.velo_fate.specs.declared.fate.Fate.{Fate as FateOf};
-ghost use Rattle.velo_inputs.specs.Context.{ReadsListThen, ReadsSitesThen, JudgesWordsThen, IsContext, KnowsNoContext};
+ghost use Rattle.velo_inputs.specs.Context.{ReadsListThen, ReadsSitesThen, JudgesWordsThen, IsContext, KnowsNoContext, reads_of};
 ghost use Rattle.velo_inputs.specs.Listing.{known_of};
 ghost use Rattle.velo_inputs.specs.Siting.{ParsesThen, ReadsSourcesThen};
 ghost use Rattle.velo_names.specs.Names.{NameLists};
@@ -17,9 +17,9 @@ use crate::siting::sites_in;
 use std::alloc::Global;
 use velo_audit_text::Asked;
 use velo_bytes::Sink;
-use velo_delivery::Files;
+use velo_delivery::{Files, Operand};
 use velo_events::Memory;
-use velo_fate::Fate;
+use velo_fate::{Beside, Fate, list_beside};
 use velo_names::{MAX_NAMES_BYTES, Names};
 use velo_request::Ignored;
 use velo_sites::{MAX_SITES_BYTES, Sites, SitesFault};
@@ -36,6 +36,21 @@ pub struct ContextOptions<'a> {
     pub sites: Option<&'a str>,
     /// The folder of the sources, whose lines stand behind the sites.
     pub source: Option<&'a str>,
+}
+
+/// The files of a context, which are read beside the log.
+pub fn reads_of<'a>(options: &ContextOptions<'a>) -> [Beside<'a>; 3]
+    ensures { result ≡ reads_of options.now }
+{
+    let names = Beside {
+        operand: Operand::Names,
+        path: options.names,
+    };
+    let sites = Beside {
+        operand: Operand::Sites,
+        path: options.sites,
+    };
+    [names, list_beside(&options.ignored), sites]
 }
 
 /// What is done by names, without what is left out of the log, and with sites.

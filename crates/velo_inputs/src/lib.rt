@@ -10,7 +10,7 @@ mod replaying;
 mod sending;
 mod siting;
 
-pub use context::{ContextOptions, InContext, do_in_context};
+pub use context::{ContextOptions, InContext, do_in_context, reads_of};
 pub use ignoring::{ignored_labels, ignored_locks, ignored_variables};
 pub use leaving::{config_of_rounds, left_out, left_out_by};
 pub use listing::{Listed, listed_of};

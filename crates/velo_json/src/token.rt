@@ -8,7 +8,7 @@ use velo_bytes::{append, append_number};
 use velo_events::Memory;
 
 /// A token.
-#[derive(Clone, Copy, Debug)]
+#[derive(Clone, Copy)]
 pub enum Token<'a> {
     /// The begin of an object.
     BeginObject,

@@ -15,7 +15,7 @@ use velo_events::growth::with_capacity;
 use velo_events::{Event, Memory, ThreadId};
 
 /// A row for each thread of a run.
-#[derive(Debug, Drop)]
+#[derive(Drop)]
 pub struct Book {
     run: u64,
     rows: Vec<Tally>,

@@ -6,7 +6,7 @@ use std::marker::Model;
 use velo_events::{Event, ThreadId};
 
 /// What one thread knows of its own row. It has no copy, and only `Book::open` makes shares.
-#[derive(Debug, Drop)]
+#[derive(Drop)]
 pub struct Share {
     /// The number of its run.
     pub(crate) run: u64,

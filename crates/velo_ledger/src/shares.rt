@@ -10,7 +10,7 @@ use velo_events::growth::with_capacity;
 use velo_events::{Memory, ThreadId};
 
 /// A place for each thread's share.
-#[derive(Debug, Drop)]
+#[derive(Drop)]
 pub struct Shares {
     /// By number of the threads.
     pub(crate) places: Vec<Option<Share>>,

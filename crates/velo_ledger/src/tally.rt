@@ -5,7 +5,7 @@ ghost use Rattle.velo_events.specs.declared.limits.TheConstants.{MAX_EVENTS};
 use velo_events::{Event, Kind};
 
 /// Counts and sums over the events of one thread.
-#[derive(Clone, Copy, Debug, PartialEq, Eq)]
+#[derive(Clone, Copy, PartialEq, Eq)]
 pub struct Tally {
     /// How many events there are.
     pub events: u64,

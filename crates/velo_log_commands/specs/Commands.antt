@@ -39,7 +39,7 @@ use Rattle.velo_log_commands.specs.Thinning.{ThinsInput, map_of}
 use Rattle.velo_log_commands.specs.Watching.{Terms, Watches, terms_of_watch}
 use Rattle.velo_log_commands.specs.WatchingRest.{terms_of_rest}
 use Rattle.velo_delivery.specs.Writing.{Writing, WritesNothing}
-use Rattle.velo_inputs.specs.Context.{DoesNotName, IsContext, KnowsNoContext}
+use Rattle.velo_inputs.specs.Context.{DoesNotName, IsContext, KnowsNoContext, reads_of}
 use Rattle.velo_inputs.specs.declared.context.ContextOptions.{ContextOptions}
 
 -- ---- velodrome check LOG [--names FILE] [--events N] [--nodes N] [--certificate] [--why]
@@ -113,6 +113,16 @@ DoesCheckRest options store stdout f =
 -- ---- [--ignore FILE] [--ignore-label WORD].. [--ignore-lock WORD].. [--ignore-locks] [--ignore-variable WORD]..
 -- ---- [--dot OUT] [--svg SVG] [--format FORM]
 
+-- what it knows before is in `Context` of `velo_inputs`
+abbrev pub context_of_explain : ExplainOptions → ContextOptions
+context_of_explain options =
+    record {
+      names = options.names;
+      ignored = options.ignored;
+      sites = options.sites;
+      source = options.source;
+    }
+
 -- the drawing, beside the picture
 abbrev pub drawing_of : ExplainOptions → Beside
 drawing_of options = record { operand = Svg; path = options.drawing }
@@ -123,21 +133,12 @@ drawing_of options = record { operand = Svg; path = options.drawing }
 -- for a reason (`Explaining`). If it has no cycle, OUT and SVG are not opened.
 abbrev pub ExplainsLog : NameLists → Option Table → Asked → ExplainOptions → Store → Writing → Fate → Type 0
 ExplainsLog names sites asked options store stdout f =
-    DoesNotReadApart store Log options.input.now options.target (drawing_of options) stdout f
+    DoesNotReadApart store Log options.input.now (reads_of (context_of_explain options))
+    options.target (drawing_of options) stdout f
     ⊎ ((read : Reading) × (answer : CommandAnswer) × (drawing : List ℕ)
     × store.disk.gives options.input.now read × FailuresAsTold read f
     × IsExplainAnswer names sites asked options read.bytes answer drawing
     × IsDeliveredInTurn store options.target options.drawing drawing stdout answer f)
-
--- what it knows before is in `Context` of `velo_inputs`
-abbrev pub context_of_explain : ExplainOptions → ContextOptions
-context_of_explain options =
-    record {
-      names = options.names;
-      ignored = options.ignored;
-      sites = options.sites;
-      source = options.source;
-    }
 
 abbrev pub DoesExplain : ExplainOptions → Store → Writing → Fate → Type 0
 DoesExplain options store stdout f =
@@ -163,13 +164,19 @@ DoesCarry options store stdout f =
 -- ---- velodrome thin LOG --log OUT [--map MAP] [--names FILE] [--not-atomic FILE]
 -- ---- [--ignore-label WORD].. [--ignore-lock WORD].. [--ignore-locks] [--ignore-variable WORD]..
 
+-- what it knows before is in `Context` of `velo_inputs`
+abbrev pub context_of_thin : ThinOptions → ContextOptions
+context_of_thin options =
+    record { names = options.names; ignored = options.ignored; sites = None; source = None }
+
 -- LOG is read whole, without what is left out of it, and then without what adds nothing to the verdict
 -- of the rest. What is left is saved at OUT, then the map at MAP, if that is given, and then the counts
 -- go to standard output; or nothing is written, for a reason, and then OUT and MAP are not opened
 -- (`Thinning`).
 abbrev pub ThinsFile : ThinOptions → Omitted → Store → Writing → Fate → Type 0
 ThinsFile options omitted store stdout f =
-    DoesNotReadApart store Log options.input.now (Some options.target) (map_of options) stdout f
+    DoesNotReadApart store Log options.input.now (reads_of (context_of_thin options))
+    (Some options.target) (map_of options) stdout f
     ⊎ ((read : Reading)
     × store.disk.gives options.input.now read × FailuresAsTold read f
     × ThinsInput options omitted read.bytes store stdout f)
@@ -179,11 +186,6 @@ abbrev pub ThinsAsked : Asked → ThinOptions → Store → Writing → Fate →
 ThinsAsked asked options store stdout f =
     ThinsFile options (left_out_at_first asked) store stdout f
     ⊎ LacksMemoryToDeliver store stdout f
-
--- what it knows before is in `Context` of `velo_inputs`
-abbrev pub context_of_thin : ThinOptions → ContextOptions
-context_of_thin options =
-    record { names = options.names; ignored = options.ignored; sites = None; source = None }
 
 abbrev pub DoesThin : ThinOptions → Store → Writing → Fate → Type 0
 DoesThin options store stdout f =

@@ -1,8 +1,8 @@
 //! `velodrome explain`: what is asked for is read in turn, and a log is explained whole or without what is left out.
-ghost use Rattle.std.specs.Prelude.{◌≤◌, length};
+ghost use Rattle.std.specs.Prelude.{◌≡◌, ◌≤◌, length};
 ghost use Rattle.velo_events.specs.declared.limits.TheConstants.{MAX_EVENTS};
 ghost use Rattle.velo_log_commands.specs.Explaining.{ExplainsVerdict};
-ghost use Rattle.velo_log_commands.specs.Commands.{DoesExplain, ExplainsLog};
+ghost use Rattle.velo_log_commands.specs.Commands.{DoesExplain, ExplainsLog, context_of_explain};
 ghost use Rattle.velo_delivery.specs.Reading.{reading};
 ghost use Rattle.velo_delivery.specs.Disk.{store};
 ghost use Rattle.velo_delivery.specs.Writing.{writing};
@@ -18,7 +18,7 @@ use velo_bytes::{Sink, Source};
 use velo_delivery::{Files, Operand};
 use velo_events::{MAX_EVENTS, MAX_NODES};
 use velo_fate::{Beside, Fate, open_apart};
-use velo_inputs::{ContextOptions, InContext, are_of_log, do_in_context, do_input};
+use velo_inputs::{ContextOptions, InContext, are_of_log, do_in_context, do_input, reads_of};
 use velo_names::Names;
 use velo_request::ExplainOptions;
 use velo_sites::Sites;
@@ -88,6 +88,18 @@ fn explain_log<I: Source, F: Files, O: Sink>(
     }
 }
 
+/// What is known before the log is opened.
+fn context_of<'a>(options: &ExplainOptions<'a>) -> ContextOptions<'a>
+    ensures { result ≡ context_of_explain options.now }
+{
+    ContextOptions {
+        names: options.names,
+        ignored: options.ignored,
+        sites: options.sites,
+        source: options.source,
+    }
+}
+
 /// Explains the log that was asked for.
 fn explain_input<F: Files, O: Sink>(
     alloc: Global,
@@ -105,7 +117,15 @@ fn explain_input<F: Files, O: Sink>(
         operand: Operand::Svg,
         path: options.drawing,
     };
-    match open_apart(files, Operand::Log, options.input, options.target, drawing) {
+    let reads = reads_of(&context_of(options));
+    match open_apart(
+        files,
+        Operand::Log,
+        options.input,
+        &reads,
+        options.target,
+        drawing,
+    ) {
         Ok(mut log) => explain_log(alloc, inquiry, sites, &mut log, files, out),
         Err(fate) => fate,
     }
@@ -143,11 +163,11 @@ pub fn explain_file<F: Files, O: Sink>(
     ensures { DoesExplain options.now (store F.disk files.old files.new)
         (writing O.contents O.failures out.old out.new) result }
 {
-    let context = ContextOptions {
-        names: options.names,
-        ignored: options.ignored,
-        sites: options.sites,
-        source: options.source,
-    };
-    do_in_context(alloc, &Command { options }, &context, files, out)
+    do_in_context(
+        alloc,
+        &Command { options },
+        &context_of(options),
+        files,
+        out,
+    )
 }

@@ -4,7 +4,7 @@ ghost use Rattle.velo_delivery.specs.Disk.{store};
 ghost use Rattle.velo_delivery.specs.Writing.{writing};
 ghost use Rattle.velo_fate.specs.Failures.{failures_told};
 ghost use Rattle.velo_filter.specs.Tables.{left_of};
-ghost use Rattle.velo_log_commands.specs.Commands.{DoesThin, ThinsAsked, ThinsFile};
+ghost use Rattle.velo_log_commands.specs.Commands.{DoesThin, ThinsAsked, ThinsFile, context_of_thin};
 ghost use Rattle.velo_log_commands.specs.Thinning.{GoesOutTo, ThinsInput, check_fault_of_thinning};
 
 use crate::command::Command;
@@ -15,7 +15,7 @@ use velo_delivery::{Files, Operand};
 use velo_events::Memory;
 use velo_fate::{Beside, CheckFault, Fate, fate_of_failure, open_apart};
 use velo_filter::LeftOut;
-use velo_inputs::{ContextOptions, InContext, do_in_context, left_out};
+use velo_inputs::{ContextOptions, InContext, do_in_context, left_out, reads_of};
 use velo_names::Names;
 use velo_request::ThinOptions;
 use velo_sites::Sites;
@@ -83,6 +83,18 @@ fn thin_input<I: Source, F: Files, O: Sink>(
     }
 }
 
+/// What is known before the log is opened.
+fn context_of<'a>(options: &ThinOptions<'a>) -> ContextOptions<'a>
+    ensures { result ≡ context_of_thin options.now }
+{
+    ContextOptions {
+        names: options.names,
+        ignored: options.ignored,
+        sites: None,
+        source: None,
+    }
+}
+
 /// Opens the log that was asked for, and thins it without what is left out of it.
 fn thin_without<F: Files, O: Sink>(
     alloc: Global,
@@ -98,10 +110,12 @@ fn thin_without<F: Files, O: Sink>(
         operand: Operand::Map,
         path: options.map,
     };
+    let reads = reads_of(&context_of(options));
     match open_apart(
         files,
         Operand::Log,
         options.input,
+        &reads,
         Some(options.target),
         map,
     ) {
@@ -143,11 +157,11 @@ pub fn thin_file<F: Files, O: Sink>(
     ensures { DoesThin options.now (store F.disk files.old files.new)
         (writing O.contents O.failures out.old out.new) result }
 {
-    let context = ContextOptions {
-        names: options.names,
-        ignored: options.ignored,
-        sites: None,
-        source: None,
-    };
-    do_in_context(alloc, &Command { options }, &context, files, out)
+    do_in_context(
+        alloc,
+        &Command { options },
+        &context_of(options),
+        files,
+        out,
+    )
 }

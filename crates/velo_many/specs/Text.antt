@@ -1,6 +1,7 @@
 -- The text of a summary.
 use Rattle.std.specs.Prelude.{◌≡◌, ℕ, List, [], ◌==◌, ◌++◌, length, Option, Some, None, codes, decimal, if◌then◌else◌}
 use Rattle.std.specs.Global.{Vec}
+use Rattle.std.specs.Io.BufRead.{strip_last}
 use Rattle.std.specs.List.{flat_map}
 use Rattle.velo_many.specs.declared.audits.FoundLabel.{FoundLabel}
 use Rattle.velo_many.specs.declared.audits.LogAudit.{LogAudit}
@@ -10,6 +11,7 @@ use Rattle.velo_many.specs.declared.audits.Verdict.TheVariants.{Atomic, NotAtomi
 use Rattle.velo_many.specs.declared.audits.Verdict.TheVariants as verdict
 use Rattle.velo_many.specs.declared.listing.Listed.{Listed}
 use Rattle.velo_many.specs.Summary.{IsListing, count_logs}
+use Rattle.velo_escapes.specs.Escaped.{escaped}
 
 -- the word after the number of logs
 abbrev pub logs_word : ℕ → List ℕ
@@ -30,7 +32,7 @@ counts_text logs =
 -- " deposit", or nothing
 abbrev pub name_text : Option (Vec ℕ) → List ℕ
 name_text None = []
-name_text (Some name) = codes " " ++ name.items
+name_text (Some name) = codes " " ++ escaped name.items
 
 -- "not atomic 7 deposit"
 abbrev pub heading_text : FoundLabel → List ℕ
@@ -39,7 +41,7 @@ heading_text label = codes "not atomic " ++ decimal label.label.0 ++ name_text l
 -- " at bank.c:40 deposit", or nothing
 abbrev pub site_text : Option (Vec ℕ) → List ℕ
 site_text None = []
-site_text (Some site) = codes " at " ++ site.items
+site_text (Some site) = codes " at " ++ escaped site.items
 
 -- "  in 2 of 3 logs"
 abbrev pub share_text : ℕ → ℕ → List ℕ
@@ -48,7 +50,7 @@ share_text count total = codes "  in " ++ decimal count ++ codes " of " ++ decim
 -- ", first in lost.log, line 12 at bank.c:40 deposit"
 abbrev pub first_text : Listed → List ℕ
 first_text listed =
-    codes ", first in " ++ listed.path.now ++ codes ", line " ++ decimal listed.label.now.line
+    codes ", first in " ++ escaped listed.path.now ++ codes ", line " ++ decimal listed.label.now.line
     ++ site_text listed.label.now.site ++ codes "\n"
 
 -- "  in 2 of 3 logs, first in lost.log, line 12 at bank.c:40 deposit"
@@ -60,11 +62,15 @@ label_text total listed = heading_text listed.label.now ++ place_text total list
 
 -- "unreadable cut.log"
 abbrev pub path_text : List ℕ → List ℕ
-path_text path = codes "unreadable " ++ path
+path_text path = codes "unreadable " ++ escaped path
+
+-- a line, and a line end whether it has one or not
+abbrev pub line_text : List ℕ → List ℕ
+line_text line = escaped (strip_last 10 line) ++ codes "\n"
 
 -- and below it the line with which its audit ends
 abbrev pub reason_text : List ℕ → List ℕ → List ℕ
-reason_text path line = path_text path ++ codes "\n  " ++ line
+reason_text path line = path_text path ++ codes "\n  " ++ line_text line
 
 abbrev pub reason_text_if : List ℕ → LogResult → List ℕ
 reason_text_if path (Audited labels) = []

@@ -5,7 +5,7 @@ ghost use Rattle.velo_many.specs.Summary.{count_logs, has_verdict, verdict_by, v
 use velo_events::Label;
 
 /// A label that the audit of a log found.
-#[derive(Drop, Debug)]
+#[derive(Drop)]
 pub struct FoundLabel {
     /// The label.
     pub label: Label,
@@ -18,7 +18,7 @@ pub struct FoundLabel {
 }
 
 /// What the audit of one log gave.
-#[derive(Drop, Debug)]
+#[derive(Drop)]
 pub enum LogResult {
     /// The labels that it found, in the order of its rounds. A label may be there more than once.
     Audited(Vec<FoundLabel>),
@@ -27,7 +27,7 @@ pub enum LogResult {
 }
 
 /// A log that was audited.
-#[derive(Drop, Debug)]
+#[derive(Drop)]
 pub struct LogAudit {
     /// The path by which it was given.
     pub path: Vec<u8>,
@@ -36,7 +36,7 @@ pub struct LogAudit {
 }
 
 /// What is said of a log.
-#[derive(Clone, Copy, Debug, PartialEq, Eq)]
+#[derive(Clone, Copy, PartialEq, Eq)]
 pub enum Verdict {
     /// No label was found.
     Atomic,

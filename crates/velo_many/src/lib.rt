@@ -9,4 +9,4 @@ mod tests;
 
 pub use audits::{FoundLabel, LogAudit, LogResult, Verdict, count_logs, verdict_of};
 pub use listing::{Listed, listing_of};
-pub use summary::summary_text;
+pub use summary::{summary_text, without_end};

@@ -1,13 +1,15 @@
 //! The text of a summary.
 ghost use Rattle.std.specs.Prelude.{◌≡◌, ◌++◌, decimal, length, IfOk, OnOk};
+ghost use Rattle.std.specs.Io.BufRead.{strip_last};
 ghost use Rattle.std.specs.List.{flat_map};
 ghost use Rattle.velo_many.specs.Summary.{count_logs};
-ghost use Rattle.velo_many.specs.Text.{IsSummary, counts_text, first_text, heading_text, label_text, logs_text, logs_word, name_text, path_text, place_text, reason_text, share_text, site_text, unreadable_text};
+ghost use Rattle.velo_many.specs.Text.{IsSummary, counts_text, first_text, heading_text, label_text, line_text, logs_text, logs_word, name_text, path_text, place_text, reason_text, share_text, site_text, unreadable_text};
 
 use crate::audits::{FoundLabel, LogAudit, LogResult, Verdict, count_logs};
 use crate::listing::{Listed, listing_of};
 use std::alloc::Global;
 use velo_bytes::{append, append_number};
+use velo_escapes::append_escaped;
 use velo_events::Memory;
 
 /// Appends of how many logs this is said, and words after it.
@@ -58,7 +60,7 @@ fn append_name(text: &mut Vec<u8>, name: &Option<Vec<u8>>) -> Result<(), Memory>
     match name {
         Some(name) => {
             append(text, b" ")?;
-            append(text, name)
+            append_escaped(text, name)
         }
         None => Ok(()),
     }
@@ -81,7 +83,7 @@ fn append_site(text: &mut Vec<u8>, site: &Option<Vec<u8>>) -> Result<(), Memory>
     match site {
         Some(site) => {
             append(text, b" at ")?;
-            append(text, site)
+            append_escaped(text, site)
         }
         None => Ok(()),
     }
@@ -103,7 +105,7 @@ fn append_first(text: &mut Vec<u8>, listed: Listed) -> Result<(), Memory>
     ensures { OnOk result (text.new.items ≡ text.old.items ++ first_text listed.entry) }
 {
     append(text, b", first in ")?;
-    append(text, listed.path)?;
+    append_escaped(text, listed.path)?;
     append(text, b", line ")?;
     append_number(text, listed.label.line)?;
     append_site(text, &listed.label.site)?;
@@ -141,7 +143,27 @@ fn append_path(text: &mut Vec<u8>, path: &[u8]) -> Result<(), Memory>
     ensures { OnOk result (text.new.items ≡ text.old.items ++ path_text path.now) }
 {
     append(text, b"unreadable ")?;
-    append(text, path)
+    append_escaped(text, path)
+}
+
+/// A line without its line end.
+pub fn without_end(line: &[u8]) -> &[u8]
+    ensures { result.now ≡ strip_last 10 line.now }
+{
+    let count = line.len();
+    if count > 0 && line[count - 1] == b'\n' {
+        &line[..count - 1]
+    } else {
+        line
+    }
+}
+
+/// Appends a line, and a line end whether it has one or not.
+fn append_line(text: &mut Vec<u8>, line: &[u8]) -> Result<(), Memory>
+    ensures { OnOk result (text.new.items ≡ text.old.items ++ line_text line.now) }
+{
+    append_escaped(text, without_end(line))?;
+    append(text, b"\n")
 }
 
 /// Appends that a log could not be judged, with its last line.
@@ -150,7 +172,7 @@ fn append_reason(text: &mut Vec<u8>, path: &[u8], line: &[u8]) -> Result<(), Mem
 {
     append_path(text, path)?;
     append(text, b"\n  ")?;
-    append(text, line)
+    append_line(text, line)
 }
 
 /// Appends why a log could not be judged, if this is so.

@@ -85,6 +85,41 @@ unreadable cut.log
     Ok(())
 }
 
+/// Texts as a summary may have them, and as they are shown.
+static ESCAPED: &[(&str, &str)] = &[
+    ("a\nb", "a\\nb"),
+    ("\u{0}\t\r\u{1b}[31m", "\\x00\\x09\\x0d\\x1b[31m"),
+    ("\u{1f} ~\u{7f}", "\\x1f ~\\x7f"),
+    ("\u{80}\u{9f}\u{a0}", "\\xc2\\x80\\xc2\\x9f\u{a0}"),
+    ("caf\u{e9} \u{85}\u{c2}", "caf\u{e9} \\xc2\\x85\u{c2}"),
+    ("a\\n", "a\\n"),
+];
+
+/// What is said of a log at a path that could not be judged, and of one in which a label of this name
+/// was found at this place.
+fn summary_of(alloc: Global, text: &'static str) -> Result<Vec<u8>, Fail> {
+    let mut labels = Vec::new(alloc);
+    labels.push(found(alloc, &(7, text, 2, text))?)?;
+    let mut logs = Vec::new(alloc);
+    logs.push(audit_of(alloc, text, LogResult::Audited(labels))?)?;
+    let line = LogResult::Unreadable(copy_of(alloc, text)?);
+    logs.push(audit_of(alloc, text, line)?)?;
+    Ok(summary_text(alloc, &logs)?)
+}
+
+#[test]
+fn escapes(rt: HostRuntime) -> Result<(), Fail> {
+    let alloc = rt.alloc();
+    for (text, shown) in ESCAPED {
+        let summary = summary_of(alloc, text)?;
+        let wanted = format!(in alloc;
+            "2 logs: 0 atomic, 1 not atomic, 1 unreadable\nnot atomic 7 {shown}\n  in 1 of 2 logs, first in {shown}, line 2 at {shown}\nunreadable {shown}\n  {shown}\n"
+        )?;
+        assert!(rt; summary.as_slice() == wanted.as_bytes(), "{shown}");
+    }
+    Ok(())
+}
+
 #[test]
 fn of_no_logs(rt: HostRuntime) -> Result<(), Fail> {
     let text = summary_text(rt.alloc(), &[])?;

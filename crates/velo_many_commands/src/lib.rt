@@ -5,7 +5,6 @@
 mod batch;
 mod given;
 mod judging;
-mod line;
 mod many;
 mod merging;
 mod reading;

@@ -6,7 +6,7 @@ ghost use Rattle.velo_many_commands.specs.Reading.{AreBytesAt, AreBytesBeside, I
 use crate::given::{GivenLog, ReadLog};
 use std::alloc::Global;
 use velo_bytes::append;
-use velo_delivery::{Files, ReadFault, is_standard_input, open_at, read_whole};
+use velo_delivery::{Files, ReadFault, is_standard_input, open_at, open_regular_at, read_whole};
 use velo_events::Memory;
 use velo_fate::{CheckFault, Fate};
 use velo_logtext::read_log;
@@ -24,7 +24,7 @@ fn path_beside(alloc: Global, log: &str, ending: &str) -> Result<Vec<u8>, Memory
     Ok(path)
 }
 
-/// The bytes of the file at a path, if one opens there; or if there are more than `most`, more than
+/// The bytes of the file at a path, if a regular one opens there; or if there are more than `most`, more than
 /// `most` of them.
 fn bytes_at<F: Files>(
     alloc: Global,
@@ -35,7 +35,7 @@ fn bytes_at<F: Files>(
     ensures bytes { IfOk result (AreBytesAt (F.disk files.now) most path.now) }
     ensures unread { IfErr result (ReadsNone (bytes_up_to most) (F.disk files.now) path.now) }
 {
-    let Some(mut file) = open_at(files, path) else {
+    let Some(mut file) = open_regular_at(files, path) else {
         return Ok(None);
     };
     match read_whole(alloc, &mut file, most) {

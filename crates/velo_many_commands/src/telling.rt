@@ -4,11 +4,10 @@ ghost use Rattle.velo_delivery.specs.Writing.{writing};
 ghost use Rattle.velo_many_commands.specs.Telling.{IsSettled, IsSummaryIn, IsTold, IsToldOf, TellsLogs, end_of};
 
 use crate::batch::{LogSlot, Work};
-use crate::line::last_line;
 use std::alloc::Global;
 use velo_bytes::{Sink, WriteFault, append, write_all};
 use velo_events::Memory;
-use velo_fate::Fate;
+use velo_fate::{Fate, last_line};
 use velo_many::{FoundLabel, LogAudit, LogResult, Verdict, count_logs, summary_text};
 use velo_many_forms::summary_json;
 use velo_request::TextOrJson;

@@ -51,6 +51,7 @@ fn text_at(path: &str) -> Option<&'static str> {
         "cut.log" => Some("vlog 1 2 1 1\n0 begin 7\n0 r"),
         "bad.log" => Some("vlog 1 2 1 1\n0 begin 7\n0 end\n0 end\n"),
         "ready.log" => Some(CALM),
+        "ready.log.names" => Some("no line of names\n"),
         "wide.txt" => Some("left out variable 0\n"),
         "known.txt" => Some("not atomic 7 deposit\n"),
         "wrong.txt" => Some("not atomic seven\n"),
@@ -67,6 +68,14 @@ impl Files for Drawer {
         match text_at(path) {
             Some(text) => Some(Bytes::new(text.as_bytes())),
             None => None,
+        }
+    }
+
+    /// Names that are no regular file.
+    fn open_regular(&self, path: &str) -> Option<Bytes<'static>> {
+        match path {
+            "ready.log.names" => None,
+            _ => self.open(path),
         }
     }
 

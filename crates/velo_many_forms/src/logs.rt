@@ -1,6 +1,5 @@
 //! Logs, with what their audits gave.
 ghost use Rattle.std.specs.Prelude.{◌≡◌, ◌++◌, IfOk};
-ghost use Rattle.std.specs.Io.BufRead.{strip_last};
 ghost use Rattle.json.specs.Tree.{json_tokens};
 ghost use Rattle.velo_json.specs.Tree.{count};
 ghost use Rattle.velo_many_forms.specs.Summary.{label_json, labels_or_null, line_or_null, log_json, text_or_null};
@@ -8,7 +7,7 @@ ghost use Rattle.velo_many_forms.specs.Summary.{label_json, labels_or_null, line
 use crate::elements::{Element, add_array};
 use velo_events::{Label, Memory};
 use velo_json::JsonWriter;
-use velo_many::{FoundLabel, LogAudit, LogResult};
+use velo_many::{FoundLabel, LogAudit, LogResult, without_end};
 
 /// Adds a text, or null where there is none.
 pub(crate) fn add_text_or_null(
@@ -50,18 +49,6 @@ fn add_labels_or_null(json: JsonWriter, given: &LogResult) -> Result<JsonWriter,
     match given {
         LogResult::Audited(labels) => add_array(json, labels),
         LogResult::Unreadable(_) => json.null(),
-    }
-}
-
-/// A line without its line end.
-fn without_end(line: &[u8]) -> &[u8]
-    ensures { result.now ≡ strip_last 10 line.now }
-{
-    let count = line.len();
-    if count > 0 && line[count - 1] == b'\n' {
-        &line[..count - 1]
-    } else {
-        line
     }
 }
 

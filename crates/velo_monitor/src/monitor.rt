@@ -38,7 +38,7 @@ use velo_rows::BitRow;
 use velo_tables::{MAX_PREDECESSORS, Tables};
 
 /// What one more event does to the graph.
-#[derive(Clone, Copy, Debug, PartialEq, Eq)]
+#[derive(Clone, Copy, PartialEq, Eq)]
 pub enum Seen {
     /// It closes no cycle.
     Quiet,

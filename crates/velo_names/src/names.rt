@@ -12,7 +12,6 @@ use crate::kind_names::KindNames;
 use crate::limits::{MAX_NAME_LINES, MAX_NAMES_BYTES};
 use crate::line::{Said, is_number, is_silent, naming, number_of_kind, split_line};
 use std::alloc::Global;
-use std::fmt;
 use std::marker::Model;
 use velo_events::Memory;
 use velo_events::growth::reserve;
@@ -32,12 +31,6 @@ impl<'a> Model for Names<'a> {
     ghost Value = { NameLists };
 
     ghost view = { λ n. record { threads = n.threads; variables = n.variables; locks = n.locks; labels = n.labels } };
-}
-
-impl<'a> fmt::Debug for Names<'a> {
-    fn fmt<W: fmt::Write>(&self, f: &mut fmt::Formatter<W>) -> fmt::Result {
-        f.write_str("Names")
-    }
 }
 
 impl<'a> Names<'a> {

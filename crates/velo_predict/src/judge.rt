@@ -19,7 +19,7 @@ use velo_heap::Heap;
 use velo_traces::Trace;
 
 /// How far a thread has come in the log.
-#[derive(Clone, Copy, Debug)]
+#[derive(Clone, Copy)]
 pub struct Course {
     /// From this position on its next event is looked for.
     pub place: usize,
@@ -28,7 +28,7 @@ pub struct Course {
 }
 
 /// What an event comes to, if it is foretold.
-#[derive(Clone, Copy, Debug)]
+#[derive(Clone, Copy)]
 struct Step {
     /// How far its thread has come.
     course: Course,

@@ -11,7 +11,7 @@ use velo_events::{Event, Kind, Memory, ThreadId};
 use velo_traces::Trace;
 
 /// How far a thread has come along its events in the log.
-#[derive(Clone, Copy, Debug)]
+#[derive(Clone, Copy)]
 pub struct Trail {
     /// From this position on its next event is looked for.
     pub place: usize,
@@ -20,7 +20,7 @@ pub struct Trail {
 }
 
 /// What an event comes to.
-#[derive(Clone, Copy, Debug)]
+#[derive(Clone, Copy)]
 struct Step {
     /// How far its thread has come.
     trail: Trail,

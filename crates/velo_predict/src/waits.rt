@@ -19,7 +19,7 @@ use velo_heap::Heap;
 use velo_traces::Trace;
 
 /// A thread that waits.
-#[derive(Clone, Copy, Debug, PartialEq, Eq)]
+#[derive(Clone, Copy, PartialEq, Eq)]
 pub struct Waiting {
     /// The thread.
     pub thread: ThreadId,

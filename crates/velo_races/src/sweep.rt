@@ -18,7 +18,7 @@ const WIDTH: usize = 64;
 /// The last write of a variable.
 ///
 /// The stamp of an access is the number of synchronizing events before it, plus one.
-#[derive(Clone, Copy, Debug)]
+#[derive(Clone, Copy)]
 pub(crate) struct LastWrite {
     /// Its thread.
     pub by: ThreadId,

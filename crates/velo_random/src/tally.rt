@@ -3,7 +3,7 @@ use velo_events::Label;
 use velo_explore::Findings;
 
 /// What some runs came to.
-#[derive(Debug, Drop)]
+#[derive(Drop)]
 pub struct RunTally {
     /// How many runs were made.
     pub runs: u64,
@@ -17,7 +17,7 @@ pub struct RunTally {
 }
 
 /// A label, and how many runs have an alarm that blames a block with it.
-#[derive(Clone, Copy, Debug, PartialEq, Eq)]
+#[derive(Clone, Copy, PartialEq, Eq)]
 pub struct BlamedLabel {
     /// The label.
     pub label: Label,

@@ -13,6 +13,7 @@ ghost use Rattle.velo_renew.specs.Renewal.{IsFirstOpen, IsReasonAgainst, Renews,
 
 use crate::stages::prologue;
 use std::alloc::Global;
+use std::fmt;
 use thiserror::Error;
 use velo_events::{Bounds, Config, Memory, ThreadId};
 use velo_heap::Heap;
@@ -21,7 +22,7 @@ use velo_traces::Trace;
 use velo_world::{LogReplayFault, World};
 
 /// Why a run does not go on in a log of its own.
-#[derive(Clone, Copy, Debug, PartialEq, Eq, Error)]
+#[derive(Clone, Copy, PartialEq, Eq, Error)]
 pub enum NotRenewed {
     /// An alarm is kept.
     #[error("an alarm is kept")]
@@ -35,6 +36,12 @@ pub enum NotRenewed {
     /// An allocation failed.
     #[error("out of memory")]
     Memory,
+}
+
+impl fmt::Debug for NotRenewed {
+    fn fmt<W: fmt::Write>(&self, f: &mut fmt::Formatter<W>) -> fmt::Result {
+        fmt::Display::fmt(self, f)
+    }
 }
 
 impl From<Memory> for NotRenewed {

@@ -9,7 +9,7 @@ use velo_events::{Label, ThreadId};
 use velo_names::NameKind;
 
 /// What threads and labels are called in a report.
-#[derive(Clone, Copy, Debug)]
+#[derive(Clone, Copy)]
 pub enum Names<'a> {
     /// Threads have no names, and a label is its number.
     Numbers,

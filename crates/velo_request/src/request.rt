@@ -4,7 +4,7 @@ ghost use Rattle.velo_events.specs.declared.limits.TheConstants.{MAX_EVENTS, MAX
 ghost use Rattle.velo_request.specs.declared.request.TheConstants.{MAX_RUNS, MAX_STATES, MAX_TRIES};
 
 /// The limits of a run.
-#[derive(Clone, Copy, Debug)]
+#[derive(Clone, Copy)]
 pub struct Limits {
     /// The most events that the log may have, 1 to [`MAX_EVENTS`](velo_events::MAX_EVENTS).
     pub events: u32,
@@ -18,7 +18,7 @@ pub struct Limits {
 }
 
 /// What `velodrome check` was asked for.
-#[derive(Clone, Copy, Debug)]
+#[derive(Clone, Copy)]
 pub struct CheckOptions<'a> {
     /// The path of the log, or `-`.
     pub input: &'a str,
@@ -33,7 +33,7 @@ pub struct CheckOptions<'a> {
 }
 
 /// What `velodrome check` was asked for, if something is left out of the log.
-#[derive(Clone, Copy, Debug)]
+#[derive(Clone, Copy)]
 pub struct CheckRestOptions<'a> {
     /// The rest, which is as for the whole log; without a certificate.
     pub check: CheckOptions<'a>,
@@ -42,7 +42,7 @@ pub struct CheckRestOptions<'a> {
 }
 
 /// What a run of a workload was asked for; `velodrome run` is asked for nothing else.
-#[derive(Clone, Copy, Debug)]
+#[derive(Clone, Copy)]
 pub struct RunOptions<'a> {
     /// The path of the workload, or `-`.
     pub input: &'a str,
@@ -61,7 +61,7 @@ pub struct RunOptions<'a> {
 }
 
 /// Where a schedule is, and in which form.
-#[derive(Clone, Copy, Debug)]
+#[derive(Clone, Copy)]
 pub enum ScheduleSource<'a> {
     /// This is its text, as [`schedule_of`](velo_schedule_text::schedule_of) takes it.
     Text(&'a str),
@@ -72,7 +72,7 @@ pub enum ScheduleSource<'a> {
 }
 
 /// What `velodrome replay` was asked for.
-#[derive(Clone, Copy, Debug)]
+#[derive(Clone, Copy)]
 pub struct ReplayOptions<'a> {
     /// Where the schedule is.
     pub schedule: ScheduleSource<'a>,
@@ -81,7 +81,7 @@ pub struct ReplayOptions<'a> {
 }
 
 /// What is left out of a log before it is looked at.
-#[derive(Clone, Copy, Debug)]
+#[derive(Clone, Copy)]
 pub struct Ignored<'a> {
     /// The path of the list of what is known already, or `-`.
     pub known: Option<&'a str>,
@@ -98,7 +98,7 @@ pub struct Ignored<'a> {
 }
 
 /// In which form an explanation, an exploration or predictions are printed.
-#[derive(Clone, Copy, Debug, PartialEq, Eq)]
+#[derive(Clone, Copy, PartialEq, Eq)]
 pub enum TextOrJson {
     /// As text, for a person.
     Text,
@@ -107,7 +107,7 @@ pub enum TextOrJson {
 }
 
 /// What `velodrome explain` was asked for.
-#[derive(Clone, Copy, Debug)]
+#[derive(Clone, Copy)]
 pub struct ExplainOptions<'a> {
     /// The path of the log, or `-`.
     pub input: &'a str,
@@ -130,14 +130,12 @@ pub struct ExplainOptions<'a> {
 }
 
 /// What `velodrome carry` was asked for.
-#[derive(Clone, Copy, Debug)]
+#[derive(Clone, Copy)]
 pub struct CarryOptions<'a> {
     /// The path of the log, or `-`.
     pub input: &'a str,
     /// The path where it is saved.
     pub target: &'a str,
-    /// Whether what is wrong is said in words too.
-    pub why: bool,
 }
 
 /// The most states that a search may look at.
@@ -153,7 +151,7 @@ pub const MAX_RUNS: u32 = 1_000_000;
 pub const DEFAULT_SEED: u64 = 1;
 
 /// Random runs of a workload: their turns are drawn randomly.
-#[derive(Clone, Copy, Debug)]
+#[derive(Clone, Copy)]
 pub struct RandomRuns {
     /// How many runs there are, 1 to [`MAX_RUNS`].
     pub runs: u32,
@@ -164,7 +162,7 @@ pub struct RandomRuns {
 }
 
 /// What `velodrome explore` was asked for.
-#[derive(Clone, Copy, Debug)]
+#[derive(Clone, Copy)]
 pub struct ExploreOptions<'a> {
     /// The path of the workload, or `-`.
     pub input: &'a str,
@@ -193,7 +191,7 @@ pub struct ExploreOptions<'a> {
 }
 
 /// What `velodrome explore` was asked for, if something is left out of the logs of the runs.
-#[derive(Clone, Copy, Debug)]
+#[derive(Clone, Copy)]
 pub struct ExploreRestOptions<'a> {
     /// The rest, which is as for whole logs; without random runs, and without a certificate.
     pub explore: ExploreOptions<'a>,
@@ -202,7 +200,7 @@ pub struct ExploreRestOptions<'a> {
 }
 
 /// What `velodrome watch` was asked for.
-#[derive(Clone, Copy, Debug)]
+#[derive(Clone, Copy)]
 pub struct WatchOptions<'a> {
     /// The path of the log, or `-`.
     pub input: &'a str,
@@ -217,7 +215,7 @@ pub struct WatchOptions<'a> {
 }
 
 /// What `velodrome watch --endless` was asked for.
-#[derive(Clone, Copy, Debug)]
+#[derive(Clone, Copy)]
 pub struct EndlessOptions<'a> {
     /// The path of the log, or `-`.
     pub input: &'a str,
@@ -230,7 +228,7 @@ pub struct EndlessOptions<'a> {
 }
 
 /// What `velodrome watch` was asked for, if something is left out of the log, or its sites are given.
-#[derive(Clone, Copy, Debug)]
+#[derive(Clone, Copy)]
 pub struct WatchRestOptions<'a> {
     /// The rest, which is as for the whole log; without a certificate.
     pub watch: WatchOptions<'a>,
@@ -243,7 +241,7 @@ pub struct WatchRestOptions<'a> {
 }
 
 /// What `velodrome thin` was asked for.
-#[derive(Clone, Copy, Debug)]
+#[derive(Clone, Copy)]
 pub struct ThinOptions<'a> {
     /// The path of the log, or `-`.
     pub input: &'a str,
@@ -258,7 +256,7 @@ pub struct ThinOptions<'a> {
 }
 
 /// What `velodrome verify` was asked for.
-#[derive(Clone, Copy, Debug)]
+#[derive(Clone, Copy)]
 pub struct VerifyOptions<'a> {
     /// The path of the log, or `-`.
     pub input: &'a str,
@@ -273,7 +271,7 @@ pub const MAX_TRIES: u32 = 1_000_000;
 pub const DEFAULT_TRIES: u32 = 200;
 
 /// What `velodrome predict` was asked for.
-#[derive(Clone, Copy, Debug)]
+#[derive(Clone, Copy)]
 pub struct PredictOptions<'a> {
     /// The path of the log, or `-`.
     pub input: &'a str,
@@ -303,7 +301,7 @@ pub struct PredictOptions<'a> {
 }
 
 /// In which form an answer is printed.
-#[derive(Clone, Copy, Debug, PartialEq, Eq)]
+#[derive(Clone, Copy, PartialEq, Eq)]
 pub enum OutputFormat {
     /// As text, for a person.
     Text,
@@ -316,7 +314,7 @@ pub enum OutputFormat {
 }
 
 /// What `velodrome audit` was asked for.
-#[derive(Clone, Copy, Debug)]
+#[derive(Clone, Copy)]
 pub struct AuditOptions<'a> {
     /// The path of the log, or `-`.
     pub input: &'a str,
@@ -343,7 +341,7 @@ pub struct AuditOptions<'a> {
 }
 
 /// What `velodrome audit` was asked for of logs that have one summary.
-#[derive(Clone, Copy, Debug)]
+#[derive(Clone, Copy)]
 pub struct ManyOptions<'a> {
     /// The paths of the logs, one of which may be `-`.
     pub inputs: &'a [&'a str],
@@ -360,7 +358,7 @@ pub struct ManyOptions<'a> {
 }
 
 /// What `velodrome audit --merge` was asked for.
-#[derive(Clone, Copy, Debug)]
+#[derive(Clone, Copy)]
 pub struct MergeOptions<'a> {
     /// The paths of the summaries, one of which may be `-`.
     pub inputs: &'a [&'a str],
@@ -369,7 +367,7 @@ pub struct MergeOptions<'a> {
 }
 
 /// What events can be ignored by.
-#[derive(Clone, Copy, Debug, PartialEq, Eq)]
+#[derive(Clone, Copy, PartialEq, Eq)]
 pub enum Ignorable {
     /// A lock.
     Lock,
@@ -380,7 +378,7 @@ pub enum Ignorable {
 }
 
 /// What the program was asked for.
-#[derive(Clone, Copy, Debug)]
+#[derive(Clone, Copy)]
 pub enum Request<'a> {
     /// To check a recorded log.
     Check(CheckOptions<'a>),

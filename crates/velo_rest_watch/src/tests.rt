@@ -27,7 +27,7 @@ struct Case {
 }
 
 /// How many events happened, how many of these are left, and why no other did.
-#[derive(Clone, Copy, Debug, PartialEq, Eq)]
+#[derive(Clone, Copy, PartialEq, Eq)]
 struct Seen {
     steps: u64,
     left: u64,

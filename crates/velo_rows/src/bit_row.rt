@@ -9,7 +9,7 @@ use velo_events::Memory;
 use velo_events::growth::filled;
 
 /// A set of slots as one bit for each.
-#[derive(Debug, Drop)]
+#[derive(Drop)]
 pub struct BitRow {
     words: Vec<u64>,
     /// The words from here on are 0, and the one before is not: no call that goes through the words looks at more of them.

@@ -22,8 +22,6 @@ ghost use Rattle.velo_runtime.specs.Places.{AreTogether, events_of_all};
 use crate::seat::Seat;
 use crate::wait::{Turn, Wanted};
 use std::alloc::Global;
-use std::fmt;
-use std::fmt::{Debug, Formatter, Write};
 use std::marker::Model;
 use velo_events::growth::filled;
 use velo_events::{Action, Bounds, Config, Memory, Refusal, Status, ThreadId, ThreadSet};
@@ -51,12 +49,6 @@ impl Model for Room {
 
     ghost invariant = { λ room. (room.places ≡ replicate room.world.config.bounds.threads None)
         × AreWaitsWithin room.world.config.bounds room.waits.items };
-}
-
-impl Debug for Room {
-    fn fmt<W: Write>(&self, f: &mut Formatter<W>) -> fmt::Result {
-        f.debug_struct("Room").finish_non_exhaustive()
-    }
 }
 
 impl Room {

@@ -19,7 +19,7 @@ use velo_ledger::Share;
 use velo_world::Reply;
 
 /// A thread's place in a run: its share of the book. Whoever has the seat acts as the thread.
-#[derive(Debug, Drop)]
+#[derive(Drop)]
 pub struct Seat {
     /// The share of its thread.
     pub(crate) share: Share,

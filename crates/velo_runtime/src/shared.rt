@@ -28,12 +28,6 @@ pub struct Shared {
     config: Config,
 }
 
-impl Debug for Shared {
-    fn fmt<W: Write>(&self, f: &mut Formatter<W>) -> fmt::Result {
-        f.debug_struct("Shared").finish_non_exhaustive()
-    }
-}
-
 impl Shared {
     /// Opens a room without events, and gives the seat of thread 0.
     ///

@@ -3,7 +3,7 @@ use velo_events::{LockId, Refusal, ThreadId};
 use velo_world::Reply;
 
 /// What a thread waits for.
-#[derive(Clone, Copy, Debug, PartialEq, Eq)]
+#[derive(Clone, Copy, PartialEq, Eq)]
 pub enum Wanted {
     /// That each thread that holds the lock, alone or with others, releases it.
     Lock(LockId),
@@ -14,7 +14,7 @@ pub enum Wanted {
 }
 
 /// The result of a turn.
-#[derive(Clone, Copy, Debug, PartialEq, Eq)]
+#[derive(Clone, Copy, PartialEq, Eq)]
 pub enum Turn {
     /// The action is an event of the log.
     Done(Reply),

@@ -64,7 +64,7 @@ fn each_decision_that_closes_a_cycle_is_handed_out(rt: HostRuntime) {
 
 /// The reports: how many, and the numbers of the last one. The search is over once so many more states
 /// were looked at.
-#[derive(Clone, Copy, Debug)]
+#[derive(Clone, Copy)]
 struct Heard {
     times: u64,
     levels: u64,

@@ -18,7 +18,7 @@ fn tried(alloc: Global, text: &str, runs: u64, seed: u64) -> Option<RunTally> {
 
 /// Of random runs: how many there were and have an alarm, and whether an alarm, a deadlock and a
 /// refusal are shown.
-#[derive(Clone, Copy, Debug, PartialEq, Eq)]
+#[derive(Clone, Copy, PartialEq, Eq)]
 struct Findings {
     runs: u64,
     some_alarms: bool,

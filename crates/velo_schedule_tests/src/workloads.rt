@@ -7,7 +7,7 @@ use velo_filter::LeftOut;
 use velo_workload::parse;
 
 /// What is known of a fault.
-#[derive(Clone, Copy, Debug, PartialEq, Eq)]
+#[derive(Clone, Copy, PartialEq, Eq)]
 enum Known {
     Shown,
     Never,
@@ -25,7 +25,7 @@ struct Row<'a> {
 }
 
 /// The findings, in numbers and words.
-#[derive(Clone, Copy, Debug, PartialEq, Eq)]
+#[derive(Clone, Copy, PartialEq, Eq)]
 struct Told {
     states: u64,
     alarm: Known,

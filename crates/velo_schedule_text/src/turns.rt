@@ -7,7 +7,7 @@ use velo_bytes::{after, number};
 use velo_events::{MAX_THREADS, ThreadId};
 
 /// Turns of one thread that come one after another.
-#[derive(Clone, Copy, Debug, PartialEq, Eq)]
+#[derive(Clone, Copy, PartialEq, Eq)]
 pub(crate) struct Turns {
     /// Whose turns.
     pub thread: ThreadId,

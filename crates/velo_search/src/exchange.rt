@@ -7,7 +7,7 @@ use velo_events::Memory;
 use velo_events::growth::reserve;
 
 /// A number for each of so many, each once.
-#[derive(Debug, Drop)]
+#[derive(Drop)]
 pub struct Exchange {
     /// The number that is given for each.
     to: Vec<u16>,

@@ -1,7 +1,7 @@
 //! What can go wrong with a run.
 
 /// What can go wrong with a run of a workload.
-#[derive(Clone, Copy, Debug, PartialEq, Eq)]
+#[derive(Clone, Copy, PartialEq, Eq)]
 pub enum Fault {
     /// Its log has a cycle, so it is not serializable.
     Cycle,

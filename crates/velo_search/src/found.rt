@@ -5,7 +5,7 @@ use crate::fault::Fault;
 use crate::seen::ThreadsSeen;
 
 /// What was found of the runs.
-#[derive(Clone, Copy, Debug, PartialEq, Eq)]
+#[derive(Clone, Copy, PartialEq, Eq)]
 pub struct Found {
     /// Some run has a cycle.
     pub alarm: bool,

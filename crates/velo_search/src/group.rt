@@ -2,7 +2,7 @@
 use velo_events::{Cell, ThreadId};
 
 /// A group of events of a log. What conflicts with an event is in the groups that the event looks at.
-#[derive(Clone, Copy, Debug)]
+#[derive(Clone, Copy)]
 pub enum Group {
     /// The events of the thread, and its fork.
     OfThread(ThreadId),

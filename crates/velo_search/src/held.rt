@@ -9,7 +9,7 @@ use velo_events::growth::filled;
 use velo_events::{Kind, Memory};
 
 /// How a thread has each lock by its own operations.
-#[derive(Debug, Drop)]
+#[derive(Drop)]
 pub struct Held {
     locks: Vec<Hold>,
 }

@@ -5,7 +5,7 @@ ghost use Rattle.velo_events.specs.ThreadSets.{has_thread};
 use velo_events::{ThreadId, ThreadSet};
 
 /// The threads that reach a group of events.
-#[derive(Clone, Copy, Debug, PartialEq, Eq, Hash)]
+#[derive(Clone, Copy, PartialEq, Eq, Hash)]
 pub struct Mark {
     /// Those whose unfinished transaction reaches that of an event of the group.
     pub reached: ThreadSet,

@@ -23,7 +23,7 @@ use velo_events::{Access, Bounds, Cell, Event, Memory, ThreadId, ThreadSet};
 /// Which threads' unfinished transactions reach which groups of the events of a log, and whether the log has a cycle.
 ///
 /// They keep no log. They are the same for any log of the events that they were given, one after another.
-#[derive(Debug, Drop)]
+#[derive(Drop)]
 pub struct Marks {
     bounds: Bounds,
     alarmed: bool,

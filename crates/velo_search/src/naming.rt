@@ -10,7 +10,7 @@ use velo_events::growth::reserve;
 use velo_events::{Bounds, Kind, LockId, Memory, VarId};
 
 /// A number for each variable and each lock.
-#[derive(Debug, Drop)]
+#[derive(Drop)]
 pub struct Naming {
     variables: Exchange,
     locks: Exchange,

@@ -6,7 +6,7 @@ use crate::rivals::{are_rivals, are_twins};
 use velo_events::Kind;
 
 /// An operation of a thread that may hinder those of others, and how the thread has the locks before it.
-#[derive(Debug, Drop)]
+#[derive(Drop)]
 pub struct Note {
     pub thread: usize,
     pub kind: Kind,

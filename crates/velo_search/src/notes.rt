@@ -15,7 +15,7 @@ use velo_events::{Kind, Memory};
 
 /// The operations of all threads that may hinder others, each with the locks that its thread has before it. Those that are
 /// alike are noted once.
-#[derive(Debug, Drop)]
+#[derive(Drop)]
 pub struct Notes {
     /// Those that access one variable, one lock or one thread are in one list.
     lists: Vec<Vec<Note>>,

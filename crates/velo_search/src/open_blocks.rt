@@ -11,7 +11,7 @@ use velo_events::{Kind, Memory};
 use velo_filter::LeftOut;
 
 /// The open blocks of a thread, and which of them are left out.
-#[derive(Debug, Drop)]
+#[derive(Drop)]
 pub(crate) struct OpenBlocks {
     /// Of each block whether it is left out, the innermost last.
     outs: Vec<bool>,

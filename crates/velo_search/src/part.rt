@@ -1,7 +1,7 @@
 //! What an event is of what is left of its log.
 
 /// What an event is of what is left of its log.
-#[derive(Clone, Copy, Debug, PartialEq, Eq)]
+#[derive(Clone, Copy, PartialEq, Eq)]
 pub enum Part {
     /// Nothing: it is left out.
     LeftOut,

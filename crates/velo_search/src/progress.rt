@@ -22,7 +22,7 @@ pub trait Progress {
 }
 
 /// Tells nobody, and lets the search go on.
-#[derive(Clone, Copy, Debug)]
+#[derive(Clone, Copy)]
 pub struct Quiet;
 
 impl Progress for Quiet {

@@ -7,7 +7,7 @@ use crate::schedules::Schedules;
 
 /// What a search found, by which turns, how many states it looked at, and whether it tried every
 /// run.
-#[derive(Debug, Drop)]
+#[derive(Drop)]
 pub struct Searched {
     pub found: Found,
     pub schedules: Schedules,

@@ -19,7 +19,7 @@ use velo_heap::Heap;
 
 /// All of a log that its continuations depend on: how many events each thread has done, how threads, locks and variables
 /// stand, and, in what is left of the log, which unfinished transactions reach which groups of events.
-#[derive(Debug, Drop)]
+#[derive(Drop)]
 pub struct State {
     next: Vec<u32>,
     heap: Heap,

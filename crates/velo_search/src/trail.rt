@@ -13,7 +13,7 @@ use velo_events::{Memory, ThreadId};
 
 /// The events that lead to the states of a search, and the turns that lead to what was found. Runs
 /// that begin alike have their first events in common.
-#[derive(Debug, Drop)]
+#[derive(Drop)]
 pub struct Trail {
     /// Whether the first finding alone is shown.
     first: bool,

@@ -15,7 +15,7 @@ use velo_workload::Workload;
 use velo_world::Closed;
 
 /// A replay that shows a goal.
-#[derive(Debug, Drop)]
+#[derive(Drop)]
 pub struct Replay {
     /// What it shows.
     pub goal: Goal,
@@ -24,7 +24,7 @@ pub struct Replay {
 }
 
 /// Findings whose schedules are simple, and the replay of the first of them.
-#[derive(Debug, Drop)]
+#[derive(Drop)]
 pub struct Shrunk {
     /// The findings.
     pub findings: Findings,

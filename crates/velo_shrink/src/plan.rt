@@ -4,7 +4,7 @@ use crate::edit::Edit;
 use velo_events::{MAX_THREADS, ThreadId};
 
 /// One kind of change.
-#[derive(Clone, Copy, Debug, PartialEq, Eq)]
+#[derive(Clone, Copy, PartialEq, Eq)]
 enum Pass {
     /// None: turns that pass are left out.
     Whole,
@@ -65,7 +65,7 @@ fn together(schedule: &[ThreadId], at: usize, end: usize, next: usize, way: usiz
 }
 
 /// Where the tries stand.
-#[derive(Clone, Copy, Debug, PartialEq, Eq)]
+#[derive(Clone, Copy, PartialEq, Eq)]
 pub(crate) struct Plan {
     pass: Pass,
     /// How long the parts are.

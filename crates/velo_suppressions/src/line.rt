@@ -7,7 +7,7 @@ use velo_bytes::{after, number};
 use velo_names::{NameKind, is_name, is_number, number_of_kind};
 
 /// What the lines of a list may speak of.
-#[derive(Clone, Copy, Debug, PartialEq, Eq)]
+#[derive(Clone, Copy, PartialEq, Eq)]
 pub enum Scope {
     /// Labels. What an audit says of locks and variables says nothing.
     Labels,
@@ -16,7 +16,7 @@ pub enum Scope {
 }
 
 /// How a line mentions labels, locks or variables.
-#[derive(Clone, Copy, Debug)]
+#[derive(Clone, Copy)]
 pub enum Mention<'a> {
     /// The one of this number.
     Number(u32),
@@ -29,7 +29,7 @@ pub enum Mention<'a> {
 }
 
 /// What a line says.
-#[derive(Clone, Copy, Debug)]
+#[derive(Clone, Copy)]
 pub enum Entry<'a> {
     /// Nothing.
     Nothing,

@@ -24,14 +24,14 @@ use velo_events::growth::{fill_up_to, reserve};
 use velo_events::{Cell, Memory, ThreadId};
 
 /// Where the last reads of one cell stand among those of all.
-#[derive(Clone, Copy, Debug)]
+#[derive(Clone, Copy)]
 pub(crate) struct ReadSpan {
     start: usize,
     count: usize,
 }
 
 /// The last accesses of one cell.
-#[derive(Clone, Copy, Debug)]
+#[derive(Clone, Copy)]
 pub(crate) struct CellAccesses {
     write: Entry,
     /// A bit for each thread whose last read has a step, so that a write looks at no other thread.
@@ -42,7 +42,7 @@ pub(crate) struct CellAccesses {
 
 /// The last accesses of each cell, by number. The last reads of all stand in one list, so that none has memory of its
 /// own, and a cell that nobody read takes nothing there.
-#[derive(Debug, Drop)]
+#[derive(Drop)]
 pub(crate) struct Cells {
     cells: Vec<CellAccesses>,
     reads: Vec<Entry>,

@@ -6,7 +6,7 @@ use std::marker::Model;
 use velo_arena::{Heir, Step};
 
 /// A step or none, in eight bytes.
-#[derive(Clone, Copy, Debug)]
+#[derive(Clone, Copy)]
 pub(crate) struct Entry {
     slot: u16,
     is_there: bool,

@@ -26,7 +26,7 @@ pub const MAX_PREDECESSORS: usize = MAX_THREADS as usize + 2;
 /// The step of the last event at each place: of each thread, the last write of each cell, and its last read by each thread.
 /// A variable is written and read; a lock is written by who takes or leaves it alone, and read by who does so beside others.
 /// There is room for what was accessed, and for the threads.
-#[derive(Debug, Drop)]
+#[derive(Drop)]
 pub struct Tables {
     threads: Vec<Entry>,
     cells: Cells,

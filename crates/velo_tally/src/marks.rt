@@ -13,7 +13,7 @@ use velo_events::{Bounds, Event, Memory, ThreadId};
 use velo_traces::Trace;
 
 /// For each position of a log, whether a block begins there that is to blame.
-#[derive(Debug, Drop)]
+#[derive(Drop)]
 pub struct BlameMarks {
     /// Whether one is to blame somewhere.
     pub blamed: Vec<bool>,

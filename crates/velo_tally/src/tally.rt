@@ -8,7 +8,7 @@ use velo_events::{Event, Kind, Label};
 use velo_traces::Trace;
 
 /// The blocks of a label in a log.
-#[derive(Clone, Copy, Debug, PartialEq, Eq)]
+#[derive(Clone, Copy, PartialEq, Eq)]
 pub struct LabelTally {
     /// How many there are.
     pub blocks: usize,

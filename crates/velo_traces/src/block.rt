@@ -2,7 +2,7 @@
 use velo_events::Label;
 
 /// An atomic block of a trace.
-#[derive(Clone, Copy, Debug, Default, PartialEq, Eq)]
+#[derive(Clone, Copy, Default, PartialEq, Eq)]
 pub struct Block {
     /// The position of its begin.
     pub first: usize,

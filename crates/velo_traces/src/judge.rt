@@ -10,7 +10,7 @@ use crate::Trace;
 use velo_events::{Bounds, Event, Kind, LockId, MAX_OPEN_BLOCKS, Refusal, Status, ThreadId, VarId};
 
 /// Why an event cannot happen where it stands in a trace.
-#[derive(Clone, Copy, Debug, PartialEq, Eq)]
+#[derive(Clone, Copy, PartialEq, Eq)]
 pub enum Flaw {
     /// Its operation is refused after the events before it, for one of the reasons with the numbers 2 to 16.
     Refused(Refusal),

@@ -25,7 +25,7 @@ fn put_first(blocks: &mut SmallVec<Block, MAX_OPEN_BLOCKS>, block: Block)
 }
 
 /// What a scan from the end of a trace finds at a position.
-#[derive(Clone, Copy, Debug)]
+#[derive(Clone, Copy)]
 pub struct ScannedBack {
     /// The ends of the thread from here on that wait for a begin further up.
     pub ends: usize,

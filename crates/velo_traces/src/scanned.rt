@@ -5,7 +5,7 @@ ghost use Rattle.velo_events.specs.Scan.{IsScanned};
 use velo_events::{Event, Kind, ThreadId};
 
 /// What is known of a thread's open blocks before some position of a trace.
-#[derive(Clone, Copy, Debug)]
+#[derive(Clone, Copy)]
 pub struct ThreadBlocks {
     /// How many are open.
     pub depth: usize,

@@ -14,7 +14,7 @@ use velo_events::growth::reserve;
 use velo_events::{Event, MAX_OPEN_BLOCKS, Memory, ThreadId};
 
 /// The events that threads performed over a shared heap, in order. It stores whatever is pushed: `well_formed` judges it.
-#[derive(Debug, Drop)]
+#[derive(Drop)]
 pub struct Trace {
     items: Vec<Event>,
 }

@@ -3,7 +3,7 @@ use velo_logtext::LogFault;
 use velo_world::LogReplayFault;
 
 /// Why a watch ended before its log did.
-#[derive(Clone, Copy, Debug, PartialEq, Eq)]
+#[derive(Clone, Copy, PartialEq, Eq)]
 pub enum WatchFault {
     /// The log could not be read.
     Log(LogFault),

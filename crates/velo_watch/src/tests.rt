@@ -6,7 +6,7 @@ use velo_bytes::{Bytes, Text};
 use velo_logtext::LogFault;
 
 /// What came of a log of which so many bytes could be read.
-#[derive(Drop, Debug, PartialEq, Eq)]
+#[derive(Drop, PartialEq, Eq)]
 struct Seen {
     steps: u64,
     told: u64,

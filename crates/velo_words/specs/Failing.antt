@@ -4,6 +4,7 @@ use Rattle.velo_explain.specs.Pieces.{joined}
 use Rattle.velo_fate.specs.declared.fate.Fate.{Fate}
 use Rattle.velo_fate.specs.declared.fate.Fate.TheVariants.{CannotOpen, Check, ReadFailed, WriteFailed}
 use Rattle.velo_fate.specs.declared.fault.CheckFault.TheVariants.{Log}
+use Rattle.velo_fault_words.specs.Lines.{of_file}
 use Rattle.velo_logtext.specs.declared.fault.LogFault.TheVariants.{Read}
 use Rattle.velo_request.specs.declared.request.Request.{Request}
 use Rattle.velo_words.specs.declared.failing.SystemReason.{SystemReason}
@@ -30,7 +31,7 @@ reason_of Other = codes "the system refused it"
 -- "velodrome: PATH: cannot open LOG: there is no such file"
 unfoldable pub failure_text : List ℕ → List ℕ → List ℕ → List ℕ → List ℕ
 failure_text path verb word reason =
-    joined (codes "velodrome: " ∷ path ∷ codes ": cannot " ∷ verb ∷ codes " " ∷ word
+    joined (of_file path ∷ codes "cannot " ∷ verb ∷ codes " " ∷ word
     ∷ codes ": " ∷ reason ∷ codes "\n" ∷ [])
 
 -- the request has a file of this role at this path; of summaries it has any number

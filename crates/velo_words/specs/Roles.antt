@@ -26,11 +26,11 @@ word_of role.SavedLog = codes "--log"
 word_of role.SavedNames = codes "--names-out"
 word_of role.Map = codes "--map"
 
--- what is wrong with a file is said in words: always, or with --why
+-- what is wrong with a file is said in words: always, with --why, or never
 abbrev pub asks_for_words : Request → Bool
 asks_for_words (Check options) = options.why
 asks_for_words (CheckRest options) = options.check.why
-asks_for_words (Carry options) = options.why
+asks_for_words (Carry _) = false
 asks_for_words (Run options) = options.why
 asks_for_words (Replay options) = options.run.why
 asks_for_words _ = true

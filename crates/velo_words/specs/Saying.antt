@@ -13,7 +13,7 @@ use Rattle.velo_fate.specs.declared.fate.Fate.TheVariants as fate
 use Rattle.velo_fate.specs.declared.fault.CheckFault.TheVariants as check_fault
 use Rattle.velo_names.specs.declared.fault.NamesFault.TheVariants as names_fault
 use Rattle.velo_request.specs.declared.request.Request.{Request}
-use Rattle.velo_request.specs.declared.request.Request.TheVariants.{Audit, Carry, Check, CheckRest, Explain, Explore, ExploreRest, Predict, Replay, Run, Thin, Verify, Watch, WatchRest}
+use Rattle.velo_request.specs.declared.request.Request.TheVariants.{Audit, Check, CheckRest, Explain, Explore, ExploreRest, Predict, Replay, Run, Thin, Verify, Watch, WatchRest}
 use Rattle.velo_request.specs.declared.request.ScheduleSource.{ScheduleSource}
 use Rattle.velo_request.specs.declared.request.ScheduleSource.TheVariants as source
 use Rattle.velo_schedule_text.specs.declared.limits.TheConstants.{MAX_SCHEDULE_BYTES}
@@ -50,7 +50,6 @@ log_of (Verify options) = Some options.input.now
 log_of (Check options) = if options.why then Some options.input.now else None
 log_of (CheckRest options) =
     if options.check.why then Some options.check.input.now else None
-log_of (Carry options) = if options.why then Some options.input.now else None
 log_of _ = None
 
 -- the path of the workload whose faults are said in words, if the request has one

@@ -30,10 +30,16 @@ fn foreign_in(threads: u8, schedule: &[ThreadId]) -> Option<ThreadId>
 
 /// Adds that a thread is none of a workload with so many.
 #[tactic(auto, unfolding(crate::specs::Ended::none_of_words))]
-fn add_none_of(page: &mut Page, place: &str, threads: u64, thread: u64) -> Result<(), Memory>
+fn add_none_of(
+    page: &mut Page,
+    alloc: Global,
+    place: &str,
+    threads: u64,
+    thread: u64,
+) -> Result<(), Memory>
     ensures { OnOk result (page.new ≡ page.old ++ none_of_words place.now threads thread) }
 {
-    add_file(page, place)?;
+    add_file(page, alloc, place)?;
     page.add(&[
         Piece::Text("thread "),
         Piece::Number(thread),
@@ -46,6 +52,7 @@ fn add_none_of(page: &mut Page, place: &str, threads: u64, thread: u64) -> Resul
 /// Adds that a schedule has turns of no thread, if it has.
 fn add_foreign(
     page: &mut Page,
+    alloc: Global,
     place: &str,
     threads: u8,
     foreign: Option<ThreadId>,
@@ -53,7 +60,7 @@ fn add_foreign(
     ensures { OnOk result (page.new ≡ page.old ++ foreign_words place.now threads foreign) }
 {
     match foreign {
-        Some(thread) => add_none_of(page, place, u64::from(threads), u64::from(thread.0)),
+        Some(thread) => add_none_of(page, alloc, place, u64::from(threads), u64::from(thread.0)),
         None => Ok(()),
     }
 }
@@ -114,6 +121,7 @@ fn add_name(page: &mut Page, names: &[String], thread: ThreadId) -> Result<(), M
 #[tactic(auto, unfolding(crate::specs::Ended::act_words))]
 fn add_act(
     page: &mut Page,
+    alloc: Global,
     path: &str,
     names: &[String],
     thread: ThreadId,
@@ -121,7 +129,7 @@ fn add_act(
 ) -> Result<(), Memory>
     ensures { OnOk result (page.new ≡ page.old ++ act_words path.now (map string_bytes names.now) thread.0 refusal) }
 {
-    add_file(page, path)?;
+    add_file(page, alloc, path)?;
     add_text(page, "thread ")?;
     add_name(page, names, thread)?;
     page.add(&[
@@ -134,10 +142,10 @@ fn add_act(
 
 /// Adds which threads wait for one another.
 #[tactic(auto, unfolding(crate::specs::Ended::stuck_words))]
-fn add_stuck(page: &mut Page, path: &str, waits: &str) -> Result<(), Memory>
+fn add_stuck(page: &mut Page, alloc: Global, path: &str, waits: &str) -> Result<(), Memory>
     ensures { OnOk result (page.new ≡ page.old ++ stuck_words path.now waits.now) }
 {
-    add_file(page, path)?;
+    add_file(page, alloc, path)?;
     page.add(&[
         Piece::Text("these threads wait for one another\n"),
         Piece::Text(waits),
@@ -240,11 +248,18 @@ fn add_stop(
     match ending {
         Ending::Stuck => {
             let waits = waits_after(alloc, workload, schedule, options)?;
-            add_stuck(page, options.input, std::str::from_utf8(&waits).ok()?).ok()
+            add_stuck(
+                page,
+                alloc,
+                options.input,
+                std::str::from_utf8(&waits).ok()?,
+            )
+            .ok()
         }
         Ending::Refused(thread, refusal) => {
             add_act(
                 page,
+                alloc,
                 options.input,
                 workload.thread_names(),
                 thread,
@@ -272,7 +287,8 @@ fn replay_words(
     let threads = workload.bounds().threads;
     let foreign = foreign_in(threads, schedule);
     let mut page = Page::new(alloc);
-    add_foreign(&mut page, place_of(options.schedule), threads, foreign).ok()?;
+    let place = place_of(options.schedule);
+    add_foreign(&mut page, alloc, place, threads, foreign).ok()?;
     add_stop(&mut page, alloc, workload, schedule, &options.run, ending)?;
     Some(page)
 }
@@ -305,7 +321,8 @@ fn words_of_act<F: Files>(
 {
     let workload = workload_at(alloc, path, files)?;
     let mut page = Page::new(alloc);
-    let added = add_act(&mut page, path, workload.thread_names(), thread, refusal);
+    let names = workload.thread_names();
+    let added = add_act(&mut page, alloc, path, names, thread, refusal);
     drop(workload);
     match added {
         Ok(()) => Some(page),

@@ -15,7 +15,7 @@ use velo_logtext::LogReader;
 use velo_traces::Trace;
 
 /// What the last event is sought of.
-#[derive(Clone, Copy, Debug)]
+#[derive(Clone, Copy)]
 pub enum Sought {
     /// The writes of a variable.
     Write(VarId),

@@ -9,11 +9,12 @@ use std::alloc::Global;
 use velo_events::Memory;
 use velo_explain::{Page, Piece};
 use velo_fate::{CheckFault, Fate};
+use velo_fault_words::add_file;
 use velo_logtext::LogFault;
 use velo_request::Request;
 
 /// Why a file could not be opened, read or written.
-#[derive(Clone, Copy, Debug, PartialEq, Eq)]
+#[derive(Clone, Copy, PartialEq, Eq)]
 pub enum SystemReason {
     /// No file is there, or no directory for it.
     NotFound,
@@ -115,6 +116,7 @@ fn failed_of<'a, F: Recall>(request: &Request<'a>, files: &F) -> Option<Failed<'
 #[tactic(auto, unfolding(crate::specs::Failing::failure_text))]
 fn add_failure(
     page: &mut Page,
+    alloc: Global,
     path: &str,
     verb: &str,
     word: &str,
@@ -123,10 +125,9 @@ fn add_failure(
     ensures { OnOk result (page.new
         ≡ page.old ++ failure_text path.now verb.now word.now reason.now) }
 {
+    add_file(page, alloc, path)?;
     page.add(&[
-        Piece::Text("velodrome: "),
-        Piece::Text(path),
-        Piece::Text(": cannot "),
+        Piece::Text("cannot "),
         Piece::Text(verb),
         Piece::Text(" "),
         Piece::Text(word),
@@ -144,7 +145,7 @@ fn failure_words(alloc: Global, verb: &str, failed: &Failed) -> Result<Page, Mem
     let mut page = Page::new(alloc);
     let word = word_of(failed.role);
     let reason = reason_of(failed.reason);
-    add_failure(&mut page, failed.path, verb, word, reason)?;
+    add_failure(&mut page, alloc, failed.path, verb, word, reason)?;
     Ok(page)
 }
 

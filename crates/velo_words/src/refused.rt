@@ -142,6 +142,7 @@ fn add_event(page: &mut Page, event: Event) -> Result<(), Memory>
 /// Adds what is said of an event that is refused after those before it.
 fn add_refused(
     page: &mut Page,
+    alloc: Global,
     path: &str,
     bounds: Bounds,
     before: &[Event],
@@ -152,7 +153,7 @@ fn add_refused(
     ensures { OnOk result
         (page.new ≡ page.old ++ refused_words path.now bounds before.now event refusal) }
 {
-    add_line(page, path, before.len() + 2)?;
+    add_line(page, alloc, path, before.len() + 2)?;
     add_thread(page, event.thread)?;
     add_kind(page, event.kind)?;
     add_reason(page, bounds, before, event, refusal)?;
@@ -177,7 +178,7 @@ pub fn refused_words(
     ensures { IfOk result (λ page. page ≡ refused_words path.now bounds before.now event refusal) }
 {
     let mut page = Page::new(alloc);
-    add_refused(&mut page, path, bounds, before, event, refusal)?;
+    add_refused(&mut page, alloc, path, bounds, before, event, refusal)?;
     Ok(page)
 }
 
@@ -231,6 +232,7 @@ fn add_read_help(page: &mut Page) -> Result<(), Memory>
 /// Adds what is said of an event that reads a wrong value after the events before it.
 fn add_wrong_value(
     page: &mut Page,
+    alloc: Global,
     path: &str,
     before: &[Event],
     event: Event,
@@ -238,7 +240,7 @@ fn add_wrong_value(
     requires { length before.now ≤ MAX_EVENTS }
     ensures { OnOk result (page.new ≡ page.old ++ wrong_value_words path.now before.now event) }
 {
-    add_line(page, path, before.len() + 2)?;
+    add_line(page, alloc, path, before.len() + 2)?;
     add_thread(page, event.thread)?;
     add_kind(page, event.kind)?;
     add_read(page, before, event.kind)?;
@@ -262,6 +264,6 @@ pub fn wrong_value_words(
     ensures { IfOk result (λ page. page ≡ wrong_value_words path.now before.now event) }
 {
     let mut page = Page::new(alloc);
-    add_wrong_value(&mut page, path, before, event)?;
+    add_wrong_value(&mut page, alloc, path, before, event)?;
     Ok(page)
 }

@@ -5,7 +5,7 @@ ghost use Rattle.velo_words.specs.Roles.{asks_for_words, drawing_of, ignored_of,
 use velo_request::{Ignored, Request, ScheduleSource};
 
 /// What a file is for.
-#[derive(Clone, Copy, Debug, PartialEq, Eq)]
+#[derive(Clone, Copy, PartialEq, Eq)]
 pub enum Role {
     /// It has the turns of a schedule.
     Turns,
@@ -84,7 +84,7 @@ pub fn asks_for_words(request: &Request) -> bool
     match request {
         Request::Check(options) => options.why,
         Request::CheckRest(options) => options.check.why,
-        Request::Carry(options) => options.why,
+        Request::Carry(_) => false,
         Request::Run(options) => options.why,
         Request::Replay(options) => options.run.why,
         _ => true,

@@ -57,7 +57,6 @@ fn log_of<'a>(request: &Request<'a>) -> Option<&'a str>
         Request::Verify(options) => Some(options.input),
         Request::Check(options) => if_asked(options.why, options.input),
         Request::CheckRest(options) => if_asked(options.check.why, options.check.input),
-        Request::Carry(options) => if_asked(options.why, options.input),
         _ => None,
     }
 }

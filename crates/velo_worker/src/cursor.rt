@@ -6,7 +6,7 @@ use std::marker::Model;
 use velo_workload::MAX_OPEN_REPEATS;
 
 /// A repeat that is being done.
-#[derive(Clone, Copy, Debug)]
+#[derive(Clone, Copy)]
 pub struct OpenRepeat {
     /// Where its statements start.
     pub start: usize,
@@ -15,7 +15,7 @@ pub struct OpenRepeat {
 }
 
 /// A position in a body, and the repeats that are open there.
-#[derive(Debug, Drop)]
+#[derive(Drop)]
 pub struct Cursor {
     position: usize,
     repeats: [OpenRepeat; MAX_OPEN_REPEATS],

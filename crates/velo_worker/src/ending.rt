@@ -2,7 +2,7 @@
 use velo_events::{Refusal, ThreadId};
 
 /// How a run ends.
-#[derive(Clone, Copy, Debug, PartialEq, Eq)]
+#[derive(Clone, Copy, PartialEq, Eq)]
 pub enum Ending {
     /// Every thread has exited, or was never forked.
     Done,

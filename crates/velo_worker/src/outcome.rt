@@ -9,7 +9,7 @@ use velo_events::{Refusal, ThreadId};
 use velo_runtime::Seat;
 
 /// How a worker ended.
-#[derive(Clone, Copy, Debug, PartialEq, Eq)]
+#[derive(Clone, Copy, PartialEq, Eq)]
 pub enum Outcome {
     /// It did the whole body of its thread.
     Done,
@@ -21,7 +21,7 @@ pub enum Outcome {
 
 /// What a worker returns at its end. If it was refused with `Memory` or `RuntimeMemory`, an
 /// allocation or the start of a thread failed.
-#[derive(Debug, Drop)]
+#[derive(Drop)]
 pub struct Ended {
     /// Its seat.
     pub seat: Seat,

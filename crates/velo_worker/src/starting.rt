@@ -9,7 +9,7 @@ use std::sync::Wait;
 use std::thread::Scope;
 
 /// The start of a thread was refused.
-#[derive(Clone, Copy, Debug, PartialEq, Eq)]
+#[derive(Clone, Copy, PartialEq, Eq)]
 pub struct Unstarted;
 
 /// Starts a thread for a worker.

@@ -3,7 +3,7 @@
 use velo_events::{Label, LockId, ThreadId, VarId};
 
 /// A statement of a thread's body. Each thread has one register, which is 0 at its start.
-#[derive(Clone, Copy, Debug, PartialEq, Eq)]
+#[derive(Clone, Copy, PartialEq, Eq)]
 pub enum Statement {
     /// An event; the register takes the variable's value.
     Read(VarId),

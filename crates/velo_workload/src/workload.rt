@@ -25,7 +25,7 @@ use velo_events::growth::reserve;
 use velo_events::{Bounds, Memory, ThreadId};
 
 /// A program that a text means: its bounds, and a body for each thread.
-#[derive(Debug, Drop)]
+#[derive(Drop)]
 pub struct Workload {
     bounds: Bounds,
     threads: Vec<String>,

@@ -18,6 +18,7 @@ use Rattle.velo_fate.specs.Failures.{FailuresAsTold, failures_told}
 use Rattle.velo_delivery.specs.Reading.{Reading, IsReadOf}
 use Rattle.velo_delivery.specs.Writing.{Writing, WritesNothing}
 use Rattle.velo_fate.specs.Format.{Reads}
+use Rattle.velo_fate.specs.declared.files.Beside.{Beside}
 use Rattle.velo_workload_commands.specs.Steps.{OpensNoProgram}
 use Rattle.velo_fate.proofs.OnDelivery.{in_turn_reads}
 use Rattle.velo_fate.proofs.OnDelivery.{same_fate}
@@ -79,7 +80,7 @@ pub opened : (disk : Disk) (path : List ℕ) (read : Reading) → disk.gives pat
 opened disk path read given (Ok program) text kept = record { read = read; given = given; said = text; no_failure = kept }
 opened disk path read given (Err f) text kept = tt
 
-pub not_opened : (disk : Disk) (options : RunOptions) (read : Reading) → disk.gives options.input.now read → (result : Result Program Fate) → IfErr result (IsUnread read.bytes)
-    → IfErr result (FailuresAsTold read) → IfErr result (OpensNoProgram disk options)
-not_opened disk options read given (Ok program) unread failures = tt
-not_opened disk options read given (Err f) unread failures = inl (record { read = read; given = given; unsaid = unread; failures = failures })
+pub not_opened : (disk : Disk) (reads : List Beside) (options : RunOptions) (read : Reading) → disk.gives options.input.now read → (result : Result Program Fate) → IfErr result (IsUnread read.bytes)
+    → IfErr result (FailuresAsTold read) → IfErr result (OpensNoProgram disk reads options)
+not_opened disk reads options read given (Ok program) unread failures = tt
+not_opened disk reads options read given (Err f) unread failures = inl (record { read = read; given = given; unsaid = unread; failures = failures })

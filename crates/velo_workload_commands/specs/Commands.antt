@@ -5,7 +5,7 @@
 -- after, and f is the command's fate. Each command names in parentheses the page that says what it
 -- answers to the bytes of its input. (--why and --progress concern standard error alone: `EndsInWords`
 -- of `velo_words`.)
-use Rattle.std.specs.Prelude.{◌⊎◌, ℕ, List, Ok, Option}
+use Rattle.std.specs.Prelude.{◌⊎◌, ◌∷◌, [], ℕ, List, Ok, Option}
 use Rattle.std.specs.Borrow.{Bor}
 use Rattle.velo_events.specs.declared.event.ThreadId.{ThreadId}
 use Rattle.velo_names.specs.Names.{NameLists, Stands}
@@ -19,41 +19,42 @@ use Rattle.velo_request.specs.declared.request.RunOptions.{RunOptions}
 use Rattle.velo_fate.specs.Delivery.{CommandAnswer, IsDeliveredInTurn, LacksMemory}
 use Rattle.velo_fate.specs.Format.{Reads, ReadsNone}
 use Rattle.velo_inputs.specs.Asking.{IsLeftOutBy, LacksLeftOut}
-use Rattle.velo_fate.specs.Barred.{IsBarredRun, WritesNowhere}
+use Rattle.velo_fate.specs.Barred.{IsBarredRun, WritesNowhere, list_beside}
+use Rattle.velo_fate.specs.declared.files.Beside.{Beside}
 use Rattle.velo_delivery.specs.Disk.{Store}
 use Rattle.velo_workload_commands.specs.Exploring.{IsExploreAnswer}
 use Rattle.velo_workload_commands.specs.ExploringRest.{IsRestExplored, LacksOwnNames}
 use Rattle.velo_workload_commands.specs.Playing.{ByThreads, ByTurns, IsPlayAnswer, Play, text_of_names, workload_file}
 use Rattle.velo_fate.specs.Failures.{FailuresAsTold}
 use Rattle.velo_delivery.specs.Reading.{Reading}
-use Rattle.velo_workload_commands.specs.Scheduling.{IsScheduleOf, LacksSchedule}
+use Rattle.velo_workload_commands.specs.Scheduling.{IsScheduleOf, LacksSchedule, schedule_beside}
 use Rattle.velo_delivery.specs.Writing.{Writing}
 
 -- ---- what they share
 
 -- the workload does not open, or two of the files are one; no file was opened to be written,
 -- nothing was printed
-abbrev pub DoesNotPlay : Store → List ℕ → Option (Bor (List ℕ)) → Option (Bor (List ℕ)) → Writing
-    → Fate → Type 0
-DoesNotPlay store input target names stdout f =
-    IsBarredRun store.disk input target names f × WritesNowhere store stdout
+abbrev pub DoesNotPlay : Store → List ℕ → List Beside → Option (Bor (List ℕ))
+    → Option (Bor (List ℕ)) → Writing → Fate → Type 0
+DoesNotPlay store input reads target names stdout f =
+    IsBarredRun store.disk input reads target names f × WritesNowhere store stdout
 
 -- ---- velodrome run FILE [--stop] [--log OUT] [--names-out NAMES] [--events N] [--nodes N]
 -- ---- [--certificate] [--why]
 
--- FILE is read whole, and its threads are run. The log of the run is saved at OUT, then the names of
+-- FILE is read whole, and its threads are run. `reads` are the files that the command reads beside it. The log of the run is saved at OUT, then the names of
 -- the workload at NAMES, and then the report goes to standard output, and the certificate after it; or
 -- nothing, for a reason (`Playing`).
-abbrev pub DoesPlay : Play → RunOptions → Store → Writing → Fate → Type 0
-DoesPlay play options store stdout f =
-    DoesNotPlay store options.input.now options.target options.names_target stdout f
+abbrev pub DoesPlay : Play → List Beside → RunOptions → Store → Writing → Fate → Type 0
+DoesPlay play reads options store stdout f =
+    DoesNotPlay store options.input.now reads options.target options.names_target stdout f
     ⊎ ((read : Reading) × (answer : CommandAnswer) × (names : List ℕ)
     × store.disk.gives options.input.now read × FailuresAsTold read f
     × IsPlayAnswer play options read.bytes answer names
     × IsDeliveredInTurn store options.target options.names_target names stdout answer f)
 
 abbrev pub DoesRun : RunOptions → Store → Writing → Fate → Type 0
-DoesRun options store stdout f = DoesPlay ByThreads options store stdout f
+DoesRun options store stdout f = DoesPlay ByThreads [] options store stdout f
 
 -- ---- velodrome replay FILE [--schedule TEXT | --turns TEXT|@PATH] and the options of run
 
@@ -63,7 +64,7 @@ abbrev pub DoesReplay : ReplayOptions → Store → Writing → Fate → Type 0
 DoesReplay options store stdout f =
     (LacksSchedule store.disk options.schedule f × WritesNowhere store stdout)
     ⊎ ((schedule : List ThreadId) × IsScheduleOf store.disk options.schedule schedule
-    × DoesPlay (ByTurns schedule) options.run store stdout f)
+    × DoesPlay (ByTurns schedule) (schedule_beside options.schedule ∷ []) options.run store stdout f)
 
 -- ---- velodrome explore FILE [--states N] [--seconds N] [--first] [--progress] [--random N] [--seed S]
 -- ---- [--format FORM] [--log OUT] [--names-out NAMES] [--events N] [--nodes N] [--certificate]
@@ -76,7 +77,7 @@ DoesReplay options store stdout f =
 -- nothing, for a reason (`Exploring`).
 abbrev pub DoesExplore : ExploreOptions → Store → Writing → Fate → Type 0
 DoesExplore options store stdout f =
-    DoesNotPlay store options.input.now options.target options.names_target stdout f
+    DoesNotPlay store options.input.now [] options.target options.names_target stdout f
     ⊎ ((read : Reading) × (answer : CommandAnswer) × (names : List ℕ)
     × store.disk.gives options.input.now read × FailuresAsTold read f
     × IsExploreAnswer options read.bytes answer names
@@ -112,8 +113,8 @@ ExploresRest options program store stdout f =
 abbrev pub DoesExploreRest : ExploreRestOptions → Store → Writing → Fate → Type 0
 DoesExploreRest options store stdout f =
     ((ReadsNone workload_file store.disk options.explore.input.now f
-    ⊎ IsBarredRun store.disk options.explore.input.now options.explore.target
-    options.explore.names_target f)
+    ⊎ IsBarredRun store.disk options.explore.input.now (list_beside options.ignored ∷ [])
+    options.explore.target options.explore.names_target f)
     × WritesNowhere store stdout)
     ⊎ ((program : Program) × Reads workload_file store.disk options.explore.input.now program
     × ExploresRest options program store stdout f)

@@ -1,6 +1,6 @@
 -- The schedule that a replay is given: by its text, by its turns or by the path of a file with
 -- these.
-use Rattle.std.specs.Prelude.{◌≡◌, List, ℕ, Option, IfSome}
+use Rattle.std.specs.Prelude.{◌≡◌, List, ℕ, Option, None, Some, IfSome}
 use Rattle.velo_events.specs.declared.event.ThreadId.{ThreadId}
 use Rattle.velo_events.specs.Refusals.{GrowthRefused}
 use Rattle.velo_schedule_text.specs.File.{IsScheduleIn}
@@ -12,6 +12,8 @@ use Rattle.velo_fate.specs.declared.fate.Fate.TheVariants as fate
 use Rattle.velo_request.specs.declared.request.ScheduleSource.{ScheduleSource}
 use Rattle.velo_request.specs.declared.request.ScheduleSource.TheVariants as source
 use Rattle.velo_delivery.specs.Disk.{Disk}
+use Rattle.velo_delivery.specs.declared.failure.Operand.TheVariants as operand
+use Rattle.velo_fate.specs.declared.files.Beside.{Beside}
 use Rattle.velo_fate.specs.Format.{Format, LacksAt, Reads}
 
 -- ---- by the bytes of the file
@@ -42,6 +44,12 @@ abbrev pub IsScheduleOf : Disk → ScheduleSource → List ThreadId → Type 0
 IsScheduleOf disk (source.Text text) schedule = IsSchedule text.now schedule
 IsScheduleOf disk (source.Turns text) schedule = SaysTurns text.now schedule
 IsScheduleOf disk (source.File path) schedule = Reads turns_file disk path.now schedule
+
+-- its file, which is read beside the workload, if it is in one
+abbrev pub schedule_beside : ScheduleSource → Beside
+schedule_beside (source.Text text) = record { operand = operand.Turns; path = None }
+schedule_beside (source.Turns text) = record { operand = operand.Turns; path = None }
+schedule_beside (source.File path) = record { operand = operand.Turns; path = Some path }
 
 -- why there is none
 abbrev pub LacksSchedule : Disk → ScheduleSource → Fate → Type 0

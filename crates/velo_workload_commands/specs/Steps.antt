@@ -1,6 +1,6 @@
 -- Words of the contracts within the crate: how far each step has come. What the commands do is
 -- said without them.
-use Rattle.std.specs.Prelude.{◌≡◌, ◌⊎◌}
+use Rattle.std.specs.Prelude.{◌≡◌, ◌⊎◌, List}
 use Rattle.velo_worker.specs.declared.ending.Ending.{Ending}
 use Rattle.velo_workload.specs.Program.{Program}
 use Rattle.velo_world.specs.World.{WorldState}
@@ -17,6 +17,7 @@ use Rattle.velo_fate.specs.Verdict.{KnowsAlarm}
 use Rattle.velo_fate.specs.Delivery.{CommandAnswer, IsDeliveredInTurn, LacksMemory}
 use Rattle.velo_delivery.specs.Disk.{Disk, Store}
 use Rattle.velo_fate.specs.Barred.{IsBarredRun}
+use Rattle.velo_fate.specs.declared.files.Beside.{Beside}
 use Rattle.velo_workload_commands.specs.Playing.{IsReported, IsRunAnswer, IsSaidOfRun, Play, text_of_names, workload_file}
 use Rattle.velo_fate.specs.Format.{ReadsNone}
 use Rattle.velo_delivery.specs.Writing.{Writing}
@@ -41,10 +42,10 @@ Plays play options program store stdout f =
 -- ---- a workload
 
 -- the workload that was asked for is not read, or two of the files are one
-abbrev pub OpensNoProgram : Disk → RunOptions → Fate → Type 0
-OpensNoProgram disk options f =
+abbrev pub OpensNoProgram : Disk → List Beside → RunOptions → Fate → Type 0
+OpensNoProgram disk reads options f =
     ReadsNone workload_file disk options.input.now f
-    ⊎ IsBarredRun disk options.input.now options.target options.names_target f
+    ⊎ IsBarredRun disk options.input.now reads options.target options.names_target f
 
 -- ---- an exploration
 

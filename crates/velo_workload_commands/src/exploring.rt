@@ -251,7 +251,7 @@ pub fn explore_file<F: Files, O: Sink, P: ExploreProgress>(
     ensures { DoesExplore options.now (store F.disk files.old files.new)
         (writing O.contents O.failures out.old out.new) result }
 {
-    match open_workload(alloc, &run_of(options), files) {
+    match open_workload(alloc, &run_of(options), &[], files) {
         Ok(workload) => {
             let fate = explore_workload(alloc, &workload, options, files, out, progress);
             drop(workload);

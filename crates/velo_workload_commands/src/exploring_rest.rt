@@ -20,7 +20,7 @@ use velo_bytes::Sink;
 use velo_delivery::Files;
 use velo_events::Memory;
 use velo_explore_forms::Survey;
-use velo_fate::Fate;
+use velo_fate::{Fate, list_beside};
 use velo_filter::LeftOut;
 use velo_inputs::left_out_by;
 use velo_names::Names;
@@ -200,7 +200,8 @@ pub fn explore_rest_file<F: Files, O: Sink, P: ExploreProgress>(
     ensures { DoesExploreRest options.now (store F.disk files.old files.new)
         (writing O.contents O.failures out.old out.new) result }
 {
-    match open_workload(alloc, &run_of(&options.explore), files) {
+    let run = run_of(&options.explore);
+    match open_workload(alloc, &run, &[list_beside(&options.ignored)], files) {
         Ok(workload) => {
             let fate = explore_by_own_names(alloc, &workload, options, files, out, progress);
             drop(workload);

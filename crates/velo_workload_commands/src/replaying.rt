@@ -1,11 +1,13 @@
 //! `velodrome replay`.
+ghost use Rattle.std.specs.Prelude.{◌∷◌, []};
 ghost use Rattle.velo_workload_commands.specs.Playing.{ByTurns};
+ghost use Rattle.velo_workload_commands.specs.Scheduling.{schedule_beside};
 ghost use Rattle.velo_workload_commands.specs.Commands.{DoesPlay, DoesReplay};
 ghost use Rattle.velo_delivery.specs.Disk.{store};
 ghost use Rattle.velo_delivery.specs.Writing.{writing};
 ghost use Rattle.velo_workload_commands.specs.Steps.{Plays};
 
-use crate::scheduling::schedule_of_source;
+use crate::scheduling::{schedule_beside, schedule_of_source};
 use crate::work::{config_of_run, finish_run, open_workload};
 use std::alloc::Global;
 use velo_bytes::Sink;
@@ -40,16 +42,18 @@ fn replay_workload<F: Files, O: Sink>(
 fn replay_by<F: Files, O: Sink>(
     alloc: Global,
     schedule: &[ThreadId],
-    options: &RunOptions,
+    options: &ReplayOptions,
     files: &mut F,
     out: &mut O,
 ) -> Fate
-    ensures { DoesPlay (ByTurns schedule.now) options.now (store F.disk files.old files.new)
+    ensures { DoesPlay (ByTurns schedule.now) (schedule_beside options.now.schedule ∷ [])
+        options.now.run (store F.disk files.old files.new)
         (writing O.contents O.failures out.old out.new) result }
 {
-    match open_workload(alloc, options, files) {
+    let run = &options.run;
+    match open_workload(alloc, run, &[schedule_beside(options.schedule)], files) {
         Ok(workload) => {
-            let fate = replay_workload(alloc, &workload, schedule, options, files, out);
+            let fate = replay_workload(alloc, &workload, schedule, run, files, out);
             drop(workload);
             fate
         }
@@ -70,7 +74,7 @@ pub fn replay_file<F: Files, O: Sink>(
 {
     match schedule_of_source(alloc, options.schedule, files) {
         Ok(schedule) => {
-            let fate = replay_by(alloc, &schedule, &options.run, files, out);
+            let fate = replay_by(alloc, &schedule, options, files, out);
             drop(schedule);
             fate
         }

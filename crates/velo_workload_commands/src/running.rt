@@ -80,7 +80,7 @@ pub fn run_file<R: Threads + Wait + Sync, F: Files, O: Sink>(
     ensures { DoesRun options.now (store F.disk files.old files.new)
         (writing O.contents O.failures out.old out.new) result }
 {
-    match open_workload(alloc, options, files) {
+    match open_workload(alloc, options, &[], files) {
         Ok(workload) => {
             let fate = run_workload(rt, alloc, &workload, options, files, out);
             drop(workload);

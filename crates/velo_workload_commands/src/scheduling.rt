@@ -1,13 +1,13 @@
 //! The schedule of a replay.
-ghost use Rattle.std.specs.Prelude.{IfErr, IfOk};
+ghost use Rattle.std.specs.Prelude.{◌≡◌, IfErr, IfOk};
 ghost use Rattle.velo_schedule_text.specs.File.{IsScheduleIn};
 ghost use Rattle.velo_fate.specs.Format.{LacksAt, Reads};
-ghost use Rattle.velo_workload_commands.specs.Scheduling.{IsNoScheduleIn, IsScheduleOf, LacksSchedule, turns_file};
+ghost use Rattle.velo_workload_commands.specs.Scheduling.{IsNoScheduleIn, IsScheduleOf, LacksSchedule, schedule_beside, turns_file};
 
 use std::alloc::Global;
-use velo_delivery::Files;
+use velo_delivery::{Files, Operand};
 use velo_events::ThreadId;
-use velo_fate::{Fate, read_file};
+use velo_fate::{Beside, Fate, read_file};
 use velo_request::ScheduleSource;
 use velo_schedule_text::{MAX_SCHEDULE_BYTES, schedule_in, schedule_of, turns_of};
 
@@ -54,5 +54,18 @@ pub fn schedule_of_source<F: Files>(
         ScheduleSource::Text(text) => schedule_of(alloc, text).map_err(Fate::Schedule),
         ScheduleSource::Turns(text) => turns_of(alloc, text).map_err(Fate::Schedule),
         ScheduleSource::File(path) => schedule_at(alloc, path, files),
+    }
+}
+
+/// The file of a schedule, which is read beside the workload, if it is in one.
+pub fn schedule_beside<'p>(source: ScheduleSource<'p>) -> Beside<'p>
+    ensures { result ≡ schedule_beside source.entry }
+{
+    Beside {
+        operand: Operand::Turns,
+        path: match source {
+            ScheduleSource::Text(_) | ScheduleSource::Turns(_) => None,
+            ScheduleSource::File(path) => Some(path),
+        },
     }
 }

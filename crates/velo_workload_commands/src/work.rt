@@ -51,20 +51,28 @@ fn workload_of(alloc: Global, bytes: &[u8]) -> Result<Workload, WorkFault>
     }
 }
 
-/// Reads the workload that was asked for.
+/// Reads the workload that was asked for. The command also reads these files beside it.
 pub fn open_workload<F: Files>(
     alloc: Global,
     options: &RunOptions,
+    reads: &[Beside],
     files: &F,
 ) -> Result<Workload, Fate>
     ensures some { IfOk result (Reads workload_file (F.disk files.now) options.now.input.now) }
-    ensures none { IfErr result (OpensNoProgram (F.disk files.now) options.now) }
+    ensures none { IfErr result (OpensNoProgram (F.disk files.now) reads.now options.now) }
 {
     let names = Beside {
         operand: Operand::NamesOut,
         path: options.names_target,
     };
-    match open_apart(files, Operand::File, options.input, options.target, names) {
+    match open_apart(
+        files,
+        Operand::File,
+        options.input,
+        reads,
+        options.target,
+        names,
+    ) {
         Ok(mut file) => read_workload(alloc, &mut file),
         Err(fate) => Err(fate),
     }

@@ -22,7 +22,7 @@ use velo_monitor::{Monitor, Seen};
 use velo_traces::Block;
 
 /// The first event that closed a cycle.
-#[derive(Drop, Debug, PartialEq, Eq)]
+#[derive(Drop, PartialEq, Eq)]
 pub struct Alarm {
     /// Its position in the log.
     pub position: usize,
@@ -34,7 +34,7 @@ pub struct Alarm {
 }
 
 /// What an action came to.
-#[derive(Clone, Copy, Debug, PartialEq, Eq)]
+#[derive(Clone, Copy, PartialEq, Eq)]
 pub struct Reply {
     /// The position of its event.
     pub position: usize,

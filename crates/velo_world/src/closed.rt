@@ -8,7 +8,6 @@ ghost use Rattle.velo_ledger.specs.Logs.{tally_of, events_below};
 ghost use Rattle.velo_world.specs.World.{IsAlarm, IsBookOf};
 
 use crate::analysis::Alarm;
-use std::fmt;
 use std::marker::Model;
 use velo_events::{Bounds, Config, ThreadId};
 use velo_heap::Heap;
@@ -42,17 +41,6 @@ impl Model for Closed {
     ghost view = { closed_state };
 
     ghost invariant = { FollowsFromItsEvents };
-}
-
-impl fmt::Debug for Closed {
-    fn fmt<W: fmt::Write>(&self, f: &mut fmt::Formatter<W>) -> fmt::Result {
-        f.debug_struct("Closed")
-            .field("config", &self.config)
-            .field("halted", &self.halted)
-            .field("events", &self.log.len())
-            .field("alarm", &self.alarm)
-            .finish_non_exhaustive()
-    }
 }
 
 impl Closed {

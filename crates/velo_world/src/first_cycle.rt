@@ -13,7 +13,7 @@ use velo_events::{Config, Event, Memory, Resolved};
 use velo_traces::open_blocks_since;
 
 /// The event that closes the first cycle of a log.
-#[derive(Clone, Copy, Debug, PartialEq, Eq)]
+#[derive(Clone, Copy, PartialEq, Eq)]
 pub struct Closing {
     /// Its position in the log.
     pub position: usize,

@@ -16,7 +16,6 @@ use crate::closed::Closed;
 use crate::first_cycle::{Closing, alarm_at, clocks_of};
 use crate::log_replay::{LogReplay, LogReplayFault, judge};
 use std::alloc::Global;
-use std::fmt;
 use std::marker::Model;
 use velo_events::{Config, Event, Kind, Memory, Resolved};
 use velo_traces::Trace;
@@ -53,16 +52,6 @@ impl Model for RecordedWorld {
     ghost view = { state_in };
 
     ghost invariant = { KeepsRun };
-}
-
-impl fmt::Debug for RecordedWorld {
-    fn fmt<W: fmt::Write>(&self, f: &mut fmt::Formatter<W>) -> fmt::Result {
-        f.debug_struct("RecordedWorld")
-            .field("config", &self.run.config)
-            .field("events", &self.run.log.len())
-            .field("alarm", &self.run.alarm)
-            .finish_non_exhaustive()
-    }
 }
 
 impl RecordedWorld {

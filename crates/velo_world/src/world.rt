@@ -22,7 +22,6 @@ use crate::analysis::{Alarm, Analysis, Reply};
 use crate::closed::Closed;
 use crate::logged_run::LoggedRun;
 use std::alloc::Global;
-use std::fmt;
 use std::marker::Model;
 use velo_events::growth::reserve;
 use velo_events::{Action, Bounds, Config, Event, Kind, Memory, Refusal, ThreadId};
@@ -57,17 +56,6 @@ impl Model for World {
     ghost view = { state_of };
 
     ghost invariant = { IsWorldOfItsLog };
-}
-
-impl fmt::Debug for World {
-    fn fmt<W: fmt::Write>(&self, f: &mut fmt::Formatter<W>) -> fmt::Result {
-        f.debug_struct("World")
-            .field("config", &self.logged.config)
-            .field("halted", &self.logged.halted)
-            .field("events", &self.logged.log.len())
-            .field("alarm", &self.logged.analysis.alarm)
-            .finish_non_exhaustive()
-    }
 }
 
 impl World {

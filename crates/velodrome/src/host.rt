@@ -1,9 +1,10 @@
 //! The files of the system.
 
 use crate::notes::Notes;
+use crate::place::{are_one_place, node_of};
+use crate::terminal::STANDARD_INPUT;
 use std::fs::{self, File, Metadata};
 use std::io::{self, Read, Stdin, Write};
-use std::os::unix::fs::MetadataExt;
 use velo_bytes::{ReaderSource, WriterSink};
 use velo_cli::{Recall, SystemReason};
 use velo_commands::Files;
@@ -106,18 +107,28 @@ impl<'a> Files for HostFiles<'a> {
         }
     }
 
+    fn open_regular(&self, path: &str) -> Option<ReaderSource<HostInput<'a>>> {
+        match fs::metadata(self.rt, path) {
+            Ok(found) if !found.is_file() => None,
+            _ => self.open(path),
+        }
+    }
+
     fn standard_input(&self) -> ReaderSource<HostInput<'a>> {
         self.notes.open_to_read("-");
         self.input(Opened::StandardInput(self.rt.stdin()))
     }
 
-    fn are_one(&self, input: &str, target: &str) -> bool {
-        let input = fs::metadata(self.rt, input);
-        let target = fs::metadata(self.rt, target);
-        match (input, target) {
+    fn are_one(&self, path: &str, other: &str) -> bool {
+        match (fs::metadata(self.rt, path), fs::metadata(self.rt, other)) {
             (Ok(input), Ok(target)) => is_same_file(&input, &target),
+            (Err(_), Err(_)) => are_one_place(self.rt, path, other).unwrap_or(false),
             _ => false,
         }
+    }
+
+    fn is_input(&self, target: &str) -> bool {
+        self.are_one(STANDARD_INPUT, target)
     }
 
     fn create(&mut self, path: &str) -> Option<WriterSink<HostOutput<'a>>> {
@@ -140,7 +151,7 @@ impl<'a> Files for HostFiles<'a> {
 /// Whether both are of one regular file, by its device and its inode. Only such a file loses what
 /// it has when it is opened to be written.
 fn is_same_file(one: &Metadata, other: &Metadata) -> bool {
-    one.is_file() && other.is_file() && (one.dev(), one.ino()) == (other.dev(), other.ino())
+    one.is_file() && other.is_file() && node_of(one) == node_of(other)
 }
 
 #[cfg(test)]

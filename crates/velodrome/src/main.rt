@@ -4,6 +4,7 @@
 mod colours;
 mod host;
 mod notes;
+mod place;
 mod progress;
 mod terminal;
 mod why;

@@ -16,7 +16,7 @@ const PAUSE: u128 = 2_000;
 const BLINK: u128 = 100;
 
 /// When the progress of a search is printed, and in what form.
-#[derive(Clone, Copy, Debug)]
+#[derive(Clone, Copy)]
 struct Manner {
     /// Each line is written over the one before.
     over: bool,

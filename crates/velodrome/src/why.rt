@@ -9,9 +9,9 @@ const WHY: &str = "--why";
 /// The place of the subcommand among the words.
 const SUBCOMMAND: usize = 1;
 
-/// Whether a subcommand has `--why`. The others say what is wrong in words anyway.
+/// Whether a subcommand has `--why`. The others say what is wrong in words anyway, and `carry` never.
 fn has_why(subcommand: &str) -> bool {
-    matches!(subcommand, "check" | "carry" | "replay" | "run")
+    matches!(subcommand, "check" | "replay" | "run")
 }
 
 /// Whether `--why` can be added to the words: their subcommand has it, and it is not among them.

@@ -235,13 +235,16 @@ class _Itself(collections.abc.Coroutine):  # type: ignore[type-arg]
     def throw(self, *failure: Any) -> Any:
         return self._step(self._coroutine.throw, *failure)
 
+    def close(self) -> None:
+        self._step(self._coroutine.close)
+
     def __next__(self) -> Any:
         return self.send(None)
 
     def __iter__(self) -> _Itself:
         return self
 
-    __await__ = __iter__
+    __await__ = __iter__  # type: ignore[assignment]
 
     def __getattr__(
         self, name: str
@@ -276,7 +279,7 @@ class Thread(threading.Thread):
 
     def start(self) -> None:
         child = _session.fork()
-        self.run = functools.partial(_run, self, child, self.run)  # type: ignore[method-assign]
+        self.__dict__["run"] = functools.partial(_run, self, child, self.run)
         try:
             super().start()
         except BaseException:
@@ -309,7 +312,7 @@ _OURS = {"Lock": Lock, "RLock": RLock, "Thread": Thread}
 def _unwatch(thread: threading.Thread) -> None:
     """The event by which `start` waits for the thread is none of the program's: it is not recorded."""
     started = getattr(thread, "_started", None)
-    if isinstance(getattr(started, "_cond", None), threading.Condition):
+    if started and isinstance(getattr(started, "_cond", None), threading.Condition):
         started._cond = threading.Condition(_REAL["Lock"]())
 
 
@@ -329,9 +332,9 @@ def patched() -> Iterator[None]:
         return create(loop, watched, **keywords)
 
     vars(threading).update(_OURS)
-    base_events.BaseEventLoop.create_task = create_task  # type: ignore[method-assign]
+    setattr(base_events.BaseEventLoop, "create_task", create_task)
     try:
         yield
     finally:
         vars(threading).update(before)
-        base_events.BaseEventLoop.create_task = create  # type: ignore[method-assign]
+        setattr(base_events.BaseEventLoop, "create_task", create)

@@ -94,8 +94,8 @@ def pytest_itemcollected(item: pytest.Item) -> None:
             "repeat": item.config.getoption("velodrome_repeat"),
         }
         options.update(marker.kwargs if marker else {})
-        item.runtest = functools.partial(_run, item, item.runtest, **options)  # type: ignore[method-assign]
-        item.repr_failure = functools.partial(_repr_failure, item.repr_failure)  # type: ignore[method-assign]
+        setattr(item, "runtest", functools.partial(_run, item, item.runtest, **options))
+        setattr(item, "repr_failure", functools.partial(_repr_failure, item.repr_failure))
 
 
 def _run(item: pytest.Item, body: Callable[[], None], *, repeat: int = 1, **options: Any) -> None:

@@ -110,18 +110,19 @@ Give --values if the values in the log are those of the program.
 --names, --sites, --source, --not-atomic, --ignore and the options that begin with --ignore- are those
 of 'velodrome audit'. Only one of LOG and the FILEs can be -. The same seed tries the same delays.
 
-LOG and OUT must be different files; otherwise the command stops before it writes. Standard input is
-not compared with OUT. If nothing is predicted, OUT is not opened.
+OUT must be no file that the command reads, by whatever path or on standard input; otherwise it stops
+before it writes. If nothing is predicted, OUT is not opened.
 
 Statuses, each with the lines on standard error:
   0  nothing was found, or help
-  2  usage; 'error: standard input can be read once'; 'error: LOG and OUT are one file';
-     'error: --format takes text or json'; 'error: --source goes only with --sites'; 'error: --ignore
-     does not go with --not-atomic'; the text is no log: 'log fault K', 'log fault K line N'; an event
-     cannot happen: 'refused K at P', 'wrong value at P'; the text of --names is no file of names:
-     'names fault K line N'; the text of --sites is no file of sites, or of another log:
-     'sites fault K line N'; the text of --not-atomic or --ignore is no list: 'list fault K line N'; a
-     word of --ignore-label, --ignore-lock or --ignore-variable means nothing: 'ignored fault K'
+  2  usage; 'error: standard input can be read once'; 'error: LOG and OUT are one file', the same of
+     --names, --sites, --not-atomic and --ignore; 'error: --format takes text or json'; 'error: --source
+     goes only with --sites'; 'error: --ignore does not go with --not-atomic'; the text is no log:
+     'log fault K', 'log fault K line N'; an event cannot happen: 'refused K at P', 'wrong value at P';
+     the text of --names is no file of names: 'names fault K line N'; the text of --sites is no file of
+     sites, or of another log: 'sites fault K line N'; the text of --not-atomic or --ignore is no list:
+     'list fault K line N'; a word of --ignore-label, --ignore-lock or --ignore-variable means nothing:
+     'ignored fault K'
   3  a label was found whose blocks are not atomic, in this run or in another, or a deadlock in another
   4  a limit was met: 'refused 17 at P', 'refused 18 at P'
   5  memory or a device failed: 'out of memory', 'read failed', 'write failed', 'cannot open'

@@ -1,4 +1,4 @@
-//! A file that is read is not emptied.
+//! A file that is read, or that is written already, is not emptied.
 use crate::host::HostFiles;
 use crate::notes::Notes;
 use crate::tests::holds_for;
@@ -10,9 +10,15 @@ use velo_bytes::{Bytes, Text};
 use velo_cli::{Recall, run};
 use velo_commands::{Files, Quiet};
 
-/// Two paths, and whether one regular file is at both.
-static PATHS: [(&str, &str, bool); 6] = [
+/// Two paths, and whether one regular file is at both, or would be.
+static PATHS: [(&str, &str, bool); 12] = [
     ("/proc/self/exe", "/proc/self/exe", true),
+    ("/proc/self/none", "/proc/self/none", true),
+    ("/proc/self/none", "/proc/../proc/self/./none", true),
+    ("none", "./none", true),
+    ("none", "other", false),
+    ("/proc/none", "/proc/self/none", false),
+    ("/none/none", "/none/none", false),
     ("/proc/self/exe", "/proc/../proc/self/exe", true),
     ("/proc/self/exe", "/proc/self/status", false),
     ("/proc/self/exe", "/proc/self/none", false),
@@ -33,9 +39,42 @@ fn one_file_at_two_paths(rt: HostRuntime) {
     drop(files);
 }
 
+/// Paths, and whether what is there opens as a regular file.
+static REGULAR: [(&str, bool); 4] = [
+    ("/proc/self/exe", true),
+    ("/proc/self/none", false),
+    ("/dev/null", false),
+    ("/proc", false),
+];
+
+#[test]
+fn regular_files_open(rt: HostRuntime) {
+    let notes = Notes::new();
+    let files = HostFiles::new(&rt, &notes);
+    for (path, opens) in &REGULAR {
+        assert!(&rt; files.open_regular(*path).is_some() == *opens, "{path}");
+    }
+    drop(files);
+}
+
 const LOG: &str = "vlog 2 1 0 0\n0 begin 7\n0 end\n";
 
-/// A log at the path `log`, which is also at `again`; and whether a file was opened to be written.
+const WORK: &str = "thread main\nbegin get\nend\n";
+
+/// What is at a path, if there is a file. The log is also at `again`.
+fn text_at(path: &str) -> Option<&'static str> {
+    match path {
+        "log" => Some(LOG),
+        "work" => Some(WORK),
+        "names" => Some("label 7 get\n"),
+        "sites" => Some("vsites 1 1 2\na.c:5 f\n1\n1\n"),
+        "list" => Some("9\n"),
+        "turns" => Some("0*2"),
+        _ => None,
+    }
+}
+
+/// Files, and whether one was opened to be written. Standard input is a log, and the file at `stdin`.
 #[derive(Drop)]
 struct Linked {
     alloc: Global,
@@ -50,11 +89,7 @@ impl Files for Linked {
     type Output = Text;
 
     fn open(&self, path: &str) -> Option<Bytes<'static>> {
-        if path == "log" {
-            Some(Bytes::new(LOG.as_bytes()))
-        } else {
-            None
-        }
+        text_at(path).map(|text| Bytes::new(text.as_bytes()))
     }
 
     fn standard_input(&self) -> Bytes<'static> {
@@ -62,7 +97,11 @@ impl Files for Linked {
     }
 
     fn are_one(&self, input: &str, target: &str) -> bool {
-        input == "log" && target == "again"
+        input == target || input == "log" && target == "again"
+    }
+
+    fn is_input(&self, target: &str) -> bool {
+        target == "stdin"
     }
 
     fn create(&mut self, _path: &str) -> Option<Text> {
@@ -83,7 +122,7 @@ const LOG_AND_OUT: &str = "error: LOG and OUT are one file\n";
 
 const FILE_AND_OUT: &str = "error: FILE and OUT are one file\n";
 
-static ROWS: [Row; 10] = [
+static ROWS: [Row; 31] = [
     (
         &["velodrome", "carry", "log", "--log", "again"],
         LOG_AND_OUT,
@@ -145,6 +184,282 @@ static ROWS: [Row; 10] = [
         &["velodrome", "explain", "log", "--dot", "other"],
         "",
         0,
+        false,
+    ),
+    (
+        &[
+            "velodrome",
+            "explain",
+            "log",
+            "--names",
+            "names",
+            "--dot",
+            "names",
+        ],
+        "error: --names and OUT are one file\n",
+        2,
+        false,
+    ),
+    (
+        &[
+            "velodrome",
+            "explain",
+            "log",
+            "--names",
+            "names",
+            "--svg",
+            "names",
+        ],
+        "error: --names and SVG are one file\n",
+        2,
+        false,
+    ),
+    (
+        &[
+            "velodrome",
+            "explain",
+            "log",
+            "--sites",
+            "sites",
+            "--dot",
+            "sites",
+        ],
+        "error: --sites and OUT are one file\n",
+        2,
+        false,
+    ),
+    (
+        &[
+            "velodrome",
+            "explain",
+            "log",
+            "--not-atomic",
+            "list",
+            "--dot",
+            "list",
+        ],
+        "error: --not-atomic and OUT are one file\n",
+        2,
+        false,
+    ),
+    (
+        &[
+            "velodrome",
+            "explain",
+            "log",
+            "--ignore",
+            "list",
+            "--dot",
+            "list",
+        ],
+        "error: --ignore and OUT are one file\n",
+        2,
+        false,
+    ),
+    (
+        &[
+            "velodrome",
+            "explain",
+            "log",
+            "--dot",
+            "new",
+            "--svg",
+            "new",
+        ],
+        "error: OUT and SVG are one file\n",
+        2,
+        false,
+    ),
+    (
+        &["velodrome", "explain", "-", "--dot", "stdin"],
+        "error: LOG and OUT are one file\n",
+        2,
+        false,
+    ),
+    (
+        &[
+            "velodrome",
+            "thin",
+            "log",
+            "--names",
+            "names",
+            "--log",
+            "names",
+        ],
+        "error: --names and OUT are one file\n",
+        2,
+        false,
+    ),
+    (
+        &[
+            "velodrome",
+            "thin",
+            "log",
+            "--ignore",
+            "list",
+            "--log",
+            "new",
+            "--map",
+            "list",
+        ],
+        "error: --ignore and MAP are one file\n",
+        2,
+        false,
+    ),
+    (
+        &["velodrome", "thin", "log", "--log", "new", "--map", "new"],
+        "error: OUT and MAP are one file\n",
+        2,
+        false,
+    ),
+    (
+        &[
+            "velodrome",
+            "predict",
+            "log",
+            "--names",
+            "names",
+            "--log",
+            "names",
+        ],
+        "error: --names and OUT are one file\n",
+        2,
+        false,
+    ),
+    (
+        &[
+            "velodrome",
+            "predict",
+            "log",
+            "--sites",
+            "sites",
+            "--log",
+            "sites",
+        ],
+        "error: --sites and OUT are one file\n",
+        2,
+        false,
+    ),
+    (
+        &[
+            "velodrome",
+            "predict",
+            "log",
+            "--not-atomic",
+            "list",
+            "--log",
+            "list",
+        ],
+        "error: --not-atomic and OUT are one file\n",
+        2,
+        false,
+    ),
+    (
+        &[
+            "velodrome",
+            "replay",
+            "work",
+            "--turns",
+            "@turns",
+            "--log",
+            "turns",
+        ],
+        "error: --turns and OUT are one file\n",
+        2,
+        false,
+    ),
+    (
+        &[
+            "velodrome",
+            "replay",
+            "work",
+            "--turns",
+            "@turns",
+            "--log",
+            "new",
+            "--names-out",
+            "turns",
+        ],
+        "error: --turns and NAMES are one file\n",
+        2,
+        false,
+    ),
+    (
+        &[
+            "velodrome",
+            "replay",
+            "work",
+            "--turns",
+            "@names",
+            "--log",
+            "names",
+        ],
+        "bad schedule\n",
+        2,
+        false,
+    ),
+    (
+        &[
+            "velodrome",
+            "replay",
+            "work",
+            "--log",
+            "new",
+            "--names-out",
+            "new",
+        ],
+        "error: OUT and NAMES are one file\n",
+        2,
+        false,
+    ),
+    (
+        &[
+            "velodrome",
+            "run",
+            "work",
+            "--log",
+            "new",
+            "--names-out",
+            "new",
+        ],
+        "error: OUT and NAMES are one file\n",
+        2,
+        false,
+    ),
+    (
+        &[
+            "velodrome",
+            "explore",
+            "work",
+            "--ignore",
+            "list",
+            "--log",
+            "list",
+        ],
+        "error: --ignore and OUT are one file\n",
+        2,
+        false,
+    ),
+    (
+        &[
+            "velodrome",
+            "explore",
+            "work",
+            "--not-atomic",
+            "list",
+            "--log",
+            "new",
+            "--names-out",
+            "list",
+        ],
+        "error: --not-atomic and NAMES are one file\n",
+        2,
+        false,
+    ),
+    (
+        &["velodrome", "carry", "-", "--log", "stdin"],
+        "error: LOG and OUT are one file\n",
+        2,
         false,
     ),
 ];

@@ -49,11 +49,12 @@ static RIGHT_WORDS: [(&[&str], u8, &str); 9] = [
     (&["velodrome", "--help"], 0, ""),
 ];
 
-static WRONG_WORDS: [&[&str]; 50] = [
+static WRONG_WORDS: [&[&str]; 52] = [
     &["velodrome"],
     &["velodrome", "check"],
     &["velodrome", "race", "a.log"],
     &["velodrome", "check", "a.log", "b.log"],
+    &["velodrome", "check", "a.log", "b\u{1b}.log"],
     &["velodrome", "check", "a.log", "--events", "0"],
     &["velodrome", "check", "a.log", "--events", "16777217"],
     &["velodrome", "check", "a.log", "--nodes", "0"],
@@ -63,6 +64,7 @@ static WRONG_WORDS: [&[&str]; 50] = [
     &["velodrome", "carry", "a.log", "--log"],
     &["velodrome", "carry", "a.log", "b.log", "--log", "o.log"],
     &["velodrome", "carry", "a.log", "--log", "o.log", "--stop"],
+    &["velodrome", "carry", "a.log", "--log", "o.log", "--why"],
     &[
         "velodrome",
         "carry",
@@ -143,7 +145,7 @@ static WRONG_WORDS: [&[&str]; 50] = [
 ];
 
 /// Right words that do not go together, with the line that says so.
-static WORDS_APART: [(&[&str], &str); 45] = [
+static WORDS_APART: [(&[&str], &str); 42] = [
     (
         &["velodrome", "check", "-", "--names", "-"],
         "error: standard input can be read once\n",
@@ -196,14 +198,6 @@ static WORDS_APART: [(&[&str], &str); 45] = [
     (
         &["velodrome", "explore", "w", "--names-out", "n"],
         "error: --names-out goes only with --log\n",
-    ),
-    (
-        &["velodrome", "replay", "w", "--log", "o", "--names-out", "o"],
-        "error: OUT and NAMES are one file\n",
-    ),
-    (
-        &["velodrome", "explore", "w", "--names-out=o", "--log=o"],
-        "error: OUT and NAMES are one file\n",
     ),
     (
         &[
@@ -263,10 +257,6 @@ static WORDS_APART: [(&[&str], &str); 45] = [
     (
         &["velodrome", "watch", "-", "--endless", "--names=-"],
         "error: standard input can be read once\n",
-    ),
-    (
-        &["velodrome", "thin", "a.log", "--log", "o", "--map", "o"],
-        "error: OUT and MAP are one file\n",
     ),
     (
         &["velodrome", "thin", "-", "--log", "o", "--not-atomic=-"],
@@ -411,7 +401,8 @@ fn right_command_lines(rt: HostRuntime) {
     drop(folder);
 }
 
-/// A fault of usage goes to standard error, where it is called an error once.
+/// A fault of usage goes to standard error, where it is called an error once. The control characters of
+/// the words are escaped.
 fn compare_wrong(rt: &impl Abort, shown: &Shown, words: &[&str]) {
     let told = (shown.status, shown.out.as_slice().is_empty());
     assert!(rt; told == (2, true), "{words:?}");
@@ -419,6 +410,7 @@ fn compare_wrong(rt: &impl Abort, shown: &Shown, words: &[&str]) {
     let fault = err.strip_prefix("error: ");
     let is_told_once = fault.is_some_and(|fault| !fault.contains("error: "));
     assert!(rt; is_told_once, "{words:?}: {err}");
+    assert!(rt; !err.contains('\u{1b}'), "{words:?}: {err}");
 }
 
 #[test]

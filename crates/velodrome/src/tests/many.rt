@@ -16,8 +16,9 @@ const ONE: &str =
 const TWO: &str =
     "{\"schema\":1,\"logs\":[{\"path\":\"b.log\",\"labels\":[],\"unreadable\":null}],\"atomic\":1,\"not_atomic\":0,\"unreadable\":0,\"labels\":[]}\n";
 
-static FILES: [(&str, &str); 12] = [
+static FILES: [(&str, &str); 13] = [
     ("a.log", LOST_UPDATE),
+    ("a\u{1b}\n.log", LOST_UPDATE),
     ("a.log.names", "label 7 deposit\n"),
     (
         "a.log.sites",
@@ -42,7 +43,14 @@ struct Row {
     status: u8,
 }
 
-static SUMMARIES: [Row; 11] = [
+static SUMMARIES: [Row; 12] = [
+    // a path with control characters
+    Row {
+        words: &["velodrome", "audit", "a\u{1b}\n.log", "b.log"],
+        out: "2 logs: 1 atomic, 1 not atomic, 0 unreadable\nnot atomic 7\n  in 1 of 2 logs, first in a\\x1b\\n.log, line 6\n",
+        err: "",
+        status: 3,
+    },
     // each verdict
     Row {
         words: &["velodrome", "audit", "a.log", "b.log", "cut.log"],
@@ -150,7 +158,7 @@ static SUMMARIES: [Row; 11] = [
     },
 ];
 
-static MERGES: [Row; 7] = [
+static MERGES: [Row; 8] = [
     // what is merged
     Row {
         words: &["velodrome", "audit", "a.log", "cut.log", "--format", "json"],
@@ -189,6 +197,12 @@ static MERGES: [Row; 7] = [
         words: &["velodrome", "audit", "--merge", "one.json", "a.log"],
         out: "",
         err: "velodrome: a.log: this is not a summary of logs\nhelp: `velodrome audit --summary --format json LOG..` prints one\nsummary fault 1 file 2\n",
+        status: 2,
+    },
+    Row {
+        words: &["velodrome", "audit", "--merge", "one.json", "a\u{1b}\n.log"],
+        out: "",
+        err: "velodrome: a\\x1b\\n.log: this is not a summary of logs\nhelp: `velodrome audit --summary --format json LOG..` prints one\nsummary fault 1 file 2\n",
         status: 2,
     },
     // no file

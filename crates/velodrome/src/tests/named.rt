@@ -111,7 +111,7 @@ impl Files for Shelf {
 }
 
 /// How a workload is played.
-#[derive(Clone, Copy, Debug)]
+#[derive(Clone, Copy)]
 enum How {
     Run,
     Replay,

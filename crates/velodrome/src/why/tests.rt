@@ -10,7 +10,7 @@ static LINES: &[(&str, bool, &str)] = &[
     ("velodrome check a", true, "velodrome check --why a "),
     ("velodrome check a", false, "velodrome check a "),
     ("velodrome check", true, "velodrome check --why "),
-    ("velodrome carry a", true, "velodrome carry --why a "),
+    ("velodrome carry a", true, "velodrome carry a "),
     (
         "velodrome replay -- a",
         true,

@@ -1,7 +1,7 @@
 use Rattle.std.proofs.Common.{codes}
 use Rattle.clap.specs.Words.{found_of, rows_of}
 use Rattle.velo_arguments.specs.Asked.{AsksCarry}
-use Rattle.velo_arguments.proofs.OnAsked.{flag_read, no_word, on_none, word_read}
+use Rattle.velo_arguments.proofs.OnAsked.{no_word, on_none, word_read}
 use Rattle.velo_arguments.proofs.requests.carry_options.Goals as goal
 
 pub returns-clause-some : goal.returns-clause-some
@@ -9,7 +9,6 @@ returns-clause-some c =
     let f = found_of c.args.found.now in (
       word_read f (codes "LOG") c.get_str.result c.in_ok-get_str.field-0 c.get_str.ensures c.in_ok-get_str.was,
       word_read f (codes "log") c.get_str-2.result c.in_ok-get_str-2.field-0 c.get_str-2.ensures c.in_ok-get_str-2.was,
-      flag_read f (codes "why") c.get_flag.result c.get_flag.ensures.none c.get_flag.ensures.value c.get_flag.ensures.other,
     )
 
 pub returns-in_err-get_str-clause-none : goal.returns-in_err-get_str-clause-none

@@ -41,4 +41,4 @@ returns-in-Err g c =
       unread_put none.read.bytes c.in-Err.fate none.unsaid (store g.F.Files.disk c.args.files.now c.args.files.now) refl c.args.options.now.target (writing g.O.Sink.contents g.O.Sink.failures c.args.out.now c.args.out.now) (refl, refl),
     ))
     (λ barred. inl (barred, (refl, (refl, refl))))
-    (subst (λ (o : RunOptions). OpensNoProgram (g.F.Files.disk c.args.files.now) o c.in-Err.fate) c.run_of.ensures c.in-Err.ensures.none)
+    (subst (λ (o : RunOptions). OpensNoProgram (g.F.Files.disk c.args.files.now) [] o c.in-Err.fate) c.run_of.ensures c.in-Err.ensures.none)

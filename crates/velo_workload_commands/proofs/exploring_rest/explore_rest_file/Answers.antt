@@ -1,6 +1,7 @@
-use Rattle.std.proofs.Common.{inl, inr, refl, subst}
+use Rattle.std.proofs.Common.{◌∷◌, [], inl, inr, refl, subst}
 use Rattle.velo_request.specs.declared.request.RunOptions.{RunOptions}
 use Rattle.velo_fate.specs.Format.{Reads}
+use Rattle.velo_fate.specs.Barred.{list_beside}
 use Rattle.velo_workload_commands.specs.Playing.{workload_file}
 use Rattle.velo_workload_commands.specs.Steps.{OpensNoProgram}
 use Rattle.velo_workload_commands.proofs.exploring_rest.explore_rest_file.Goals as goal
@@ -16,6 +17,6 @@ returns-in-Ok g c =
 pub returns-in-Err : goal.returns-in-Err
 returns-in-Err g c =
     inl (
-      subst (λ (o : RunOptions). OpensNoProgram (g.F.Files.disk c.args.files.now) o c.in-Err.fate) c.run_of.ensures c.in-Err.ensures.none,
+      subst (λ (o : RunOptions). OpensNoProgram (g.F.Files.disk c.args.files.now) (list_beside c.args.options.now.ignored ∷ []) o c.in-Err.fate) c.run_of.ensures c.in-Err.ensures.none,
       (refl, (refl, refl)),
     )

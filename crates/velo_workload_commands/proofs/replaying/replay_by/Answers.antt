@@ -17,7 +17,7 @@ returns-in-Ok g c =
       played.0,
       text_of_names c.in-Ok.workload,
       from.given,
-      from.no_failure ∙ sym (plays_reads (ByTurns c.args.schedule.now) c.args.options.now c.in-Ok.workload played.0 _ played.1 files (text_of_names c.in-Ok.workload) stdout c.replay_workload-fate.result played.2),
+      from.no_failure ∙ sym (plays_reads (ByTurns c.args.schedule.now) c.args.options.now.run c.in-Ok.workload played.0 _ played.1 files (text_of_names c.in-Ok.workload) stdout c.replay_workload-fate.result played.2),
       inl (c.in-Ok.workload, from.said, refl, played.1),
       played.2,
     )
@@ -32,7 +32,7 @@ returns-in-Err g c =
       none.given,
       none.failures,
       inr (c.in-Err.fate, none.unsaid, refl),
-      unread_put none.read.bytes c.in-Err.fate none.unsaid (store g.F.Files.disk c.args.files.now c.args.files.now) refl c.args.options.now.target (writing g.O.Sink.contents g.O.Sink.failures c.args.out.now c.args.out.now) (refl, refl),
+      unread_put none.read.bytes c.in-Err.fate none.unsaid (store g.F.Files.disk c.args.files.now c.args.files.now) refl c.args.options.now.run.target (writing g.O.Sink.contents g.O.Sink.failures c.args.out.now c.args.out.now) (refl, refl),
     ))
     (λ barred. inl (barred, (refl, (refl, refl))))
     c.in-Err.ensures.none

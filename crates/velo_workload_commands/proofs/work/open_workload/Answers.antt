@@ -10,7 +10,7 @@ returns-in-Ok-clause-some g c =
 
 pub returns-in-Ok-clause-none : goal.returns-in-Ok-clause-none
 returns-in-Ok-clause-none g c =
-    not_opened (g.F.Files.disk c.args.files.now) c.args.options.now (reading g.F.Input.Source.remaining g.F.Input.Source.failures c.in-Ok.file c.read_workload.new.source)
+    not_opened (g.F.Files.disk c.args.files.now) c.args.reads.now c.args.options.now (reading g.F.Input.Source.remaining g.F.Input.Source.failures c.in-Ok.file c.read_workload.new.source)
     (c.in-Ok.ensures.given c.read_workload.new.source) c.read_workload.result c.read_workload.ensures.none c.read_workload.ensures.failure
 
 pub returns-in-Err-clause-none : goal.returns-in-Err-clause-none
