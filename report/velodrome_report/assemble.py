@@ -1,0 +1,140 @@
+"""Makes the report: one list over all runs, in its order, with short names and lines of source."""
+
+from __future__ import annotations
+
+import shlex
+from dataclasses import replace
+from typing import Dict, Iterable, List, Optional, Sequence
+
+from . import apart, finding, folding, names, ranking
+from .judge import Looked
+from .model import Counts, Event, Finding, Kind, Report, Run, Witness
+from .source import Sources
+
+
+def report(every: Sequence[Looked], reasons: Iterable[str] = ()) -> Report:
+    """The report on these runs, in the order in which they were given."""
+    gathering = finding.Gathering()
+    for looked in every:
+        gathering.take(looked)
+    return _arranged([looked.run for looked in every], gathering.findings(), reasons)
+
+
+def merged(reports: Sequence[Report]) -> Report:
+    """One report of several, as if all their runs had been looked at by one call."""
+    found: Dict[str, Finding] = {}
+    reports = apart.named_apart(reports)
+    for part in reports:
+        for one in part.findings:
+            known = found.get(one.id)
+            found[one.id] = one if known is None else finding.joined(known, one)
+    runs = [run for part in reports for run in part.runs]
+    reasons = dict.fromkeys(reason for part in reports for reason in part.reasons)
+    made = _arranged(runs, list(found.values()), reasons)
+    made.known = tuple(dict.fromkeys(name for part in reports for name in part.known))
+    return made
+
+
+def _arranged(runs: List[Run], findings: List[Finding], reasons: Iterable[str]) -> Report:
+    """The findings in their sections and their order, with all that is told of them."""
+    every = [name for run in runs for name in run.calls]
+    every += [name for one in findings if one.kind is Kind.NOT_ATOMIC for name in _mentioned(one)]
+    short = names.short_names(every)
+    by_name = {run.name: run for run in runs}
+    findings = _without_doubles(findings)
+    listed = [_counted(_renamed(one, short), runs) for one in findings]
+    listed = ranking.ranked(folding.folded(listed))
+    return Report(
+        runs=runs,
+        findings=[replace(one, repeat=repeat(one, by_name)) for one in listed],
+        reasons=tuple(reasons),
+    )
+
+
+def _without_doubles(findings: List[Finding]) -> List[Finding]:
+    """The findings without a stale write that a function's own finding tells, too."""
+    functions = {one.function.name: one for one in findings if one.kind is Kind.NOT_ATOMIC}
+    kept: List[Finding] = []
+    for one in findings:
+        other = functions.get(one.function.name)
+        if one.kind is Kind.STALE_WRITE and other is not None and _tells(other, one):
+            functions[one.function.name] = replace(
+                other,
+                seen=tuple(dict.fromkeys(other.seen + one.seen)),
+                possible=tuple(dict.fromkeys(other.possible + one.possible)),
+            )
+        elif one.kind is not Kind.NOT_ATOMIC:
+            kept.append(one)
+    return [*functions.values(), *kept]
+
+
+def _tells(one: Finding, stale: Finding) -> bool:
+    """Whether a function's finding is about the variable that it writes from an old value."""
+    gap, other = one.traits.gap, stale.traits.gap
+    if gap is None or other is None or gap.inside_callee:
+        return False
+    return other.target in (gap.target, *(str(target) for target in one.witness.targets()))
+
+
+def _mentioned(one: Finding) -> List[str]:
+    """The names of the functions that a finding speaks of."""
+    events = one.witness.events
+    calls = [event.call for event in events if event.call]
+    return [one.function.name, *calls, *(frame.function for e in events for frame in e.stack)]
+
+
+def _counted(one: Finding, runs: Sequence[Run]) -> Finding:
+    """The finding with all calls of its function."""
+    if one.kind is not Kind.NOT_ATOMIC:
+        return one
+    calls = sum(run.calls.get(one.function.name, 0) for run in runs)
+    return replace(one, counts=Counts(calls, one.counts.to_blame))
+
+
+def _renamed(one: Finding, short: Dict[str, str]) -> Finding:
+    """The finding with a short name for its function. A deadlock is of several functions."""
+    name = one.function.name
+    if one.kind in (Kind.DEADLOCK, Kind.DEADLOCK_POSSIBLE):
+        short_name = " and ".join(names.without_parameters(part) for part in name.split(" and "))
+    else:
+        short_name = short.get(name) or names.without_parameters(name)
+    return replace(one, function=replace(one.function, short=short_name))
+
+
+# ---- how to repeat it
+
+
+def repeat(one: Finding, runs: Dict[str, Run]) -> Optional[str]:
+    """The command that repeats the run of the witness, None where the run is not described."""
+    run = runs.get(one.witness.run)
+    if run is None or not run.command:
+        return None
+    words = ["velodrome-record"]
+    if run.mode not in (None, "exact"):
+        words += ["--mode", str(run.mode)]
+    if run.noise:
+        words += ["--noise", str(run.noise)]
+    if run.seed is not None:
+        words += ["--seed", str(run.seed)]
+    return " ".join(words + ["--"] + [shlex.quote(word) for word in run.command])
+
+
+# ---- lines of source
+
+
+def with_sources(made: Report, sources: Sources) -> Report:
+    """The report with the line of source of each event."""
+    findings = [replace(one, witness=_sourced(one.witness, sources)) for one in made.findings]
+    return replace(made, findings=findings)
+
+
+def _sourced(witness: Witness, sources: Sources) -> Witness:
+    return replace(witness, events=tuple(_line(event, sources) for event in witness.events))
+
+
+def _line(event: Event, sources: Sources) -> Event:
+    return replace(
+        event,
+        source=event.source or sources.line(event.place),
+        at_source=event.at_source or sources.line(event.at),
+    )

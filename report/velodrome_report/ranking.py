@@ -1,0 +1,93 @@
+"""The order of the list: what is likely to be a mistake first."""
+
+from __future__ import annotations
+
+from dataclasses import replace
+from typing import List, Optional, Tuple
+
+from .model import Finding, Kind, Section, TargetKind, Traits
+
+CARRIED, LOOKED_AT_AGAIN, SEEN_TWICE, LOCK = range(4)
+SAID = {
+    CARRIED: "is read, and later written without being read again",
+    LOOKED_AT_AGAIN: "is read, and later read again and written",
+}
+
+
+def by_design(finding: Finding) -> Optional[str]:
+    """Why a finding is probably no mistake, None if it may be one."""
+    gap = finding.traits.gap
+    if gap is not None and gap.used_again:
+        return f"one call reads {gap.target} and another one writes it: it is used again, perhaps"
+    if finding.kind is not Kind.NOT_ATOMIC:
+        return None
+    if gap is None:
+        return None if _may_matter(finding.traits) else "no variable makes it so, only locks do"
+    if gap.in_wait:
+        return "others come in only while it waits"
+    if gap.counts:
+        return f"only a count changes: {gap.target}"
+    if gap.in_loop:
+        return "each pass of its loop is atomic by itself"
+    if gap.tier == LOCK and not _may_matter(finding.traits):
+        return f"it takes {gap.target} more than once, and no variable makes it so"
+    return None
+
+
+def why(finding: Finding) -> str:
+    """What is wrong, in a few words; empty where the events say it."""
+    gap = finding.traits.gap
+    if finding.kind is not Kind.NOT_ATOMIC or gap is None or gap.tier not in SAID:
+        return ""
+    targets = finding.witness.targets()
+    variable = len(targets) == 1 and targets[0].kind is TargetKind.VARIABLE
+    return f"{targets[0] if variable else gap.target} {SAID[gap.tier]}"
+
+
+def ranked(findings: List[Finding]) -> List[Finding]:
+    """The findings with their sections, in the order in which they are to be read."""
+    placed = [_placed(finding) for finding in findings]
+    return sorted(placed, key=_key)
+
+
+def _placed(finding: Finding) -> Finding:
+    if finding.section is Section.FOLDED:
+        return finding
+    reason = by_design(finding)
+    if reason is None:
+        return replace(finding, section=Section.LIKELY, why=why(finding))
+    return replace(finding, section=Section.BY_DESIGN, why=reason)
+
+
+def _may_matter(traits: Traits) -> bool:
+    """Whether a variable may pass through where only locks were seen."""
+    return traits.data or not traits.all_variables
+
+
+def _key(finding: Finding) -> Tuple[int, int, bool, bool, int, int, str]:
+    sections = [Section.LIKELY, Section.BY_DESIGN, Section.FOLDED]
+    kinds = [Kind.DEADLOCK, Kind.STALE_WRITE, Kind.NOT_ATOMIC, Kind.DEADLOCK_POSSIBLE]
+    return (
+        sections.index(finding.section),
+        0 if finding.kind is Kind.DEADLOCK else 1 + _tier(finding),
+        not finding.seen,
+        finding.traits.gap is not None and not finding.traits.gap.seen,
+        -len(finding.possible),
+        -len(finding.seen),
+        f"{kinds.index(finding.kind)} {finding.function.name}",
+    )
+
+
+def _tier(finding: Finding) -> int:
+    """What passes through the gap: a value that was carried first, a lock alone last."""
+    if finding.kind is Kind.DEADLOCK_POSSIBLE:
+        return CARRIED
+    if finding.kind is Kind.STALE_WRITE:
+        return CARRIED
+    gap = finding.traits.gap
+    return SEEN_TWICE if gap is None and finding.traits.data else LOCK if gap is None else gap.tier
+
+
+def by_count(findings: List[Finding]) -> List[Finding]:
+    """The findings with the most calls to blame first; of as many in the order of the list."""
+    return sorted(findings, key=lambda finding: -finding.counts.to_blame)
