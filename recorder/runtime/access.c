@@ -227,9 +227,9 @@ void note(int kind, u64 at, u64 code) {
 }
 
 // ---- blocks
-void open_block(struct self *t, u64 function, u64 at, u64 from) {
+void open_block(struct self *t, u64 function, u64 at, u64 from, u64 base) {
     if (t->depth < DEEP)
-        t->frame[t->depth] = (struct frame){function, at, from, 0};
+        t->frame[t->depth] = (struct frame){function, at, from, base, 0};
     t->depth++, t->epoch++;
 }
 static int kind_of(const struct record *r) {
@@ -293,7 +293,7 @@ API void __tsan_func_entry(void *caller) {
         return;
     while (t->depth > 0 && t->depth <= DEEP && was_left(&t->frame[t->depth - 1], FRAME, 1))
         close_block(t, t->frame[t->depth - 1].at);
-    open_block(t, CALLER, FRAME, (u64)caller);
+    open_block(t, CALLER, FRAME, (u64)caller, *(u64 *)FRAME);
 }
 API void __tsan_func_exit(void) {
     struct self *t = boundary();
@@ -306,7 +306,7 @@ API void __tsan_func_exit(void) {
 API void velodrome_atomic_begin(const char *name) {
     struct self *t = boundary();
     if (t)
-        open_block(t, (u64)name, 0, CALLER);
+        open_block(t, (u64)name, 0, CALLER, 0);
 }
 API void velodrome_atomic_end(void) {
     struct self *t = boundary();

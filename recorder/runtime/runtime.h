@@ -33,6 +33,7 @@ void *next_function(const char *name);
 #define HELD 2    // lines that a small access may lie in
 struct frame {
     u64 function, at, from;
+    u64 base;             // its frame pointer, if it keeps one
     struct record *begun; // its BEGIN, once written
 };
 struct self {
@@ -59,6 +60,7 @@ struct self {
     u64 epoch;        // moves at each event and block boundary
     int depth, told;  // open blocks; those whose begins are written
     u64 allocates;    // operator new: who called it
+    u64 stack_end;
     void *writes[64]; // reader-writer locks that it holds alone
     int nwrites;
     struct self *unused;      // a list of those whose threads have ended
@@ -86,6 +88,7 @@ int trace_open(void);
 void trace_close(void);
 void trace_leave(void); // in a child of fork
 void trace_maps(void);
+void trace_builds(const char *maps); // builds.c
 void trace_stop(enum stop why);
 int open_chunk(struct self *t);
 int tell_begins(struct self *t);
@@ -120,7 +123,7 @@ static inline struct record *event(struct self *t, int kind, unsigned size, u64 
     return record(t, kind, size, at, code);
 }
 void sync_event(struct self *t, int kind, u64 at, u64 code);
-void open_block(struct self *t, u64 function, u64 at, u64 from);
+void open_block(struct self *t, u64 function, u64 at, u64 from, u64 base);
 void close_block(struct self *t, u64 at);
 extern u32 memory_clock;
 

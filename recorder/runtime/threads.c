@@ -127,6 +127,7 @@ void begin_thread(struct self *t, u64 routine) {
         pthread_attr_getstack(&a, &at, &size);
         pthread_attr_destroy(&a);
     }
+    t->stack_end = (u64)at + size;
     if (LOAD(memory_clock) > t->clock)
         t->clock = memory_clock;
     stamp_alone(t);
@@ -223,7 +224,7 @@ static int begin_join(pthread_t p, u32 *n, u64 until, u64 code) { // 1: its time
         return 0;
     *n = find(p);
     stamp_alone(t);
-    event(t, WAIT, 0, *n, code);
+    event(t, WAIT, FOR_THREAD, *n, code);
     if (TURNS(t) && *n)
         while (!turns_ended(*n - 1) && !over)
             over = wait_turn(t, FOR_THREAD, turns_key(*n - 1), until, code);

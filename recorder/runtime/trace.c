@@ -134,12 +134,16 @@ int trace_open(void) {
     snprintf(maps, sizeof maps, "%s.maps", path);
     unlink(maps);
     trace_maps();
+    trace_builds(maps);
     return 1;
 }
 // At the program's end. Other threads may still be in a hook: a few chunks more stay.
 void trace_close(void) {
     u64 none = GOES_ON;
+    char maps[4200];
+    snprintf(maps, sizeof maps, "%s.maps", path);
     trace_maps();
+    trace_builds(maps);
     if (mode == SERIAL)
         return; // threads that go on still take turns
     STORE(on, 0);
@@ -262,12 +266,22 @@ int open_chunk(struct self *t) {
     t->next = r + 1, t->end = r + CHUNK;
     return 1;
 }
+// How far the frame's pointer lies below that of the call outside it, in the upper bits of a BEGIN.
+static u64 frame_span(struct self *t, const struct frame *f) {
+    const struct frame *outer = f > t->frame ? f - 1 : 0;
+    while (outer && !outer->at) // a scope with a name
+        outer = outer > t->frame ? outer - 1 : 0;
+    u64 top = outer ? outer->base : t->stack_end;
+    u64 units = (top - f->base) / FRAME_UNIT;
+    return f->base > f->at && f->base < top && units < 1 << 16 ? units << FRAME_SHIFT : 0;
+}
 int tell_begins(struct self *t) {
     while (t->told < t->depth && t->told < DEEP) {
         struct frame *f = &t->frame[t->told++];
         if (t->end - t->next < 4 && !open_chunk(t))
             return 0;
-        f->begun = write_record(t, word(f->at ? BEGIN : NAMED, 0, f->from), f->function);
+        u64 span = f->at ? frame_span(t, f) : 0;
+        f->begun = write_record(t, word(f->at ? BEGIN : NAMED, 0, f->from), f->function | span);
         if (f->at && unlikely(f->function - t->code_low >= t->code_bytes))
             look_for_module(t, f->function);
     }

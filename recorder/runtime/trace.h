@@ -25,7 +25,8 @@ enum kind {
     WRS, // of a range; MORE: bytes
     ARD,
     AWR,   // an atomic one
-    BEGIN, // address: where it was called; where: the function (whole)
+    BEGIN, // address: where it was called; where: the function, and above its FRAME_SHIFT bits how
+           // far its frame pointer lies below the outer one's, in FRAME_UNITs (0 unknown)
     NAMED, // likewise of VELODROME_ATOMIC; where: the address of its name
     END,   // address: the frame that ends
     ACQ,
@@ -39,12 +40,14 @@ enum kind {
     START, // of a thread. address: its stack; code: its routine; MORE: bytes of the stack
     SRD,
     SWR,   // what a semaphore, a barrier or a once orders
-    WAIT,  // the open blocks wait here
+    WAIT,  // the open blocks wait here. address: for what; size: a kind of `enum wait`
     MORE,  // where: a number that belongs to the record before
     HIGH,  // address: the upper half of the code addresses from here on
     TITLE, // the thread's name: two MORE of 8 bytes
     STUCK, // the thread waits in a deadlock. address: for what; size: a kind of `enum wait`; MORE:
            // thread that holds it, plus one
+    CONTENDED, // a lock was not free. address: the lock; size: a kind of `enum wait`; TRIED: the wait
+               // ends by itself after a time
 };
 
 enum flag {
@@ -78,3 +81,5 @@ enum stop { GOES_ON, FULL, NO_SPACE, ENDED };
 #define MAGIC 0x3265636172746c76ull // "vltrace2"
 #define CHUNK 512
 #define HEAD_BYTES 4096
+#define FRAME_SHIFT 48
+#define FRAME_UNIT 16

@@ -10,9 +10,9 @@
 #include <unistd.h>
 
 #define M ((u64)m)
-static void note_wait(struct self *t, u64 at, u64 code) {
+static void note_wait(struct self *t, enum wait what, u64 at, u64 code) {
     stamp_alone(t);
-    event(t, WAIT, 0, at, code);
+    event(t, WAIT, what, at, code);
 }
 
 // ---- conditions: the mutex is released and acquired
@@ -28,7 +28,7 @@ static int wait_by_turns(struct self *t, pthread_cond_t *c, pthread_mutex_t *m, 
                          u64 code) {
     REAL(pthread_mutex_unlock);
     REAL(pthread_mutex_trylock);
-    note_wait(t, (u64)c, code);
+    note_wait(t, FOR_CONDITION, (u64)c, code);
     sync_event(t, REL, M, code);
     real_pthread_mutex_unlock(m);
     wake(m, 1);
@@ -45,7 +45,7 @@ static int wait_by_turns(struct self *t, pthread_cond_t *c, pthread_mutex_t *m, 
 static void before_wait(struct self *t, pthread_cond_t *c, pthread_mutex_t *m, u64 code) {
     if (!t)
         return;
-    note_wait(t, (u64)c, code);
+    note_wait(t, FOR_CONDITION, (u64)c, code);
     sync_event(t, REL, M, code);
     leave(t);
 }
@@ -161,7 +161,7 @@ static int take_by_turns(struct self *t, sem_t *m, u64 until, u64 code) {
         struct self *t = enter();                                                                  \
         int r;                                                                                     \
         if (t)                                                                                     \
-            note_wait(t, M, CALLER);                                                               \
+            note_wait(t, FOR_SEMAPHORE, M, CALLER);                                                \
         if (TURNS(t))                                                                              \
             r = take_by_turns(t, m, until, CALLER);                                                \
         else {                                                                                     \
@@ -237,7 +237,7 @@ API int pthread_barrier_wait(pthread_barrier_t *m) {
     struct barrier *b = barrier_of(m);
     int r;
     if (t)
-        note_wait(t, M, CALLER), sync_event(t, SWR, M, CALLER);
+        note_wait(t, FOR_BARRIER, M, CALLER), sync_event(t, SWR, M, CALLER);
     if (TURNS(t) && b)
         r = meet_by_turns(t, b, m, CALLER);
     else {
@@ -363,7 +363,7 @@ API long syscall(long n, ...) {
     struct self *t = n == SYS_futex && own && own->busy ? 0 : n == SYS_futex ? enter() : 0;
     if (t) {
         if (is_wait(operation))
-            note_wait(t, a[0], CALLER);
+            note_wait(t, FOR_FUTEX, a[0], CALLER);
         if (TURNS(t) && is_wait(operation))
             return futex_by_turns(t, a, CALLER);
         if (TURNS(t) && (operation == FUTEX_WAKE || operation == FUTEX_WAKE_BITSET))
