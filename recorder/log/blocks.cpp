@@ -1,6 +1,8 @@
 #include "blocks.hpp"
+#include <algorithm>
 #include <cstring>
 #include <fstream>
+#include <regex>
 #include <stdexcept>
 
 using namespace std;
@@ -17,6 +19,10 @@ bool is_library(const string &s) {
             return true;
     return s.find(" std::__") != string::npos;
 }
+struct Blocks::Choice {
+    string name; // empty: the pattern
+    regex pattern;
+};
 static ifstream open_list(const string &file) {
     ifstream f(file);
     if (!f)
@@ -29,9 +35,9 @@ void Blocks::only(const string &file) {
     for (string l; getline(f, l);) {
         bool pattern = l.size() > 2 && l[0] == '/' && l.back() == '/';
         if (pattern)
-            only_.emplace_back("", regex(l.substr(1, l.size() - 2)));
+            only_.push_back(make_shared<Choice>(Choice{"", regex(l.substr(1, l.size() - 2))}));
         else if (!l.empty() && l[0] != '#')
-            only_.emplace_back(l, regex());
+            only_.push_back(make_shared<Choice>(Choice{l, regex()}));
     }
 }
 void Blocks::never(const string &file) {
@@ -44,8 +50,8 @@ bool Blocks::chosen(const string &name) const {
     if (!some_)
         return true;
     return any_of(only_.begin(), only_.end(), [&](auto &o) {
-        return o.first.empty() ? regex_search(name, o.second)
-                               : o.first == name || starts(name, (o.first + "(").c_str());
+        return o->name.empty() ? regex_search(name, o->pattern)
+                               : o->name == name || starts(name, (o->name + "(").c_str());
     });
 }
 Function *Blocks::of(const Event &e) {
@@ -67,8 +73,13 @@ Function *Blocks::of(const Event &e) {
         named || (!never_.count(name) && !routines_.count(name) && !f->library && chosen(name));
     return by_code_[e.code] = f.get();
 }
-// A thread's routine is no block. Of a thread that a library starts, it is the first function that
-// is not the library's.
+// A routine that does not loop is a block as any function is.
+void Blocks::only_loops(const set<string> &loops) {
+    for (auto r = routines_.begin(); r != routines_.end();)
+        r = is_library(*r) || loops.count(*r) ? next(r) : routines_.erase(r);
+}
+// A thread's routine that loops is no block. Of a thread that a library starts, it is the first
+// function that is not the library's.
 void Blocks::find_routines(const Shared &shared) {
     began_as.resize(shared.routine.size());
     for (size_t t = 0; t < began_as.size(); t++) {

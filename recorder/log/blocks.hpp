@@ -2,7 +2,6 @@
 #pragma once
 #include "modules.hpp"
 #include "shared.hpp"
-#include <regex>
 #include <unordered_map>
 
 struct Function {
@@ -17,7 +16,9 @@ public:
     void only(const std::string &file); // throws std::runtime_error
     void never(const std::string &file);
     void find_routines(const Shared &shared);
-    Function *of(const Event &begin); // 0 where it has no name
+    bool is_routine(const std::string &function) const { return routines_.count(function) > 0; }
+    void only_loops(const std::set<std::string> &loops); // other routines are blocks
+    Function *of(const Event &begin);                    // 0 where it has no name
     std::vector<std::string>
         began_as; // of each thread that a library started: its first function of the program
 
@@ -25,8 +26,8 @@ private:
     bool chosen(const std::string &name) const;
     Modules &modules_;
     std::set<std::string> never_ = {"main"}, routines_;
-    std::vector<std::pair<std::string, std::regex>>
-        only_; // a name, or the pattern where that is empty
+    struct Choice; // a name or a pattern
+    std::vector<std::shared_ptr<Choice>> only_;
     bool some_ = false;
     std::unordered_map<u64, Function *> by_code_;
     std::map<std::string, std::unique_ptr<Function>> by_name_;

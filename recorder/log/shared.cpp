@@ -167,23 +167,6 @@ private:
     vector<Clock> clocks_, ended_;
     unordered_map<u64, Object> locks_;
 };
-class Heap {
-public:
-    void step(const Event &e) {
-        if (e.kind == ALLOC)
-            blocks_[e.at] = e.code;
-    }
-    HeapPlace find(u64 at) const {
-        auto b = blocks_.upper_bound(at);
-        if (b == blocks_.begin())
-            return {};
-        --b;
-        return at - b->first < 1 << 20 ? HeapPlace{b->second, at - b->first} : HeapPlace{};
-    }
-
-private:
-    map<u64, u64> blocks_;
-};
 } // namespace
 static bool is_atomic(const Granule &g, int piece) {
     for (int b = 0; b < 8; b++)
@@ -193,14 +176,11 @@ static bool is_atomic(const Granule &g, int piece) {
 }
 void Shared::find_races() {
     HappensBefore before(trace_.threads());
-    Heap heap;
     unordered_map<u32, Object> atomics;
     auto access = [&](const Event &e, u32 piece, const Granule &g, int p, int, int, u64 at) {
         Variable &x = variables[piece];
         if (!x.first) {
             x.first = e.thread + 1, x.at = at + g.first_byte(p), x.atomic = is_atomic(g, p);
-            HeapPlace h = heap.find(x.at);
-            x.heap_site = h.site, x.heap_offset = h.offset;
             order.push_back(piece);
         } else if (x.first != e.thread + 1)
             x.many = true;
@@ -211,9 +191,7 @@ void Shared::find_races() {
             x.racy |= before.races(x, e.thread, e.writes());
     };
     each(access, [&](const Event &e) {
-        heap.step(e), before.step(e);
-        if ((e.kind == ACQ || e.kind == ACQS) && !lock_places.count(e.at))
-            lock_places[e.at] = heap.find(e.at);
+        before.step(e);
         if (e.kind == SRD || e.kind == SWR) {
             Object &o = objects[e.at];
             before.meet(o, e.thread, e.kind == SWR);

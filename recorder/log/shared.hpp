@@ -27,15 +27,11 @@ struct Variable {
     u32 writer = 0, write_clock = 0, reader = 0, read_clock = 0;
     std::unique_ptr<Clock> readers;
     u64 at = 0, initial = 0;
-    u64 heap_site = 0, heap_offset = 0;
 };
 struct Object { // a semaphore, a barrier, a once
     Clock w, r;
     u32 first = 0, number = 0;
     bool many = false;
-};
-struct HeapPlace {
-    u64 site = 0, offset = 0;
 };
 
 class Shared {
@@ -44,7 +40,6 @@ public:
     std::vector<Variable> variables; // by piece; 0 is none
     std::vector<u32> order;          // pieces in the order of their first accesses
     std::unordered_map<u64, Object> objects;
-    std::map<u64, HeapPlace> lock_places; // locks that lie on the heap
     u64 records = 0, late = 0, kinds[32] = {};
     std::vector<u64> routine;             // of each thread
     std::vector<std::vector<u64>> begins; // the functions of its first begins

@@ -43,10 +43,21 @@ static inline int keeps(const struct self *t, u64 a, unsigned size) {
     return t->holds == 1 && !t->spans && t->held[0] == i && line_of(a + size - 1) == i &&
            !lines[i].wanted && lines[i].owner == t->id + 1;
 }
+// A read that was left out as a repeat counts if another thread came before the write that follows:
+// the value may be carried over. Its stamp is that of the thread's last event.
+static void note_unnoted(struct self *t, u64 a, unsigned size) {
+    if (t->last_epoch == t->epoch && t->last_at == a && t->last_size == size)
+        record(t, RD, size, a, t->unnoted);
+}
 static inline void access_stamped(struct self *t, int kind, u64 a, unsigned size, u64 code,
                                   int late) {
-    if (!values && repeats(t, kind == RD, a, size))
+    if (!values && repeats(t, kind == RD, a, size)) {
+        t->unnoted = kind == RD ? code : 0;
         return;
+    }
+    if (kind == WR && unlikely(t->unnoted != 0))
+        note_unnoted(t, a, size);
+    t->unnoted = 0;
     stamp_held(t);
     if (event(t, kind | (late ? LATE << 8 : 0), size, a, code) && values)
         access_value(t, kind, a, size);

@@ -54,6 +54,7 @@ struct self {
     u64 unread_at;
     u8 unread_size;
     u64 last_at, last_epoch;
+    u64 unnoted; // where the last access was a read that was left out as a repeat
     u8 last_size, last_kinds,
         alone; // alone: no other thread was at the line since this one's last time
     // blocks
