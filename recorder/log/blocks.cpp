@@ -10,6 +10,19 @@ using namespace std;
 static bool starts(const string &s, const char *with) {
     return s.compare(0, strlen(with), with) == 0;
 }
+// The name behind the type that it returns, which instances of templates have before them.
+static string behind_type(const string &s) {
+    size_t start = 0;
+    int depth = 0;
+    for (size_t i = 0; i < s.size(); i++) {
+        if (!depth && (s[i] == '(' || s.compare(i, 8, "operator") == 0))
+            break;
+        depth += s[i] == '<', depth -= s[i] == '>';
+        if (!depth && s[i] == ' ')
+            start = i + 1;
+    }
+    return s.substr(start);
+}
 // Of the libraries of C++ and Rust; also what returns one of their types.
 bool is_library(const string &s) {
     for (const char *p : {"std::", "__gnu_cxx::", "__gthread_",
@@ -17,7 +30,8 @@ bool is_library(const string &s) {
                           "_GLOBAL__", "void std::", "decltype", "operator new", "operator delete"})
         if (starts(s, p))
             return true;
-    return s.find(" std::__") != string::npos;
+    return s.find(" std::__") != string::npos || starts(behind_type(s), "std::") ||
+           starts(behind_type(s), "__gnu_cxx::");
 }
 struct Blocks::Choice {
     string name; // empty: the pattern

@@ -2,6 +2,7 @@
 #include "command.hpp"
 #include <cstdio>
 #include <map>
+#include <set>
 #include <vector>
 
 using namespace std;
@@ -9,7 +10,7 @@ typedef uint64_t u64;
 
 namespace {
 struct Instruction {
-    bool goes_on = true;
+    bool goes_on = true, calls = false;
     u64 target = 0; // of a jump; 0 none
 };
 typedef map<u64, Instruction> Code;
@@ -31,34 +32,33 @@ static void read_instruction(const char *line, Code &code) {
     i.goes_on = w != "jmp" && w != "ret" && w != "retq" && w != "hlt" && w != "ud2";
     if (w[0] == 'j' && sscanf(operand, "%lx", &i.target) != 1)
         i.target = 0;
+    i.calls = w.compare(0, 4, "call") == 0;
     code[at] = i;
 }
-// A walk by depth: a jump to an instruction that the walk is still in closes a loop.
-static bool has_circle(const Code &code) {
-    enum State { NEW, OPEN, DONE };
-    map<u64, State> state;
-    vector<pair<u64, int>> walk; // an instruction, and how many of its successors were seen
-    auto enter = [&](u64 at) {
-        if (!code.count(at) || state[at] == DONE)
-            return false;
-        if (state[at] == OPEN)
+// Whether a walk from behind the call comes back to it. A loop without calls does nothing that is
+// recorded.
+static bool comes_back(const Code &code, Code::const_iterator call) {
+    set<u64> seen;
+    vector<u64> next = {std::next(call) == code.end() ? 0 : std::next(call)->first};
+    while (!next.empty()) {
+        auto i = code.find(next.back());
+        next.pop_back();
+        if (i == code.end() || !seen.insert(i->first).second)
+            continue;
+        if (i == call)
             return true;
-        state[at] = OPEN, walk.push_back({at, 0});
-        return false;
-    };
-    if (!code.empty())
-        enter(code.begin()->first);
-    while (!walk.empty()) {
-        auto [at, seen] = walk.back();
-        auto i = code.find(at), next = std::next(i);
-        walk.back().second++;
-        if (seen == 0 && i->second.target && enter(i->second.target))
-            return true;
-        if (seen == 1 && i->second.goes_on && next != code.end() && enter(next->first))
-            return true;
-        if (seen == 2)
-            state[at] = DONE, walk.pop_back();
+        if (i->second.target)
+            next.push_back(i->second.target);
+        auto behind = std::next(i);
+        if (i->second.goes_on && behind != code.end())
+            next.push_back(behind->first);
     }
+    return false;
+}
+static bool has_circle(const Code &code) {
+    for (auto i = code.begin(); i != code.end(); ++i)
+        if (i->second.calls && comes_back(code, i))
+            return true;
     return false;
 }
 bool has_loop(const string &path, u64 low, u64 high) {

@@ -85,6 +85,10 @@ static vector<StaleWrite> look_closer(Trace &trace, Shared &shared, Stacks &stac
             return true;
         });
     auto found = stale.found();
+    // A container that puts something new where something old was.
+    found.erase(remove_if(found.begin(), found.end(),
+                          [&](auto &s) { return s.by_library && places.on_heap(s.piece); }),
+                found.end());
     find_functions(trace, modules, found);
     return found;
 }

@@ -47,8 +47,11 @@ string Notes::function_name(u64 function) const {
     string name = function ? modules_.function(function) : "";
     return name.empty() ? "?" : name;
 }
-string Notes::place(u64 code) const {
+// Of code without lines, as that of a library: the function of the program that it was called in.
+string Notes::place(u64 code, u64 inside) const {
     string line = code ? modules_.line(code) : "?";
+    if (line == "?" && inside)
+        return function_place(inside) + " " + function_name(inside);
     return line + " " + (code ? function_name(code) : "?");
 }
 static u64 start_of(Modules &modules, u64 function) { // as lines are asked for: behind the call
@@ -65,7 +68,7 @@ void Notes::add_codes(set<u64> &codes) const {
             codes.insert(start);
     };
     for (auto &s : survey_.last) {
-        codes.insert(s.code);
+        codes.insert(s.code), add_function(s.inside);
         for (auto &h : s.holds)
             codes.insert(h.code);
     }
@@ -173,7 +176,7 @@ string Notes::waits() const {
                     member("thread_name", quoted(writer_.thread_name(s.thread))),
                     member("for", waits ? quoted(word_of(s.what)) : "null"),
                     member("name", waits ? quoted(wait_name(s)) : "null"),
-                    member("site", waits ? quoted(place(s.code)) : "null"),
+                    member("site", waits ? quoted(place(s.code, s.inside)) : "null"),
                     member("ends", s.ends ? "true" : "false"),
                     member("held_by", waits && s.held_by >= 0 ? to_string(s.held_by) : "null"),
                     member("holds", list_of(holds))}));
@@ -197,7 +200,8 @@ void Notes::tell() {
             printf("%s %s", word_of(s.what), tidy(places_.lock(s.at)).c_str());
         if (s.what != FOR_THREAD && s.held_by >= 0)
             printf(", held by thread %s", named(s.held_by).c_str());
-        printf("   %s\n", modules_.line(s.code).c_str());
+        string where = place(s.code, s.inside);
+        printf("   %s\n", where.substr(0, where.find(' ')).c_str());
     }
     for (auto &s : stale_)
         printf("written from an old value: %s in %s, read at %s, written at %s (%lu times)\n",

@@ -27,7 +27,7 @@ private:
     std::string loops() const;
     std::string stale(const std::string &log) const;
     std::string shorts() const;
-    std::string place(u64 code) const;
+    std::string place(u64 code, u64 inside = 0) const;
     std::string function_place(u64 function) const;
     std::string function_name(u64 function) const;
     std::string wait_name(const LastState &s) const;

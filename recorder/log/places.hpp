@@ -10,6 +10,7 @@ public:
     void meet(u32 piece, u64 at); // a variable, at its first access
     void step(const Event &e);    // before the stacks' step
     std::string variable(u32 piece, u64 at);
+    bool on_heap(u32 piece) const { return pieces_[piece].block.code != 0; }
     std::string lock(u64 at);
     void add_codes(std::set<u64> &codes) const; // those whose lines a name has
 

@@ -93,6 +93,7 @@ void Stale::tell(const Event &e, u32 piece, u64 at, const Read &r, const Write &
     f.read.event = r.event, f.between.event = w.event, f.write.event = stacks_.now();
     f.read.code = r.code, f.between.code = w.code;
     f.write.code = stacks_.own_code(e.thread, e.code);
+    f.by_library = f.write.code != e.code && !e.atomic();
     f.piece = piece, f.at = at, f.lock = lock, f.steps = steps_[e.thread] - r.step;
     for (auto &frame : stacks_.of(e.thread))
         if (frame.opened <= r.event && !frame.library)

@@ -13,11 +13,12 @@ struct StaleAccess {
 struct StaleWrite {
     StaleAccess read, between, write;
     u32 piece = 0;
-    u64 at = 0;       // of the variable
-    u64 lock = 0;     // 0: none was held
-    u64 opened = 0;   // when the innermost function began that was open at both; 0 none
-    u64 function = 0; // its code
-    u64 steps = 0;    // of the thread, from the read to the write
+    u64 at = 0;              // of the variable
+    u64 lock = 0;            // 0: none was held
+    u64 opened = 0;          // when the innermost function began that was open at both; 0 none
+    u64 function = 0;        // its code
+    u64 steps = 0;           // of the thread, from the read to the write
+    bool by_library = false; // it wrote
     u64 times = 1;
 };
 

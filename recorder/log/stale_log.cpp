@@ -80,7 +80,8 @@ void close(ofstream &f, const string &path) {
 // The call; where it is not the program's, the function itself.
 string SmallLog::site(Modules &modules, u64 code, u64 function) {
     string line = code ? modules.line(code) : "?", name = code ? modules.function(code) : "";
-    const Symbol *s = line == "?" && function ? modules.symbol(function) : nullptr;
+    bool unknown = line == "?" || is_library(name);
+    const Symbol *s = unknown && function ? modules.symbol(function) : nullptr;
     if (s)
         line = modules.line(modules.of(function)->bias + s->at + 1),
         name = modules.function(function);

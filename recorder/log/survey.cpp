@@ -68,7 +68,10 @@ void Survey::follow_wait(const Event &e) {
     }
     s.what = wait(e.size), s.at = stuck && s.what == FOR_THREAD ? e.number : e.at;
     s.ends = e.flags & TRIED;
-    s.code = stacks_.own_code(e.thread, e.code);
+    s.code = stacks_.own_code(e.thread, e.code), s.inside = 0;
+    for (auto &f : stacks_.of(e.thread))
+        if (!f.library && !f.named)
+            s.inside = f.function;
 }
 void Survey::follow_lock(const Event &e) {
     if (e.kind < ACQ || e.kind > RELS)

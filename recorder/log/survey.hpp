@@ -13,6 +13,7 @@ struct LastState {
     wait what = FOR_TIME; // FOR_TIME: it does not wait
     bool ends = false;    // by itself, after a time
     u64 at = 0, code = 0; // for what: an address, or a thread plus one; where
+    u64 inside = 0;       // the program's innermost function
     int held_by = -1;     // a thread that holds the lock, or is waited for
     std::vector<HeldLock> holds;
 };

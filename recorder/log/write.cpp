@@ -101,7 +101,8 @@ void Writer::sites(const string &path) {
     Out out(path);
     fprintf(out.file(), "vsites 1 %zu %zu\n", sites_.size(), at_.size());
     for (auto &s : sites_) { // of a routine of a thread the call is not the program's
-        bool unknown = s.called && modules_.line(s.code) == "?";
+        bool unknown =
+            s.called && (modules_.line(s.code) == "?" || is_library(modules_.function(s.code)));
         u64 code = unknown ? s.called->code : s.code;
         fprintf(out.file(), "%s %s\n", modules_.line(code).c_str(),
                 tidy(modules_.function(code)).c_str());

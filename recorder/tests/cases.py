@@ -20,7 +20,7 @@ HEAD = """#define _GNU_SOURCE
 #include <unistd.h>
 """
 TAIL = """
-static void *routine(void *a) { f(); return a; }
+static void *routine(void *a) { do f(); while (a); return a; } // it loops: it is no block
 int main(void) { pthread_t t; pthread_create(&t, 0, routine, 0); pthread_join(t, 0); g(); }
 """
 
@@ -382,7 +382,7 @@ void thrower() { std::lock_guard<std::mutex> l(m); x = 1; throw std::runtime_err
 void after() { std::unique_lock<std::shared_mutex> l(s); }
 int stat() { static int v = (after(), 7); return v; }
 void f() { try { thrower(); } catch (...) {} after(); std::shared_lock<std::shared_mutex> l(s); }
-int main() { std::thread t([] { f(); stat(); }); t.join(); stat(); }
+int main() { std::thread t([] { volatile bool again = false; do { f(); stat(); } while (again); }); t.join(); stat(); }
 """
 CPP_LOG = one(
     [
