@@ -2,7 +2,6 @@
 #include "runtime.h"
 #include <elf.h>
 #include <errno.h>
-#include <fcntl.h>
 #include <link.h>
 #include <stdio.h>
 #include <string.h>
@@ -55,12 +54,9 @@ static int tell_build(struct dl_phdr_info *m, size_t size, void *to) {
     (void)written;
     return 0;
 }
-void trace_builds(const char *maps) {
-    int e = errno;
-    int to = syscall(SYS_openat, AT_FDCWD, maps, O_WRONLY | O_APPEND | O_CLOEXEC, 0);
-    if (to >= 0) {
+void trace_builds(void) {
+    int e = errno, to = sealed ? -1 : kept_file(MAPS);
+    if (to >= 0)
         dl_iterate_phdr(tell_build, &to);
-        syscall(SYS_close, to);
-    }
     errno = e;
 }

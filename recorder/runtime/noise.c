@@ -2,7 +2,6 @@
 // about.
 #include "runtime.h"
 #include <errno.h>
-#include <sys/syscall.h>
 #include <unistd.h>
 
 u64 noise;
@@ -20,12 +19,11 @@ void make_noise(struct self *t) {
     COUNT(noise);
     int e = errno;
     d = draw(&t->chance);
-    struct timespec some = {0, (d >> 8) % 300000};
     if (TURNS(t))
         yield_turn(t);
     else if (d % 4)
-        syscall(SYS_sched_yield);
+        pause_briefly();
     else
-        syscall(SYS_nanosleep, &some, 0);
+        sleep_briefly((d >> 8) % 300000);
     errno = e;
 }

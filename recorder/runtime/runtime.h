@@ -62,6 +62,7 @@ struct self {
     int depth, told;  // open blocks; those whose begins are written
     u64 allocates;    // operator new: who called it
     u64 stack_end;
+    size_t stack_bytes;
     void *writes[64]; // reader-writer locks that it holds alone
     int nwrites;
     struct self *unused;      // a list of those whose threads have ended
@@ -89,8 +90,28 @@ int trace_open(void);
 void trace_close(void);
 void trace_leave(void); // in a child of fork
 void trace_maps(void);
-void trace_builds(const char *maps); // builds.c
+void trace_builds(void); // builds.c
 void trace_stop(enum stop why);
+
+// ---- room.c: the trace's file, and descriptors that the program does not see
+enum keep { TRACE, MAPS, MAPPED, TASKS, KEEPS }; // the trace, its .maps, /proc/self/maps and task
+extern char trace_path[];
+extern u64 trace_bytes; // that are mapped
+extern int sealed;      // a filter of system calls is there
+void keep(enum keep k, int fd);
+int kept_file(enum keep k); // its descriptor, or -1
+void drop_kept(void);
+int has_room(u64 bytes);
+void room_reset(void);
+void room_trim(u64 used);
+const char *no_room(void); // why there is none
+int before_filter(long call, long what);
+void after_filter(int was_first, long result);
+long close_around(unsigned first, unsigned last, int flags);
+int is_kept(int fd);
+void pause_briefly(void);
+void sleep_briefly(u64 nanoseconds);
+
 int open_chunk(struct self *t);
 int tell_begins(struct self *t);
 static inline struct record *write_record(struct self *t, u64 what, u64 where) {

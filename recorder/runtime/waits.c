@@ -359,6 +359,12 @@ API long syscall(long n, ...) {
     for (int i = 0; i < 6; i++)
         a[i] = va_arg(l, long);
     va_end(l);
+    if (n == SYS_close && is_kept(a[0])) {
+        errno = EBADF;
+        return -1;
+    }
+    if (n == SYS_close_range && own && !own->busy && (unsigned)a[0] <= (unsigned)a[1])
+        return close_range(a[0], a[1], a[2]);
     int operation = a[1] & FUTEX_CMD_MASK;
     struct self *t = n == SYS_futex && own && own->busy ? 0 : n == SYS_futex ? enter() : 0;
     if (t) {
@@ -370,12 +376,14 @@ API long syscall(long n, ...) {
             wake((void *)a[0], a[2] > 1);
         leave(t);
     }
+    int first = n == SYS_seccomp || n == SYS_prctl ? before_filter(n, a[0]) : 0;
     register long r10 __asm__("r10") = a[3], r8 __asm__("r8") = a[4], r9 __asm__("r9") = a[5];
     long r;
     __asm__ volatile("syscall"
                      : "=a"(r)
                      : "0"(n), "D"(a[0]), "S"(a[1]), "d"(a[2]), "r"(r10), "r"(r8), "r"(r9)
                      : "rcx", "r11", "memory");
+    after_filter(first, r);
     if (r < 0 && r > -4096)
         return errno = -r, -1;
     return r;
