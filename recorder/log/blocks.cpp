@@ -27,11 +27,25 @@ static string behind_type(const string &s) {
 bool is_library(const string &s) {
     for (const char *p : {"std::", "__gnu_cxx::", "__gthread_",
                           "core::", "alloc::", "<std::", "<core::", "<alloc::", "__rust",
-                          "_GLOBAL__", "void std::", "decltype", "operator new", "operator delete"})
+                          "_GLOBAL__", "decltype", "operator new", "operator delete"})
         if (starts(s, p))
             return true;
     return s.find(" std::__") != string::npos || starts(behind_type(s), "std::") ||
            starts(behind_type(s), "__gnu_cxx::");
+}
+// What runs the routines that a program gives GLib and OpenMP.
+static bool starts_routines(const string &function) {
+    for (const char *p : {"native_thread_routine", "g_thread_proxy", "g_thread_pool_thread_proxy",
+                          "gomp_thread_start", "__kmp_launch_worker", "__kmp_launch_thread"})
+        if (function.find(p) != string::npos)
+            return true;
+    return false;
+}
+// A region of OpenMP, which each thread of a team runs.
+static bool is_region(const string &function) {
+    return function.find("._omp_fn") != string::npos ||
+           function.find(".omp_outlined") != string::npos ||
+           function.find(".omp_task_entry") != string::npos;
 }
 struct Blocks::Choice {
     string name; // empty: the pattern
@@ -83,9 +97,20 @@ Function *Blocks::of(const Event &e) {
     if (!named)
         f->code = modules_.of(e.code)->bias + modules_.symbol(e.code)->at + 1;
     f->library = !named && is_library(name);
-    f->block =
-        named || (!never_.count(name) && !routines_.count(name) && !f->library && chosen(name));
+    bool routine = routines_.count(name) || is_region(name);
+    f->block = named || (!never_.count(name) && !routine && !f->library && chosen(name));
     return by_code_[e.code] = f.get();
+}
+Function *Blocks::part(const Function *f, bool after) {
+    auto &part = parts_[{f, after}];
+    if (part)
+        return part.get();
+    part = make_unique<Function>();
+    part->block = true;
+    part->waits = true;
+    part->code = f->code;
+    part->name = f->name + (after ? ", after its wait" : ", before its wait");
+    return part.get();
 }
 // A routine that does not loop is a block as any function is.
 void Blocks::only_loops(const set<string> &loops) {
@@ -102,12 +127,13 @@ void Blocks::find_routines(const Shared &shared) {
         string name = modules_.function(shared.routine[t]);
         if (!name.empty())
             routines_.insert(name);
-        if (!name.empty() && !is_library(name) &&
-            name.find("native_thread_routine") == string::npos)
+        if (!name.empty() && !is_library(name) && !starts_routines(name))
             continue;
         auto &b = shared.begins[t];
-        auto first = find_if(b.begin(), b.end(),
-                             [&](u64 code) { return !is_library(modules_.function(code)); });
+        auto first = find_if(b.begin(), b.end(), [&](u64 code) {
+            string function = modules_.function(code);
+            return !is_library(function) && !starts_routines(function);
+        });
         if (first != b.end())
             began_as[t] = modules_.function(*first), routines_.insert(began_as[t]);
     }

@@ -19,6 +19,8 @@ public:
     bool is_routine(const std::string &function) const { return routines_.count(function) > 0; }
     void only_loops(const std::set<std::string> &loops); // other routines are blocks
     Function *of(const Event &begin);                    // 0 where it has no name
+    // What of a function that waits is before its wait, or after it.
+    Function *part(const Function *f, bool after);
     std::vector<std::string>
         began_as; // of each thread that a library started: its first function of the program
 
@@ -31,5 +33,6 @@ private:
     bool some_ = false;
     std::unordered_map<u64, Function *> by_code_;
     std::map<std::string, std::unique_ptr<Function>> by_name_;
+    std::map<std::pair<const Function *, bool>, std::unique_ptr<Function>> parts_;
 };
 bool is_library(const std::string &function);

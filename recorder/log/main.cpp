@@ -1,4 +1,5 @@
 // velodrome-log: makes a log, its names and its sites of what the runtime recorded.
+#include "ignored.hpp"
 #include "notes.hpp"
 #include <cstdio>
 #include <cstdlib>
@@ -12,6 +13,9 @@ static const char USAGE[] =
     "  --only FILE         blocks are the functions of these names or /patterns/, one a line (and "
     "VELODROME_ATOMIC)\n"
     "  --not-blocks FILE   these functions are no blocks\n"
+    "  --ignore-lock NAME, --ignore-variable NAME\n"
+    "                      leave out what is done with it, and what it orders is not left out for "
+    "it\n"
     "  --data              leave locks out, and keep all shared variables: conflicts of data "
     "alone\n"
     "  --all-variables     leave nothing out: neither ordered variables nor repeats\n"
@@ -24,6 +28,7 @@ static const int CANNOT_NAME = 4;
 
 struct Arguments {
     string trace, log, codes, tried, only, never;
+    Ignored ignored;
     Options options;
 };
 static Arguments read(int n, char **v) {
@@ -35,14 +40,18 @@ static Arguments read(int n, char **v) {
                                    {"--not-blocks", &a.never},
                                    {"--sites-out", &a.codes},
                                    {"--tried", &a.tried}};
+    map<string, set<string> *> sets = {{"--ignore-lock", &a.ignored.locks},
+                                       {"--ignore-variable", &a.ignored.variables}};
     for (int i = 3; i < n; i++) {
         string o = v[i];
         if (o == "--data")
             a.options.data = true;
         else if (o == "--all-variables")
             a.options.all = true;
-        else if (i + 1 == n || (!files.count(o) && o != "--events"))
+        else if (i + 1 == n || (!files.count(o) && !sets.count(o) && o != "--events"))
             throw invalid_argument(o);
+        else if (sets.count(o))
+            sets[o]->insert(v[++i]);
         else if (o == "--events")
             a.options.events = strtoull(v[++i], nullptr, 10);
         else
@@ -92,6 +101,22 @@ static vector<StaleWrite> look_closer(Trace &trace, Shared &shared, Stacks &stac
     find_functions(trace, modules, found);
     return found;
 }
+// What the log was thinned by.
+static vector<string> left_out(const Arguments &a) {
+    vector<string> all = {"counts of shared pointers"};
+    if (a.options.data)
+        all.push_back("locks");
+    if (!a.options.all) {
+        all.insert(all.end(), {"repeats", "failed tries", "locks of one thread"});
+        if (!a.options.data)
+            all.push_back("ordered variables");
+    }
+    for (auto &name : a.ignored.locks)
+        all.push_back("lock " + name);
+    for (auto &name : a.ignored.variables)
+        all.push_back("variable " + name);
+    return all;
+}
 static int run(const Arguments &a) {
     Trace trace(a.trace);
     Modules modules(a.trace + ".maps");
@@ -104,10 +129,11 @@ static int run(const Arguments &a) {
     blocks.find_routines(shared);
     Survey survey(trace, modules, blocks);
     blocks.only_loops(survey.loops);
-    Events events(trace, shared, blocks, a.options);
     Stacks stacks(trace.threads(), modules);
     Places places(modules, stacks, shared.variables.size());
     auto stale = look_closer(trace, shared, stacks, places, modules);
+    leave_out(shared, modules, places, a.ignored);
+    Events events(trace, shared, blocks, a.options);
     Writer writer(trace, shared, events, modules, blocks, places);
     writer.log(a.log);
     Notes notes(trace, shared, events, modules, survey, places, writer, stale);
@@ -117,7 +143,7 @@ static int run(const Arguments &a) {
     writer.sites(a.log + ".sites");
     writer.names(a.log + ".names");
     writer.functions(a.log + ".functions");
-    notes.write(a.log, a.trace);
+    notes.write(a.log, a.trace, left_out(a));
     notes.stale_logs(a.log);
     if (!a.codes.empty())
         writer.codes(a.codes);

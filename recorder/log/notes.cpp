@@ -90,7 +90,10 @@ string Notes::stopped(const string &path) const {
     u64 room = h.chunks * CHUNK * sizeof(record) + HEAD_BYTES;
     if (!stat(path.c_str(), &s) && u64(s.st_size) < room)
         return quoted("cut off");
-    return h.stopped == FULL ? quoted("full") : h.stopped == NO_SPACE ? quoted("no space") : "null";
+    return h.stopped == FULL       ? quoted("full")
+           : h.stopped == NO_SPACE ? quoted("no space")
+           : h.stopped == FIBERS   ? quoted("fibers")
+                                   : "null";
 }
 static bool is_of_the_system(const string &path) {
     for (const char *folder : {"/usr/", "/lib/", "/lib64/", "/lib32/"})
@@ -265,7 +268,10 @@ string Notes::stale(const string &log) const {
     }
     return list_of(all);
 }
-void Notes::write(const string &log, const string &trace) {
+void Notes::write(const string &log, const string &trace, const vector<string> &left_out) {
+    vector<string> thinned;
+    for (auto &what : left_out)
+        thinned.push_back(quoted(what));
     string path = log + ".notes";
     ofstream f(path);
     auto count = [](u64 n) { return to_string(n); };
@@ -277,6 +283,7 @@ void Notes::write(const string &log, const string &trace) {
         member("functions", count(writer_.labels())),
         member("stopped", stopped(trace)),
         member("cut", events_.cut ? "true" : "false"),
+        member("left_out", array(thinned)),
         member("dropped", count(events_.dropped)),
         member("odd", count(events_.odd)),
         member("late", count(shared_.late)),

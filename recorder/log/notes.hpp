@@ -13,7 +13,9 @@ public:
         : trace_(trace), shared_(shared), events_(events), modules_(modules), survey_(survey),
           places_(places), writer_(writer), stale_(std::move(stale)) {}
     void add_codes(std::set<u64> &codes) const;
-    void write(const std::string &log, const std::string &trace); // throws std::runtime_error
+    // `left_out`: what the log was thinned by. Throws std::runtime_error.
+    void write(const std::string &log, const std::string &trace,
+               const std::vector<std::string> &left_out);
     void stale_logs(const std::string &log);                      // likewise
     void tell(); // a deadlock, and values that were written from an old one, on standard output
     // Why the functions of the program cannot be named; empty where they can.

@@ -28,7 +28,7 @@ public:
     explicit Trace(const std::string &path); // throws std::runtime_error
     const head &info() const { return *head_; }
     size_t threads() const { return streams_.size(); }
-    bool full() const { return head_->stopped == FULL || head_->stopped == NO_SPACE; }
+    bool full() const { return head_->stopped != GOES_ON && head_->stopped != ENDED; }
     u64 records() const { return records_; }
 
     // Calls use(event) for each event, until it returns false. The streams are merged once; what

@@ -36,12 +36,11 @@ static int same_file(enum keep k, int fd) {
     struct stat s;
     return !fstat(fd, &s) && s.st_dev == kept[k].device && s.st_ino == kept[k].inode;
 }
-// A number that the program does not get: behind its limit, where it may be raised so far.
-static int move_high(int fd) {
+// A copy at a number from `low` on; the program's limit is raised for it, where it may be.
+static int copy_behind(int fd, u64 low) {
     struct rlimit was, wide;
     if (getrlimit(RLIMIT_NOFILE, &was))
-        return fd;
-    u64 low = was.rlim_cur < HIGHEST ? was.rlim_cur : HIGHEST;
+        return -1;
     wide = was;
     if (wide.rlim_cur < low + KEEPS)
         wide.rlim_cur = low + KEEPS < was.rlim_max ? low + KEEPS : was.rlim_max;
@@ -50,9 +49,18 @@ static int move_high(int fd) {
     setrlimit(RLIMIT_NOFILE, &wide);
     int high = fcntl(fd, F_DUPFD_CLOEXEC, (int)low);
     setrlimit(RLIMIT_NOFILE, &was);
+    return high;
+}
+// To a number that the program does not get: behind its limit.
+static int move_high(int fd) {
+    struct rlimit limit;
+    u64 low = HIGHEST;
+    if (!getrlimit(RLIMIT_NOFILE, &limit) && limit.rlim_cur < low)
+        low = limit.rlim_cur;
+    int high = copy_behind(fd, low);
     if (high < 0)
         return fd;
-    syscall(SYS_close, fd);
+    kernel(SYS_close, fd, 0, 0, 0, 0, 0);
     return high;
 }
 void keep(enum keep k, int fd) {
@@ -71,7 +79,7 @@ int kept_file(enum keep k) {
 void drop_kept(void) { // in a child of fork
     for (int k = 0; k < KEEPS; k++) {
         if (kept[k].fd && !sealed)
-            syscall(SYS_close, kept[k].fd - 1);
+            kernel(SYS_close, kept[k].fd - 1, 0, 0, 0, 0, 0);
         kept[k].fd = 0;
     }
 }
@@ -226,15 +234,15 @@ long close_around(unsigned first, unsigned last, int flags) {
     for (int fd; (fd = lowest_kept(first)) >= 0 && (unsigned)fd <= last; first = fd + 1) {
         if ((unsigned)fd == first)
             continue;
-        long r = syscall(SYS_close_range, first, fd - 1, flags);
+        long r = kernel(SYS_close_range, first, fd - 1, flags, 0, 0, 0);
         if (r)
             return r;
     }
-    return first <= last ? syscall(SYS_close_range, first, last, flags) : 0;
+    return first <= last ? kernel(SYS_close_range, first, last, flags, 0, 0, 0) : 0;
 }
 API int close_range(unsigned first, unsigned last, int flags) {
     if (first > last)
-        return syscall(SYS_close_range, first, last, flags);
+        return kernel(SYS_close_range, first, last, flags, 0, 0, 0);
     return close_around(first, last, flags);
 }
 API void closefrom(int low) {
@@ -247,7 +255,7 @@ static void make_way(int fd) {
         if (!is_kept(fd) || kept[k].fd != fd + 1)
             continue;
         lock();
-        int other = fcntl(fd, F_DUPFD_CLOEXEC, fd + 1);
+        int other = copy_behind(fd, fd + 1);
         STORE(kept[k].fd, other + 1);
         unlock();
     }

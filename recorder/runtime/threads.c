@@ -47,7 +47,7 @@ static void give_unused(struct self *t) {
     t->unused = unused, unused = t;
     STORE(unused_guard, 0);
 }
-static struct self *new_self(u32 id) {
+struct self *new_self(u32 id) {
     struct self *t = take_unused();
     if (t == MAP_FAILED) {
         static int told;
@@ -89,6 +89,10 @@ u32 thread_of_tid(int tid) { // plus one
         if (known[n - 1].tid == tid && !known[n - 1].ended)
             return n;
     return 0;
+}
+void take_tid(u32 id, u32 from) { // a fiber goes on where another one was
+    if (id < KNOWN && from < KNOWN)
+        known[id].tid = known[from].tid;
 }
 // Whether a thread sleeps in the kernel, outside of the runtime.
 int is_asleep(u32 id) {

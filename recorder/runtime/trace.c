@@ -195,8 +195,10 @@ void trace_stop(enum stop why) {
         return;
     if (mode != SERIAL)
         STORE(on, 0); // by turns the program goes on by turns, without a record
-    say("%s: the recording stops here, the program goes on",
-        why == FULL ? "the trace is full (VELODROME_MOST)" : no_room());
+    const char *reason = why == FULL     ? "the trace is full (VELODROME_MOST)"
+                         : why == FIBERS ? "fibers by turns, or too many of them"
+                                         : no_room();
+    say("%s: the recording stops here, the program goes on", reason);
 }
 
 // ---- records

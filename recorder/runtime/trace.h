@@ -46,14 +46,19 @@ enum kind {
     TITLE, // the thread's name: two MORE of 8 bytes
     STUCK, // the thread waits in a deadlock. address: for what; size: a kind of `enum wait`; MORE:
            // thread that holds it, plus one
-    CONTENDED, // a lock was not free. address: the lock; size: a kind of `enum wait`; TRIED: the wait
-               // ends by itself after a time
+    CONTENDED, // a lock was not free. address: the lock; size: a kind of `enum wait`; TRIED: the
+               // wait ends by itself after a time
 };
 
 enum flag {
-    LATE = 1,   // not surely in the order of the accesses
+    LATE = 1,     // not surely in the order of the accesses
+    MISSED = 1,   // of ARD: of a compare-and-swap that found another value
+    EXPECTED = 2, // of ARD: of a compare-and-swap with what the thread had seen there
+    LEAVES = 1,   // of WAIT: the open blocks do nothing until the thread returns to them
+    RETURNS = 2,  // of WAIT: it does
+    AGAIN = 2,  // of AWR: of an exchange that stores what the thread's exchange there stored before
     VALUED = 2, // of MORE: it is the value of the access
-    TRIED = 4,  // of ACQ and ACQS: by a trylock
+    TRIED = 4,  // of ACQ and ACQS: by a trylock; of ARD: by a compare-and-swap
 };
 
 enum mode { FREE, EXACT, SERIAL };
@@ -76,7 +81,7 @@ struct head {
     uint64_t lost, late, seized, switches, stuck, noise;
     uint64_t stopped; // enum stop
 };
-enum stop { GOES_ON, FULL, NO_SPACE, ENDED };
+enum stop { GOES_ON, FULL, NO_SPACE, ENDED, FIBERS };
 
 #define MAGIC 0x3265636172746c76ull // "vltrace2"
 #define CHUNK 512

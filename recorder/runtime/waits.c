@@ -317,7 +317,23 @@ static void guard_event(int kind, u64 *guard, u64 code) {
         give_back(t, l);
     leave(t);
 }
+// The compiler's own look at the guard, which found it not made: what counts is what comes of it.
+static void take_back_look(const u64 *guard) {
+    struct self *t = own;
+    if (!on || !t || t->busy)
+        return;
+    int n = values ? 2 : 1;
+    if (!t->next || t->end - t->next >= CHUNK - n)
+        return;
+    struct record *r = t->next - n;
+    if ((r->what & 31) != ARD || r->what >> 16 != (u64)guard)
+        return;
+    while (t->next > r)
+        (--t->next)->what = 0;
+    t->last_at = 0;
+}
 API int __cxa_guard_acquire(u64 *guard) {
+    take_back_look(guard);
     if (!LOAD(*(char *)guard) && is_the_one((int *)guard + 1, CALLER))
         return 1;
     guard_event(ARD, guard, CALLER);

