@@ -16,7 +16,7 @@ public:
     // `left_out`: what the log was thinned by. Throws std::runtime_error.
     void write(const std::string &log, const std::string &trace,
                const std::vector<std::string> &left_out);
-    void stale_logs(const std::string &log);                      // likewise
+    void stale_logs(const std::string &log); // likewise
     void tell(); // a deadlock, and values that were written from an old one, on standard output
     // Why the functions of the program cannot be named; empty where they can.
     std::string cannot_name() const;

@@ -84,7 +84,10 @@ typedef unsigned __int128 u128;
         return __atomic_compare_exchange_n(a, e, v, 0, __ATOMIC_SEQ_CST, __ATOMIC_SEQ_CST);        \
     }
 PLAIN(8, u8)
-PLAIN(16, uint16_t) PLAIN(32, u32) PLAIN(64, u64) static inline u128 load128(volatile u128 *a) {
+PLAIN(16, uint16_t)
+PLAIN(32, u32)
+PLAIN(64, u64)
+static inline u128 load128(volatile u128 *a) {
     return __sync_val_compare_and_swap(a, 0, 0);
 }
 static inline int swap128(volatile u128 *a, u128 *e, u128 v) {
@@ -141,19 +144,24 @@ static inline int swap128(volatile u128 *a, u128 *e, u128 v) {
     CHANGE(bits, U, exchange, v, again(t, A, (u64)v))                                              \
     CHANGE(bits, U, fetch_add, old + v, AWR)                                                       \
     CHANGE(bits, U, fetch_sub, old - v, AWR)                                                       \
-    CHANGE(bits, U, fetch_and, old &v, AWR) CHANGE(bits, U, fetch_or, old | v, AWR)                \
-        CHANGE(bits, U, fetch_xor, old ^ v, AWR) CHANGE(bits, U, fetch_nand, ~(old & v), AWR)      \
-            SWAP(bits, U, strong) SWAP(bits, U, weak)                                              \
-                API U __tsan_atomic##bits##_compare_exchange_val(volatile U *a, U e, U v,          \
-                                                                 int order, int failure) {         \
+    CHANGE(bits, U, fetch_and, old &v, AWR)                                                        \
+    CHANGE(bits, U, fetch_or, old | v, AWR)                                                        \
+    CHANGE(bits, U, fetch_xor, old ^ v, AWR)                                                       \
+    CHANGE(bits, U, fetch_nand, ~(old & v), AWR)                                                   \
+    SWAP(bits, U, strong)                                                                          \
+    SWAP(bits, U, weak)                                                                            \
+    API U __tsan_atomic##bits##_compare_exchange_val(volatile U *a, U e, U v, int order,           \
+                                                     int failure) {                                \
         EXCHANGE(bits, U, a, &e, v);                                                               \
         return old;                                                                                \
     }
 ATOMICS(8, u8)
 ATOMICS(16, uint16_t)
-ATOMICS(32, u32) ATOMICS(64, u64) ATOMICS(128, u128)
+ATOMICS(32, u32)
+ATOMICS(64, u64)
+ATOMICS(128, u128)
 
-    API void __tsan_atomic_thread_fence(int order) {
+API void __tsan_atomic_thread_fence(int order) {
     (void)order;
     __atomic_thread_fence(__ATOMIC_SEQ_CST);
 }

@@ -6,6 +6,14 @@
 
 u64 noise;
 static u64 noise_seed;
+u64 draw(u64 *state) {
+    *state ^= *state << 13, *state ^= *state >> 7, *state ^= *state << 17;
+    return *state * 0x2545f4914f6cdd1dull >> 16;
+}
+u64 scramble(u64 seed) {
+    u64 x = (seed + 1) * 0x9e3779b97f4a7c15ull;
+    return x ? x : 1;
+}
 void noise_open(u64 seed) {
     noise = setting("VELODROME_NOISE", 0);
     noise_seed = seed;

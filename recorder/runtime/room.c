@@ -200,6 +200,17 @@ void after_filter(int was_first, long result) {
     if (was_first && result < 0)
         STORE(sealed, 0);
 }
+long futex(const volatile int *at, int operation, int value, const struct timespec *t) {
+    register long r10 __asm__("r10") = (long)t, r8 __asm__("r8") = 0, r9 __asm__("r9") = 0;
+    long r;
+    __asm__ volatile("syscall"
+                     : "=a"(r)
+                     : "0"(SYS_futex), "D"(at), "S"(operation), "d"(value), "r"(r10), "r"(r8),
+                       "r"(r9)
+                     : "rcx", "r11", "memory");
+    return r;
+}
+
 void pause_briefly(void) {
     if (LOAD(sealed))
         __builtin_ia32_pause();

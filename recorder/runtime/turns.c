@@ -31,25 +31,6 @@ static u64 chance, period, steps, slice, turns_taken, seize_after, changes[64], 
 static long lowest;
 static u64 next_end; // of the waits that end by time, 0 if there is none
 
-u64 draw(u64 *state) {
-    *state ^= *state << 13, *state ^= *state >> 7, *state ^= *state << 17;
-    return *state * 0x2545f4914f6cdd1dull >> 16;
-}
-u64 scramble(u64 seed) {
-    u64 x = (seed + 1) * 0x9e3779b97f4a7c15ull;
-    return x ? x : 1;
-}
-long futex(const volatile int *at, int operation, int value, const struct timespec *t) {
-    register long r10 __asm__("r10") = (long)t, r8 __asm__("r8") = 0, r9 __asm__("r9") = 0;
-    long r;
-    __asm__ volatile("syscall"
-                     : "=a"(r)
-                     : "0"(SYS_futex), "D"(at), "S"(operation), "d"(value), "r"(r10), "r"(r8),
-                       "r"(r9)
-                     : "rcx", "r11", "memory");
-    return r;
-}
-
 // ---- the scheduler's own lock. Who goes on is woken once it is open.
 static void lock(void) {
     for (int n = 0; __atomic_exchange_n(&guard, 1, __ATOMIC_ACQUIRE); n++)
