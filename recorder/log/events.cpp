@@ -122,7 +122,7 @@ void Events::access(const Event &e, u32 piece, const Granule &g, int p, int a, i
     size_t before = kept.size();
     keep(e.thread, e.writes() ? WR : RD, v.number - 1, e.code, value);
     codes.insert(e.code);
-    if (kept.size() > before && !options_.all)
+    if (kept.size() > before)
         retry(e, v.number - 1);
 }
 // Its code, by the same calls: a function that reads, called at two places, is no loop.

@@ -103,11 +103,11 @@ static vector<StaleWrite> look_closer(Trace &trace, Shared &shared, Stacks &stac
 }
 // What the log was thinned by.
 static vector<string> left_out(const Arguments &a) {
-    vector<string> all = {"counts of shared pointers"};
+    vector<string> all = {"counts of shared pointers", "failed tries"};
     if (a.options.data)
         all.push_back("locks");
     if (!a.options.all) {
-        all.insert(all.end(), {"repeats", "failed tries", "locks of one thread"});
+        all.insert(all.end(), {"repeats", "locks of one thread"});
         if (!a.options.data)
             all.push_back("ordered variables");
     }
