@@ -91,7 +91,7 @@ API void free(void *p) {
 NEW(_Znwm)
 NEW(_Znam)
 
-static long kernel(long n, long a, long b, long c, long d, long e, long f) {
+long kernel(long n, long a, long b, long c, long d, long e, long f) {
     register long r10 __asm__("r10") = d, r8 __asm__("r8") = e, r9 __asm__("r9") = f;
     long r;
     __asm__ volatile("syscall"
