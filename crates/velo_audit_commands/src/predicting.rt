@@ -11,7 +11,6 @@ ghost use Rattle.velo_worker.specs.declared.ending.Ending.TheVariants.{Done};
 ghost use Rattle.velo_delivery.specs.Disk.{store};
 ghost use Rattle.velo_delivery.specs.Reading.{reading};
 ghost use Rattle.velo_delivery.specs.Writing.{writing};
-ghost use Rattle.velo_fate.specs.Barred.{nothing_beside};
 ghost use Rattle.velo_fate.specs.declared.fate.Fate.TheVariants.{Finished};
 ghost use Rattle.velo_audit_commands.specs.Auditing.{AreRoundsOf, left_out_at_last};
 ghost use Rattle.velo_inputs.specs.Leaving.{left_out_at_first};
@@ -311,16 +310,6 @@ fn context_of<'a>(options: &PredictOptions<'a>) -> ContextOptions<'a>
     }
 }
 
-/// No second file is written.
-fn nothing_beside<'p>() -> Beside<'p>
-    ensures { result ≡ nothing_beside }
-{
-    Beside {
-        operand: Operand::Out,
-        path: None,
-    }
-}
-
 /// Predicts by the log that was asked for.
 fn predict_input<F: Files, O: Sink>(
     inquiry: &Inquiry<PredictOptions>,
@@ -332,14 +321,11 @@ fn predict_input<F: Files, O: Sink>(
 {
     let options = inquiry.options;
     let reads = reads_of(&context_of(options));
-    match open_apart(
-        files,
-        Operand::Log,
-        options.input,
-        &reads,
-        options.target,
-        nothing_beside(),
-    ) {
+    let witness = Beside {
+        operand: Operand::Out,
+        path: options.target,
+    };
+    match open_apart(files, Operand::Log, options.input, &reads, None, witness) {
         Ok(mut log) => predict_log(inquiry, &mut log, files, out),
         Err(fate) => fate,
     }
