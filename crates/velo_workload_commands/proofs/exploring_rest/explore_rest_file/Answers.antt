@@ -19,6 +19,6 @@ pub returns-in-Err : goal.returns-in-Err
 returns-in-Err g c =
     inl (
       subst (λ (file : Beside). OpensNoProgram (g.F.Files.disk c.args.files.now) (file ∷ []) (run_of c.args.options.now.explore) c.in-Err.fate) c.list_beside.ensures
-      (subst (λ (o : RunOptions). OpensNoProgram (g.F.Files.disk c.args.files.now) (c.list_beside.result ∷ []) o c.in-Err.fate) c.run_of.ensures c.in-Err.ensures.none),
+          (subst (λ (o : RunOptions). OpensNoProgram (g.F.Files.disk c.args.files.now) (c.list_beside.result ∷ []) o c.in-Err.fate) c.run_of.ensures c.in-Err.ensures.none),
       (refl, (refl, refl)),
     )
