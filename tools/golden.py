@@ -31,6 +31,7 @@ import concurrent.futures
 import glob
 import os
 import re
+import signal
 import subprocess
 import sys
 import tempfile
@@ -105,20 +106,22 @@ class Page:
     def ran(self, command: str) -> Tuple[str, int]:
         """What a command prints, and its status."""
         path = os.pathsep.join((self.programs, RECORDER, os.environ["PATH"]))
-        try:
-            done = subprocess.run(
-                ["bash", "-c", command],
-                cwd=self.folder,
-                env=environment(path),
-                stdin=subprocess.DEVNULL,
-                stdout=subprocess.PIPE,
-                stderr=subprocess.PIPE if self.is_apart else subprocess.STDOUT,
-                timeout=SECONDS,
-                check=False,
-            )
-        except subprocess.TimeoutExpired:
-            return f"no end in {SECONDS} seconds\n", -1
-        return whole_lines(done.stdout) + marked(whole_lines(done.stderr or b"")), done.returncode
+        with subprocess.Popen(
+            ["bash", "-c", command],
+            cwd=self.folder,
+            env=environment(path),
+            stdin=subprocess.DEVNULL,
+            stdout=subprocess.PIPE,
+            stderr=subprocess.PIPE if self.is_apart else subprocess.STDOUT,
+            start_new_session=True,
+        ) as shell:
+            try:
+                out, err = shell.communicate(timeout=SECONDS)
+            except subprocess.TimeoutExpired:
+                # what the shell started waits, too
+                os.killpg(shell.pid, signal.SIGKILL)
+                return f"no end in {SECONDS} seconds\n", -1
+        return whole_lines(out) + marked(whole_lines(err or b"")), shell.returncode
 
     def expect(self, right: bool, command: str, wanted: str, seen: Tuple[str, int]) -> None:
         self.passed, self.failed = self.passed + right, self.failed + (not right)
