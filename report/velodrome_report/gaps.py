@@ -61,8 +61,6 @@ class Gap:
     after: int
     # the label of the callee that has all of it
     callee: int = -1
-    # whether its ends are in two calls of other blocks
-    across_calls: bool = False
 
     def key(self) -> Tuple[bool, bool, bool, bool, int]:
         return (self.inside_callee, self.in_wait, self.counts, self.in_loop, int(self.tier))
@@ -472,7 +470,6 @@ def _gap(
         between=between,
         after=own.position,
         callee=first.label if inside and first is not None else -1,
-        across_calls=first is not None and second is not None and not inside,
     )
 
 
