@@ -212,6 +212,15 @@ class Svg(unittest.TestCase):
             'class="blamed"', svg.write(lanes.of(samples.three_threads(), samples.every_kind()))
         )
 
+    def test_of_nested_blocks_that_of_the_finding_is_marked(self) -> None:
+        report = samples.nested()
+        drawing = lanes.of(report.findings[0], report)
+        blamed = [bar for bar in drawing.bars if bar.is_blamed]
+        self.assertEqual(len(blamed), 1)
+        self.assertEqual(drawing.boxes[blamed[0].first].title, "Pool::acquire()")
+        others = [bar for bar in drawing.bars if not bar.is_blamed]
+        self.assertEqual([drawing.columns[bar.column][:8] for bar in others], ["thread 1"])
+
     def test_without_a_finding(self) -> None:
         for name in ("nothing_found", "nothing_looked_at"):
             text = golden.printed(name, "svg", samples.REPORTS[name])

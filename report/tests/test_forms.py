@@ -400,6 +400,15 @@ class Markdown(unittest.TestCase):
                         self.assertNotIn(fence, line)
                 self.assertEqual(fence, "")
 
+    def test_a_fence_in_a_line_of_source(self) -> None:
+        finding = samples.pool_finding(1)
+        events = finding.witness.events
+        fenced = replace(events[0], source="````")
+        finding.witness = replace(finding.witness, events=(fenced, *events[1:]))
+        text = golden.printed("", "markdown", Report(samples.runs(1, {}), [finding]))
+        self.assertIn("\n`````text\n", text)
+        self.assertIn("\n`````\n", text)
+
     def test_a_name_makes_no_mark(self) -> None:
         text = golden.printed("hostile", "markdown", samples.REPORTS["hostile"])
         headings = [line for line in text.splitlines() if line.startswith("#")]
