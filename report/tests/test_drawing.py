@@ -204,6 +204,18 @@ class Svg(unittest.TestCase):
         drawing = lanes.of(samples.three_threads(), samples.every_kind())
         self.assertLess(Picture(svg.write(drawing)).page.right, 800)
 
+        drawing = lanes.of(samples.REPORTS["long"].findings[0], samples.REPORTS["long"])
+        self.assertLess(Picture(svg.write(drawing)).page.right, 1000)
+
+    def test_arrows_run_down_beside_blocks(self) -> None:
+        for report in (samples.every_kind(), samples.nested()):
+            for finding in report.findings:
+                picture = Picture(svg.write(lanes.of(finding, report)))
+                for path in picture.arrows:
+                    for block in picture.blocks:
+                        beside = min(abs(path[1][0] - block.left), abs(path[1][0] - block.right))
+                        self.assertGreater(beside, 10)
+
     def test_the_blamed_block_is_marked(self) -> None:
         text = svg.write(lanes.of(samples.pool_finding(), samples.pool()))
         self.assertEqual(text.count('class="blamed"'), 1)

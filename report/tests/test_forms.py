@@ -205,6 +205,16 @@ class Text(unittest.TestCase):
             self.assertNotIn("\x1b", plain)
             self.assertEqual(re.sub("\x1b\\[[0-9]*m", "", painted).split(), plain.split())
 
+    def test_two_files_of_one_name_keep_their_folders(self) -> None:
+        report = samples.pool()
+        other = samples.three_threads()
+        other.function = Function("other", "other", Place("tests/pool.cpp", 3))
+        self.assertIn("  pool.cpp:24\n", forms.FORMATS["text"](report, forms.Settings()))
+        report.findings.append(other)
+        text = forms.FORMATS["text"](report, forms.Settings())
+        self.assertIn(" people/pool.cpp:24\n", text)
+        self.assertIn(" tests/pool.cpp:3\n", text)
+
     def test_each_thread_has_its_colour(self) -> None:
         painted = self.printed("pool", 80, True)
         found = re.findall("  [> ] (\x1b\\[[0-9]*m)(thread [0-9])", painted)
