@@ -175,6 +175,8 @@ class Words(unittest.TestCase):
         report = samples.nothing_looked_at()
         report.findings = [samples.deadlock()]
         self.assertEqual(words.outcome(report), "nothing was looked at: 1 finding")
+        text = forms.FORMATS["text"](report, forms.Settings())
+        self.assertIn("\nnothing was looked at: 1 finding\n", text)
 
 
 class Text(unittest.TestCase):
@@ -218,7 +220,8 @@ class Text(unittest.TestCase):
     def test_each_thread_has_its_colour(self) -> None:
         painted = self.printed("pool", 80, True)
         found = re.findall("  [> ] (\x1b\\[[0-9]*m)(thread [0-9])", painted)
-        self.assertEqual([len(found), len(set(found))], [4, 2])
+        self.assertEqual(len(found), 4)
+        self.assertEqual(len({colour for colour, _ in found}), 2)
 
 
 class Sarif(unittest.TestCase):
