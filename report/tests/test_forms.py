@@ -391,6 +391,13 @@ class Html(unittest.TestCase):
                 self.assertEqual(page.names.count("script"), 1)
                 self.assertEqual(page.names.count("article"), len(report.findings))
 
+    def test_the_list_of_findings_is_narrow(self) -> None:
+        page = golden.printed("long", "html", samples.REPORTS["long"])
+        shown = re.findall("<b><bdi>(.*?)</bdi></b>", page)
+        self.assertEqual(len(shown), len(samples.REPORTS["long"].findings))
+        self.assertLess(max(map(len, shown)), 100)
+        self.assertIn("get_or_load(int) is not atomic", shown[0])
+
     def test_svg_is_xml(self) -> None:
         for name, report in samples.REPORTS.items():
             with self.subTest(name):
