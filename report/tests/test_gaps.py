@@ -104,6 +104,18 @@ class Scanned(support.InFolder):
         self.assertEqual(found.counters, {0})
         self.assertTrue(found.gaps[0].seen[(False, 0)].counts)
 
+    def test_a_count_under_a_lock(self) -> None:
+        change: List[Line] = [("1 acq 0", ""), ("1 rd 0 0", "a.c:2 f"), ("1 wr 0 0", "a.c:3 f")]
+        change.append(("1 rel 0", ""))
+        other = [(text.replace("1", "2", 1), site) for text, site in change]
+        log = Log().add(*other, ("1 begin 0", ""), *change, *other, *change, ("1 end", ""))
+        found = self.scan(log, 0)
+        self.assertEqual(found.counters, {0})
+        self.assertTrue(found.gaps[0].seen[(False, 0)].counts)
+        checked = Log().add(*other, ("1 begin 0", ""), *hold(1, "rd 0 0", 1, "f"), *other)
+        found = self.scan(checked.add(*change, ("1 end", "")), 0)
+        self.assertFalse(found.gaps[0].seen[(False, 0)].counts)
+
     def test_a_check_of_a_count_is_no_count(self) -> None:
         log = Log().add(("2 rd 0 0", "a.c:9 g"), ("2 wr 0 0", "a.c:9 g"), ("1 begin 0", ""))
         log.add(("1 rd 0 0", "a.c:1 f"), ("2 rd 0 0", "a.c:9 g"), ("2 wr 0 0", "a.c:9 g"))

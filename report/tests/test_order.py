@@ -118,7 +118,10 @@ class Order(unittest.TestCase):
     def test_by_design(self) -> None:
         for gap, words in (
             (GapTrait(in_wait=True), "while it waits"),
-            (GapTrait(counts=True, tier=SEEN_TWICE, target="hits"), "only a count changes: hits"),
+            (
+                GapTrait(counts=True, tier=SEEN_TWICE, target="hits"),
+                "hits is changed more than once, each time at once",
+            ),
             (GapTrait(in_loop=True), "each pass of its loop"),
             (GapTrait(used_again=True, tier=CARRIED), "used again"),
             (GapTrait(tier=LOCK, target="m"), "takes m more than once"),

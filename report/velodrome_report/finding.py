@@ -326,7 +326,6 @@ def _trait(gap: Gap, seen: bool, looked: Looked, counters: "frozenset[int]") -> 
         tier=int(gap.tier),
         seen=seen,
         target=target,
-        used_again=gap.across_calls and target.startswith(HEAP),
         callee="" if gap.callee < 0 else labels.get(gap.callee, f"block {gap.callee}"),
     )
 

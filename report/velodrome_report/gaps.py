@@ -50,7 +50,8 @@ class Gap:
     # whether both events stand at one place, in a loop
     in_loop: bool
     tier: Tier
-    # whether the block changes what it read by an operation that cannot be interrupted
+    # whether what was read is changed at once: by an operation that cannot be interrupted, or
+    # under the same hold of a lock
     counts: bool
     # the lock or the variable, by its number
     is_lock: bool
@@ -60,8 +61,6 @@ class Gap:
     after: int
     # the label of the callee that has all of it
     callee: int = -1
-    # whether its ends are in two calls of other blocks
-    across_calls: bool = False
 
     def key(self) -> Tuple[bool, bool, bool, bool, int]:
         return (self.inside_callee, self.in_wait, self.counts, self.in_loop, int(self.tier))
@@ -85,7 +84,7 @@ class Scanned:
 
     gaps: Dict[int, Gaps] = field(default_factory=dict)
     calls: Dict[int, int] = field(default_factory=dict)
-    # the variables that only operations change which cannot be interrupted
+    # the variables that are only changed at once, by who has just read them
     counters: FrozenSet[int] = frozenset()
     events: int = 0
     threads: int = 0
@@ -122,7 +121,7 @@ class _Own:
         self.block = block
         # of each lock that is held the position of its acquire
         self.holds = holds
-        # whether it is the read of an operation that cannot be interrupted
+        # whether what it read is changed at once
         self.whole = False
 
 
@@ -151,6 +150,13 @@ class _Owns:
         if end - first == 1:
             return [self.events[first]]
         return [self.events[end - 1], self.events[first]]
+
+    def changed(self, since: int) -> None:
+        """What was read from the position `since` on is changed now."""
+        for own in reversed(self.events):
+            if own.position < since:
+                break
+            own.whole = not own.is_write
 
     def last_read(self) -> int:
         """The position of the latest read, -1 if there is none."""
@@ -186,7 +192,18 @@ class _Others:
 class _Thread:
     """What a thread has open and holds."""
 
-    __slots__ = ("number", "stack", "top", "wanted", "holds", "released", "waits", "owns", "last")
+    __slots__ = (
+        "number",
+        "stack",
+        "top",
+        "wanted",
+        "holds",
+        "released",
+        "waits",
+        "owns",
+        "last",
+        "reads",
+    )
 
     def __init__(self, number: int) -> None:
         self.number = number
@@ -204,6 +221,8 @@ class _Thread:
         self.owns: Dict[Tuple[bool, int], _Owns] = {}
         # the latest event if it is a read: its variable, its site and its position
         self.last: Tuple[int, int, int] = (-1, -1, -1)
+        # of each variable the position of the latest read
+        self.reads: Dict[int, int] = {}
 
     def add(self, target: Tuple[bool, int], own: _Own) -> None:
         owns = self.owns.get(target)
@@ -292,12 +311,14 @@ class Scan:
             thread.add((False, variable), own)
         self._reads.put(variable, position, number)
         thread.last = (variable, site, position)
+        thread.reads[variable] = position
 
     def _write(self, position: int, thread: _Thread, variable: int, site: int) -> None:
         number = thread.number
         self._use(variable, number)
         written = self._writes.of(variable, number)
-        whole = thread.last[:2] == (variable, site) and written < thread.last[2]
+        since = _changes_since(thread, variable, site, written)
+        whole = since >= 0
         if self._owner[variable] < 0:
             (self._changed if whole else self._plainly).add(variable)
         if thread.wanted and thread.top is not None:
@@ -306,7 +327,7 @@ class Scan:
             owns = thread.owns.get(target)
             if owns is not None:
                 if whole:
-                    owns.events[-1].whole = True
+                    owns.changed(since)
                 again = owns.last_read() > written
                 tier = Tier.LOOKED_AT_AGAIN if again else Tier.CARRIED
                 self._told(thread, target, written, own, tier)
@@ -385,6 +406,21 @@ class Scan:
         return times < MOST_POSSIBLE
 
 
+def _changes_since(thread: _Thread, variable: int, site: int, written: int) -> int:
+    """From where on what the thread read of a variable is changed at once by a write of it now.
+
+    That is by an operation that cannot be interrupted, or under the hold of a lock. -1 if what is
+    written does not come of what was just read.
+    """
+    if thread.last[:2] == (variable, site) and written < thread.last[2]:
+        return thread.last[2]
+    if thread.holds:
+        since = min(thread.holds.values())
+        if thread.reads.get(variable, -1) > since:
+            return since
+    return -1
+
+
 def _let_go(kept: _Own, own: _Own) -> bool:
     """Whether some lock is held at both events, and each such lock was let go in between."""
     common = [lock for lock in own.holds if lock in kept.holds]
@@ -434,7 +470,6 @@ def _gap(
         between=between,
         after=own.position,
         callee=first.label if inside and first is not None else -1,
-        across_calls=first is not None and second is not None and not inside,
     )
 
 

@@ -5,7 +5,7 @@ from __future__ import annotations
 from dataclasses import replace
 from typing import List, Optional, Tuple
 
-from .model import Finding, Kind, Section, TargetKind, Traits
+from .model import Action, Finding, Kind, Section, TargetKind, Traits
 
 CARRIED, LOOKED_AT_AGAIN, SEEN_TWICE, LOCK = range(4)
 SAID = {
@@ -21,12 +21,14 @@ def by_design(finding: Finding) -> Optional[str]:
         return f"one call reads {gap.target} and another one writes it: it is used again, perhaps"
     if finding.kind is not Kind.NOT_ATOMIC:
         return None
+    if (gap is None or gap.tier >= SEEN_TWICE) and _waits_for_threads(finding):
+        return "it starts threads or waits for their end"
     if gap is None:
         return None if _may_matter(finding.traits) else "no variable makes it so, only locks do"
     if gap.in_wait:
         return "others come in only while it waits"
     if gap.counts:
-        return f"only a count changes: {gap.target}"
+        return f"{gap.target} is changed more than once, each time at once, as a count is"
     if gap.in_loop:
         return "each pass of its loop is atomic by itself"
     if gap.tier == LOCK and not _may_matter(finding.traits):
@@ -40,8 +42,12 @@ def why(finding: Finding) -> str:
     if finding.kind is not Kind.NOT_ATOMIC or gap is None or gap.tier not in SAID:
         return ""
     targets = finding.witness.targets()
-    variable = len(targets) == 1 and targets[0].kind is TargetKind.VARIABLE
-    return f"{targets[0] if variable else gap.target} {SAID[gap.tier]}"
+    variables = [target for target in targets if target.kind is TargetKind.VARIABLE]
+    if not variables:
+        return f"{gap.target} {SAID[gap.tier]}"
+    own = [event.action for event in finding.witness.events if not event.interrupts]
+    carried = own[0] is Action.READS and own[-1] is Action.WRITES
+    return f"{variables[0]} {SAID[gap.tier]}" if carried and len(targets) == 1 else ""
 
 
 def ranked(findings: List[Finding]) -> List[Finding]:
@@ -57,6 +63,12 @@ def _placed(finding: Finding) -> Finding:
     if reason is None:
         return replace(finding, section=Section.LIKELY, why=why(finding))
     return replace(finding, section=Section.BY_DESIGN, why=reason)
+
+
+def _waits_for_threads(finding: Finding) -> bool:
+    """Whether the function's own end of the cycle is a start or a join of a thread."""
+    own = [event.action for event in finding.witness.events if not event.interrupts]
+    return Action.JOINS in own or Action.STARTS in own
 
 
 def _may_matter(traits: Traits) -> bool:

@@ -62,7 +62,15 @@ def find(operands: List[str]) -> Found:
         operands = [RECORDINGS]
     for operand in operands:
         _find(operand, found)
+    for source in found.sources:
+        source.name = _from_here(source.name)
     return found
+
+
+def _from_here(path: str) -> str:
+    """The path as it is said from the current folder, where that is shorter."""
+    relative = os.path.relpath(path)
+    return relative if len(relative) < len(path) and not relative.startswith("..") else path
 
 
 def _find(operand: str, found: Found) -> None:

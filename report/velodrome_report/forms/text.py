@@ -133,7 +133,8 @@ class Text:
             place = self.place(one.place)
             room = self.width - len(number) - columns_of(place) - GAP
             name = shortened(visible(one.function.short), max(room, LEAST_SOURCE))
-            lines.append(number + name + " " * max(room - columns_of(name) + GAP, GAP) + place)
+            line = number + name + " " * max(room - columns_of(name) + GAP, GAP) + place
+            lines.append(line.rstrip())
             often = words.how_often(one, self.report)
             lines += self._indented(f"{often}: {one.why}" if one.why else often)
         return lines
