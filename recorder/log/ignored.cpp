@@ -1,4 +1,5 @@
 #include "ignored.hpp"
+#include "write.hpp"
 #include <cstring>
 
 using namespace std;
@@ -42,14 +43,14 @@ static set<u32> counts(Shared &shared, Modules &modules) {
 static set<u64> locks_of(Shared &shared, Places &places, const set<string> &names) {
     set<u64> locks;
     for (auto &l : shared.lock_uses)
-        if (names.count(places.lock(l.first)))
+        if (names.count(tidy(places.lock(l.first))))
             locks.insert(l.first);
     return locks;
 }
 static void add_variables(set<u32> &pieces, Shared &shared, Places &places,
                           const set<string> &names) {
     for (u32 x : shared.order)
-        if (names.count(places.variable(x, shared.variables[x].at)))
+        if (names.count(tidy(places.variable(x, shared.variables[x].at))))
             pieces.insert(x);
 }
 void leave_out(Shared &shared, Modules &modules, Places &places, const Ignored &ignored) {

@@ -283,7 +283,7 @@ void Notes::write(const string &log, const string &trace, const vector<string> &
         member("functions", count(writer_.labels())),
         member("stopped", stopped(trace)),
         member("cut", events_.cut ? "true" : "false"),
-        member("left_out", array(thinned)),
+        member("left_out", list_of(thinned)),
         member("dropped", count(events_.dropped)),
         member("odd", count(events_.odd)),
         member("late", count(shared_.late)),

@@ -75,6 +75,7 @@ static struct self *new_fiber(struct self *t, u64 stack, u64 bytes, u64 routine,
     if (f->busy == 2)
         return f;
     f->clock = t->clock;
+    f->stack_end = stack + bytes;
     stamp_alone(f);
     if (record(f, START, 0, stack, routine))
         more(f, 0, bytes);
