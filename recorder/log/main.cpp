@@ -1,6 +1,7 @@
 // velodrome-log: makes a log, its names and its sites of what the runtime recorded.
 #include "ignored.hpp"
 #include "notes.hpp"
+#include "plain.hpp"
 #include <cstdio>
 #include <cstdlib>
 #include <stdexcept>
@@ -81,12 +82,12 @@ static void tell_hidden(Shared &shared, Modules &modules) {
 }
 // What lies where, and what was written from an old value: by one replay.
 static vector<StaleWrite> look_closer(Trace &trace, Shared &shared, Stacks &stacks, Places &places,
-                                      Modules &modules) {
+                                      Modules &modules, PlainWrites &plain) {
     Stale stale(stacks, shared, trace.info().mode != FREE);
     shared.each(
         [&](const Event &e, u32 piece, const Granule &g, int p, int, int, u64 at) {
             u64 byte = at + g.first_byte(p);
-            places.meet(piece, byte);
+            places.meet(piece, byte), plain.access(e, piece);
             stale.access(e, piece, byte);
         },
         [&](const Event &e) {
@@ -131,12 +132,18 @@ static int run(const Arguments &a) {
     blocks.only_loops(survey.loops);
     Stacks stacks(trace.threads(), modules);
     Places places(modules, stacks, shared.variables.size());
-    auto stale = look_closer(trace, shared, stacks, places, modules);
+    PlainWrites plain(shared.variables.size());
+    auto stale = look_closer(trace, shared, stacks, places, modules, plain);
     leave_out(shared, modules, places, a.ignored);
     Events events(trace, shared, blocks, a.options);
     Writer writer(trace, shared, events, modules, blocks, places);
     writer.log(a.log);
     Notes notes(trace, shared, events, modules, survey, places, writer, stale);
+    notes.all_variables = a.options.all;
+    for (size_t i = 0; i < events.variables.size(); i++)
+        if (const Variable *v = events.variables[i];
+            v->atomic && !plain.of(v - shared.variables.data()))
+            notes.atomic.push_back(i);
     set<u64> codes;
     writer.add_codes(codes), notes.add_codes(codes), places.add_codes(codes);
     modules.find_lines(codes);

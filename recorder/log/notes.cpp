@@ -42,6 +42,13 @@ static string list_of(const vector<string> &all) {
     return joined(all, "[", "]");
 }
 
+static string numbers(const vector<u64> &all) {
+    string s;
+    for (u64 n : all)
+        s += (s.empty() ? "" : ", ") + to_string(n);
+    return "[" + s + "]";
+}
+
 // ---- places
 string Notes::function_name(u64 function) const {
     string name = function ? modules_.function(function) : "";
@@ -284,6 +291,8 @@ void Notes::write(const string &log, const string &trace, const vector<string> &
         member("stopped", stopped(trace)),
         member("cut", events_.cut ? "true" : "false"),
         member("left_out", list_of(thinned)),
+        member("all_variables", all_variables ? "true" : "false"),
+        member("atomic", numbers(atomic)),
         member("dropped", count(events_.dropped)),
         member("odd", count(events_.odd)),
         member("late", count(shared_.late)),

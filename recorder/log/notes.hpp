@@ -12,6 +12,8 @@ public:
           Places &places, Writer &writer, std::vector<StaleWrite> stale)
         : trace_(trace), shared_(shared), events_(events), modules_(modules), survey_(survey),
           places_(places), writer_(writer), stale_(std::move(stale)) {}
+    bool all_variables = false; // whether the log leaves nothing out
+    std::vector<u64> atomic;    // the variables in the log that atomic operations alone write
     void add_codes(std::set<u64> &codes) const;
     // `left_out`: what the log was thinned by. Throws std::runtime_error.
     void write(const std::string &log, const std::string &trace,

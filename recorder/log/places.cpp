@@ -24,20 +24,26 @@ void Places::step(const Event &e) {
 }
 void Places::allocate(const Event &e) {
     auto &open = stacks_.of(e.thread);
-    Block b{stacks_.own_code(e.thread, e.code), e.number, 0};
+    u64 by = e.second ? e.second : e.code;
+    heap_[e.at] = {by, e.number};
+    Maker &m = makers_[by];
+    if (m.code && m.depth >= open.size())
+        return;
+    m = {stacks_.own_code(e.thread, e.code), 0, open.size()};
     if (!open.empty() && open.back().library)
-        b.maker = open.back().function;
-    heap_[e.at] = b;
-    fresh_[e.thread] = {b.maker ? 0 : e.at, open.size()};
+        m.function = open.back().function;
+    else
+        fresh_[e.thread] = {by, open.size()};
 }
 // A constructor that follows an allocation, called by the same function, is the object's.
 void Places::look_for_constructor(const Event &e) {
     auto f = fresh_.find(e.thread);
-    if (f == fresh_.end() || !f->second.at)
+    if (f == fresh_.end())
         return;
-    if (stacks_.of(e.thread).size() == f->second.depth)
-        heap_[f->second.at].maker = e.code;
-    f->second.at = 0;
+    if (stacks_.of(e.thread).size() == f->second.depth &&
+        !made_by(modules_.function(e.code)).empty())
+        makers_[f->second.maker].function = e.code;
+    fresh_.erase(f);
 }
 Places::Place Places::find(u64 at) const {
     Place p;
@@ -124,11 +130,12 @@ string Places::frame_name(const FramePlace &f) {
     return local.empty() ? "" : without_parameters(modules_.function(f.function)) + "::" + local;
 }
 string Places::heap_name(const Place &p) {
-    string line = modules_.line(p.block.code), type, path;
+    const Maker &by = makers_[p.block.maker];
+    string line = modules_.line(by.code), type, path;
     u64 size = p.block.size, offset = p.offset;
-    Module *m = p.block.maker ? modules_.of(p.block.maker) : nullptr;
+    Module *m = by.function ? modules_.of(by.function) : nullptr;
     if (m)
-        type = made_by(modules_.function(p.block.maker));
+        type = made_by(modules_.function(by.function));
     const string counted = "std::_Sp_counted_ptr_inplace<";
     if (type.compare(0, counted.size(), counted) == 0 && offset >= COUNTS && size > COUNTS)
         type = first_argument(type, counted.size() - 1), size -= COUNTS, offset -= COUNTS;
@@ -143,7 +150,7 @@ string Places::name(const Place &p, u64 at) {
     string local = p.frame.function ? frame_name(p.frame) : "";
     if (!local.empty())
         return local;
-    return p.block.code ? heap_name(p) : modules_.place(at);
+    return p.block.maker ? heap_name(p) : modules_.place(at);
 }
 string Places::variable(u32 piece, u64 at) {
     return name(pieces_[piece], at);
@@ -153,10 +160,13 @@ string Places::lock(u64 at) {
     return l == locks_.end() ? modules_.place(at) : name(l->second, at);
 }
 void Places::add_codes(set<u64> &codes) const {
+    auto add = [&](const Place &p) {
+        auto m = makers_.find(p.block.maker);
+        if (m != makers_.end())
+            codes.insert(m->second.code);
+    };
     for (auto &p : pieces_)
-        if (p.block.code)
-            codes.insert(p.block.code);
+        add(p);
     for (auto &l : locks_)
-        if (l.second.block.code)
-            codes.insert(l.second.block.code);
+        add(l.second);
 }

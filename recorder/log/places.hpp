@@ -10,13 +10,17 @@ public:
     void meet(u32 piece, u64 at); // a variable, at its first access
     void step(const Event &e);    // before the stacks' step
     std::string variable(u32 piece, u64 at);
-    bool on_heap(u32 piece) const { return pieces_[piece].block.code != 0; }
+    bool on_heap(u32 piece) const { return pieces_[piece].block.maker != 0; }
     std::string lock(u64 at);
     void add_codes(std::set<u64> &codes) const; // those whose lines a name has
 
 private:
     struct Block {
-        u64 code = 0, size = 0, maker = 0; // maker: the function whose name tells the type
+        u64 maker = 0, size = 0; // maker: by which calls, 0 none
+    };
+    struct Maker {
+        u64 code = 0, function = 0; // where; the function whose name tells the type
+        size_t depth = 0;           // of the stack, as far as it was told
     };
     struct Place {
         FramePlace frame;
@@ -25,7 +29,7 @@ private:
         bool met = false;
     };
     struct New {
-        u64 at = 0;
+        u64 maker = 0;
         size_t depth = 0;
     };
     void allocate(const Event &e);
@@ -39,6 +43,7 @@ private:
     std::vector<Place> pieces_;
     std::unordered_map<u64, Place> locks_;
     std::map<u64, Block> heap_;
+    std::unordered_map<u64, Maker> makers_;
     std::unordered_map<u32, New> fresh_; // of each thread: what it allocated just now
 };
 // The class that a function of this name constructs, or allocates for; empty where it tells none.

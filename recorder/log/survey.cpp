@@ -16,8 +16,6 @@ Survey::Survey(Trace &trace, Modules &modules, const Blocks &blocks)
 void Survey::step(const Event &e) {
     Thread &t = threads_[e.thread];
     t.began = true;
-    if (e.kind == BEGIN)
-        functions.insert(e.code);
     look_for_loops(e);
     stacks_.step(e);
     follow_lock(e);
@@ -44,6 +42,7 @@ void Survey::look_for_loops(const Event &e) {
         return;
     auto i = routine_.emplace(e.code, false);
     if (i.second) {
+        functions.insert(e.code);
         string name = modules_.function(e.code);
         i.first->second = blocks_.is_routine(name);
         if (i.first->second && modules_.loops(e.code))

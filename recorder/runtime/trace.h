@@ -36,7 +36,7 @@ enum kind {
     FORK,
     JOIN, // address: the other thread
     EXIT,
-    ALLOC, // memory that begins anew; MORE: bytes
+    ALLOC, // memory that begins anew; MORE: bytes; by which calls, as one number
     START, // of a thread. address: its stack; code: its routine; MORE: bytes of the stack
     SRD,
     SWR,   // what a semaphore, a barrier or a once orders

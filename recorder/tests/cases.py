@@ -245,7 +245,7 @@ CASES = [
         "pthread_exit in a block",
         "static int x; void f(void) { x = 1; pthread_exit(0); } void g(void) { x++; }",
         ALL,
-        one(block(0, WR), block(1, RD, WR)),
+        one(block(0, *block(1, WR)), block(2, RD, WR)),  # no loop: the routine is a block
     ),
     (
         "exit with a lock held",

@@ -58,7 +58,7 @@ def names(room, cc):
             *(
                 f"Session.{field} at {source}:{line_of('names.cpp', text)}"
                 for field in ("m", "number")
-                for text in ("new Session",)
+                for text in ("new Session", "make_shared", "make_unique")
             ),
         ]
         missing = [name for name in wanted if f" {name}\n" not in said]
