@@ -244,14 +244,14 @@ class Scan:
         self._owner: Dict[int, int] = {}
         self._changed: Set[int] = set()
         self._plainly: Set[int] = set()
-        self._atomic = None if atomic is None else frozenset(atomic)
+        self._atomic = frozenset(atomic or ())
         self._possible: Dict[Tuple[int, int], int] = {}
 
     def ended(self) -> Scanned:
         """What was found."""
         self.found.threads = len(self._threads)
         shared = {variable for variable, owner in self._owner.items() if owner < 0}
-        counters = self._changed - self._plainly if self._atomic is None else self._atomic
+        counters = (self._changed - self._plainly) | self._atomic
         self.found.counters = frozenset(counters & shared)
         return self.found
 

@@ -164,6 +164,8 @@ def _look_at_log(looked: Looked, asked: Asked) -> None:
     assert looked.log is not None
     looked.run.log = looked.log
     looked.beside = beside.read(looked.log)
+    if looked.source.kind is SourceKind.LOG:
+        looked.all_variables = looked.beside.notes.all_variables
     looked.run.warnings += tuple(looked.beside.warnings)
     looked.waits = looked.beside.notes.waits or looked.waits
     if not deadlocks.circles(looked.waits, looked.beside.notes.circles):
