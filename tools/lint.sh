@@ -64,7 +64,7 @@ tidy() {
 annotated() {
     local status=0 file
     for file in "$@"; do
-        mypy --strict --no-error-summary "$file" || status=1
+        MYPYPATH=report mypy --strict --cache-dir=/dev/null --no-error-summary "$file" || status=1
     done
     return $status
 }
@@ -79,6 +79,7 @@ look "clang-tidy: C++" tidy c++17 "${sources[@]}"
 mapfile -t sources < <(files . -- py && scripts_in python .)
 look "black: Python" black --quiet --check "${sources[@]}"
 mapfile -t sources < <(scripts_in python recorder/bin report/bin)
+[ ! -d report/velodrome_report ] || sources+=(report/velodrome_report)
 look "mypy: what ships" annotated bindings/python/src/velodrome "${sources[@]}"
 mapfile -t sources < <(files . -- sh && scripts_in sh .)
 look "shellcheck: scripts" shellcheck "${sources[@]}"

@@ -33,12 +33,7 @@ gate() {
 }
 
 pages() {
-    # until all pages are run by one script
-    if [ -f tools/golden.py ]; then
-        python3 tools/golden.py "$program"
-    else
-        python3 tools/documents.py "$program"
-    fi
+    python3 tools/golden.py "$program"
 }
 
 bodies() {
@@ -66,7 +61,8 @@ scripts() {
 
 python() {
     scripts check_links.py check_definitions.py "definitions.py --check" "crate_picture.py --check" \
-        "compare_help.py $program" "shell_pages.py --check $program" "colours.py $program" "watch.py $program" \
+        "compare_help.py $program" "shell_pages.py --check $program" "overwrites.py $program" \
+        "colours.py $program" "watch.py $program" \
         "formats.py $program docs/data/leveldb.log crates/velodrome/data/lost.log" \
         "verify.py $program 100" "rest.py $program 300" "explore.py $program 30" "predict.py $program 30"
 }
@@ -123,6 +119,13 @@ needs_of() {
     esac
 }
 
+# what only some of its tests need
+wants_of() {
+    case $1 in
+        report) needs chromium dot:graphviz ;;
+    esac
+}
+
 # is_here PART: whether the repository has it
 is_here() {
     case $1 in
@@ -134,15 +137,18 @@ is_wanted() {
     [ ${#asked[@]} -eq 0 ] || [[ " ${asked[*]} " == *" $1 "* ]]
 }
 
+# lacking QUESTION PART: one asks for packages at a time
+lacking() {
+    flock "$room/packages" bash -c "room='$room'; $(declare -f needs needs_of wants_of is_without_gate); $1 $2"
+}
+
 # run PART: what it says goes to a file and, where it has ended, to standard output in one piece
 run() {
-    local part=$1 begun=$SECONDS lacking status
+    local part=$1 begun=$SECONDS status
     is_here "$part" && is_wanted "$part" || return 0
-    lacking=$(flock "$room/packages" bash -c "room='$room'; $(declare -f needs needs_of is_without_gate); needs_of $part")
-    if [ -n "$lacking" ]; then
-        echo "$lacking" >"$room/$part.lacking"
-        return
-    fi
+    lacking needs_of "$part" >"$room/$part.needs"
+    [ ! -s "$room/$part.needs" ] || return 0
+    lacking wants_of "$part" >"$room/$part.wants"
     if [ "$part" = gate ]; then
         gate
     else
@@ -176,7 +182,8 @@ summary() {
         fi
     done
     for part in "${parts[@]}"; do
-        [ ! -f "$room/$part.lacking" ] || echo "not run: $part needs $(cat "$room/$part.lacking")"
+        [ ! -s "$room/$part.needs" ] || echo "not run: $part needs $(cat "$room/$part.needs")"
+        [ ! -s "$room/$part.wants" ] || echo "not run: some of $part needs $(cat "$room/$part.wants")"
         [ ! -f "$room/$part.said" ] || sed -n "s/^\(left out\|not run\): \(no \)\?/not run: $part: /p" "$room/$part.said"
     done
     echo "$passed passed, $failed failed"

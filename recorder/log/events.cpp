@@ -2,7 +2,10 @@
 
 using namespace std;
 
-static const u32 MAX_VARIABLES = 65535, MAX_LOCKS = 4096, MAX_THREADS = 64, MAX_OPEN = 32;
+static const u32 MAX_VARIABLES = 65535;
+static const u32 MAX_LOCKS = 4096;
+static const u32 MAX_THREADS = 64;
+static const u32 MAX_OPEN = 32;
 
 Events::Events(Trace &trace, Shared &shared, Blocks &blocks, const Options &options)
     : shared_(shared), blocks_(blocks), options_(options), threads_(trace.threads()),
@@ -24,6 +27,8 @@ Events::Events(Trace &trace, Shared &shared, Blocks &blocks, const Options &opti
     shared_.each([&](const Event &e, u32 piece, const Granule &g, int p, int a, int b,
                      u64 at) { access(e, piece, g, p, a, b, at); },
                  [&](const Event &e) { return step(e); });
+    drop_empty_blocks();
+    forget_values();
 }
 
 // A variable whose accesses are all ordered by what else is in the log adds no edge.
@@ -33,22 +38,37 @@ void Events::number_variables() {
     u32 room = MAX_VARIABLES - (many_ ? 2 * MAX_THREADS : 0);
     for (u32 x : shared_.order) {
         Variable &v = shared_.variables[x];
-        if (!v.many || !v.written)
+        if (!v.many || !v.written || v.ignored)
             continue;
-        if (!options_.data && !options_.all && !v.atomic && !v.racy)
+        if (!options_.data && !options_.all && !v.atomic && !v.racy) {
             ordered++;
-        else if (variables.size() + sync >= room)
+            continue;
+        }
+        if (variables.size() + sync >= room) {
             dropped++;
-        else
-            variables.push_back(&v), v.number = variables.size();
+            continue;
+        }
+        variables.push_back(&v);
+        v.number = variables.size();
+        if (v.atomic)
+            variable_at_[v.at] = v.number - 1;
     }
+    number_objects(room);
+    auto shared = count_if(shared_.lock_uses.begin(), shared_.lock_uses.end(),
+                           [](auto &l) { return l.second.many; });
+    room_for_unshared_ = options_.all && shared < MAX_LOCKS ? MAX_LOCKS - shared : 0;
+}
+void Events::number_objects(size_t room) {
     map<u64, Object *> by_address;
     for (auto &o : shared_.objects)
         if (o.second.many)
             by_address[o.first] = &o.second;
-    for (auto &o : by_address)
-        if (variables.size() + objects.size() < room)
-            objects.push_back(o.first), o.second->number = variables.size() + objects.size();
+    for (auto &o : by_address) {
+        if (variables.size() + objects.size() >= room)
+            break;
+        objects.push_back(o.first);
+        o.second->number = variables.size() + objects.size();
+    }
     numbers_of_threads = variables.size() + objects.size();
     last_by_.assign(numbers_of_threads + 2 * MAX_THREADS, ~0u);
 }
@@ -80,9 +100,15 @@ void Events::keep(u32 thread, int kind, u32 number, u64 code, u64 value) {
         kept.push_back({0, numbers_of_threads + 2 * t.carrier, u8(t.carrier), RD, true, false, 0}),
             events++;
     }
-    for (auto o = t.open.rbegin(); o != t.open.rend(); ++o)
-        if (o->function && !kept[o->kept].in_log)
-            kept[o->kept].in_log = true, events += 2, o->function->calls++;
+    for (auto o = t.open.rbegin(); o != t.open.rend(); ++o) {
+        if (!o->function || kept[o->kept].in_log)
+            continue;
+        kept[o->kept].in_log = true;
+        events += 2;
+        begun[kept[o->kept].number]->calls++;
+    }
+    if (!access)
+        t.retries.other();
     t.last.kept = kept.size();
     kept.push_back({code, number, u8(t.carrier), u8(kind), true, false, value}), events++;
 }
@@ -93,8 +119,80 @@ void Events::access(const Event &e, u32 piece, const Granule &g, int p, int a, i
     u64 value = 0;
     if (v.valued)
         value_of(e, g, p, a, b, at, value);
+    size_t before = kept.size();
     keep(e.thread, e.writes() ? WR : RD, v.number - 1, e.code, value);
     codes.insert(e.code);
+    if (kept.size() > before)
+        retry(e, v.number - 1);
+}
+// Its code, by the same calls: a function that reads, called at two places, is no loop.
+u64 Events::place_of(const Event &e) const {
+    u64 place = e.code;
+    for (auto &o : threads_[e.thread].open)
+        place = place * 0x9e3779b97f4a7c15ull + o.from;
+    return place;
+}
+// What the access replaces of the thread's tries before.
+void Events::retry(const Event &e, u32 variable) {
+    Retries &r = threads_[e.thread].retries;
+    vector<size_t> dropped;
+    u8 flags = e.atomic() ? e.flags : 0;
+    bool tried = flags & TRIED;
+    u64 place = place_of(e);
+    if (e.writes())
+        r.write(variable, place, kept.size() - 1, flags & AGAIN, dropped);
+    else
+        r.read(
+            {variable, place, tried && flags & MISSED, tried && flags & EXPECTED, kept.size() - 1},
+            dropped);
+    drop(dropped);
+}
+void Events::drop(const vector<size_t> &all) {
+    for (size_t i : all) {
+        Kept &k = kept[i];
+        if (k.kind == WR)
+            rewritten_.insert(k.number);
+        events -= k.in_log;
+        k.in_log = false;
+    }
+}
+// A block of which all events were dropped.
+void Events::drop_empty_blocks() {
+    struct Begun {
+        size_t kept;
+        bool empty;
+    };
+    vector<vector<Begun>> open(MAX_THREADS);
+    for (size_t i = 0; i < kept.size(); i++) {
+        auto &stack = open[kept[i].thread];
+        if (!kept[i].in_log)
+            continue;
+        if (kept[i].kind == BEGIN) {
+            stack.push_back({i, true});
+            continue;
+        }
+        if (kept[i].kind != END) {
+            for (auto b = stack.rbegin(); b != stack.rend() && b->empty; ++b)
+                b->empty = false;
+            continue;
+        }
+        if (stack.back().empty) {
+            Kept &begin = kept[stack.back().kept];
+            begun[begin.number]->calls--;
+            begin.in_log = false;
+            kept[i].in_log = false;
+            events -= 2;
+        }
+        stack.pop_back();
+    }
+}
+// With a write dropped, the values of what is left do not follow from each other.
+void Events::forget_values() {
+    if (rewritten_.empty())
+        return;
+    for (Kept &k : kept)
+        if ((k.kind == RD || k.kind == WR) && rewritten_.count(k.number))
+            k.value = 0;
 }
 bool Events::step(const Event &e) {
     Thread &t = threads_[e.thread];
@@ -118,9 +216,7 @@ bool Events::step(const Event &e) {
             close(e.thread);
         break;
     case WAIT:
-        for (auto &o : t.open)
-            if (o.function)
-                o.function->waits = true;
+        wait_in_blocks(e);
         break;
     case ACQ:
     case REL:
@@ -149,6 +245,8 @@ bool Events::step(const Event &e) {
     default:
         break;
     }
+    if (t.cuts_after == e.kind)
+        cut_blocks(e.thread);
     return true;
 }
 
@@ -161,12 +259,17 @@ void Events::begin(const Event &e) {
         f = nullptr;
     if (f && t.depth >= int(MAX_OPEN))
         f = nullptr, deep++;
-    t.open.push_back({kept.size(), f, library, e.at});
+    t.open.push_back({kept.size(), f, library, e.at, false, nullptr});
     if (!f)
         return;
-    t.depth++, t.version++;
-    kept.push_back(
-        {e.at ? e.at : f->code, u32(begun.size()), u8(t.carrier), BEGIN, false, false, 0});
+    t.depth++;
+    begin_part(e.thread, t.open.back(), f, e.at ? e.at : f->code);
+}
+void Events::begin_part(u32 thread, Open &o, Function *f, u64 code) {
+    Thread &t = threads_[thread];
+    t.version++;
+    o.kept = kept.size();
+    kept.push_back({code, u32(begun.size()), u8(t.carrier), BEGIN, false, false, 0});
     begun.push_back(f);
 }
 void Events::close(u32 thread) {
@@ -175,9 +278,74 @@ void Events::close(u32 thread) {
     t.open.pop_back();
     if (!o.function)
         return;
-    t.depth--, t.version++;
+    t.depth--;
+    end_part(thread, o);
+}
+void Events::end_part(u32 thread, const Open &o) {
+    Thread &t = threads_[thread];
+    t.version++;
     if (kept[o.kept].in_log)
         kept.push_back({0, 0, u8(t.carrier), END, true, false, 0});
+}
+
+// ---- waits. A block that waits is two: what is before the wait, and what is after it.
+void Events::wait_in_blocks(const Event &e) {
+    Thread &t = threads_[e.thread];
+    if (e.size == FOR_CONDITION)
+        t.cuts_after = REL; // the next event of the thread
+    else if (e.size == FOR_BARRIER)
+        t.cuts_after = SWR;
+    else if (e.flags & RETURNS)
+        return_to_blocks(e.thread);
+    else if (e.size != FOR_FUTEX) // it may be of a lock that others made
+        cut_blocks(e.thread);
+    else if (auto x = variable_at_.find(e.at); x != variable_at_.end())
+        t.retries.waits_at(x->second);
+    if (e.flags & LEAVES)
+        leave_blocks(e.thread);
+}
+void Events::leave_blocks(u32 thread) {
+    Thread &t = threads_[thread];
+    for (auto &o : t.open) {
+        if (!o.function)
+            continue;
+        o.away = o.function;
+        o.function = nullptr;
+        t.depth--;
+    }
+}
+void Events::return_to_blocks(u32 thread) {
+    Thread &t = threads_[thread];
+    for (auto &o : t.open) {
+        if (!o.away)
+            continue;
+        o.function = o.away;
+        o.away = nullptr;
+        t.depth++;
+        begin_part(thread, o, blocks_.part(o.function, true), kept[o.kept].code);
+        o.waited = true;
+    }
+}
+void Events::cut_blocks(u32 thread) {
+    Thread &t = threads_[thread];
+    t.cuts_after = 0;
+    for (auto o = t.open.rbegin(); o != t.open.rend(); ++o) {
+        if (!o->function)
+            continue;
+        Kept &k = kept[o->kept];
+        if (!o->waited && k.in_log) {
+            begun[k.number]->calls--;
+            begun[k.number] = blocks_.part(o->function, false);
+            begun[k.number]->calls++;
+        }
+        end_part(thread, *o);
+    }
+    for (auto &o : t.open) {
+        if (!o.function)
+            continue;
+        begin_part(thread, o, blocks_.part(o.function, true), kept[o.kept].code);
+        o.waited = true;
+    }
 }
 
 // ---- locks: the outermost hold of a recursive one
@@ -212,16 +380,26 @@ bool Events::locks_again(Lock &l, const Event &e) { // or it cannot be
         return false;
     }
 }
+// A lock that one thread alone takes adds no edge.
+bool Events::is_numbered(Lock &l, u64 at) {
+    if (l.number)
+        return true;
+    bool shared = shared_.lock_uses[at].many;
+    if (!shared && !options_.all)
+        return false;
+    if (locks.size() == MAX_LOCKS || (!shared && !room_for_unshared_)) {
+        dropped++;
+        return false;
+    }
+    room_for_unshared_ -= !shared;
+    locks.push_back(at);
+    l.number = locks.size();
+    return true;
+}
 void Events::lock(const Event &e) {
     Lock &l = locks_[e.at];
-    if (locks_again(l, e) || options_.data)
+    if (locks_again(l, e) || options_.data || shared_.ignores(e.at) || !is_numbered(l, e.at))
         return;
-    if (!l.number && locks.size() < MAX_LOCKS)
-        locks.push_back(e.at), l.number = locks.size();
-    if (!l.number) {
-        dropped++;
-        return;
-    }
     keep(e.thread, e.kind, l.number - 1, e.code);
     kept.back().tried = e.flags & TRIED;
 }

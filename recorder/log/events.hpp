@@ -1,6 +1,7 @@
 // The events of the log: what stays of the records.
 #pragma once
 #include "blocks.hpp"
+#include "retries.hpp"
 #include <set>
 
 struct Options {
@@ -36,6 +37,8 @@ private:
         Function *function;
         bool library;
         u64 from;
+        bool waited;              // a wait in it is over
+        Function *away = nullptr; // its function, where the thread is elsewhere meanwhile
     };
     struct Last {
         u32 variable = ~0u;
@@ -56,16 +59,31 @@ private:
         int carrier = -1;
         u64 version = 0;
         Last last;
+        Retries retries;
+        int cuts_after = 0; // a kind of event, the last one before a wait
         bool greets = false;
         std::set<u32> knows; // threads whose ends it knows of
     };
     void number_variables();
+    void number_objects(size_t room);
+    bool is_numbered(Lock &l, u64 at);
     void keep(u32 thread, int kind, u32 number, u64 code, u64 value = 0);
     bool repeats(u32 thread, int kind, u32 variable, u64 value);
     void access(const Event &e, u32 piece, const Granule &g, int p, int a, int b, u64 at);
+    u64 place_of(const Event &e) const;
+    void retry(const Event &e, u32 variable);
     bool step(const Event &e);
     void begin(const Event &e);
+    void begin_part(u32 thread, Open &o, Function *f, u64 code);
     void close(u32 thread);
+    void end_part(u32 thread, const Open &o);
+    void wait_in_blocks(const Event &e);
+    void cut_blocks(u32 thread);
+    void leave_blocks(u32 thread);
+    void return_to_blocks(u32 thread);
+    void drop(const std::vector<size_t> &kept);
+    void drop_empty_blocks();
+    void forget_values();
     void lock(const Event &e);
     bool locks_again(Lock &l, const Event &e);
     void fork(u32 thread, u32 child, u64 code);
@@ -78,7 +96,10 @@ private:
     Options options_;
     std::vector<Thread> threads_;
     std::unordered_map<u64, Lock> locks_;
-    std::vector<u32> last_by_; // of each variable: the thread of its last event
-    std::vector<int> holder_;  // of each number of a thread: who has it
+    std::vector<u32> last_by_;                 // of each variable: the thread of its last event
+    std::vector<int> holder_;                  // of each number of a thread: who has it
+    std::set<u32> rewritten_;                  // variables of which a write was dropped
+    u32 room_for_unshared_ = 0;                // numbers for locks that one thread alone takes
+    std::unordered_map<u64, u32> variable_at_; // of atomics: numbers by address
     bool many_;
 };

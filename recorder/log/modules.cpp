@@ -1,11 +1,12 @@
 #include "modules.hpp"
+#include "command.hpp"
 #include "fields.hpp"
+#include "loops.hpp"
 #include <algorithm>
 #include <cstring>
 #include <cxxabi.h>
 #include <elf.h>
 #include <fstream>
-#include <regex>
 #include <unistd.h>
 
 using namespace std;
@@ -16,10 +17,20 @@ static bool read_header(const string &path, Elf64_Ehdr &h) {
     return f.read(reinterpret_cast<char *>(&h), sizeof h) && !memcmp(h.e_ident, ELFMAG, 4) &&
            h.e_ident[EI_CLASS] == ELFCLASS64;
 }
+static string without_deleted(const string &path) {
+    static const string mark = " (deleted)";
+    bool deleted = path.size() > mark.size() &&
+                   path.compare(path.size() - mark.size(), mark.size(), mark) == 0;
+    return deleted ? path.substr(0, path.size() - mark.size()) : path;
+}
 // Each snapshot of the maps is in the file: what was mapped at any time counts.
-Modules::Modules(const string &maps) {
+Modules::Modules(const string &maps) : maps_(maps), ran_(builds_that_ran(maps)) {
+    struct Span {
+        u64 low, high;
+        bool runs;
+    };
     ifstream f(maps);
-    map<string, pair<u64, u64>> span;
+    map<string, Span> span;
     set<string> seen;
     for (string l; getline(f, l);) {
         u64 low, high, offset;
@@ -30,23 +41,42 @@ Modules::Modules(const string &maps) {
                    name) < 4 ||
             name[0] != '/')
             continue;
-        pieces_.push_back({low, high, offset, name});
-        auto i = span.emplace(name, make_pair(low, high)).first;
-        i->second = {min(i->second.first, low), max(i->second.second, high)};
+        string path = without_deleted(name);
+        pieces_.push_back({low, high, offset, path});
+        auto i = span.emplace(path, Span{low, high, false}).first;
+        i->second.low = min(i->second.low, low), i->second.high = max(i->second.high, high);
+        i->second.runs |= rights[2] == 'x';
     }
-    for (auto &s : span) {
-        Elf64_Ehdr h{};
-        if (!read_header(s.first, h))
-            continue;
-        Module m;
-        m.path = s.first, m.low = s.second.first,
-        m.high = s.second.second + (64 << 20); // zeros behind the file's pages
-        m.bias = h.e_type == ET_DYN ? m.low : 0;
-        modules_.push_back(m);
-    }
+    for (auto &s : span)
+        add_module(s.first, s.second.low, s.second.high, s.second.runs);
     sort(modules_.begin(), modules_.end(), [](auto &a, auto &b) { return a.low < b.low; });
     for (size_t i = 0; i + 1 < modules_.size(); i++)
         modules_[i].high = min(modules_[i].high, modules_[i + 1].low);
+}
+void Modules::add_module(const string &path, u64 low, u64 high, bool runs) {
+    Elf64_Ehdr h{};
+    bool there = read_header(path, h);
+    if (!there && !runs)
+        return; // data
+    Module m;
+    m.path = path, m.low = low, m.high = high + (64 << 20); // zeros behind the file's pages
+    m.bias = !there || h.e_type == ET_DYN ? m.low : 0;
+    modules_.push_back(m);
+}
+BuildState Modules::state(Module &m) {
+    if (m.judged)
+        return m.state;
+    auto ran = ran_.find(m.low);
+    m.judged = true;
+    return m.state = state_of(m.path, ran == ran_.end() ? nullptr : &ran->second, maps_);
+}
+bool Modules::readable(Module &m) {
+    return state(m) == BuildState::SAME || m.state == BuildState::STRIPPED;
+}
+Fields &Modules::fields(Module &m) {
+    if (!m.fields)
+        m.fields = make_shared<Fields>(readable(m) ? m.path : "");
+    return *m.fields;
 }
 Module *Modules::of(u64 a) {
     auto i = upper_bound(modules_.begin(), modules_.end(), a,
@@ -57,6 +87,8 @@ string Modules::constant(u64 a) {
     for (auto &p : pieces_) {
         if (a < p.low || a >= p.high)
             continue;
+        if (Module *m = of(a); m && !readable(*m))
+            return "?";
         ifstream f(p.path, ios::binary);
         f.seekg(a - p.low + p.offset);
         string s;
@@ -67,29 +99,24 @@ string Modules::constant(u64 a) {
 }
 
 // ---- symbols
-static string quoted(const string &s) {
-    return "'" + regex_replace(s, regex("'"), "'\\''") + "'";
-}
-template <class F> static void lines_of(const string &command, F use) {
-    FILE *p = popen(command.c_str(), "r");
-    if (!p)
-        return;
-    char *l = nullptr;
-    size_t room = 0;
-    while (getline(&l, &room, p) >= 0) {
-        l[strcspn(l, "\n")] = 0;
-        use(l);
+// `[0123456789abcdef]` behind the name of a crate.
+static string without_hashes(const string &s) {
+    string out;
+    for (size_t i = 0; i < s.size(); i++) {
+        size_t n = s[i] == '[' ? strspn(s.c_str() + i + 1, "0123456789abcdef") : 0;
+        if (n >= 14 && n <= 16 && s[i + 1 + n] == ']')
+            i += n + 1;
+        else
+            out += s[i];
     }
-    free(l);
-    pclose(p);
+    return out;
 }
 static string demangle_rust(const string &s) {
     static map<string, string> known;
     auto i = known.emplace(s, s);
     if (i.second)
-        lines_of("c++filt " + quoted(s), [&](const char *l) {
-            i.first->second = regex_replace(l, regex("\\[[0-9a-f]{14,16}\\]"), "");
-        });
+        lines_of("c++filt " + quoted_word(s),
+                 [&](const char *l) { i.first->second = without_hashes(l); });
     return i.first->second;
 }
 string demangle(const string &s) {
@@ -105,8 +132,10 @@ string demangle(const string &s) {
 }
 void Modules::read_symbols(Module &m) {
     m.ready = true;
+    if (!readable(m))
+        return;
     for (const char *which : {"", "-D "}) {
-        lines_of("nm -S --defined-only " + string(which) + quoted(m.path) + " 2>/dev/null",
+        lines_of("nm -S --defined-only " + string(which) + quoted_word(m.path) + " 2>/dev/null",
                  [&](const char *l) {
                      u64 at, size;
                      char type;
@@ -137,6 +166,11 @@ string Modules::function(u64 code) {
     auto y = symbol(code);
     return y ? demangle(y->name) : "";
 }
+bool Modules::loops(u64 function) {
+    auto y = symbol(function);
+    Module *m = of(function);
+    return y && has_loop(m->path, y->at, y->at + y->size);
+}
 string Modules::place(u64 a) {
     auto y = symbol(a);
     char text[40] = "";
@@ -146,9 +180,7 @@ string Modules::place(u64 a) {
     }
     Module *m = of(a);
     u64 offset = a - m->bias - y->at;
-    if (!m->fields)
-        m->fields = make_shared<Fields>(m->path);
-    string field = m->fields->path(y->at, offset);
+    string field = fields(*m).path(y->at, offset);
     if (!field.empty())
         return demangle(y->name) + field;
     if (offset)
@@ -181,7 +213,7 @@ static string own_line(const vector<string> &l) {
 void Modules::find_lines(const set<u64> &codes) {
     map<Module *, vector<u64>> by;
     for (u64 a : codes)
-        if (Module *m = of(a))
+        if (Module *m = of(a); m && readable(*m))
             by[m].push_back(a);
     for (auto &g : by) {
         char name[] = P_tmpdir "/velodrome-XXXXXX";
@@ -199,7 +231,7 @@ void Modules::find_lines(const set<u64> &codes) {
                 lines_[g.second[n - 1]] = l;
             found.clear();
         };
-        lines_of("addr2line -a -i -e " + quoted(g.first->path) + " < " + name + " 2>/dev/null",
+        lines_of("addr2line -a -i -e " + quoted_word(g.first->path) + " < " + name + " 2>/dev/null",
                  [&](char *l) {
                      if (l[0] == '0' && l[1] == 'x')
                          end(), n++;

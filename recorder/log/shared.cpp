@@ -23,11 +23,26 @@ bool value_of(const Event &e, const Granule &g, int piece, int a, int b, u64 at,
     return true;
 }
 
-Shared::Shared(Trace &trace, bool with_values) : trace_(trace) {
+Shared::Shared(Trace &trace, bool with_values) : trace_(trace), with_values_(with_values) {
     find_shared();
     number_pieces();
     find_races();
-    if (with_values)
+    if (with_values_)
+        compare_values();
+}
+void Shared::ignore(const set<u64> &locks, const set<u32> &pieces) {
+    ignored_locks_ = locks;
+    ignored_pieces_ = pieces;
+    size_t n = variables.size();
+    variables.clear();
+    variables.resize(n);
+    order.clear();
+    objects.clear();
+    lock_uses.clear();
+    hidden = 0;
+    hidden_at.clear();
+    find_races();
+    if (with_values_)
         compare_values();
 }
 
@@ -39,7 +54,10 @@ void Shared::find_shared() {
     routine.resize(threads), title.resize(threads), begins.resize(threads);
     granules_.resize(1 << 16);
     trace_.each([&](const Event &e) {
-        records++, kinds[e.kind]++, late += (e.flags & LATE) != 0, seen[e.thread] = 1;
+        records++;
+        kinds[e.kind]++;
+        late += (e.kind == RD || e.kind == WR || e.kind == RDS || e.kind == WRS) && e.flags & LATE;
+        seen[e.thread] = 1;
         if (e.kind == START)
             routine[e.thread] = u32(e.code) ? e.code : 0;
         if (e.kind == FORK && e.at < threads)
@@ -167,23 +185,6 @@ private:
     vector<Clock> clocks_, ended_;
     unordered_map<u64, Object> locks_;
 };
-class Heap {
-public:
-    void step(const Event &e) {
-        if (e.kind == ALLOC)
-            blocks_[e.at] = e.code;
-    }
-    HeapPlace find(u64 at) const {
-        auto b = blocks_.upper_bound(at);
-        if (b == blocks_.begin())
-            return {};
-        --b;
-        return at - b->first < 1 << 20 ? HeapPlace{b->second, at - b->first} : HeapPlace{};
-    }
-
-private:
-    map<u64, u64> blocks_;
-};
 } // namespace
 static bool is_atomic(const Granule &g, int piece) {
     for (int b = 0; b < 8; b++)
@@ -193,27 +194,28 @@ static bool is_atomic(const Granule &g, int piece) {
 }
 void Shared::find_races() {
     HappensBefore before(trace_.threads());
-    Heap heap;
     unordered_map<u32, Object> atomics;
     auto access = [&](const Event &e, u32 piece, const Granule &g, int p, int, int, u64 at) {
         Variable &x = variables[piece];
         if (!x.first) {
             x.first = e.thread + 1, x.at = at + g.first_byte(p), x.atomic = is_atomic(g, p);
-            HeapPlace h = heap.find(x.at);
-            x.heap_site = h.site, x.heap_offset = h.offset;
             order.push_back(piece);
         } else if (x.first != e.thread + 1)
             x.many = true;
         x.written |= e.writes();
+        x.ignored = ignored_pieces_.count(piece);
+        if (x.ignored)
+            return;
         if (x.atomic)
             before.meet(atomics[piece], e.thread, e.writes());
         else
             x.racy |= before.races(x, e.thread, e.writes());
     };
     each(access, [&](const Event &e) {
-        heap.step(e), before.step(e);
-        if ((e.kind == ACQ || e.kind == ACQS) && !lock_places.count(e.at))
-            lock_places[e.at] = heap.find(e.at);
+        bool is_lock = e.kind >= ACQ && e.kind <= RELS;
+        if (!is_lock || !ignores(e.at))
+            before.step(e);
+        meet_lock(e);
         if (e.kind == SRD || e.kind == SWR) {
             Object &o = objects[e.at];
             before.meet(o, e.thread, e.kind == SWR);
@@ -224,6 +226,14 @@ void Shared::find_races() {
         }
         return true;
     });
+}
+void Shared::meet_lock(const Event &e) {
+    if (e.kind != ACQ && e.kind != ACQS)
+        return;
+    LockUse &l = lock_uses[e.at];
+    if (!l.first)
+        l.first = e.thread + 1;
+    l.many |= l.first != e.thread + 1;
 }
 
 // ---- values. A read that has not what was written last tells of a write that was not recorded.

@@ -5,6 +5,7 @@
 #include <algorithm>
 #include <map>
 #include <memory>
+#include <set>
 #include <unordered_map>
 
 typedef std::vector<u32> Clock;
@@ -23,19 +24,20 @@ struct Granule {
 };
 struct Variable {
     bool many = false, written = false, atomic = false, racy = false, valued = false;
+    bool ignored = false;
     u32 first = 0, number = 0; // number: in the log, plus one
     u32 writer = 0, write_clock = 0, reader = 0, read_clock = 0;
     std::unique_ptr<Clock> readers;
     u64 at = 0, initial = 0;
-    u64 heap_site = 0, heap_offset = 0;
 };
 struct Object { // a semaphore, a barrier, a once
     Clock w, r;
     u32 first = 0, number = 0;
     bool many = false;
 };
-struct HeapPlace {
-    u64 site = 0, offset = 0;
+struct LockUse {
+    u32 first = 0; // the thread plus one that took it first
+    bool many = false;
 };
 
 class Shared {
@@ -44,7 +46,7 @@ public:
     std::vector<Variable> variables; // by piece; 0 is none
     std::vector<u32> order;          // pieces in the order of their first accesses
     std::unordered_map<u64, Object> objects;
-    std::map<u64, HeapPlace> lock_places; // locks that lie on the heap
+    std::unordered_map<u64, LockUse> lock_uses;
     u64 records = 0, late = 0, kinds[32] = {};
     std::vector<u64> routine;             // of each thread
     std::vector<std::vector<u64>> begins; // the functions of its first begins
@@ -52,6 +54,10 @@ public:
     std::vector<u32> foreign; // threads that nobody forked
     u64 hidden = 0;           // reads that had not what was written last
     std::map<u64, u64> hidden_at;
+
+    // What is ignored orders nothing: finds the races anew.
+    void ignore(const std::set<u64> &locks, const std::set<u32> &pieces);
+    bool ignores(u64 lock) const { return ignored_locks_.count(lock) > 0; }
 
     // Replays the trace. use(event, piece, value) for each piece of a shared access, then
     // done(event) for each event, until it returns false.
@@ -83,7 +89,11 @@ private:
     void number_pieces();
     void find_races();
     void compare_values();
+    void meet_lock(const Event &e);
     Trace &trace_;
+    bool with_values_;
+    std::set<u64> ignored_locks_;
+    std::set<u32> ignored_pieces_;
     std::vector<Granule> granules_;
     std::vector<u32> ids_;    // granules of the accesses, in order
     std::vector<u64> shared_; // a bit for each granule

@@ -15,6 +15,7 @@ struct Event {
     unsigned size;
     u64 at, code, number; // number: of the first MORE
     u64 second;           // of the second
+    u64 span;             // of a begin: how far its frame lies below the outer one's, 0 unknown
     bool reads() const { return kind == RD || kind == RDS || kind == ARD; }
     bool writes() const { return kind == WR || kind == WRS || kind == AWR; }
     bool atomic() const { return kind == ARD || kind == AWR; }
@@ -27,7 +28,7 @@ public:
     explicit Trace(const std::string &path); // throws std::runtime_error
     const head &info() const { return *head_; }
     size_t threads() const { return streams_.size(); }
-    bool full() const { return head_->stopped == FULL || head_->stopped == NO_SPACE; }
+    bool full() const { return head_->stopped != GOES_ON && head_->stopped != ENDED; }
     u64 records() const { return records_; }
 
     // Calls use(event) for each event, until it returns false. The streams are merged once; what
@@ -75,9 +76,10 @@ private:
     u32 decode(Cursor &c, const record *r, Event &e) const {
         e.thread = c.thread, e.kind = r->what & 31, e.flags = r->what >> 13 & 7,
         e.size = r->what >> 5 & 255, e.at = r->what >> 16;
-        e.code = c.high | u32(r->where), e.number = e.second = 0, e.valued = false;
+        e.code = c.high | u32(r->where), e.number = e.second = e.span = 0, e.valued = false;
         if (e.kind == BEGIN || e.kind == NAMED)
-            e.code = r->where;
+            e.code = r->where & ((1ull << FRAME_SHIFT) - 1),
+            e.span = (r->where >> FRAME_SHIFT) * FRAME_UNIT;
         if (e.kind == HIGH)
             c.high = e.at << 32;
         u32 taken = 1;

@@ -35,8 +35,7 @@ private:
     FILE *file_;
 };
 } // namespace
-// A name as the checker takes it: at most 200 bytes, printable.
-static string tidy(string s) {
+string tidy(string s) {
     for (char &c : s)
         if (c < ' ' || c == 127)
             c = '?'; // also what is not ASCII
@@ -55,15 +54,16 @@ u32 Writer::variables() const {
 void Writer::log(const string &path) {
     Out out(path);
     auto &kept = events_.kept;
-    map<pair<u64, bool>, u32> site;
+    map<pair<u64, Function *>, u32> site;
     bool version2 = any_of(kept.begin(), kept.end(), shares);
     fprintf(out.file(), "vlog %d %u %u %zu\n", version2 ? 2 : 1, events_.threads, variables(),
             events_.locks.size());
     for (Kept &k : kept) {
         if (!k.in_log)
             continue;
+        Function *f = nullptr;
         if (k.kind == BEGIN) {
-            Function *f = events_.begun[k.number];
+            f = events_.begun[k.number];
             if (f->label == ~0u)
                 f->label = labels_.size(), labels_.push_back(f);
             k.number = f->label;
@@ -81,40 +81,31 @@ void Writer::log(const string &path) {
             at_.push_back(0);
             continue;
         }
-        auto i = site.emplace(make_pair(k.code, k.kind == BEGIN), sites_.size() + 1);
+        auto i = site.emplace(make_pair(k.code, f), sites_.size() + 1);
         if (i.second)
-            sites_.push_back(i.first->first), codes_.insert(k.code);
+            sites_.push_back({k.code, f}), codes_.insert(k.code);
         at_.push_back(i.first->second);
     }
     out.close();
 }
-void Writer::find_lines() {
+void Writer::add_codes(set<u64> &codes) const {
+    codes.insert(codes_.begin(), codes_.end());
     for (auto &h : shared_.hidden_at)
-        codes_.insert(h.first);
+        codes.insert(h.first);
     for (auto f : labels_)
-        codes_.insert(f->code);
-    for (auto v : events_.variables)
-        if (v->heap_site)
-            codes_.insert(v->heap_site);
-    for (auto &l : shared_.lock_places)
-        if (l.second.site)
-            codes_.insert(l.second.site);
-    if (trace_.info().stuck)
-        trace_.each([&](const Event &e) {
-            if (e.kind == STUCK)
-                codes_.insert(e.code);
-            return true;
-        });
-    modules_.find_lines(codes_);
+        codes.insert(f->code);
 }
 
 // ---- sites: where each event stands in the source
 void Writer::sites(const string &path) {
     Out out(path);
     fprintf(out.file(), "vsites 1 %zu %zu\n", sites_.size(), at_.size());
-    for (auto &s : sites_) {
-        fprintf(out.file(), "%s %s\n", modules_.line(s.first).c_str(),
-                tidy(modules_.function(s.first)).c_str());
+    for (auto &s : sites_) { // of a routine of a thread the call is not the program's
+        bool unknown =
+            s.called && (modules_.line(s.code) == "?" || is_library(modules_.function(s.code)));
+        u64 code = unknown ? s.called->code : s.code;
+        fprintf(out.file(), "%s %s\n", modules_.line(code).c_str(),
+                tidy(modules_.function(code)).c_str());
     }
     for (u32 s : at_)
         fprintf(out.file(), "%u\n", s);
@@ -135,14 +126,10 @@ void Writer::codes(const string &path) {
 }
 
 // ---- names
-string Writer::heap_name(const HeapPlace &h) {
-    return "heap " + modules_.line(h.site) + "+" + to_string(h.offset);
-}
 string Writer::variable_name(u32 x) {
     if (x < events_.variables.size()) {
-        const Variable &v = *events_.variables[x];
-        return v.heap_site && !modules_.symbol(v.at) ? heap_name({v.heap_site, v.heap_offset})
-                                                     : modules_.place(v.at);
+        const Variable *v = events_.variables[x];
+        return places_.variable(v - shared_.variables.data(), v->at);
     }
     x -= events_.variables.size();
     if (x < events_.objects.size())
@@ -151,10 +138,7 @@ string Writer::variable_name(u32 x) {
     return (x % 2 ? "end of thread " : "start of thread ") + to_string(x / 2);
 }
 string Writer::lock_name(u32 m) {
-    u64 at = events_.locks[m];
-    auto h = shared_.lock_places.find(at);
-    bool heap = h != shared_.lock_places.end() && h->second.site && !modules_.symbol(at);
-    return heap ? heap_name(h->second) : modules_.place(at);
+    return places_.lock(events_.locks[m]);
 }
 string Writer::thread_name(u32 t) {
     if (!shared_.title[t].empty())
@@ -182,31 +166,4 @@ void Writer::functions(const string &path) {
         fprintf(out.file(), "%u %s %lu %s %s\n", f->label, f->waits ? "waits" : "-", f->calls,
                 modules_.line(f->code).c_str(), f->name.c_str());
     out.close();
-}
-
-// ---- a deadlock
-void Writer::deadlock() {
-    static const char *const what[] = {
-        "time",    "mutex", "reader-writer lock", "spin lock", "condition", "semaphore",
-        "barrier", "once",  "the end of thread",  "futex"};
-    if (!trace_.info().stuck)
-        return;
-    printf("deadlock\n");
-    trace_.each([&](const Event &e) {
-        if (e.kind != STUCK || e.size > FOR_FUTEX)
-            return true;
-        auto named = [&](u64 t) {
-            string n = t < trace_.threads() ? thread_name(t) : "";
-            return to_string(t) + (n.empty() ? "" : " " + tidy(n));
-        };
-        printf("  thread %s waits for ", named(e.thread).c_str());
-        if (e.size == FOR_THREAD)
-            printf("the end of thread %s", named(e.number - 1).c_str());
-        else
-            printf("the %s %s", what[e.size], tidy(modules_.place(e.at)).c_str());
-        if (e.size != FOR_THREAD && e.number)
-            printf(", held by thread %s", named(e.number - 1).c_str());
-        printf("   %s\n", modules_.line(e.code).c_str());
-        return true;
-    });
 }

@@ -43,10 +43,21 @@ static inline int keeps(const struct self *t, u64 a, unsigned size) {
     return t->holds == 1 && !t->spans && t->held[0] == i && line_of(a + size - 1) == i &&
            !lines[i].wanted && lines[i].owner == t->id + 1;
 }
+// A read that was left out as a repeat counts if another thread came before the write that follows:
+// the value may be carried over. Its stamp is that of the thread's last event.
+static void note_unnoted(struct self *t, u64 a, unsigned size) {
+    if (t->last_epoch == t->epoch && t->last_at == a && t->last_size == size)
+        record(t, RD, size, a, t->unnoted);
+}
 static inline void access_stamped(struct self *t, int kind, u64 a, unsigned size, u64 code,
                                   int late) {
-    if (!values && repeats(t, kind == RD, a, size))
+    if (!values && repeats(t, kind == RD, a, size)) {
+        t->unnoted = kind == RD ? code : 0;
         return;
+    }
+    if (kind == WR && unlikely(t->unnoted != 0))
+        note_unnoted(t, a, size);
+    t->unnoted = 0;
     stamp_held(t);
     if (event(t, kind | (late ? LATE << 8 : 0), size, a, code) && values)
         access_value(t, kind, a, size);
@@ -227,9 +238,9 @@ void note(int kind, u64 at, u64 code) {
 }
 
 // ---- blocks
-void open_block(struct self *t, u64 function, u64 at, u64 from) {
+void open_block(struct self *t, u64 function, u64 at, u64 from, u64 base) {
     if (t->depth < DEEP)
-        t->frame[t->depth] = (struct frame){function, at, from, 0};
+        t->frame[t->depth] = (struct frame){function, at, from, base, 0};
     t->depth++, t->epoch++;
 }
 static int kind_of(const struct record *r) {
@@ -293,7 +304,7 @@ API void __tsan_func_entry(void *caller) {
         return;
     while (t->depth > 0 && t->depth <= DEEP && was_left(&t->frame[t->depth - 1], FRAME, 1))
         close_block(t, t->frame[t->depth - 1].at);
-    open_block(t, CALLER, FRAME, (u64)caller);
+    open_block(t, CALLER, FRAME, (u64)caller, *(u64 *)FRAME);
 }
 API void __tsan_func_exit(void) {
     struct self *t = boundary();
@@ -306,7 +317,7 @@ API void __tsan_func_exit(void) {
 API void velodrome_atomic_begin(const char *name) {
     struct self *t = boundary();
     if (t)
-        open_block(t, (u64)name, 0, CALLER);
+        open_block(t, (u64)name, 0, CALLER, 0);
 }
 API void velodrome_atomic_end(void) {
     struct self *t = boundary();

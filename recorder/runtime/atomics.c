@@ -9,7 +9,8 @@ static inline struct self *begin_atomic(u64 a) {
     return t;
 }
 static void tell(struct self *t, int kind, u64 a, unsigned size, u64 code, u64 value) {
-    if (mode != FREE && !values && repeats(t, kind == ARD, a, size))
+    int plain = kind & 31;
+    if (mode != FREE && !values && repeats(t, plain == ARD, a, size))
         return;
     if (mode == SERIAL)
         stamp_alone(t);
@@ -17,7 +18,7 @@ static void tell(struct self *t, int kind, u64 a, unsigned size, u64 code, u64 v
         stamp(t, &lines[line_of(a)]);
     if (event(t, kind, size, a, code) && values)
         more(t, VALUED, value);
-    remember(t, kind == ARD, a, size);
+    remember(t, plain == ARD, a, size);
 }
 // By turns nobody else is there; only who was at the line last.
 static void visit(struct self *t, u64 a) {
@@ -30,23 +31,48 @@ static void end_atomic(struct self *t, u64 a) {
         give_back(t, &lines[line_of(a)]);
     leave(t);
 }
+static void see(struct self *t, u64 a, u64 value) {
+    t->saw[a / 8 % SAW].at = a;
+    t->saw[a / 8 % SAW].value = value;
+}
+static int has_seen(const struct self *t, u64 a, u64 value) {
+    return t->saw[a / 8 % SAW].at == a && t->saw[a / 8 % SAW].value == value;
+}
 static inline void one(struct self *t, int kind, u64 a, unsigned size, u64 code, u64 value) {
     if (!t)
         return;
     if (mode == SERIAL)
         visit(t, a);
     tell(t, kind, a, size, code, value);
+    see(t, a, value);
     end_atomic(t, a);
 }
-static inline void two(struct self *t, u64 a, unsigned size, u64 code, u64 old, u64 new) {
+// One that changes nothing is a read.
+static inline void two(struct self *t, int read, int write, u64 a, unsigned size, u64 code, u64 old,
+                       u64 new) {
     if (!t)
         return;
     if (mode == SERIAL)
         visit(t, a);
-    tell(t, ARD, a, size, code, old);
+    tell(t, read, a, size, code, old);
     t->alone = 1;
-    tell(t, AWR, a, size, code, new);
+    if (old != new || size > 8)
+        tell(t, write, a, size, code, new);
+    see(t, a, new);
     end_atomic(t, a);
+}
+static int again(struct self *t, u64 a, u64 value) {
+    if (!t)
+        return AWR;
+    int same = t->swapped == a && t->swapped_to == value;
+    t->swapped = a;
+    t->swapped_to = value;
+    return same ? AWR | AGAIN << 8 : AWR;
+}
+// The read of a compare-and-swap.
+static int compared(const struct self *t, u64 a, u64 expected, int done) {
+    int seen = t && has_seen(t, a, expected);
+    return ARD | (TRIED | (seen ? EXPECTED : 0) | (done ? 0 : MISSED)) << 8;
 }
 
 typedef unsigned __int128 u128;
@@ -58,7 +84,10 @@ typedef unsigned __int128 u128;
         return __atomic_compare_exchange_n(a, e, v, 0, __ATOMIC_SEQ_CST, __ATOMIC_SEQ_CST);        \
     }
 PLAIN(8, u8)
-PLAIN(16, uint16_t) PLAIN(32, u32) PLAIN(64, u64) static inline u128 load128(volatile u128 *a) {
+PLAIN(16, uint16_t)
+PLAIN(32, u32)
+PLAIN(64, u64)
+static inline u128 load128(volatile u128 *a) {
     return __sync_val_compare_and_swap(a, 0, 0);
 }
 static inline int swap128(volatile u128 *a, u128 *e, u128 v) {
@@ -68,7 +97,7 @@ static inline int swap128(volatile u128 *a, u128 *e, u128 v) {
     return done;
 }
 #define A ((u64)a)
-#define CHANGE(bits, U, name, new_value)                                                           \
+#define CHANGE(bits, U, name, new_value, written)                                                  \
     API U __tsan_atomic##bits##_##name(volatile U *a, U v, int order) {                            \
         (void)order;                                                                               \
         struct self *t = begin_atomic(A);                                                          \
@@ -76,17 +105,18 @@ static inline int swap128(volatile u128 *a, u128 *e, u128 v) {
         do                                                                                         \
             new = (U)(new_value);                                                                  \
         while (!swap##bits(a, &old, new));                                                         \
-        two(t, A, bits / 8, CALLER, (u64)old, (u64) new);                                          \
+        two(t, ARD, written, A, bits / 8, CALLER, (u64)old, (u64) new);                            \
         return old;                                                                                \
     }
 #define EXCHANGE(bits, U, a, e, v)                                                                 \
     struct self *t = begin_atomic(A);                                                              \
     U old = *(e);                                                                                  \
     int done = swap##bits(a, &old, v);                                                             \
+    int read = compared(t, A, (u64) * (e), done);                                                  \
     if (done)                                                                                      \
-        two(t, A, bits / 8, CALLER, (u64)old, (u64)v);                                             \
+        two(t, read, AWR, A, bits / 8, CALLER, (u64)old, (u64)v);                                  \
     else                                                                                           \
-        one(t, ARD, A, bits / 8, CALLER, (u64)old);                                                \
+        one(t, read, A, bits / 8, CALLER, (u64)old);                                               \
     (void)order, (void)failure
 #define SWAP(bits, U, name)                                                                        \
     API int __tsan_atomic##bits##_compare_exchange_##name(volatile U *a, U *e, U v, int order,     \
@@ -111,20 +141,27 @@ static inline int swap128(volatile u128 *a, u128 *e, u128 v) {
         }                                                                                          \
         one(t, AWR, A, bits / 8, CALLER, (u64)v);                                                  \
     }                                                                                              \
-    CHANGE(bits, U, exchange, v)                                                                   \
-    CHANGE(bits, U, fetch_add, old + v)                                                            \
-    CHANGE(bits, U, fetch_sub, old - v) CHANGE(bits, U, fetch_and, old &v)                         \
-        CHANGE(bits, U, fetch_or, old | v) CHANGE(bits, U, fetch_xor, old ^ v)                     \
-            CHANGE(bits, U, fetch_nand, ~(old & v)) SWAP(bits, U, strong) SWAP(bits, U, weak)      \
-                API U __tsan_atomic##bits##_compare_exchange_val(volatile U *a, U e, U v,          \
-                                                                 int order, int failure) {         \
+    CHANGE(bits, U, exchange, v, again(t, A, (u64)v))                                              \
+    CHANGE(bits, U, fetch_add, old + v, AWR)                                                       \
+    CHANGE(bits, U, fetch_sub, old - v, AWR)                                                       \
+    CHANGE(bits, U, fetch_and, old &v, AWR)                                                        \
+    CHANGE(bits, U, fetch_or, old | v, AWR)                                                        \
+    CHANGE(bits, U, fetch_xor, old ^ v, AWR)                                                       \
+    CHANGE(bits, U, fetch_nand, ~(old & v), AWR)                                                   \
+    SWAP(bits, U, strong)                                                                          \
+    SWAP(bits, U, weak)                                                                            \
+    API U __tsan_atomic##bits##_compare_exchange_val(volatile U *a, U e, U v, int order,           \
+                                                     int failure) {                                \
         EXCHANGE(bits, U, a, &e, v);                                                               \
         return old;                                                                                \
     }
 ATOMICS(8, u8)
-ATOMICS(16, uint16_t) ATOMICS(32, u32) ATOMICS(64, u64) ATOMICS(128, u128)
+ATOMICS(16, uint16_t)
+ATOMICS(32, u32)
+ATOMICS(64, u64)
+ATOMICS(128, u128)
 
-    API void __tsan_atomic_thread_fence(int order) {
+API void __tsan_atomic_thread_fence(int order) {
     (void)order;
     __atomic_thread_fence(__ATOMIC_SEQ_CST);
 }

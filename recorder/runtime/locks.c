@@ -38,6 +38,11 @@ static void acquired(struct self *t, int r, int kind, int flags, void *m, int is
     }
     leave(t);
 }
+// A lock that is not free is told before the thread waits for it: if it waits for ever, this stays.
+static void blocked(struct self *t, enum wait what, u64 lock, int ends, u64 code) {
+    stamp_alone(t);
+    event(t, CONTENDED | (ends ? TRIED << 8 : 0), what, lock, code);
+}
 // Locks that wait: by turns they try, and wait for their turn.
 #define LOCK(name, parameters, arguments, type, try, kind, what, until)                            \
     API int name parameters {                                                                      \
@@ -52,12 +57,16 @@ static void acquired(struct self *t, int r, int kind, int flags, void *m, int is
                     r = ETIMEDOUT;                                                                 \
                     break;                                                                         \
                 }                                                                                  \
-        } else {                                                                                   \
-            if (t)                                                                                 \
-                leave(t);                                                                          \
+        } else if (t) {                                                                            \
+            REAL(try);                                                                             \
+            if ((r = real_##try(m)) == EBUSY)                                                      \
+                blocked(t, what, (u64)m, (until) != 0, CALLER);                                    \
+            leave(t);                                                                              \
+            if (!got(r))                                                                           \
+                r = real_##name arguments;                                                         \
+            t = enter();                                                                           \
+        } else                                                                                     \
             r = real_##name arguments;                                                             \
-            t = t ? enter() : 0;                                                                   \
-        }                                                                                          \
         acquired(t, r, kind, 0, (void *)m, what == FOR_RWLOCK, CALLER);                            \
         return r;                                                                                  \
     }
@@ -100,12 +109,15 @@ static int lock_mutex(mutex *m, u64 code) {
             }
             wait_turn(t, FOR_MUTEX, m, 0, code);
         }
-    } else {
-        if (t)
-            leave(t);
+    } else if (t) {
+        if ((r = real_pthread_mutex_trylock(m)) == EBUSY)
+            blocked(t, FOR_MUTEX, M, 0, code);
+        leave(t);
+        if (!got(r))
+            r = real_pthread_mutex_lock(m);
+        t = enter();
+    } else
         r = real_pthread_mutex_lock(m);
-        t = t ? enter() : 0;
-    }
     acquired(t, r, ACQ, 0, m, 0, code);
     return r;
 }

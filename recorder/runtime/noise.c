@@ -2,11 +2,18 @@
 // about.
 #include "runtime.h"
 #include <errno.h>
-#include <sys/syscall.h>
 #include <unistd.h>
 
 u64 noise;
 static u64 noise_seed;
+u64 draw(u64 *state) {
+    *state ^= *state << 13, *state ^= *state >> 7, *state ^= *state << 17;
+    return *state * 0x2545f4914f6cdd1dull >> 16;
+}
+u64 scramble(u64 seed) {
+    u64 x = (seed + 1) * 0x9e3779b97f4a7c15ull;
+    return x ? x : 1;
+}
 void noise_open(u64 seed) {
     noise = setting("VELODROME_NOISE", 0);
     noise_seed = seed;
@@ -20,12 +27,11 @@ void make_noise(struct self *t) {
     COUNT(noise);
     int e = errno;
     d = draw(&t->chance);
-    struct timespec some = {0, (d >> 8) % 300000};
     if (TURNS(t))
         yield_turn(t);
     else if (d % 4)
-        syscall(SYS_sched_yield);
+        pause_briefly();
     else
-        syscall(SYS_nanosleep, &some, 0);
+        sleep_briefly((d >> 8) % 300000);
     errno = e;
 }

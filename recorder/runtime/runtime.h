@@ -31,8 +31,10 @@ void *next_function(const char *name);
 // ---- a thread
 #define DEEP 4096 // blocks that are followed
 #define HELD 2    // lines that a small access may lie in
+#define SAW 8     // values of atomics that a thread remembers
 struct frame {
     u64 function, at, from;
+    u64 base;             // its frame pointer, if it keeps one
     struct record *begun; // its BEGIN, once written
 };
 struct self {
@@ -53,15 +55,22 @@ struct self {
     u64 unread_at;
     u8 unread_size;
     u64 last_at, last_epoch;
+    u64 unnoted; // where the last access was a read that was left out as a repeat
     u8 last_size, last_kinds,
         alone; // alone: no other thread was at the line since this one's last time
     // blocks
-    u64 epoch;        // moves at each event and block boundary
-    int depth, told;  // open blocks; those whose begins are written
-    u64 allocates;    // operator new: who called it
+    u64 epoch;       // moves at each event and block boundary
+    int depth, told; // open blocks; those whose begins are written
+    u64 allocates;   // operator new: who called it
+    u64 stack_end;
+    size_t stack_bytes;
     void *writes[64]; // reader-writer locks that it holds alone
     int nwrites;
-    struct self *unused;      // a list of those whose threads have ended
+    struct self *unused; // a list of those whose threads have ended
+    struct {
+        u64 at, value;
+    } saw[SAW];               // what its atomics found or stored last, by address
+    u64 swapped, swapped_to;  // its last exchange
     u64 chance;               // of noise
     u64 code_low, code_bytes; // of the module whose block began last
     struct frame frame[DEEP];
@@ -77,7 +86,6 @@ extern int on; // hooks do something
 extern int mode, values;
 extern struct head *head;
 u64 setting(const char *name, u64 other);
-u64 now(void);
 void say(const char *format, ...) __attribute__((format(printf, 1, 2)));
 #define COUNT(what) __atomic_add_fetch(&head->what, 1, __ATOMIC_RELAXED)
 
@@ -86,7 +94,29 @@ int trace_open(void);
 void trace_close(void);
 void trace_leave(void); // in a child of fork
 void trace_maps(void);
+void trace_builds(void); // builds.c
 void trace_stop(enum stop why);
+
+// ---- room.c: the trace's file, and descriptors that the program does not see
+enum keep { TRACE, MAPS, MAPPED, TASKS, KEEPS }; // the trace, its .maps, /proc/self/maps and task
+extern char trace_path[];
+extern u64 trace_bytes; // that are mapped
+extern int sealed;      // a filter of system calls is there
+void keep(enum keep k, int fd);
+int kept_file(enum keep k); // its descriptor, or -1
+void drop_kept(void);
+int has_room(u64 bytes);
+long kernel(long n, long a, long b, long c, long d, long e, long f); // a call without a hook
+void room_reset(void);
+void room_trim(u64 used);
+const char *no_room(void); // why there is none
+int before_filter(long call, long what);
+void after_filter(int was_first, long result);
+long close_around(unsigned first, unsigned last, int flags);
+int is_kept(int fd);
+void pause_briefly(void);
+void sleep_briefly(u64 nanoseconds);
+
 int open_chunk(struct self *t);
 int tell_begins(struct self *t);
 static inline struct record *write_record(struct self *t, u64 what, u64 where) {
@@ -120,7 +150,7 @@ static inline struct record *event(struct self *t, int kind, unsigned size, u64 
     return record(t, kind, size, at, code);
 }
 void sync_event(struct self *t, int kind, u64 at, u64 code);
-void open_block(struct self *t, u64 function, u64 at, u64 from);
+void open_block(struct self *t, u64 function, u64 at, u64 from, u64 base);
 void close_block(struct self *t, u64 at);
 extern u32 memory_clock;
 
@@ -199,12 +229,20 @@ int cancelled(struct self *t);
 int leave_turns(void);
 void rejoin_turns(int left);
 int look_again(u64 until);
-u64 deadline(const struct timespec *t, clockid_t clock);
 u64 draw(u64 *state);
 u64 scramble(u64 seed);
 long futex(const volatile int *at, int operation, int value, const struct timespec *t);
 #define TURNS(t) (mode == SERIAL && (t) && (t)->turns)
 #define TURNS_HERE (on && mode == SERIAL && own && own->turns && !own->busy)
+
+// ---- clocks.c
+u64 now(void); // by the program's clock
+u64 real_now(void);
+int real_clock(clockid_t clock, struct timespec *x);
+u64 deadline(const struct timespec *t, clockid_t clock);
+void pass_time(u64 nanoseconds);
+void clocks_open(void);
+void clocks_close(void);
 
 // ---- noise.c, sites.c, threads.c
 extern u64 noise;
@@ -217,6 +255,8 @@ void threads_open(void);
 void begin_thread(struct self *t, u64 routine);
 void hide_thread(void);
 u32 thread_number(void);
+struct self *new_self(u32 id); // busy with 2: it is not recorded
+void take_tid(u32 id, u32 from);
 u32 thread_of_tid(int tid); // plus one
 int is_asleep(u32 id);
 

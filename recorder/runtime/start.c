@@ -35,8 +35,8 @@ static void after_fork(void) { // in the child: a trace of its own, or none
     STORE(on, 0);
     trace_leave();
     turns_reset();
-    if (!was || !setting("VELODROME_FORKS", 0))
-        return;
+    if (!was || sealed || !setting("VELODROME_FORKS", 0))
+        return; // under a filter of system calls it cannot open a trace
     if (mode == SERIAL)
         mode = EXACT;
     lines_reset();

@@ -32,7 +32,7 @@ static struct self *unused;
 static int unused_guard;
 static struct self *take_unused(void) {
     while (__atomic_exchange_n(&unused_guard, 1, __ATOMIC_ACQUIRE))
-        syscall(SYS_sched_yield);
+        pause_briefly();
     struct self *t = unused;
     if (t)
         unused = t->unused;
@@ -43,11 +43,11 @@ static struct self *take_unused(void) {
 }
 static void give_unused(struct self *t) {
     while (__atomic_exchange_n(&unused_guard, 1, __ATOMIC_ACQUIRE))
-        syscall(SYS_sched_yield);
+        pause_briefly();
     t->unused = unused, unused = t;
     STORE(unused_guard, 0);
 }
-static struct self *new_self(u32 id) {
+struct self *new_self(u32 id) {
     struct self *t = take_unused();
     if (t == MAP_FAILED) {
         static int told;
@@ -90,16 +90,20 @@ u32 thread_of_tid(int tid) { // plus one
             return n;
     return 0;
 }
+void take_tid(u32 id, u32 from) { // a fiber goes on where another one was
+    if (id < KNOWN && from < KNOWN)
+        known[id].tid = known[from].tid;
+}
 // Whether a thread sleeps in the kernel, outside of the runtime.
 int is_asleep(u32 id) {
     char path[48], text[256], *end;
     struct self *t = id < KNOWN ? LOAD(known[id].self) : 0;
     int tid = t && !LOAD(t->busy) ? known[id].tid : 0;
-    if (!tid)
+    if (!tid || sealed)
         return 0;
-    int e = errno;
-    snprintf(path, sizeof path, "/proc/self/task/%d/stat", tid);
-    int fd = syscall(SYS_openat, AT_FDCWD, path, O_RDONLY | O_CLOEXEC, 0);
+    int e = errno, tasks = kept_file(TASKS);
+    snprintf(path, sizeof path, "%d/stat", tid);
+    int fd = tasks < 0 ? -1 : (int)syscall(SYS_openat, tasks, path, O_RDONLY | O_CLOEXEC, 0);
     ssize_t n = fd < 0 ? 0 : syscall(SYS_read, fd, text, sizeof text - 1);
     if (fd >= 0)
         syscall(SYS_close, fd);
@@ -117,16 +121,33 @@ static void know(u32 id, pthread_t p) {
 }
 
 // ---- start and end
-void begin_thread(struct self *t, u64 routine) {
+// The owner of a lock that nobody else has: no system call.
+static int own_tid(void) {
+    pthread_mutex_t m = PTHREAD_MUTEX_INITIALIZER;
+    REAL(pthread_mutex_lock);
+    REAL(pthread_mutex_unlock);
+    real_pthread_mutex_lock(&m);
+    int tid = m.__data.__owner;
+    real_pthread_mutex_unlock(&m);
+    return tid;
+}
+static void find_stack(struct self *t, void **at, size_t *size) {
     pthread_attr_t a;
+    if (sealed) { // the next question would be a system call: below the thread's own data
+        *size = t->stack_bytes;
+        *at = (char *)pthread_self() - t->stack_bytes;
+    } else if (!pthread_getattr_np(pthread_self(), &a)) {
+        pthread_attr_getstack(&a, at, size);
+        pthread_attr_destroy(&a);
+    }
+}
+void begin_thread(struct self *t, u64 routine) {
     void *at = 0;
     size_t size = 0;
     if (t->id < KNOWN)
-        known[t->id].tid = syscall(SYS_gettid);
-    if (!pthread_getattr_np(pthread_self(), &a)) {
-        pthread_attr_getstack(&a, &at, &size);
-        pthread_attr_destroy(&a);
-    }
+        known[t->id].tid = own_tid();
+    find_stack(t, &at, &size);
+    t->stack_end = (u64)at + size;
     if (LOAD(memory_clock) > t->clock)
         t->clock = memory_clock;
     stamp_alone(t);
@@ -161,7 +182,19 @@ struct work {
     void *argument;
     u64 told; // the routine as the program named it
     u32 id, clock;
+    size_t stack;
 };
+static size_t stack_of(const pthread_attr_t *a) {
+    pthread_attr_t usual;
+    size_t bytes = 0;
+    if (a)
+        pthread_attr_getstacksize(a, &bytes);
+    else if (!pthread_getattr_default_np(&usual)) {
+        pthread_attr_getstacksize(&usual, &bytes);
+        pthread_attr_destroy(&usual);
+    }
+    return bytes;
+}
 static void *run(void *p) {
     struct work w = *(struct work *)p;
     own = &nobody;
@@ -170,6 +203,7 @@ static void *run(void *p) {
     if (t == &nobody)
         return w.routine(w.argument);
     t->clock = w.clock, t->busy = 1;
+    t->stack_bytes = w.stack;
     own = t;
     if (w.id < KNOWN)
         know(w.id, pthread_self());
@@ -194,7 +228,7 @@ static int create(pthread_t *p, const pthread_attr_t *a, void *(*routine)(void *
     u32 id = thread_number();
     stamp_alone(t);
     event(t, FORK, 0, id, code);
-    *w = (struct work){routine, argument, told, id, t->clock};
+    *w = (struct work){routine, argument, told, id, t->clock, stack_of(a)};
     if (mode == SERIAL)
         turns_fork(id);
     int r = real_pthread_create(p, a, run, w);
@@ -223,7 +257,7 @@ static int begin_join(pthread_t p, u32 *n, u64 until, u64 code) { // 1: its time
         return 0;
     *n = find(p);
     stamp_alone(t);
-    event(t, WAIT, 0, *n, code);
+    event(t, WAIT, FOR_THREAD, *n, code);
     if (TURNS(t) && *n)
         while (!turns_ended(*n - 1) && !over)
             over = wait_turn(t, FOR_THREAD, turns_key(*n - 1), until, code);
@@ -319,7 +353,9 @@ API int prctl(int what, ...) {
     for (int i = 0; i < 4; i++)
         a[i] = va_arg(l, unsigned long);
     va_end(l);
+    int first = before_filter(SYS_prctl, what);
     int r = syscall(SYS_prctl, what, a[0], a[1], a[2], a[3]);
+    after_filter(first, r);
     if (!r && what == PR_SET_NAME && on)
         title(self()->id + 1, (const char *)a[0], CALLER);
     return r;

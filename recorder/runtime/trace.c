@@ -11,24 +11,17 @@
 #include <string.h>
 #include <sys/mman.h>
 #include <sys/resource.h>
-#include <sys/stat.h>
 #include <sys/syscall.h>
 #include <unistd.h>
 
-#define STEP (4u << 20) // the file grows by so many bytes
-#ifndef MADV_POPULATE_WRITE
-#define MADV_POPULATE_WRITE 23
-#endif
 #define MOST 0xf0000000u // records: a stamp has 32 bits
 int on, mode, values;
 struct head *head;
 u32 memory_clock;
 static struct record *records;
-static char base[3800], path[4096];
-static u64 room, mapped; // bytes that are allocated; that are mapped
-static dev_t device;
-static ino_t inode;
-static int growing;
+static char base[3800];
+char trace_path[4096];
+u64 trace_bytes;
 
 void say(const char *format, ...) {
     char text[600] = "velodrome: ";
@@ -44,47 +37,6 @@ void say(const char *format, ...) {
 }
 
 // ---- the file
-static int allocate(int fd, u64 from, u64 n) {
-    long r = syscall(SYS_fallocate, fd, 0, from, n);
-    if (!r)
-        return 0;
-    if (errno != EOPNOTSUPP && errno != ENOSYS)
-        return -1;
-    static const char zeros[4096];
-    for (u64 at = from; at < from + n; at += sizeof zeros)
-        if (syscall(SYS_pwrite64, fd, zeros, sizeof zeros, at) != sizeof zeros)
-            return -1;
-    return 0;
-}
-// The file is opened anew each time: a program may close every descriptor that it finds.
-static int grow(void) {
-    struct stat s;
-    int e = errno, fd = syscall(SYS_openat, AT_FDCWD, path, O_RDWR | O_CLOEXEC, 0);
-    u64 n = room + STEP > mapped ? mapped - room : STEP;
-    int ok = fd >= 0 && !fstat(fd, &s) && s.st_dev == device && s.st_ino == inode &&
-             !allocate(fd, room, n);
-    if (fd >= 0)
-        syscall(SYS_close, fd);
-    if (ok && head)
-        madvise((char *)head + room, n, MADV_POPULATE_WRITE); // at once, where the kernel can
-    if (ok)
-        STORE(room, room + n);
-    errno = e;
-    return ok;
-}
-static int has_room(u64 bytes) {
-    while (LOAD(room) < bytes) {
-        if (__atomic_exchange_n(&growing, 1, __ATOMIC_ACQUIRE)) {
-            syscall(SYS_sched_yield);
-            continue;
-        }
-        int ok = room >= bytes || grow();
-        STORE(growing, 0);
-        if (!ok)
-            return 0;
-    }
-    return 1;
-}
 static u64 most_records(void) {
     struct rlimit limit;
     u64 most = setting("VELODROME_MOST", 64000000);
@@ -106,53 +58,66 @@ static void absolute(char *to, size_t n, const char *name) {
     else
         snprintf(to, n, "%s/%s", folder, name);
 }
+static int refused(int error) {
+    say("nothing is recorded: %s: %s", trace_path, strerror(error));
+    drop_kept();
+    return 0;
+}
+static void open_maps(void) {
+    char maps[4200];
+    snprintf(maps, sizeof maps, "%s.maps", trace_path);
+    unlink(maps);
+    keep(MAPS, open(maps, O_WRONLY | O_CREAT | O_APPEND | O_CLOEXEC, 0644));
+    keep(MAPPED, open("/proc/self/maps", O_RDONLY | O_CLOEXEC));
+    keep(TASKS, open("/proc/self/task", O_RDONLY | O_DIRECTORY | O_CLOEXEC));
+    trace_maps();
+    trace_builds();
+}
 int trace_open(void) {
-    struct stat s;
     if (!*base)
         absolute(base, sizeof base, getenv("VELODROME_OUT"));
-    snprintf(path, sizeof path, "%s.%d", base, (int)getpid());
+    snprintf(trace_path, sizeof trace_path, "%s.%d", base, (int)getpid());
     u64 most = most_records() / CHUNK * CHUNK;
-    int fd = open(path, O_RDWR | O_CREAT | O_TRUNC | O_CLOEXEC, 0644);
-    if (fd < 0 || fstat(fd, &s)) {
-        say("nothing is recorded: %s: %s", path, strerror(errno));
+    int fd = open(trace_path, O_RDWR | O_CREAT | O_TRUNC | O_CLOEXEC, 0644);
+    if (fd < 0)
+        return refused(errno);
+    trace_bytes = HEAD_BYTES + most * sizeof(struct record);
+    char *p = mmap(0, trace_bytes, PROT_READ | PROT_WRITE, MAP_SHARED | MAP_NORESERVE, fd, 0);
+    int error = errno;
+    room_reset();
+    keep(TRACE, fd);
+    if (p == MAP_FAILED)
+        return refused(error);
+    if (!has_room(HEAD_BYTES)) {
+        munmap(p, trace_bytes);
+        say("nothing is recorded: %s: %s", trace_path, no_room());
+        drop_kept();
         return 0;
     }
-    device = s.st_dev, inode = s.st_ino, room = 0, growing = 0;
-    mapped = HEAD_BYTES + most * sizeof(struct record);
-    char *p = mmap(0, mapped, PROT_READ | PROT_WRITE, MAP_SHARED | MAP_NORESERVE, fd, 0);
-    if (p == MAP_FAILED || !has_room(HEAD_BYTES)) {
-        say("nothing is recorded: %s: %s", path, strerror(errno));
-        if (p != MAP_FAILED)
-            munmap(p, mapped);
-        close(fd);
-        return 0;
-    }
-    close(fd);
-    head = (struct head *)p, records = (struct record *)(p + HEAD_BYTES);
+    head = (struct head *)p;
+    records = (struct record *)(p + HEAD_BYTES);
     *head = (struct head){.magic = MAGIC, .mode = mode, .values = values, .most = most};
-    char maps[4200];
-    snprintf(maps, sizeof maps, "%s.maps", path);
-    unlink(maps);
-    trace_maps();
+    open_maps();
     return 1;
 }
 // At the program's end. Other threads may still be in a hook: a few chunks more stay.
 void trace_close(void) {
     u64 none = GOES_ON;
     trace_maps();
+    trace_builds();
     if (mode == SERIAL)
         return; // threads that go on still take turns
     STORE(on, 0);
     __atomic_compare_exchange_n(&head->stopped, &none, (u64)ENDED, 0, __ATOMIC_SEQ_CST,
                                 __ATOMIC_RELAXED);
-    u64 used = HEAD_BYTES + (LOAD(head->chunks) + 8) * CHUNK * sizeof(struct record);
-    if (used < LOAD(room) && truncate(path, used))
-        return; // what stays is zeros
+    room_trim(HEAD_BYTES + (LOAD(head->chunks) + 8) * CHUNK * sizeof(struct record));
 }
 void trace_leave(void) {
-    if (head)
-        munmap(head, mapped);
-    head = 0, records = 0;
+    if (head && !sealed)
+        munmap(head, trace_bytes);
+    drop_kept();
+    head = 0;
+    records = 0;
 }
 // What is mapped where, for names and lines. Each time is appended: a module may be gone by the
 // end.
@@ -200,19 +165,12 @@ static void copy_maps(int from, int to) {
 }
 void trace_maps(void) {
     static int busy;
-    char name[4200];
     int e = errno;
-    if (__atomic_exchange_n(&busy, 1, __ATOMIC_ACQUIRE))
+    if (sealed || __atomic_exchange_n(&busy, 1, __ATOMIC_ACQUIRE))
         return;
-    snprintf(name, sizeof name, "%s.maps", path);
-    int from = syscall(SYS_openat, AT_FDCWD, "/proc/self/maps", O_RDONLY | O_CLOEXEC, 0);
-    int to = syscall(SYS_openat, AT_FDCWD, name, O_WRONLY | O_CREAT | O_APPEND | O_CLOEXEC, 0644);
-    if (from >= 0 && to >= 0)
+    int from = kept_file(MAPPED), to = kept_file(MAPS);
+    if (from >= 0 && to >= 0 && !syscall(SYS_lseek, from, 0, SEEK_SET))
         copy_maps(from, to);
-    if (from >= 0)
-        syscall(SYS_close, from);
-    if (to >= 0)
-        syscall(SYS_close, to);
     errno = e;
     STORE(busy, 0);
 }
@@ -231,15 +189,16 @@ static void look_for_module(struct self *t, u64 at) {
     }
 }
 void trace_stop(enum stop why) {
-    static const char *const reason[] = {"", "the trace is full (VELODROME_MOST)",
-                                         "no room for the trace on its disk", ""};
     u64 none = GOES_ON;
     if (!__atomic_compare_exchange_n(&head->stopped, &none, (u64)why, 0, __ATOMIC_SEQ_CST,
                                      __ATOMIC_RELAXED))
         return;
     if (mode != SERIAL)
         STORE(on, 0); // by turns the program goes on by turns, without a record
-    say("%s: the recording stops here, the program goes on", reason[why]);
+    const char *reason = why == FULL     ? "the trace is full (VELODROME_MOST)"
+                         : why == FIBERS ? "fibers by turns, or too many of them"
+                                         : no_room();
+    say("%s: the recording stops here, the program goes on", reason);
 }
 
 // ---- records
@@ -262,12 +221,22 @@ int open_chunk(struct self *t) {
     t->next = r + 1, t->end = r + CHUNK;
     return 1;
 }
+// How far the frame's pointer lies below that of the call outside it, in the upper bits of a BEGIN.
+static u64 frame_span(struct self *t, const struct frame *f) {
+    const struct frame *outer = f > t->frame ? f - 1 : 0;
+    while (outer && !outer->at) // a scope with a name
+        outer = outer > t->frame ? outer - 1 : 0;
+    u64 top = outer ? outer->base : t->stack_end;
+    u64 units = (top - f->base) / FRAME_UNIT;
+    return f->base > f->at && f->base < top && units < 1 << 16 ? units << FRAME_SHIFT : 0;
+}
 int tell_begins(struct self *t) {
     while (t->told < t->depth && t->told < DEEP) {
         struct frame *f = &t->frame[t->told++];
         if (t->end - t->next < 4 && !open_chunk(t))
             return 0;
-        f->begun = write_record(t, word(f->at ? BEGIN : NAMED, 0, f->from), f->function);
+        u64 span = f->at ? frame_span(t, f) : 0;
+        f->begun = write_record(t, word(f->at ? BEGIN : NAMED, 0, f->from), f->function | span);
         if (f->at && unlikely(f->function - t->code_low >= t->code_bytes))
             look_for_module(t, f->function);
     }

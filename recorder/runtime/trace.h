@@ -25,7 +25,8 @@ enum kind {
     WRS, // of a range; MORE: bytes
     ARD,
     AWR,   // an atomic one
-    BEGIN, // address: where it was called; where: the function (whole)
+    BEGIN, // address: where it was called; where: the function, and above its FRAME_SHIFT bits how
+           // far its frame pointer lies below the outer one's, in FRAME_UNITs (0 unknown)
     NAMED, // likewise of VELODROME_ATOMIC; where: the address of its name
     END,   // address: the frame that ends
     ACQ,
@@ -35,22 +36,29 @@ enum kind {
     FORK,
     JOIN, // address: the other thread
     EXIT,
-    ALLOC, // memory that begins anew; MORE: bytes
+    ALLOC, // memory that begins anew; MORE: bytes; by which calls, as one number
     START, // of a thread. address: its stack; code: its routine; MORE: bytes of the stack
     SRD,
     SWR,   // what a semaphore, a barrier or a once orders
-    WAIT,  // the open blocks wait here
+    WAIT,  // the open blocks wait here. address: for what; size: a kind of `enum wait`
     MORE,  // where: a number that belongs to the record before
     HIGH,  // address: the upper half of the code addresses from here on
     TITLE, // the thread's name: two MORE of 8 bytes
     STUCK, // the thread waits in a deadlock. address: for what; size: a kind of `enum wait`; MORE:
            // thread that holds it, plus one
+    CONTENDED, // a lock was not free. address: the lock; size: a kind of `enum wait`; TRIED: the
+               // wait ends by itself after a time
 };
 
 enum flag {
-    LATE = 1,   // not surely in the order of the accesses
+    LATE = 1,     // not surely in the order of the accesses
+    MISSED = 1,   // of ARD: of a compare-and-swap that found another value
+    EXPECTED = 2, // of ARD: of a compare-and-swap with what the thread had seen there
+    LEAVES = 1,   // of WAIT: the open blocks do nothing until the thread returns to them
+    RETURNS = 2,  // of WAIT: it does
+    AGAIN = 2,  // of AWR: of an exchange that stores what the thread's exchange there stored before
     VALUED = 2, // of MORE: it is the value of the access
-    TRIED = 4,  // of ACQ and ACQS: by a trylock
+    TRIED = 4,  // of ACQ and ACQS: by a trylock; of ARD: by a compare-and-swap
 };
 
 enum mode { FREE, EXACT, SERIAL };
@@ -73,8 +81,10 @@ struct head {
     uint64_t lost, late, seized, switches, stuck, noise;
     uint64_t stopped; // enum stop
 };
-enum stop { GOES_ON, FULL, NO_SPACE, ENDED };
+enum stop { GOES_ON, FULL, NO_SPACE, ENDED, FIBERS };
 
 #define MAGIC 0x3265636172746c76ull // "vltrace2"
 #define CHUNK 512
 #define HEAD_BYTES 4096
+#define FRAME_SHIFT 48
+#define FRAME_UNIT 16

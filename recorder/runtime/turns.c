@@ -13,6 +13,8 @@
 #include <sys/syscall.h>
 #include <unistd.h>
 
+#define TURN_TAKES 100 // nanoseconds, by the program's clocks
+#define A_WHILE 200000 // nanoseconds that one waits for what is outside
 enum state { NONE, READY, RUNS, BLOCKED, AWAY, DONE };
 static struct thread {
     enum state state;
@@ -27,37 +29,7 @@ static enum { RANDOM, PCT, ROUND_ROBIN } strategy;
 static int guard, runs = -1, top = 1, woken = -1;
 static u64 chance, period, steps, slice, turns_taken, seize_after, changes[64], change_count;
 static long lowest;
-
-u64 draw(u64 *state) {
-    *state ^= *state << 13, *state ^= *state >> 7, *state ^= *state << 17;
-    return *state * 0x2545f4914f6cdd1dull >> 16;
-}
-u64 scramble(u64 seed) {
-    u64 x = (seed + 1) * 0x9e3779b97f4a7c15ull;
-    return x ? x : 1;
-}
-u64 now(void) {
-    struct timespec t;
-    clock_gettime(CLOCK_MONOTONIC, &t);
-    return t.tv_sec * 1000000000ull + t.tv_nsec;
-}
-// When, by now(), a clock shows this time.
-u64 deadline(const struct timespec *t, clockid_t clock) {
-    struct timespec n;
-    clock_gettime(clock, &n);
-    int64_t d = (t->tv_sec - n.tv_sec) * 1000000000ll + t->tv_nsec - n.tv_nsec;
-    return now() + (d > 0 ? d : 0) + 1;
-}
-long futex(const volatile int *at, int operation, int value, const struct timespec *t) {
-    register long r10 __asm__("r10") = (long)t, r8 __asm__("r8") = 0, r9 __asm__("r9") = 0;
-    long r;
-    __asm__ volatile("syscall"
-                     : "=a"(r)
-                     : "0"(SYS_futex), "D"(at), "S"(operation), "d"(value), "r"(r10), "r"(r8),
-                       "r"(r9)
-                     : "rcx", "r11", "memory");
-    return r;
-}
+static u64 next_end; // of the waits that end by time, 0 if there is none
 
 // ---- the scheduler's own lock. Who goes on is woken once it is open.
 static void lock(void) {
@@ -97,6 +69,12 @@ static int choose(int but, int forced) {
     }
     return pick;
 }
+static void end_wait(int n) { // its time is up
+    u64 time = now();
+    threads[n].timed = 1;
+    if (threads[n].until > time)
+        pass_time(threads[n].until - time);
+}
 static int soonest(void) {
     int pick = -1;
     for (int i = 0; i < top; i++)
@@ -134,7 +112,7 @@ static void pass(struct self *t, enum state state) {
         if (n < 0)
             n = choose(state == READY ? -1 : me, 1);
         if (n < 0 && !is_any(AWAY) && (n = soonest()) >= 0)
-            threads[n].timed = 1;
+            end_wait(n);
         if (n == me) {
             threads[me].state = RUNS, slice = 0;
             unlock();
@@ -177,12 +155,33 @@ static void turn_by_priority(struct self *t) {
     if (passes)
         pass(t, READY);
 }
+// Those whose time is up may go on.
+static void end_waits(void) {
+    u64 time = now();
+    if (!next_end || time < next_end)
+        return;
+    lock();
+    next_end = 0;
+    for (int i = 0; i < top; i++) {
+        if (threads[i].state != BLOCKED || !threads[i].until)
+            continue;
+        if (threads[i].until <= time) {
+            threads[i].state = READY;
+            threads[i].timed = 1;
+        } else if (!next_end || threads[i].until < next_end)
+            next_end = threads[i].until;
+    }
+    unlock();
+}
 // Before an event: the thread has the turn, and may have to pass it on.
 void turn(struct self *t) {
     if (!t->turns)
         return;
     if (!mine(t))
         come_back(t);
+    pass_time(TURN_TAKES);
+    if (next_end)
+        end_waits();
     steps++, slice++;
     __atomic_add_fetch(&turns_taken, 1, __ATOMIC_RELAXED);
     if (strategy == PCT)
@@ -214,6 +213,8 @@ int wait_turn(struct self *t, enum wait what, const volatile void *at, u64 until
     if (ends_by_cancel(what) && cancelled(t))
         return 1;
     me->what = what, me->at = at, me->until = until, me->timed = 0, me->code = code;
+    if (until && (!next_end || until < next_end))
+        next_end = until;
     pass(t, BLOCKED);
     me->until = 0;
     return me->timed;
@@ -313,7 +314,7 @@ static void look_in_turn(struct self *t) {
     int me = t->id, n, idle = 0;
     lock();
     if ((n = soonest()) >= 0 && threads[n].until <= now())
-        threads[n].timed = 1;
+        end_wait(n);
     else
         for (n = (me + 1) % top; n != me && threads[n].state != READY; n = (n + 1) % top) {
         }
@@ -324,8 +325,9 @@ static void look_in_turn(struct self *t) {
     unlock();
     if (!idle)
         await(t);
-    struct timespec little = {0, 200000};
+    struct timespec little = {0, A_WHILE};
     syscall(SYS_nanosleep, &little, 0);
+    pass_time(A_WHILE);
     __atomic_add_fetch(&turns_taken, 1, __ATOMIC_RELAXED);
 }
 // A call that found nothing to do: 1, after others ran, if it is to look again; 0 if it has to wait
@@ -398,7 +400,7 @@ static void tell_stuck(void) {
 // nothing, it is a deadlock.
 static void nobody(u64 idle_since) {
     static u64 asked_at;
-    if (now() - idle_since < 200000000)
+    if (real_now() - idle_since < 200000000)
         return;
     if (asked_at == turns_taken + 1)
         tell_stuck();
@@ -417,8 +419,8 @@ static void look_around(u64 n, u64 *when, u64 *idle) {
         return; // before anything is drawn
     int p = choose(-1, 1);
     if (p < 0 && (p = soonest()) >= 0) {
-        if (threads[p].until <= n || (runs < 0 && !is_any(AWAY)))
-            threads[p].timed = 1;
+        if (threads[p].until <= now() || (runs < 0 && !is_any(AWAY)))
+            end_wait(p);
         else
             p = -1;
     }
@@ -433,12 +435,15 @@ static void look_around(u64 n, u64 *when, u64 *idle) {
     }
 }
 static void *watchman(void *unused) {
-    u64 seen = 0, when = now(), idle = 0;
+    u64 seen = 0, when = real_now(), looked = when, idle = 0;
     hide_thread();
     for (;;) {
         struct timespec little = {0, 2000000};
         syscall(SYS_nanosleep, &little, 0);
-        u64 taken = LOAD(turns_taken), n = now();
+        u64 taken = LOAD(turns_taken), n = real_now();
+        if (taken == seen && (LOAD(runs) < 0 || n - when > seize_after))
+            pass_time(n - looked); // it passes outside
+        looked = n;
         if (taken != seen) {
             seen = taken, when = n, idle = 0;
             if (LOAD(runs) >= 0)
@@ -453,6 +458,7 @@ static void *watchman(void *unused) {
 
 // ---- the start
 void turns_open(u64 seed) {
+    clocks_open();
     const char *s = getenv("VELODROME_STRATEGY");
     strategy = !s || !strcmp(s, "random") ? RANDOM : !strcmp(s, "pct") ? PCT : ROUND_ROBIN;
     chance = scramble(seed);
@@ -486,4 +492,5 @@ void turns_watch(void) {
 // In the child of a fork there is one thread, and it does not wait for turns.
 void turns_reset(void) {
     guard = 0, runs = -1;
+    clocks_close();
 }

@@ -10,9 +10,9 @@
 #include <unistd.h>
 
 #define M ((u64)m)
-static void note_wait(struct self *t, u64 at, u64 code) {
+static void note_wait(struct self *t, enum wait what, u64 at, u64 code) {
     stamp_alone(t);
-    event(t, WAIT, 0, at, code);
+    event(t, WAIT, what, at, code);
 }
 
 // ---- conditions: the mutex is released and acquired
@@ -28,7 +28,7 @@ static int wait_by_turns(struct self *t, pthread_cond_t *c, pthread_mutex_t *m, 
                          u64 code) {
     REAL(pthread_mutex_unlock);
     REAL(pthread_mutex_trylock);
-    note_wait(t, (u64)c, code);
+    note_wait(t, FOR_CONDITION, (u64)c, code);
     sync_event(t, REL, M, code);
     real_pthread_mutex_unlock(m);
     wake(m, 1);
@@ -45,7 +45,7 @@ static int wait_by_turns(struct self *t, pthread_cond_t *c, pthread_mutex_t *m, 
 static void before_wait(struct self *t, pthread_cond_t *c, pthread_mutex_t *m, u64 code) {
     if (!t)
         return;
-    note_wait(t, (u64)c, code);
+    note_wait(t, FOR_CONDITION, (u64)c, code);
     sync_event(t, REL, M, code);
     leave(t);
 }
@@ -161,7 +161,7 @@ static int take_by_turns(struct self *t, sem_t *m, u64 until, u64 code) {
         struct self *t = enter();                                                                  \
         int r;                                                                                     \
         if (t)                                                                                     \
-            note_wait(t, M, CALLER);                                                               \
+            note_wait(t, FOR_SEMAPHORE, M, CALLER);                                                \
         if (TURNS(t))                                                                              \
             r = take_by_turns(t, m, until, CALLER);                                                \
         else {                                                                                     \
@@ -237,7 +237,7 @@ API int pthread_barrier_wait(pthread_barrier_t *m) {
     struct barrier *b = barrier_of(m);
     int r;
     if (t)
-        note_wait(t, M, CALLER), sync_event(t, SWR, M, CALLER);
+        note_wait(t, FOR_BARRIER, M, CALLER), sync_event(t, SWR, M, CALLER);
     if (TURNS(t) && b)
         r = meet_by_turns(t, b, m, CALLER);
     else {
@@ -317,7 +317,23 @@ static void guard_event(int kind, u64 *guard, u64 code) {
         give_back(t, l);
     leave(t);
 }
+// The compiler's own look at the guard, which found it not made: what counts is what comes of it.
+static void take_back_look(const u64 *guard) {
+    struct self *t = own;
+    if (!on || !t || t->busy)
+        return;
+    int n = values ? 2 : 1;
+    if (!t->next || t->end - t->next >= CHUNK - n)
+        return;
+    struct record *r = t->next - n;
+    if ((r->what & 31) != ARD || r->what >> 16 != (u64)guard)
+        return;
+    while (t->next > r)
+        (--t->next)->what = 0;
+    t->last_at = 0;
+}
 API int __cxa_guard_acquire(u64 *guard) {
+    take_back_look(guard);
     if (!LOAD(*(char *)guard) && is_the_one((int *)guard + 1, CALLER))
         return 1;
     guard_event(ARD, guard, CALLER);
@@ -359,23 +375,31 @@ API long syscall(long n, ...) {
     for (int i = 0; i < 6; i++)
         a[i] = va_arg(l, long);
     va_end(l);
+    if (n == SYS_close && is_kept(a[0])) {
+        errno = EBADF;
+        return -1;
+    }
+    if (n == SYS_close_range && own && !own->busy && (unsigned)a[0] <= (unsigned)a[1])
+        return close_range(a[0], a[1], a[2]);
     int operation = a[1] & FUTEX_CMD_MASK;
     struct self *t = n == SYS_futex && own && own->busy ? 0 : n == SYS_futex ? enter() : 0;
     if (t) {
         if (is_wait(operation))
-            note_wait(t, a[0], CALLER);
+            note_wait(t, FOR_FUTEX, a[0], CALLER);
         if (TURNS(t) && is_wait(operation))
             return futex_by_turns(t, a, CALLER);
         if (TURNS(t) && (operation == FUTEX_WAKE || operation == FUTEX_WAKE_BITSET))
             wake((void *)a[0], a[2] > 1);
         leave(t);
     }
+    int first = n == SYS_seccomp || n == SYS_prctl ? before_filter(n, a[0]) : 0;
     register long r10 __asm__("r10") = a[3], r8 __asm__("r8") = a[4], r9 __asm__("r9") = a[5];
     long r;
     __asm__ volatile("syscall"
                      : "=a"(r)
                      : "0"(n), "D"(a[0]), "S"(a[1]), "d"(a[2]), "r"(r10), "r"(r8), "r"(r9)
                      : "rcx", "r11", "memory");
+    after_filter(first, r);
     if (r < 0 && r > -4096)
         return errno = -r, -1;
     return r;

@@ -306,13 +306,10 @@ def check_then_act(room, cc):
                 room,
                 run_with(made, mode, VELODROME_NOISE=0 if mode == "serial" else 20),
                 "--innermost",
-                "--quiet-waits",
             )
             if "look_up(int)" not in names:
                 return said
-            names, said = functions(
-                room, run_with(made, mode, "whole"), "--innermost", "--quiet-waits"
-            )
+            names, said = functions(room, run_with(made, mode, "whole"), "--innermost")
             return True if not names else said
 
         test(f"{cc} {mode} a check-then-act is found by name", body)

@@ -36,12 +36,12 @@ def without_looks(page: str) -> str:
 
 def single() -> Iterator[Tuple[str, str]]:
     """Each kind of finding, drawn and in full."""
-    report = samples.every_kind()
-    for finding in report.findings:
-        yield f"{finding.id}.explained", explained(report, finding)
-        for form in OF_ONE_FINDING:
-            settings = forms.Settings(finding=finding)
-            yield f"{finding.id}.{form}", forms.FILES[form](report, settings)
+    for report in (samples.every_kind(), samples.nested()):
+        for finding in report.findings:
+            yield f"{finding.id}.explained", explained(report, finding)
+            for form in OF_ONE_FINDING:
+                settings = forms.Settings(finding=finding)
+                yield f"{finding.id}.{form}", forms.FILES[form](report, settings)
 
 
 def pages() -> Iterator[Tuple[str, str]]:

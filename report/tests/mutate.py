@@ -151,7 +151,7 @@ EDITS: List[Edit] = [
     ("lanes.py", "words.place(row.place), row.source", "words.place(row.at), row.source"),
     ("lanes.py", "elif transaction.function is not None:", "else:"),
     ("svg.py", "return start if end < start else start + 1", "return start + 1"),
-    ("svg.py", "SLOT * (slot + 1)\n    return", "SLOT * slot\n    return"),
+    ("svg.py", "right + BESIDE_BOX + SLOT * (slot + 1)", "right + BESIDE_BOX + SLOT * slot"),
     ("svg.py", "MOST_ROOM = 42", "MOST_ROOM = 400"),
     (
         "svg.py",

@@ -4,6 +4,7 @@ from __future__ import annotations
 
 import os
 import sys
+from dataclasses import replace
 from typing import Dict, Optional, Tuple
 
 HERE = os.path.dirname(os.path.abspath(__file__))
@@ -176,6 +177,22 @@ def three_threads() -> Finding:
     )
 
 
+def nested() -> Report:
+    """Three blocks are to blame, one in the other; the other thread's block began before, and is as long."""
+    finding = pool_finding(1)
+    finding.id = "nested"
+    begins = (("client(Pool&, int, int*)", 80), ("Pool::acquire()", 100), ("Pool::retry()", 104))
+    finding.witness = replace(
+        finding.witness,
+        transactions=(
+            Transaction(Thread(3, "client(Pool&, int, int*)"), 80, 150, "client(Pool&, int, int*)"),
+            Transaction(Thread(1, "client(Pool&, int, int*)"), 90, 160, "client(Pool&, int, int*)"),
+        ),
+        blocks=tuple(Block(name, begin) for name, begin in begins),
+    )
+    return Report(runs(1, POOL_CALLS), [finding])
+
+
 def _waiting(number: int, what: str, position: int, line: int, holds: bool) -> Event:
     return Event(
         Thread(number, "transfer(Account&, Account&)"),
@@ -326,6 +343,7 @@ def named(name: str) -> Report:
 REPORTS: Dict[str, Report] = {
     "pool": pool(),
     "every_kind": every_kind(),
+    "nested": nested(),
     "nothing_found": nothing_found(),
     "nothing_looked_at": nothing_looked_at(),
     "hostile": named(HOSTILE),

@@ -204,6 +204,18 @@ class Svg(unittest.TestCase):
         drawing = lanes.of(samples.three_threads(), samples.every_kind())
         self.assertLess(Picture(svg.write(drawing)).page.right, 800)
 
+        drawing = lanes.of(samples.REPORTS["long"].findings[0], samples.REPORTS["long"])
+        self.assertLess(Picture(svg.write(drawing)).page.right, 1000)
+
+    def test_arrows_run_down_beside_blocks(self) -> None:
+        for report in (samples.every_kind(), samples.nested()):
+            for finding in report.findings:
+                picture = Picture(svg.write(lanes.of(finding, report)))
+                for path in picture.arrows:
+                    for block in picture.blocks:
+                        beside = min(abs(path[1][0] - block.left), abs(path[1][0] - block.right))
+                        self.assertGreater(beside, 10)
+
     def test_the_blamed_block_is_marked(self) -> None:
         text = svg.write(lanes.of(samples.pool_finding(), samples.pool()))
         self.assertEqual(text.count('class="blamed"'), 1)
@@ -211,6 +223,15 @@ class Svg(unittest.TestCase):
         self.assertNotIn(
             'class="blamed"', svg.write(lanes.of(samples.three_threads(), samples.every_kind()))
         )
+
+    def test_of_nested_blocks_that_of_the_finding_is_marked(self) -> None:
+        report = samples.nested()
+        drawing = lanes.of(report.findings[0], report)
+        blamed = [bar for bar in drawing.bars if bar.is_blamed]
+        self.assertEqual(len(blamed), 1)
+        self.assertEqual(drawing.boxes[blamed[0].first].title, "Pool::acquire()")
+        others = [bar for bar in drawing.bars if not bar.is_blamed]
+        self.assertEqual([drawing.columns[bar.column][:8] for bar in others], ["thread 1"])
 
     def test_without_a_finding(self) -> None:
         for name in ("nothing_found", "nothing_looked_at"):

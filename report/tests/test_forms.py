@@ -175,6 +175,8 @@ class Words(unittest.TestCase):
         report = samples.nothing_looked_at()
         report.findings = [samples.deadlock()]
         self.assertEqual(words.outcome(report), "nothing was looked at: 1 finding")
+        text = forms.FORMATS["text"](report, forms.Settings())
+        self.assertIn("\nnothing was looked at: 1 finding\n", text)
 
 
 class Text(unittest.TestCase):
@@ -205,10 +207,21 @@ class Text(unittest.TestCase):
             self.assertNotIn("\x1b", plain)
             self.assertEqual(re.sub("\x1b\\[[0-9]*m", "", painted).split(), plain.split())
 
+    def test_two_files_of_one_name_keep_their_folders(self) -> None:
+        report = samples.pool()
+        other = samples.three_threads()
+        other.function = Function("other", "other", Place("tests/pool.cpp", 3))
+        self.assertIn("  pool.cpp:24\n", forms.FORMATS["text"](report, forms.Settings()))
+        report.findings.append(other)
+        text = forms.FORMATS["text"](report, forms.Settings())
+        self.assertIn(" people/pool.cpp:24\n", text)
+        self.assertIn(" tests/pool.cpp:3\n", text)
+
     def test_each_thread_has_its_colour(self) -> None:
         painted = self.printed("pool", 80, True)
         found = re.findall("  [> ] (\x1b\\[[0-9]*m)(thread [0-9])", painted)
-        self.assertEqual([len(found), len(set(found))], [4, 2])
+        self.assertEqual(len(found), 4)
+        self.assertEqual(len({colour for colour, _ in found}), 2)
 
 
 class Sarif(unittest.TestCase):
@@ -378,6 +391,13 @@ class Html(unittest.TestCase):
                 self.assertEqual(page.names.count("script"), 1)
                 self.assertEqual(page.names.count("article"), len(report.findings))
 
+    def test_the_list_of_findings_is_narrow(self) -> None:
+        page = golden.printed("long", "html", samples.REPORTS["long"])
+        shown = re.findall("<b><bdi>(.*?)</bdi></b>", page)
+        self.assertEqual(len(shown), len(samples.REPORTS["long"].findings))
+        self.assertLess(max(map(len, shown)), 100)
+        self.assertIn("get_or_load(int) is not atomic", shown[0])
+
     def test_svg_is_xml(self) -> None:
         for name, report in samples.REPORTS.items():
             with self.subTest(name):
@@ -399,6 +419,15 @@ class Markdown(unittest.TestCase):
                     elif fence:
                         self.assertNotIn(fence, line)
                 self.assertEqual(fence, "")
+
+    def test_a_fence_in_a_line_of_source(self) -> None:
+        finding = samples.pool_finding(1)
+        events = finding.witness.events
+        fenced = replace(events[0], source="````")
+        finding.witness = replace(finding.witness, events=(fenced, *events[1:]))
+        text = golden.printed("", "markdown", Report(samples.runs(1, {}), [finding]))
+        self.assertIn("\n`````text\n", text)
+        self.assertIn("\n`````\n", text)
 
     def test_a_name_makes_no_mark(self) -> None:
         text = golden.printed("hostile", "markdown", samples.REPORTS["hostile"])

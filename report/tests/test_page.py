@@ -152,6 +152,15 @@ class Page(unittest.TestCase):
         self.assertEqual(self.shown("#none"), [])
         self.type("people/d.cpp")
         self.assertEqual(len(self.shown("nav li")), 2)
+        self.type("pool::ACQUIRE")
+        self.assertEqual(self.shown("nav li b"), ["Pool::acquire() is not atomic"])
+
+    def test_what_is_chosen_stays_if_the_filter_lets_it(self) -> None:
+        self.show("every_kind")
+        self.keys("j", "j", "j")
+        chosen = self.run_in_page(CHOSEN)
+        self.type("deadlock")
+        self.assertEqual(self.run_in_page(CHOSEN), chosen)
 
     def test_letters_in_the_filter_are_letters(self) -> None:
         self.show("every_kind")

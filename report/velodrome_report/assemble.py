@@ -6,7 +6,7 @@ import shlex
 from dataclasses import replace
 from typing import Dict, Iterable, List, Optional, Sequence
 
-from . import apart, finding, folding, names, ranking
+from . import apart, finding, folding, judge, names, ranking
 from .judge import Looked
 from .model import Counts, Event, Finding, Kind, Report, Run, Witness
 from .source import Sources
@@ -17,7 +17,9 @@ def report(every: Sequence[Looked], reasons: Iterable[str] = ()) -> Report:
     gathering = finding.Gathering()
     for looked in every:
         gathering.take(looked)
-    return _arranged([looked.run for looked in every], gathering.findings(), reasons)
+    made = _arranged([looked.run for looked in every], gathering.findings(), reasons)
+    made.known = tuple(dict.fromkeys(name for looked in every for name in judge.left_out(looked)))
+    return made
 
 
 def merged(reports: Sequence[Report]) -> Report:

@@ -289,6 +289,13 @@ def _left_out(looked: Looked) -> Set[int]:
     return set() if looked.audit is None else set(looked.audit.left_out)
 
 
+def left_out(looked: Looked) -> List[str]:
+    """The names of the functions of a run that are known and were left out."""
+    described, labels = looked.beside.functions, looked.beside.labels
+    names = {**labels, **{label: one.name for label, one in described.items()}}
+    return [names[label] for label in sorted(_left_out(looked)) if label in names]
+
+
 def _count_calls(looked: Looked) -> None:
     """How often each function was called, as far as it was looked at."""
     left_out = _left_out(looked)

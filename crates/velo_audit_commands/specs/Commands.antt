@@ -11,10 +11,11 @@ use Rattle.velo_audit_text.specs.declared.words.Asked.{Asked}
 use Rattle.velo_fate.specs.declared.fate.Fate.{Fate}
 use Rattle.velo_request.specs.declared.request.AuditOptions.{AuditOptions}
 use Rattle.velo_request.specs.declared.request.PredictOptions.{PredictOptions}
-use Rattle.velo_delivery.specs.declared.failure.Operand.TheVariants.{Log}
+use Rattle.velo_delivery.specs.declared.failure.Operand.TheVariants.{Log, Out}
 use Rattle.velo_audit_commands.specs.Auditing.{IsAuditAnswer}
 use Rattle.velo_fate.specs.Delivery.{CommandAnswer, IsDelivered}
-use Rattle.velo_fate.specs.Barred.{DoesNotRead, DoesNotReadApart, nothing_beside}
+use Rattle.velo_fate.specs.Barred.{DoesNotRead, DoesNotReadApart}
+use Rattle.velo_fate.specs.declared.files.Beside.{Beside}
 use Rattle.velo_delivery.specs.Disk.{Store}
 use Rattle.velo_audit_commands.specs.Predicting.{IsPredictAnswer}
 use Rattle.velo_fate.specs.Failures.{FailuresAsTold}
@@ -71,14 +72,18 @@ context_of_predict options =
       source = options.source;
     }
 
+-- the log of the first prediction, the one file that is written
+abbrev pub witness_of : PredictOptions → Beside
+witness_of options = record { operand = Out; path = options.target }
+
 -- LOG is read whole and judged as by a check. Without what `asked` leaves out it is audited, and then
 -- searched for what other runs can show. The trace of the first prediction is saved at OUT, if there is
 -- one, and then the page goes to standard output, in the form that was asked for, by these names and
 -- with these sites; or nothing, for a reason (`Predicting`). If nothing is predicted, OUT is not opened.
 abbrev pub PredictsLog : NameLists → Option Table → Asked → PredictOptions → Store → Writing → Fate → Type 0
 PredictsLog names sites asked options store stdout f =
-    DoesNotReadApart store Log options.input.now (reads_of (context_of_predict options))
-    options.target nothing_beside stdout f
+    DoesNotReadApart store Log options.input.now (reads_of (context_of_predict options)) None
+    (witness_of options) stdout f
     ⊎ ((read : Reading) × (answer : CommandAnswer)
     × store.disk.gives options.input.now read × FailuresAsTold read f
     × IsPredictAnswer names sites asked options read.bytes answer

@@ -321,18 +321,11 @@ fn predict_input<F: Files, O: Sink>(
 {
     let options = inquiry.options;
     let reads = reads_of(&context_of(options));
-    let nothing = Beside {
+    let witness = Beside {
         operand: Operand::Out,
-        path: None,
+        path: options.target,
     };
-    match open_apart(
-        files,
-        Operand::Log,
-        options.input,
-        &reads,
-        options.target,
-        nothing,
-    ) {
+    match open_apart(files, Operand::Log, options.input, &reads, None, witness) {
         Ok(mut log) => predict_log(inquiry, &mut log, files, out),
         Err(fate) => fate,
     }

@@ -6,5 +6,5 @@ mod program;
 mod telling;
 
 pub use program::{end_without_words, run};
-pub use velo_arguments::{command, help};
+pub use velo_arguments::command;
 pub use velo_words::{Recall, SystemReason};

@@ -58,11 +58,11 @@ use Rattle.velo_inputs.specs.Input.{IsFaultOfInput}
 use Rattle.velo_fate.specs.Delivery.{CommandAnswer, DeliversBy, FailsSaving, IsDelivered, IsDeliveredInTurn, IsPrinted, LacksMemory, printing, silent}
 use Rattle.velo_delivery.specs.Disk.{Disk, Store, behind}
 use Rattle.velo_fate.specs.declared.files.Beside.{Beside}
-use Rattle.velo_fate.specs.Barred.{IsBarred, IsBarredApart, IsBarredRun, list_beside, names_beside, nothing_beside}
+use Rattle.velo_fate.specs.Barred.{IsBarred, IsBarredApart, IsBarredRun, list_beside, names_beside}
 use Rattle.velo_log_commands.specs.Explaining.{IsExplainAnswer}
 use Rattle.velo_workload_commands.specs.Exploring.{IsExploreAnswer}
 use Rattle.velo_workload_commands.specs.ExploringRest.{LacksOwnNames}
-use Rattle.velo_audit_commands.specs.Commands.{AuditsLog, PredictsLog, context_of_audit, context_of_predict}
+use Rattle.velo_audit_commands.specs.Commands.{AuditsLog, PredictsLog, context_of_audit, context_of_predict, witness_of}
 use Rattle.velo_inputs.specs.Context.{LacksContext, reads_of}
 use Rattle.velo_inputs.specs.declared.context.ContextOptions.{ContextOptions}
 use Rattle.velo_inputs.specs.Ignoring.{AsksInVain, MeanNothing}
@@ -343,7 +343,7 @@ of_thinned asked options store stdout f (inl (inr h)) = of_thin Growths options 
 of_thinned asked options store stdout f (inr lacks) = subst (ComesByRefusal Growths) (sym lacks.1) lacks.0
 
 of_predicted : (names : NameLists) (asked : Asked) (options : PredictOptions) (store : Store) (stdout : Writing) (f : Fate) (sites : Option Table) → PredictsLog names sites asked options store stdout f → ComesByRefusal Growths f
-of_predicted names asked options store stdout f sites (inl h) = unread_apart Growths store.disk Log options.input.now (reads_of (context_of_predict options)) options.target nothing_beside f h.0
+of_predicted names asked options store stdout f sites (inl h) = unread_apart Growths store.disk Log options.input.now (reads_of (context_of_predict options)) None (witness_of options) f h.0
 of_predicted names asked options store stdout f sites (inr h) = of_delivered Growths store options.target stdout h.1 f (of_prediction Growths names sites asked options h.0.bytes h.1 tt h.4) h.5
 
 -- of a workload whose schedules were tried

@@ -20,5 +20,3 @@ pub use judged::{Differing, PredictedCycle};
 pub use rounds::{Draws, PredictedCycles, search};
 pub use stuck::{Awaited, Deadlock};
 
-#[cfg(test)]
-mod tests;

@@ -11,5 +11,3 @@ pub use reading::{LongReader, MAX_WATCHED};
 pub use watch::EndlessWatch;
 pub use whole::Whole;
 
-#[cfg(test)]
-mod tests;

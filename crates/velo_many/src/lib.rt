@@ -4,8 +4,6 @@
 mod audits;
 mod listing;
 mod summary;
-#[cfg(test)]
-mod tests;
 
 pub use audits::{FoundLabel, LogAudit, LogResult, Verdict, count_logs, verdict_of};
 pub use listing::{Listed, listing_of};

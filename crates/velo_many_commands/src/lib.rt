@@ -9,8 +9,6 @@ mod many;
 mod merging;
 mod reading;
 mod telling;
-#[cfg(test)]
-mod tests;
 
 pub use batch::{BYTES_AT_A_TIME, LOGS_AT_A_TIME};
 pub use many::audit_many;

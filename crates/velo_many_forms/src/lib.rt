@@ -10,8 +10,6 @@ mod lists;
 mod logs;
 mod reading;
 mod summary;
-#[cfg(test)]
-mod tests;
 mod texts;
 mod values;
 

@@ -7,8 +7,6 @@ mod difference;
 mod feasible;
 mod judge;
 mod sources;
-#[cfg(test)]
-mod tests;
 mod waits;
 
 pub use cycle::predicts_cycle;

@@ -6,8 +6,6 @@
 
 mod ordered;
 mod sweep;
-#[cfg(test)]
-mod tests;
 mod thinning;
 
 pub use ordered::ordered_variables;

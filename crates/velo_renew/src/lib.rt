@@ -3,8 +3,6 @@
 
 mod renewal;
 mod stages;
-#[cfg(test)]
-mod tests;
 
 pub use renewal::{NotRenewed, renew, restart};
 pub use stages::prologue;

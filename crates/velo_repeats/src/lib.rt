@@ -3,8 +3,6 @@
 
 mod finder;
 mod leaving;
-#[cfg(test)]
-mod tests;
 
 pub use finder::repeats;
 pub use leaving::without_repeats;

@@ -14,5 +14,3 @@ pub use closed::{report, report_so_far};
 pub use counted::report_counts;
 pub use names::Names;
 
-#[cfg(test)]
-mod tests;

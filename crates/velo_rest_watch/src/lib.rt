@@ -9,5 +9,3 @@ mod whole;
 pub use rest::ClosedRest;
 pub use watch::RestWatch;
 
-#[cfg(test)]
-mod tests;

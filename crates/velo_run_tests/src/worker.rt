@@ -1,6 +1,7 @@
 //! Tests of workers.
 ghost use Rattle.std.specs.Prelude.{◌≡◌, IfSome};
 
+mod chance;
 mod growths;
 mod live;
 

@@ -7,8 +7,6 @@ mod laws;
 mod limits;
 mod schedule;
 mod short;
-#[cfg(test)]
-mod tests;
 mod turns;
 
 pub use file::schedule_in;

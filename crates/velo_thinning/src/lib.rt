@@ -6,8 +6,6 @@ mod delivering;
 mod judging;
 mod outcome;
 mod reading;
-#[cfg(test)]
-mod tests;
 mod thinning;
 
 pub use delivering::{CountsText, Outgoing, Targets, deliver_thinned};

@@ -8,5 +8,3 @@ mod watch;
 pub use fault::WatchFault;
 pub use state::Watch;
 
-#[cfg(test)]
-mod tests;

@@ -200,8 +200,12 @@ pub fn explore_rest_file<F: Files, O: Sink, P: ExploreProgress>(
     ensures { DoesExploreRest options.now (store F.disk files.old files.new)
         (writing O.contents O.failures out.old out.new) result }
 {
-    let run = run_of(&options.explore);
-    match open_workload(alloc, &run, &[list_beside(&options.ignored)], files) {
+    match open_workload(
+        alloc,
+        &run_of(&options.explore),
+        &[list_beside(&options.ignored)],
+        files,
+    ) {
         Ok(workload) => {
             let fate = explore_by_own_names(alloc, &workload, options, files, out, progress);
             drop(workload);

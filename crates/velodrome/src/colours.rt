@@ -138,6 +138,3 @@ impl<S: Sink> Sink for ColouredSink<S> {
         }
     }
 }
-
-#[cfg(test)]
-mod tests;

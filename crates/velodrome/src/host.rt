@@ -153,6 +153,3 @@ impl<'a> Files for HostFiles<'a> {
 fn is_same_file(one: &Metadata, other: &Metadata) -> bool {
     one.is_file() && other.is_file() && node_of(one) == node_of(other)
 }
-
-#[cfg(test)]
-mod tests;

@@ -169,6 +169,3 @@ impl<C: Clock, S: Sink> ExploreProgress for ProgressLine<'_, C, S> {
         self.manner = None;
     }
 }
-
-#[cfg(test)]
-mod tests;

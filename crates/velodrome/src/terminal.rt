@@ -24,6 +24,3 @@ pub fn is_terminal(files: &impl fs::Files, path: &str) -> bool {
         Err(_) => false,
     }
 }
-
-#[cfg(test)]
-mod tests;

@@ -42,6 +42,3 @@ pub fn with_why<'w>(
     }
     Ok(passed)
 }
-
-#[cfg(test)]
-mod tests;

@@ -2,11 +2,16 @@
 
 from __future__ import annotations
 
-from .characters import shortened, visible
+from .characters import shortened, visible, wrapped
 from .drawing import Bar, Box, Drawing
 
 MOST_ROOM = 60
 BLAMED = 'color="#a63f00"; fontcolor="#a63f00"; penwidth=2;'
+
+
+def _heading(drawing: Drawing) -> list[str]:
+    texts = [drawing.sentence, *drawing.below]
+    return [line for text in texts for line in wrapped(visible(text), MOST_ROOM)]
 
 
 def _quoted(lines: list[str]) -> str:
@@ -68,7 +73,7 @@ def _in_order(column: int, drawing: Drawing) -> str:
 def write(drawing: Drawing) -> str:
     """Returns the drawing in the language of Graphviz: a cluster for each thread and each block, a node for each event."""
     columns = range(len(drawing.columns))
-    out = f"digraph finding {{\n  label={_quoted([drawing.sentence, *drawing.below])};\n"
+    out = f"digraph finding {{\n  label={_quoted(_heading(drawing))};\n"
     out += "  labelloc=t; labeljust=l; rankdir=LR; node [shape=box, fontname=monospace];\n"
     out += "".join(_thread(column, drawing) for column in columns)
     out += "".join(_in_order(column, drawing) for column in columns)

@@ -81,7 +81,7 @@ def _height_of(box: Box) -> int:
 
 
 def _gutter_of(arrow: Arrow, boxes: tuple[Box, ...]) -> int:
-    """Returns beside which columns an arrow runs down: gutter N is left of column N."""
+    """Returns beside which columns an arrow runs down: gutter N is left of column N, and 0 has none."""
     start, end = boxes[arrow.start].column, boxes[arrow.end].column
     return start if end < start else start + 1
 
@@ -214,8 +214,6 @@ def _xml_of_lines(text: str) -> str:
 
 def _turn_of(gutter: int, slot: int, layout: _Layout) -> int:
     """Where an arrow runs down: each arrow of a gutter at a place of its own."""
-    if gutter == 0:
-        return layout.columns[0].left - BESIDE_BOX - SLOT * (slot + 1)
     return layout.columns[gutter - 1].right + BESIDE_BOX + SLOT * (slot + 1)
 
 

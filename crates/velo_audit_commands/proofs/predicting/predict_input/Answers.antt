@@ -1,4 +1,10 @@
-use Rattle.std.proofs.Common.{inl, inr, refl}
+use Rattle.std.proofs.Common.{◌∙◌, None, ap, inl, inr, refl, subst}
+use Rattle.std.specs.Prelude.{List}
+use Rattle.velo_audit_commands.specs.Commands.{witness_of}
+use Rattle.velo_delivery.specs.declared.failure.Operand.TheVariants.{Log}
+use Rattle.velo_fate.specs.Barred.{IsBarredApart}
+use Rattle.velo_fate.specs.declared.files.Beside.{Beside}
+use Rattle.velo_inputs.specs.Context.{reads_of}
 use Rattle.velo_audit_commands.proofs.predicting.predict_input.Goals as goal
 
 pub returns-in-Ok : goal.returns-in-Ok
@@ -7,4 +13,9 @@ returns-in-Ok g c =
     inr (_, done.1.0, c.in-Ok.ensures.given c.predict_log.new.source, done.0, done.1.1, done.1.2)
 
 pub returns-in-Err : goal.returns-in-Err
-returns-in-Err g c = inl (c.in-Err.ensures.barred, (refl, (refl, refl)))
+returns-in-Err g c =
+    let options = c.args.inquiry.now.options.now in
+    inl (
+      subst (λ (reads : List Beside). IsBarredApart (g.F.Files.disk c.args.files.now) Log options.input.now reads None (witness_of options) c.in-Err.fate) (c.reads_of-reads.ensures ∙ ap reads_of c.context_of.ensures) c.in-Err.ensures.barred,
+      (refl, (refl, refl)),
+    )

@@ -1,5 +1,7 @@
-use Rattle.std.proofs.Common.{◌∙◌, [], inl, inr, refl, sym, ⊎_elim}
+use Rattle.std.proofs.Common.{◌∙◌, ◌∷◌, [], inl, inr, refl, subst, sym, ⊎_elim}
+use Rattle.velo_fate.specs.Barred.{IsBarredRun}
 use Rattle.velo_fate.specs.Delivery.{silent}
+use Rattle.velo_fate.specs.declared.files.Beside.{Beside}
 use Rattle.velo_workload_commands.specs.Playing.{ByTurns, text_of_names}
 use Rattle.velo_delivery.specs.Disk.{store}
 use Rattle.velo_delivery.specs.Writing.{writing}
@@ -24,6 +26,7 @@ returns-in-Ok g c =
 
 pub returns-in-Err : goal.returns-in-Err
 returns-in-Err g c =
+    let run = c.args.options.now.run in
     ⊎_elim
     (λ none. inr (
       none.read,
@@ -34,5 +37,8 @@ returns-in-Err g c =
       inr (c.in-Err.fate, none.unsaid, refl),
       unread_put none.read.bytes c.in-Err.fate none.unsaid (store g.F.Files.disk c.args.files.now c.args.files.now) refl c.args.options.now.run.target (writing g.O.Sink.contents g.O.Sink.failures c.args.out.now c.args.out.now) (refl, refl),
     ))
-    (λ barred. inl (barred, (refl, (refl, refl))))
+    (λ barred. inl (
+      subst (λ (file : Beside). IsBarredRun (g.F.Files.disk c.args.files.now) run.input.now (file ∷ []) run.target run.names_target c.in-Err.fate) c.schedule_beside.ensures barred,
+      (refl, (refl, refl)),
+    ))
     c.in-Err.ensures.none
