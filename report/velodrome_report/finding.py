@@ -8,7 +8,7 @@ from typing import Dict, List, Optional, Sequence, Set, Tuple
 
 from . import choice, deadlocks
 from .answers import Alarm, End, OpenBlock, Step
-from .gaps import Gap
+from .gap import Gap
 from .judge import Looked
 from .model import (
     Action,
