@@ -195,7 +195,7 @@ struct Replayed {
 }
 
 /// Replays a workload, if it is one.
-fn replayed(alloc: Global, workload: &Workload) -> Option<Replayed> {
+fn replay_of(alloc: Global, workload: &Workload) -> Option<Replayed> {
     let config = Config::new(0, workload.bounds(), 1_048_576, 1024, false).ok()?;
     let (closed, ending) = replay(alloc, workload, &[], config).ok()?;
     let mut log = Text::new(alloc);
@@ -208,7 +208,7 @@ fn replayed(alloc: Global, workload: &Workload) -> Option<Replayed> {
 
 /// Whether the check of the log has the verdict of its replay, or the replay could not go on.
 fn is_checked_again(alloc: Global, workload: &Workload) -> Option<bool> {
-    let run = replayed(alloc, workload)?;
+    let run = replay_of(alloc, workload)?;
     let checked = show(alloc, run.log.as_slice());
     let can_be_checked = checked.status == 0 || checked.status == 3;
     Some(can_be_checked && (run.status == checked.status || run.status == 4))
