@@ -7,12 +7,12 @@ from typing import List
 import support
 from support import Line, Log, hold
 from velodrome_report import gaps
-from velodrome_report.gaps import Gap, Tier
+from velodrome_report.gap import Gap, Scanned, Tier
 from velodrome_report.sites import Sites
 
 
-class Scanned(support.InFolder):
-    def scan(self, log: Log, *wanted: int, left_out: int = -1) -> gaps.Scanned:
+class OfALog(support.InFolder):
+    def scan(self, log: Log, *wanted: int, left_out: int = -1) -> Scanned:
         path = log.write(self.path("run.log"))
         sites = Sites(path + ".sites", gaps.MOST_EVENTS)
         return gaps.scan(path, sites, set(wanted), {left_out})

@@ -43,6 +43,33 @@ class Lists(support.InFolder):
         done = self.run_command("run.log")
         self.assertEqual((done.stdout, done.returncode), (ORDER, 3))
 
+    def test_who_only_tries_a_lock_does_not_wait_for_it(self) -> None:
+        log = support.inverted_order()
+        tried = log.lines.index(("2 acq 0", "d.cpp:11 move(int, int)"))
+        log.write(self.path("run.log"))
+        support.put(self.path("run.log.tried"), f"{tried}\n")
+        self.assertEqual(self.answer("run.log")["findings"], [])
+
+    def test_locks_of_one_array_are_one_deadlock(self) -> None:
+        ids = []
+        for first, second in (("locks+8", "locks+16"), ("locks+40", "locks[3]")):
+            log = support.inverted_order()
+            log.names.update({"lock 0": first, "lock 1": second})
+            log.write(self.path("run.log"))
+            ids += [one["id"] for one in self.answer("run.log")["findings"]]
+        self.assertEqual(len(set(ids)), 1)
+
+    def test_locks_alone_in_a_log_that_lacks_variables(self) -> None:
+        log = support.lost_update().named(label_0="inc")
+        log.lines = [line for line in log.lines if " 0 0" not in line[0]]
+        log.write(self.path("run.log"))
+        (found,) = self.answer("run.log")["findings"]
+        self.assertEqual(found["section"], "likely")
+        log.notes = {"schema": 1, "all_variables": True}
+        log.write(self.path("run.log"))
+        (found,) = self.answer("run.log")["findings"]
+        self.assertEqual(found["section"], "by_design")
+
     def test_nothing_found_is_said_of_what_was_looked_at(self) -> None:
         for name in ("a.log", "b.log"):
             support.right().write(self.path(name))

@@ -125,7 +125,7 @@ class Order(unittest.TestCase):
             (GapTrait(in_loop=True), "each pass of its loop"),
             (GapTrait(used_again=True, tier=CARRIED), "used again"),
             (GapTrait(tier=LOCK, target="m"), "takes m more than once"),
-            (None, "only locks do"),
+            (None, "only locks and counts"),
         ):
             with self.subTest(words):
                 (one,) = ranking.ranked([found("f", gap)])

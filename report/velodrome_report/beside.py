@@ -9,7 +9,7 @@ from __future__ import annotations
 import json
 import os
 from dataclasses import dataclass, field
-from typing import Any, Dict, List, Optional, Tuple
+from typing import Any, Dict, FrozenSet, List, Optional, Tuple
 
 from .answers import site
 from .model import Place
@@ -96,6 +96,8 @@ class Beside:
     locks: Dict[int, str] = field(default_factory=dict)
     threads: Dict[int, str] = field(default_factory=dict)
     notes: Notes = field(default_factory=Notes)
+    # the positions of the acquires that came from a trylock
+    tried: FrozenSet[int] = frozenset()
     warnings: List[str] = field(default_factory=list)
 
 
@@ -110,6 +112,9 @@ def read(log: str) -> Beside:
     functions = _first(log + ".functions", stem + ".functions")
     if functions:
         _read_functions(functions, found)
+    tried = _first(log + ".tried", stem + ".tried")
+    if tried:
+        found.tried = _read_positions(tried, found)
     notes = _first(log + ".notes", stem + ".notes")
     if notes:
         try:
@@ -122,6 +127,15 @@ def read(log: str) -> Beside:
 
 def _first(*paths: str) -> Optional[str]:
     return next((path for path in paths if os.path.isfile(path)), None)
+
+
+def _read_positions(path: str, found: Beside) -> FrozenSet[int]:
+    try:
+        with open(path, encoding="ascii", errors="replace") as opened:
+            return frozenset(int(line) for line in opened)
+    except (OSError, ValueError):
+        found.warnings.append(f"{path}: no list of positions, left aside")
+        return frozenset()
 
 
 def _read_names(path: str, found: Beside) -> None:

@@ -14,7 +14,7 @@ from typing import Dict, Iterable, List, Optional, Set, Tuple
 
 from . import answers, checker
 from .answers import Alarm, Cycle, End, NotAnAnswer, OpenBlock, Step
-from .gaps import Gap, Scanned
+from .gap import Gap, Scanned
 from .sites import Sites
 
 # so often the checker is asked again about one log

@@ -5,7 +5,7 @@ from __future__ import annotations
 import hashlib
 import re
 from dataclasses import dataclass, replace
-from typing import Dict, List, Optional, Sequence, Tuple
+from typing import Dict, FrozenSet, List, Optional, Sequence, Tuple
 
 from .answers import Waiting, site
 from .beside import Held, Wait
@@ -109,18 +109,23 @@ def _with_hold(wait: Wait, members: Sequence[Wait]) -> Wait:
     return replace(wait, holds=holds + missing)
 
 
-def predicted(log: str, sites: Sites, waiting: Tuple[Waiting, ...]) -> Circle:
+def predicted(
+    log: str, sites: Sites, waiting: Tuple[Waiting, ...], tried: FrozenSet[int]
+) -> Optional[Circle]:
     """A predicted circle: each waits for the next one, and the last for the first.
 
     Where a thread took what it holds is looked up in the log: there it asked for the lock that it
-    waits for while it held the other one.
+    waits for while it held the other one. None if it only tried to take it, by one of the acquires
+    at the positions `tried`: then it would not have waited.
     """
     count = len(waiting)
     waits: List[Wait] = []
     for index, one in enumerate(waiting):
         held = waiting[index - 1].target
-        taken = _taken(log, one, held) if held.kind is TargetKind.LOCK else None
-        at, function = (None, None) if taken is None else sites.at(taken)
+        found = _taken(log, one, held) if held.kind is TargetKind.LOCK else None
+        if found is not None and found[1] in tried:
+            return None
+        at, function = (None, None) if found is None else sites.at(found[0])
         holds = (Held(str(held), at, function),) if held.kind is TargetKind.LOCK else ()
         waits.append(
             Wait(
@@ -136,8 +141,8 @@ def predicted(log: str, sites: Sites, waiting: Tuple[Waiting, ...]) -> Circle:
     return Circle(tuple(waits))
 
 
-def _taken(log: str, one: Waiting, held: Target) -> Optional[int]:
-    """The position where the thread took what it holds when it asks for what it waits for."""
+def _taken(log: str, one: Waiting, held: Target) -> Optional[Tuple[int, int]]:
+    """The positions where the thread took what it holds, and asked for what it waits for."""
     thread = str(one.thread.number)
     taken: Optional[int] = None
     try:
@@ -154,7 +159,7 @@ def _taken(log: str, one: Waiting, held: Target) -> Optional[int]:
                         taken = None
                 if words[2] == str(one.target.number) and taken is not None:
                     if words[1] in ("acq", "acqs", "join") and words[2] != str(held.number):
-                        return taken
+                        return taken, position
     except OSError:
         pass
     return None
@@ -169,7 +174,7 @@ def identity(found: Circle) -> str:
 def _said(wait: Wait) -> str:
     """What a thread waits for: by its function, and by the lock's name if it has one."""
     file = wait.at.file if wait.at else "?"
-    name = "" if wait.name.startswith("0x") else wait.name
+    name = re.sub(r"0x[0-9a-f]+|[+\[]\d+\]?", "", wait.name)
     return f"{wait.function or file} {wait.what} {name}"
 
 

@@ -8,7 +8,7 @@ from typing import Dict, List, Optional, Sequence, Set, Tuple
 
 from . import choice, deadlocks
 from .answers import Alarm, End, OpenBlock, Step
-from .gaps import Gap
+from .gap import Gap
 from .judge import Looked
 from .model import (
     Action,
@@ -213,8 +213,10 @@ class Gathering:
             self._take_circle(looked, happened, True)
         if looked.predictions is not None and looked.log is not None:
             for waiting in looked.predictions.circles:
-                found = deadlocks.predicted(looked.log, looked.sites, waiting)
-                self._take_circle(looked, found, False)
+                tried = looked.beside.tried
+                found = deadlocks.predicted(looked.log, looked.sites, waiting, tried)
+                if found is not None:
+                    self._take_circle(looked, found, False)
 
     def _take_circle(self, looked: Looked, found: deadlocks.Circle, happened: bool) -> None:
         names = {number: name for number, name in looked.beside.threads.items()}

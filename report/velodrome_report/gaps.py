@@ -12,10 +12,9 @@ of a lock and written under a later hold of it.
 from __future__ import annotations
 
 from bisect import bisect_left, bisect_right
-from dataclasses import dataclass, field
-from enum import IntEnum
-from typing import Dict, FrozenSet, List, Optional, Sequence, Set, Tuple
+from typing import Dict, List, Optional, Sequence, Set, Tuple
 
+from .gap import BEST, Gap, Gaps, Scanned, Tier
 from .sites import Sites
 
 # A longer log is not read for the order of the list.
@@ -24,72 +23,6 @@ MOST_EVENTS = 4_000_000
 MOST_KEPT = 128
 # so often a possible gap of one function and one variable is looked at
 MOST_POSSIBLE = 32
-
-
-class Tier(IntEnum):
-    """What goes through a gap, the most telling first."""
-
-    # a value that was read before is written after it, and was not read again
-    CARRIED = 0
-    # read before and written after it, but looked at again
-    LOOKED_AT_AGAIN = 1
-    # a variable, but nothing that was read before is written after it
-    SEEN_TWICE = 2
-    # a lock alone
-    LOCK = 3
-
-
-@dataclass(frozen=True)
-class Gap:
-    """A gap by the positions of its three events; the lesser key is the more telling one."""
-
-    # whether one call of another block has all of it
-    inside_callee: bool
-    # whether the other thread came while this one waited
-    in_wait: bool
-    # whether both events stand at one place, in a loop
-    in_loop: bool
-    tier: Tier
-    # whether what was read is changed at once: by an operation that cannot be interrupted, or
-    # under the same hold of a lock
-    counts: bool
-    # the lock or the variable, by its number
-    is_lock: bool
-    number: int
-    before: int
-    between: int
-    after: int
-    # the label of the callee that has all of it
-    callee: int = -1
-
-    def key(self) -> Tuple[bool, bool, bool, bool, int]:
-        return (self.inside_callee, self.in_wait, self.counts, self.in_loop, int(self.tier))
-
-
-# no gap is more telling
-BEST = (False, False, False, False, int(Tier.CARRIED))
-
-
-@dataclass
-class Gaps:
-    """The gaps of one function: of each lock and variable the most telling one."""
-
-    seen: Dict[Tuple[bool, int], Gap] = field(default_factory=dict)
-    possible: Dict[Tuple[bool, int], Gap] = field(default_factory=dict)
-
-
-@dataclass
-class Scanned:
-    """What was read off a log."""
-
-    gaps: Dict[int, Gaps] = field(default_factory=dict)
-    calls: Dict[int, int] = field(default_factory=dict)
-    # the variables that are only changed at once, by who has just read them
-    counters: FrozenSet[int] = frozenset()
-    events: int = 0
-    threads: int = 0
-    # whether all of the log was read
-    whole: bool = True
 
 
 class _Block:
@@ -244,14 +177,14 @@ class Scan:
         self._owner: Dict[int, int] = {}
         self._changed: Set[int] = set()
         self._plainly: Set[int] = set()
-        self._atomic = None if atomic is None else frozenset(atomic)
+        self._atomic = frozenset(atomic or ())
         self._possible: Dict[Tuple[int, int], int] = {}
 
     def ended(self) -> Scanned:
         """What was found."""
         self.found.threads = len(self._threads)
         shared = {variable for variable, owner in self._owner.items() if owner < 0}
-        counters = self._changed - self._plainly if self._atomic is None else self._atomic
+        counters = (self._changed - self._plainly) | self._atomic
         self.found.counters = frozenset(counters & shared)
         return self.found
 

@@ -10,6 +10,7 @@ from typing import Any, Dict, List, Optional, Sequence, Set, Tuple
 from . import answers, beside, checker, closer, deadlocks, gaps, making
 from .answers import Alarm, Audit, NotAnAnswer, Predictions
 from .beside import Beside, Stale, Wait
+from .gap import Scanned
 from .known import Known
 from .model import Place, Run
 from .names import without_parameters
@@ -56,7 +57,7 @@ class Looked:
     # alarms of what is left of the log around one lock or variable
     closer: List[Alarm] = field(default_factory=list)
     predictions: Optional[Predictions] = None
-    scanned: gaps.Scanned = field(default_factory=gaps.Scanned)
+    scanned: Scanned = field(default_factory=Scanned)
     sites: Sites = field(default_factory=lambda: Sites(None, 0))
     waits: Tuple[Wait, ...] = ()
     stale: List[Tuple[Stale, Audit]] = field(default_factory=list)
@@ -164,6 +165,8 @@ def _look_at_log(looked: Looked, asked: Asked) -> None:
     assert looked.log is not None
     looked.run.log = looked.log
     looked.beside = beside.read(looked.log)
+    if looked.source.kind is SourceKind.LOG:
+        looked.all_variables = looked.beside.notes.all_variables
     looked.run.warnings += tuple(looked.beside.warnings)
     looked.waits = looked.beside.notes.waits or looked.waits
     if not deadlocks.circles(looked.waits, looked.beside.notes.circles):

@@ -90,7 +90,7 @@ def _folder_beside(trace: str) -> "tempfile.TemporaryDirectory[str]":
 def _make_in(folder: str, program: str, trace: str, options: Sequence[str]) -> Made:
     """Makes the log: with all variables if they fit, else with those that race."""
     log = os.path.join(folder, os.path.basename(trace) + ".log")
-    words: List[str] = [program, trace, log, *options]
+    words: List[str] = [program, trace, log, "--tried", log + ".tried", *options]
     made = Made(log)
     done = checker.call([*words, "--all-variables"], (0, CANNOT_NAME))
     said = PRINTED.search(done.out)

@@ -24,7 +24,7 @@ def by_design(finding: Finding) -> Optional[str]:
     if (gap is None or gap.tier >= SEEN_TWICE) and _waits_for_threads(finding):
         return "it starts threads or waits for their end"
     if gap is None:
-        return None if _may_matter(finding.traits) else "no variable makes it so, only locks do"
+        return None if _may_matter(finding.traits) else "only locks and counts make it so"
     if gap.in_wait:
         return "others come in only while it waits"
     if gap.counts:
