@@ -1,11 +1,13 @@
 // Functions that wait. order() waits at its start, and is wrong in what follows; reserve() is wrong
 // in what comes before its wait; take() and meet() are right.
 #include "check_then_act.h"
+#include <semaphore.h>
 
 enum { ROUNDS = 60, THREADS = 3 };
 static pthread_mutex_t gate = PTHREAD_MUTEX_INITIALIZER;
 static pthread_cond_t opened = PTHREAD_COND_INITIALIZER;
 static pthread_barrier_t barrier;
+static sem_t seats;
 static int is_open, items, taken;
 
 static void wait_open(void) {
@@ -20,7 +22,7 @@ static void order(void) {
 }
 static void reserve(void) {
     put(get() + 1);
-    wait_open();
+    sem_wait(&seats);
 }
 static void take(void) {
     pthread_mutex_lock(&gate);
@@ -50,6 +52,7 @@ static void *work(void *a) {
         if (i % 20 == 0)
             meet();
         order();
+        sem_post(&seats);
         reserve();
         take();
     }
@@ -58,6 +61,7 @@ static void *work(void *a) {
 int main(void) {
     pthread_t t[THREADS];
     pthread_barrier_init(&barrier, 0, THREADS);
+    sem_init(&seats, 0, 0);
     for (int i = 0; i < THREADS; i++)
         pthread_create(&t[i], 0, work, 0);
     usleep(2000);
