@@ -23,6 +23,7 @@ static string without_deleted(const string &path) {
                    path.compare(path.size() - mark.size(), mark.size(), mark) == 0;
     return deleted ? path.substr(0, path.size() - mark.size()) : path;
 }
+static const u64 NO_FILE = ~0ull; // the offset of a piece of memory behind a module's file
 // Each snapshot of the maps is in the file: what was mapped at any time counts.
 Modules::Modules(const string &maps) : maps_(maps), ran_(builds_that_ran(maps)) {
     struct Span {
@@ -32,16 +33,22 @@ Modules::Modules(const string &maps) : maps_(maps), ran_(builds_that_ran(maps)) 
     ifstream f(maps);
     map<string, Span> span;
     set<string> seen;
+    Piece last{};
     for (string l; getline(f, l);) {
         u64 low, high, offset;
         char rights[8], name[4096] = "";
         if (!seen.insert(l).second)
             continue;
         if (sscanf(l.c_str(), "%lx-%lx %7s %lx %*s %*s %4095[^\n]", &low, &high, rights, &offset,
-                   name) < 4 ||
-            name[0] != '/')
+                   name) < 4)
+            continue;
+        if (!name[0] && low == last.high) // its zeros
+            pieces_.push_back({low, high, NO_FILE, last.path});
+        last = {};
+        if (name[0] != '/')
             continue;
         string path = without_deleted(name);
+        last = {low, high, offset, path};
         pieces_.push_back({low, high, offset, path});
         auto i = span.emplace(path, Span{low, high, false}).first;
         i->second.low = min(i->second.low, low), i->second.high = max(i->second.high, high);
@@ -85,7 +92,7 @@ Module *Modules::of(u64 a) {
 }
 string Modules::constant(u64 a) {
     for (auto &p : pieces_) {
-        if (a < p.low || a >= p.high)
+        if (a < p.low || a >= p.high || p.offset == NO_FILE)
             continue;
         if (Module *m = of(a); m && !readable(*m))
             return "?";
@@ -175,8 +182,12 @@ string Modules::place(u64 a) {
     auto y = symbol(a);
     char text[40] = "";
     if (!y) {
-        snprintf(text, sizeof text, "0x%lx", a);
-        return text;
+        Module *m = of(a);
+        bool inside = m && any_of(pieces_.begin(), pieces_.end(), [&](auto &p) {
+                          return a >= p.low && a < p.high && p.path == m->path;
+                      });
+        snprintf(text, sizeof text, "0x%lx", inside ? a - m->low : a);
+        return inside ? m->path.substr(m->path.rfind('/') + 1) + "+" + text : text;
     }
     Module *m = of(a);
     u64 offset = a - m->bias - y->at;

@@ -4,6 +4,10 @@
 #include <errno.h>
 #include <unistd.h>
 
+// In its first events a thread waits more often: the halves of a race at a start are few events
+// apart, and the threads begin one after the other.
+#define EARLY 64 // events and blocks
+#define EARLY_NOISE 2
 u64 noise;
 static u64 noise_seed;
 u64 draw(u64 *state) {
@@ -21,15 +25,16 @@ void noise_open(u64 seed) {
 void make_noise(struct self *t) {
     if (!t->chance)
         t->chance = scramble(noise_seed * 0x10001 + t->id);
+    int early = t->epoch < EARLY && noise > EARLY_NOISE;
     u64 d = draw(&t->chance);
-    if (d % noise || head->stopped)
+    if (d % (early ? EARLY_NOISE : noise) || head->stopped)
         return;
     COUNT(noise);
     int e = errno;
     d = draw(&t->chance);
     if (TURNS(t))
         yield_turn(t);
-    else if (d % 4)
+    else if (d % (early ? 2 : 4))
         pause_briefly();
     else
         sleep_briefly((d >> 8) % 300000);

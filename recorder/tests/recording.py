@@ -5,6 +5,7 @@ With VELODROME the path of a checker, it judges the small logs too. The last lin
 import glob
 import json
 import os
+import re
 import shutil
 import signal
 import subprocess
@@ -62,6 +63,8 @@ def names(room, cc):
             ),
         ]
         missing = [name for name in wanted if f" {name}\n" not in said]
+        if not re.search(r"^lock \d+ libstdc\+\+\.so[.0-9]*\+0x[0-9a-f]+$", said, re.M):
+            missing.append("the lock of the library")
         return True if not missing else f"{missing} in\n{said}"
 
     test(f"{cc} names on stacks and the heap", body)
@@ -108,6 +111,25 @@ def old_values(room, cc):
         if CHECKER:
             test(f"{cc} {mode} its small log gives the alarm", alarmed)
         test(f"{cc} {mode} a right program writes no old value", lambda: found("right", mode) == [])
+
+
+def starts(room, cc):
+    """Two threads that do one thing each, and end: noise brings them together."""
+    source = (
+        "#include <pthread.h>\nint x; void *add(void *a) { x++; return a; }\n"
+        "int main(void) { pthread_t s, t; pthread_create(&s, 0, add, 0);"
+        " pthread_create(&t, 0, add, 0); pthread_join(s, 0); return pthread_join(t, 0); }\n"
+    )
+    made = Program(room, cc, "starts", source)
+
+    def body():
+        for seed in range(40):
+            trace = made.run("exact", VELODROME_NOISE=20, VELODROME_SEED=seed)
+            if notes_of(room, trace)[0]["stale"]:
+                return True
+        return "nothing in 40 runs"
+
+    test(f"{cc} noise at the start of threads", body)
 
 
 def routines(room, cc):
@@ -442,7 +464,16 @@ def main(words):
         words = words[: words.index("-k")]
     with tempfile.TemporaryDirectory() as room:
         for cc in words or ["gcc", "clang"]:
-            for part in (names, old_values, routines, hangs, builds, recordings, wrong_uses):
+            for part in (
+                names,
+                old_values,
+                starts,
+                routines,
+                hangs,
+                builds,
+                recordings,
+                wrong_uses,
+            ):
                 part(room, cc)
     print(f"{base.counts[True]} passed, {base.counts[False]} failed")
     return base.counts[False] > 0 or not base.counts[True]

@@ -37,7 +37,8 @@ int main() {
     auto all = [&] {
         for (int i = 0; i < 2; i++) {
             visit(cache), hit(cache);
-            renumber(*plain), renumber(*shared), renumber(*unique);
+            renumber(*plain), renumber(*unique);
+            renumber(*std::atomic_load(&shared)); // by a lock of the library
         }
     };
     std::thread a(all), b(all);
