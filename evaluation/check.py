@@ -17,7 +17,16 @@ PROGRAMS = os.path.join(HERE, "programs")
 OUT = os.path.join(HERE, "out")
 KINDS = ("atomicity", "deadlock", "right")
 FIELDS = ("kind", "source", "function", "variable")
-FLAGS = ["-Wall", "-Wextra", "-Werror", "-pthread", "-O1", "-g", "-I", os.path.join(HERE, "include")]
+FLAGS = [
+    "-Wall",
+    "-Wextra",
+    "-Werror",
+    "-pthread",
+    "-O1",
+    "-g",
+    "-I",
+    os.path.join(HERE, "include"),
+]
 DEADLOCK_STATUS = 97
 WRONG_STATUS = 1
 TRIES = 5
@@ -55,18 +64,27 @@ def program(file: str) -> Program:
     with open(os.path.join(PROGRAMS, file), encoding="utf-8") as text:
         lines = text.read().splitlines()
     fields: Dict[str, str] = {}
+    name = ""
     for line in lines[: lines.index(" */")]:
-        match = re.match(r"(?:/\*| \*) (\w+): (.+)", line)
-        if match:
-            fields[match.group(1)] = match.group(2)
+        match = re.match(r"(?:/\*| \*) (" + "|".join(FIELDS) + r"): (.+)", line)
+        name = match.group(1) if match else name
+        fields[name] = match.group(2) if match else f"{fields[name]} {line[len(' * ') :]}"
     if fields.get("kind") not in KINDS or not fields.get("source"):
         raise Bad(f"{file}: no kind or no source")
     first, second = marked(lines, "first"), marked(lines, "second")
     wrong = fields["kind"] != "right"
     if wrong != all((first, second, fields.get("function"), fields.get("variable"))):
         raise Bad(f"{file}: what is wrong is not said whole")
-    words = [fields.get(name, "") for name in FIELDS]
-    return Program(os.path.splitext(file)[0], file, *words, first, second)
+    return Program(
+        os.path.splitext(file)[0],
+        file,
+        fields["kind"],
+        fields["source"],
+        fields.get("function", ""),
+        fields.get("variable", ""),
+        first,
+        second,
+    )
 
 
 def programs() -> List[Program]:
@@ -113,7 +131,9 @@ def tested(of: Program) -> str:
             path = compile_one(of, version, os.path.join(OUT, "check"), extra=("-DPROVOKE",))
             seen: List[int] = []
             for _ in range(TRIES if version == "wrong" else 1):
-                seen.append(subprocess.run([path], stdout=subprocess.DEVNULL, timeout=SECONDS).returncode)
+                seen.append(
+                    subprocess.run([path], stdout=subprocess.DEVNULL, timeout=SECONDS).returncode
+                )
                 if seen[-1] == wrong_status(of):
                     break
             expected = wrong_status(of) if version == "wrong" else 0

@@ -1,5 +1,6 @@
 /* kind: deadlock
- * source: Lea, "Concurrent Programming in Java", 2nd edition 1999: two cells that swap their values
+ * source: Lea, "Concurrent Programming in Java", 2nd edition 1999: two cells that swap their
+ * values
  * function: transfer
  * variable: guards
  */

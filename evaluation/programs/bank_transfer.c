@@ -1,6 +1,8 @@
 /* kind: atomicity
  * source: Flanagan and Qadeer, "A Type and Effect System for Atomicity", PLDI 2003: the bank
- * account function: transfer variable: balance
+ * account
+ * function: transfer
+ * variable: balance
  */
 #include "scene.h"
 

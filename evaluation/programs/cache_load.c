@@ -1,6 +1,8 @@
 /* kind: atomicity
- * source: Lin and Dig, "CHECK-THEN-ACT Misuse of Java Concurrent Collections", ICST 2013: get, else
- * load and put function: get_or_load variable: cache
+ * source: Lin and Dig, "CHECK-THEN-ACT Misuse of Java Concurrent Collections", ICST 2013: get,
+ * else load and put
+ * function: get_or_load
+ * variable: cache
  */
 #include "scene.h"
 

@@ -1,6 +1,8 @@
 /* kind: atomicity
  * source: Lu, Park, Seo and Zhou, "Learning from Mistakes", ASPLOS 2008: the database's closed
- * table function: read_row variable: table
+ * table
+ * function: read_row
+ * variable: table
  */
 #include "scene.h"
 

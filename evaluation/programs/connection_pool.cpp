@@ -1,6 +1,8 @@
 /* kind: atomicity
  * source: Artho, Havelund and Biere, "High-level data races", 2003: check of a shared resource,
- * then its use function: acquire variable: free_
+ * then its use
+ * function: acquire
+ * variable: free_
  */
 #include "scene.h"
 #include <mutex>
@@ -60,6 +62,7 @@ void *client(void *unused) {
     for (int i = 0; i < ROUNDS; i++) {
         int connection = pool.acquire();
         if (connection >= 0) {
+            PAUSE();
             pool.release(connection);
         }
     }

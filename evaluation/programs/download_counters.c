@@ -1,6 +1,8 @@
 /* kind: atomicity
  * source: Lu, Park, Seo and Zhou, "Learning from Mistakes", ASPLOS 2008; the downloader aget's two
- * counters function: received variable: total
+ * counters
+ * function: received
+ * variable: total
  */
 #include "scene.h"
 

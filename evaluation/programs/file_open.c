@@ -1,6 +1,8 @@
 /* kind: atomicity
  * source: Bishop and Dilger, "Checking for Race Conditions in File Accesses", 1996: a check of a
- * file, then its open function: open_new variable: owners
+ * file, then its open
+ * function: open_new
+ * variable: owners
  */
 #include "scene.h"
 

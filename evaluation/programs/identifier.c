@@ -1,6 +1,8 @@
 /* kind: atomicity
  * source: Goetz and others, "Java Concurrency in Practice", 2006, section 1.3.1: the unsafe
- * sequence function: next variable: last
+ * sequence
+ * function: next
+ * variable: last
  */
 #include "scene.h"
 #include <stdatomic.h>

@@ -1,6 +1,8 @@
 /* kind: deadlock
  * source: Havender, "Avoiding deadlock in multitasking systems", 1968: a wait for an end while a
- * lock is held function: shut_down variable: guard
+ * lock is held
+ * function: shut_down
+ * variable: guard
  */
 #include "scene.h"
 #include <signal.h>

@@ -1,6 +1,8 @@
 /* kind: atomicity
  * source: Goetz and others, "Java Concurrency in Practice", 2006, section 2.2.2: lazy
- * initialisation function: get variable: value
+ * initialisation
+ * function: get
+ * variable: value
  */
 #include "scene.h"
 #include <stdatomic.h>

@@ -1,6 +1,8 @@
 /* kind: atomicity
  * source: Flanagan, Freund and Yi, "Velodrome", PLDI 2008: an iteration over a collection that
- * another thread changes function: sum variable: items
+ * another thread changes
+ * function: sum
+ * variable: items
  */
 #include "scene.h"
 

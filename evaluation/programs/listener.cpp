@@ -1,6 +1,8 @@
 /* kind: atomicity
- * source: Lea, "Concurrent Programming in Java", 2nd edition 1999: a listener that is told after it
- * was removed function: notify variable: registered_
+ * source: Lea, "Concurrent Programming in Java", 2nd edition 1999: a listener that is told after
+ * it was removed
+ * function: notify
+ * variable: registered_
  */
 #include "scene.h"
 #include <mutex>

@@ -1,6 +1,8 @@
 /* kind: atomicity
  * source: Lu, Park, Seo and Zhou, "Learning from Mistakes", ASPLOS 2008: the web server's log
- * buffer function: append variable: used
+ * buffer
+ * function: append
+ * variable: used
  */
 #include "scene.h"
 

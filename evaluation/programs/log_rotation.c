@@ -1,6 +1,8 @@
 /* kind: atomicity
  * source: Lu, Park, Seo and Zhou, "Learning from Mistakes", ASPLOS 2008: the database's log
- * rotation function: rotate variable: is_open
+ * rotation
+ * function: rotate
+ * variable: is_open
  */
 #include "scene.h"
 

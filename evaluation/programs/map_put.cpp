@@ -1,6 +1,8 @@
 /* kind: atomicity
  * source: Shacham and others, "Testing Atomicity of Composed Concurrent Operations", OOPSLA 2011:
- * put if absent function: put_if_absent variable: entries
+ * put if absent
+ * function: put_if_absent
+ * variable: entries_
  */
 #include "scene.h"
 #include <map>

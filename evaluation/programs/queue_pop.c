@@ -1,6 +1,8 @@
 /* kind: atomicity
  * source: Wang and Stoller, "Runtime Analysis of Atomicity for Multithreaded Programs", 2006: a
- * vector's size and remove function: take variable: size
+ * vector's size and remove
+ * function: take
+ * variable: size
  */
 #include "scene.h"
 

@@ -1,6 +1,8 @@
 /* kind: atomicity
  * source: Lu, Park, Seo and Zhou, "Learning from Mistakes", ASPLOS 2008: the web server's cache
- * object function: drop variable: count
+ * object
+ * function: drop
+ * variable: count
  */
 #include "scene.h"
 #include <stdatomic.h>

@@ -1,6 +1,6 @@
 /* kind: right
- * source: Mellor-Crummey and Scott, "Algorithms for Scalable Synchronization", 1991: the
- * sense-reversing barrier
+ * source: Mellor-Crummey and Scott, "Algorithms for Scalable Synchronization", 1991: the sense-
+ * reversing barrier
  */
 #include "scene.h"
 #include <sched.h>

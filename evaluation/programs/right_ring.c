@@ -1,6 +1,6 @@
 /* kind: right
- * source: Lamport, "Proving the Correctness of Multiprocess Programs", 1977: a ring of one producer
- * and one consumer
+ * source: Lamport, "Proving the Correctness of Multiprocess Programs", 1977: a ring of one
+ * producer and one consumer
  */
 #include "scene.h"
 #include <sched.h>

@@ -1,6 +1,6 @@
 /* kind: right
- * source: Courtois, Heymans and Parnas, "Concurrent Control with Readers and Writers", 1971: looked
- * at again as a writer
+ * source: Courtois, Heymans and Parnas, "Concurrent Control with Readers and Writers", 1971:
+ * looked at again as a writer
  */
 #include "scene.h"
 #include <map>

@@ -1,5 +1,6 @@
 /* kind: atomicity
- * source: Lu, Park, Seo and Zhou, "Learning from Mistakes", ASPLOS 2008: the browser's script state
+ * source: Lu, Park, Seo and Zhou, "Learning from Mistakes", ASPLOS 2008: the browser's script
+ * state
  * function: compile
  * variable: current
  */

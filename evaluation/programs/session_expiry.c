@@ -1,6 +1,8 @@
 /* kind: atomicity
  * source: Jula and others, "Finding concurrency bugs in web applications": a session that ends
- * while it is used function: serve variable: valid
+ * while it is used
+ * function: serve
+ * variable: valid
  */
 #include "scene.h"
 

@@ -1,6 +1,8 @@
 /* kind: atomicity
- * source: Shacham and others, "Testing Atomicity of Composed Concurrent Operations", OOPSLA 2011: a
- * move between two maps function: move variable: shards
+ * source: Shacham and others, "Testing Atomicity of Composed Concurrent Operations", OOPSLA 2011:
+ * a move between two maps
+ * function: move
+ * variable: shards
  */
 #include "scene.h"
 

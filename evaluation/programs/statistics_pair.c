@@ -1,5 +1,6 @@
 /* kind: atomicity
- * source: Artho, Havelund and Biere, "High-level data races", 2003: two values that belong together
+ * source: Artho, Havelund and Biere, "High-level data races", 2003: two values that belong
+ * together
  * function: mean
  * variable: count
  */

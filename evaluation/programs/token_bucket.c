@@ -1,6 +1,8 @@
 /* kind: atomicity
  * source: Lu, Tucek, Qin and Zhou, "AVIO", ASPLOS 2006: a counter that is compared, and then
- * reduced function: spend variable: tokens
+ * reduced
+ * function: spend
+ * variable: tokens
  */
 #include "scene.h"
 #include <stdatomic.h>

@@ -1,6 +1,8 @@
 /* kind: atomicity
- * source: Goetz and others, "Java Concurrency in Practice", 2006, section 2.3: the factorizer's two
- * atomics function: store variable: result
+ * source: Goetz and others, "Java Concurrency in Practice", 2006, section 2.3: the factorizer's
+ * two atomics
+ * function: store
+ * variable: result
  */
 #include "scene.h"
 #include <stdatomic.h>

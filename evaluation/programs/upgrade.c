@@ -1,6 +1,8 @@
 /* kind: deadlock
  * source: POSIX.1-2017, pthread_rwlock_wrlock: a reader that becomes a writer, and waits for its
- * turn among the writers function: refresh variable: table
+ * turn among the writers
+ * function: refresh
+ * variable: table
  */
 #include "scene.h"
 #include <signal.h>

@@ -1,6 +1,8 @@
 /* kind: atomicity
  * source: Flanagan and Freund, "Atomizer", POPL 2004: a value read under the lock, and written
- * under it later function: withdraw variable: balance
+ * under it later
+ * function: withdraw
+ * variable: balance
  */
 #include "scene.h"
 
