@@ -13,6 +13,7 @@ import os
 import re
 import resource
 import shutil
+import signal
 import subprocess
 import sys
 from typing import Callable, Dict, List, NamedTuple, Optional, Tuple
@@ -25,7 +26,6 @@ PAGE = os.path.join(check.HERE, os.pardir, "docs", "EVALUATION.md")
 SECONDS = 120
 NOISE = "5"
 RUNS = "10"
-VALGRIND_STATUS = 99
 KIND_OF = {
     "atomicity": ("not_atomic", "stale_write"),
     "deadlock": ("deadlock", "deadlock_possible"),
@@ -58,22 +58,32 @@ def timed(
 ) -> Tuple[int, str, float]:
     """Runs a command: its status, all that it printed, its processor time. A hang is status -1."""
     before = resource.getrusage(resource.RUSAGE_CHILDREN)
+    started = subprocess.Popen(
+        words,
+        cwd=folder,
+        env={**os.environ, **(extra or {})},
+        stdin=subprocess.DEVNULL,
+        stdout=subprocess.PIPE,
+        stderr=subprocess.STDOUT,
+        start_new_session=True,
+    )
     try:
-        done = subprocess.run(
-            words,
-            cwd=folder,
-            env={**os.environ, **(extra or {})},
-            stdin=subprocess.DEVNULL,
-            stdout=subprocess.PIPE,
-            stderr=subprocess.STDOUT,
-            timeout=SECONDS,
-        )
-        status, said = done.returncode, done.stdout.decode("utf-8", "replace")
+        said = started.communicate(timeout=SECONDS)[0].decode("utf-8", "replace")
+        status = started.returncode
     except subprocess.TimeoutExpired:
         status, said = -1, ""
+    finally:
+        end_group(started)
     after = resource.getrusage(resource.RUSAGE_CHILDREN)
     spent = after.ru_utime + after.ru_stime - before.ru_utime - before.ru_stime
     return status, said, spent
+
+
+def end_group(started: subprocess.Popen[bytes]) -> None:
+    """Ends a command that has not ended, with all that it started."""
+    if started.poll() is None:
+        os.killpg(started.pid, signal.SIGKILL)
+        started.communicate()
 
 
 def velodrome(options: List[str], predicted: bool) -> Tool:
