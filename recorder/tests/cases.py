@@ -375,12 +375,12 @@ int stat() { static int v = (after(), 7); return v; }
 void f() { try { thrower(); } catch (...) {} after(); std::shared_lock<std::shared_mutex> l(s); }
 int main() { std::thread t([] { volatile bool again = false; do { f(); stat(); } while (again); }); t.join(); stat(); }
 """
-CPP_LOG = one(
+CPP_LOG = one(  # variable 0 is v, 1 its guard
     [
         *block(1, *block(0, "acq 0", "rel 0"), *block(2, "acq 1", "rel 1"), "acqs 1", "rels 1"),
-        *block(3, RD, *block(2, "acq 1", "rel 1"), WR),
+        *block(3, *block(2, "acq 1", "rel 1"), "wr 0 0", "wr 1 0", "rd 0 0"),
     ],
-    block(3, RD),
+    block(3, "rd 1 0", "rd 0 0"),
 )
 
 LOST = (

@@ -138,7 +138,9 @@ def hooks(room, cc):
     for mode in MODES:
 
         def body():
-            lines = canonical(log_of(room, program.run(mode))[0].splitlines()[1:])
+            lines = canonical(
+                log_of(room, program.run(mode), "--all-variables")[0].splitlines()[1:]
+            )
             return True if lines == canonical(CPP_LOG) else f"\n  {lines}\n  {canonical(CPP_LOG)}"
 
         test(f"{cc} {mode} C++", body)
