@@ -1,7 +1,7 @@
 #!/usr/bin/env python3
 """Runs each program by each tool, and writes docs/EVALUATION.md of what was seen.
 
-What was seen is kept in out/results.json after each program; a run that was broken off goes on
+What was seen is kept in out/results.json after each tool; a run that was broken off goes on
 from there. Nothing that was not seen is written.
 """
 
@@ -238,7 +238,7 @@ def measure(asked: Asked, of: Program, repetitions: int, results: Results) -> No
                     seen.append(tool(asked, of, version, len(seen)))
                 except (OSError, check.Bad) as reason:
                     seen.append(Seen(False, False, 0.0, str(reason)[-200:]))
-        save(results)
+            save(results)
 
 
 def cell(seen: List[Seen], which: str) -> str:
