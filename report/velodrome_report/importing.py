@@ -136,6 +136,7 @@ class Importer:
         self.locks = Numbers("lock", LOCKS_MOST)
         self.labels = Numbers("label", 1 << 32)
         self.sites: Dict[str, int] = {}
+        self.seen_at: Dict[Tuple[str, str], int] = {}
         self.events: List[str] = []
         self.site_of: List[int] = []
         self.site = 0
@@ -206,15 +207,17 @@ class Importer:
             return 0
         blocks = self.open[step.thread]
         inside = blocks[-1] if blocks else step.thread
-        place = step.location if ":" in step.location else f"location:{step.location}"
+        key = (step.location, inside)
+        if key not in self.seen_at:
+            self.seen_at[key] = self._new_site(step.location, inside)
+        return self.seen_at[key]
+
+    def _new_site(self, location: str, inside: str) -> int:
+        place = location if ":" in location else f"location:{location}"
         text = cut(printable(f"{place} {inside}"), SITE_BYTES_MOST)
-        known = self.sites.get(text)
-        if known is not None:
-            return known
-        if len(self.sites) == SITES_MOST:
+        if text not in self.sites and len(self.sites) == SITES_MOST:
             return 0
-        self.sites[text] = len(self.sites) + 1
-        return self.sites[text]
+        return self.sites.setdefault(text, len(self.sites) + 1)
 
     def _access(self, step: Step) -> None:
         number = self.variables.number(step.target)
