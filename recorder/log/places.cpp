@@ -91,17 +91,19 @@ static size_t last_part(const string &s) { // where its last name begins
     }
     return part;
 }
+static bool opens_parameters(const string &s, size_t i) {
+    return s[i] == '(' && s.compare(i, 21, "(anonymous namespace)") != 0;
+}
 string without_parameters(const string &s) {
     size_t start = 0, end = s.size();
     for (size_t i = 0; i < s.size(); i++) {
-        if (s[i] == '<')
-            i = closing(s, i);
-        else if (s.compare(i, 8, "operator") == 0)
+        if (s.compare(i, 8, "operator") == 0)
             break;
-        else if (s[i] == '(' && s.compare(i, 21, "(anonymous namespace)") != 0) {
+        if (opens_parameters(s, i)) {
             end = i;
             break;
-        } else if (s[i] == '(')
+        }
+        if (s[i] == '<' || s[i] == '(')
             i = closing(s, i);
         else if (s[i] == ' ')
             start = i + 1;

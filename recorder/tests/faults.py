@@ -206,7 +206,9 @@ def openmp(room, cc):
             "openmp",
             {"lose"},
             {"add", "look", "set", "cell", "fill", "add_up", "team"}
-            | {f"{f}, {part} its wait" for f in ("fill", "add_up", "team") for part in PARTS_OF_ONE},
+            | {
+                f"{f}, {part} its wait" for f in ("fill", "add_up", "team") for part in PARTS_OF_ONE
+            },
             ("-fopenmp",),
         )
 
