@@ -122,8 +122,11 @@ void Events::access(const Event &e, u32 piece, const Granule &g, int p, int a, i
     size_t before = kept.size();
     keep(e.thread, e.writes() ? WR : RD, v.number - 1, e.code, value);
     codes.insert(e.code);
+    const Last &last = threads_[e.thread].last;
     if (kept.size() > before)
-        retry(e, v.number - 1);
+        retry(e, v.number - 1, kept.size() - 1);
+    else if (e.reads() && last.kind == RD) // the read before it stands for it
+        retry(e, v.number - 1, last.kept);
 }
 // Its code, by the same calls: a function that reads, called at two places, is no loop.
 u64 Events::place_of(const Event &e) const {
@@ -133,18 +136,16 @@ u64 Events::place_of(const Event &e) const {
     return place;
 }
 // What the access replaces of the thread's tries before.
-void Events::retry(const Event &e, u32 variable) {
+void Events::retry(const Event &e, u32 variable, size_t at) {
     Retries &r = threads_[e.thread].retries;
     vector<size_t> dropped;
     u8 flags = e.atomic() ? e.flags : 0;
     bool tried = flags & TRIED;
     u64 place = place_of(e);
     if (e.writes())
-        r.write(variable, place, kept.size() - 1, flags & AGAIN, dropped);
+        r.write(variable, flags & CHANGES, at, flags & AGAIN, dropped);
     else
-        r.read(
-            {variable, place, tried && flags & MISSED, tried && flags & EXPECTED, kept.size() - 1},
-            dropped);
+        r.read({variable, place, tried && flags & MISSED, tried && flags & EXPECTED, at}, dropped);
     drop(dropped);
 }
 void Events::drop(const vector<size_t> &all) {
@@ -246,7 +247,7 @@ bool Events::step(const Event &e) {
         break;
     }
     if (t.cuts_after == e.kind)
-        cut_blocks(e.thread);
+        e.kind == SWR ? return_to_blocks(e.thread) : cut_blocks(e.thread);
     return true;
 }
 
@@ -292,10 +293,12 @@ void Events::end_part(u32 thread, const Open &o) {
 void Events::wait_in_blocks(const Event &e) {
     Thread &t = threads_[e.thread];
     if (e.size == FOR_CONDITION)
-        t.cuts_after = REL; // the next event of the thread
-    else if (e.size == FOR_BARRIER)
+        t.cuts_after = REL;           // the next event of the thread
+    else if (e.size == FOR_BARRIER) { // who comes first does not matter: it is in no block
+        cut_blocks(e.thread);
+        leave_blocks(e.thread);
         t.cuts_after = SWR;
-    else if (e.flags & RETURNS)
+    } else if (e.flags & RETURNS)
         return_to_blocks(e.thread);
     else if (e.size != FOR_FUTEX) // it may be of a lock that others made
         cut_blocks(e.thread);
@@ -316,6 +319,7 @@ void Events::leave_blocks(u32 thread) {
 }
 void Events::return_to_blocks(u32 thread) {
     Thread &t = threads_[thread];
+    t.cuts_after = 0;
     for (auto &o : t.open) {
         if (!o.away)
             continue;

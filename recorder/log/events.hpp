@@ -71,7 +71,7 @@ private:
     bool repeats(u32 thread, int kind, u32 variable, u64 value);
     void access(const Event &e, u32 piece, const Granule &g, int p, int a, int b, u64 at);
     u64 place_of(const Event &e) const;
-    void retry(const Event &e, u32 variable);
+    void retry(const Event &e, u32 variable, size_t at);
     bool step(const Event &e);
     void begin(const Event &e);
     void begin_part(u32 thread, Open &o, Function *f, u64 code);

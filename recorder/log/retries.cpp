@@ -41,7 +41,11 @@ void Retries::read(const Read &r, vector<size_t> &dropped) {
     if (exchange_.variable != r.variable)
         exchange_ = {};
     size_t before = dropped.size();
-    if (r.expected && last_run(r.variable) != reads_.end()) // it stands for the read before it
+    bool again = !reads_.empty() && reads_.back().kept == r.kept; // one event for both
+    if (again)
+        reads_.pop_back();
+    if (r.expected && !again &&
+        last_run(r.variable) != reads_.end()) // it stands for the read before it
         drop(reads_.end() - 1, reads_.end(), dropped);
     At same = find_if(last_run(r.variable), reads_.end(),
                       [&](const Read &x) { return x.place == r.place; });
@@ -53,12 +57,12 @@ void Retries::read(const Read &r, vector<size_t> &dropped) {
         reads_.erase(reads_.begin(), reads_.begin() + MOST / 2);
     reads_.push_back(r);
 }
-void Retries::write(uint32_t variable, uint64_t place, size_t kept, bool again,
+void Retries::write(uint32_t variable, bool changes, size_t kept, bool again,
                     vector<size_t> &dropped) {
     Exchange now;
     now.variable = variable;
     At run = last_run(variable);
-    if (run != reads_.end() && reads_.back().place == place) {
+    if (changes && run != reads_.end()) {
         for (At i = run; i != reads_.end() - 1; ++i)
             if (i->missed)
                 dropped.push_back(i->kept);

@@ -15,8 +15,10 @@ public:
     };
     // The thread's next event is a read. It replaces these, which are appended to `dropped`.
     void read(const Read &r, std::vector<size_t> &dropped);
-    // It is a write; `again`: of an exchange, of what the thread's exchange there wrote before.
-    void write(uint32_t variable, uint64_t place, size_t kept, bool again,
+    // It is a write; `changes`: of a read-modify-write, the read of which came before, or is one
+    // with the read before; `again`: of an exchange, of what the thread's exchange there wrote
+    // before.
+    void write(uint32_t variable, bool changes, size_t kept, bool again,
                std::vector<size_t> &dropped);
     void waits_at(uint32_t variable); // by a futex
     void other();                     // another event

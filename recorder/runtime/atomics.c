@@ -57,7 +57,7 @@ static inline void two(struct self *t, int read, int write, u64 a, unsigned size
     tell(t, read, a, size, code, old);
     t->alone = 1;
     if (old != new || size > 8)
-        tell(t, write, a, size, code, new);
+        tell(t, write | CHANGES << 8, a, size, code, new);
     see(t, a, new);
     end_atomic(t, a);
 }

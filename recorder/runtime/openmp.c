@@ -98,8 +98,9 @@ API unsigned GOMP_parallel_reductions(routine run, void *data, unsigned n, unsig
 static void come(u64 code) {
     if (!team)
         return;
+    wait_for(&team->barrier, LEAVES, code);
     tell(SWR, &team->barrier, code);
-    wait_for(&team->barrier, 0, code);
+    wait_for(&team->barrier, RETURNS, code);
 }
 static void go(u64 code) {
     if (!team)

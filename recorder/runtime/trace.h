@@ -55,6 +55,7 @@ enum flag {
     MISSED = 1,   // of ARD: of a compare-and-swap that found another value
     EXPECTED = 2, // of ARD: of a compare-and-swap with what the thread had seen there
     LEAVES = 1,   // of WAIT: the open blocks do nothing until the thread returns to them
+    CHANGES = 1,  // of AWR: of a read-modify-write
     RETURNS = 2,  // of WAIT: it does
     AGAIN = 2,  // of AWR: of an exchange that stores what the thread's exchange there stored before
     VALUED = 2, // of MORE: it is the value of the access

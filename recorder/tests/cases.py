@@ -273,8 +273,8 @@ CASES = [
         "static pthread_barrier_t b; __attribute__((constructor)) static void i(void) { pthread_barrier_init(&b, 0, 1); } void f(void) { pthread_barrier_wait(&b); } void g(void) { f(); }",
         ALL,
         one(
-            [*block(0, WR), *block(1, RD)],
-            [*block(2, *block(0, WR)), *block(3, *block(1, RD))],
+            [WR, *block(0, RD)],
+            [WR, *block(1, *block(0, RD))],
         ),
     ),
     (

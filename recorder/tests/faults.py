@@ -106,7 +106,14 @@ def waits(room, cc):
         cc,
         "waits",
         {"order, after its wait", "reserve, before its wait"},
-        {"take", "take, before its wait", "take, after its wait", "wait_open", "meet"},
+        {
+            "take",
+            "take, before its wait",
+            "take, after its wait",
+            "wait_open",
+            "meet",
+            "meet, before its wait",
+        },
     )
 
 
@@ -165,7 +172,7 @@ def fibers(room, cc):
     def threads():
         said = log_of(room, made.run("exact"))[2]
         right = number(said, "threads") == 7 and not number(said, "odd")
-        return True if right and made.done.stdout == "300\n" else said + made.done.stdout
+        return True if right and made.done.stdout == "420\n" else said + made.done.stdout
 
     test(f"{cc} fibers are threads", threads)
 

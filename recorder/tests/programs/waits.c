@@ -17,7 +17,8 @@ static void wait_open(void) {
     pthread_mutex_unlock(&gate);
 }
 static void order(void) {
-    wait_open();
+    sem_post(&seats);
+    sem_wait(&seats);
     put(get() + 1);
 }
 static void reserve(void) {
@@ -51,6 +52,7 @@ static void *work(void *a) {
     for (int i = 0; i < ROUNDS; i++) {
         if (i % 20 == 0)
             meet();
+        wait_open();
         order();
         sem_post(&seats);
         reserve();
