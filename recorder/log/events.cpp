@@ -260,7 +260,7 @@ void Events::begin(const Event &e) {
         f = nullptr;
     if (f && t.depth >= int(MAX_OPEN))
         f = nullptr, deep++;
-    t.open.push_back({kept.size(), f, library, e.at, false, nullptr});
+    t.open.push_back({kept.size(), f, library, e.at, false, nullptr, 0});
     if (!f)
         return;
     t.depth++;
@@ -309,9 +309,11 @@ void Events::wait_in_blocks(const Event &e) {
 }
 void Events::leave_blocks(u32 thread) {
     Thread &t = threads_[thread];
+    t.left++;
     for (auto &o : t.open) {
         if (!o.function)
             continue;
+        o.left = t.left;
         o.away = o.function;
         o.function = nullptr;
         t.depth--;
@@ -321,7 +323,7 @@ void Events::return_to_blocks(u32 thread) {
     Thread &t = threads_[thread];
     t.cuts_after = 0;
     for (auto &o : t.open) {
-        if (!o.away)
+        if (!o.away || o.left != t.left)
             continue;
         o.function = o.away;
         o.away = nullptr;
@@ -329,6 +331,7 @@ void Events::return_to_blocks(u32 thread) {
         begin_part(thread, o, blocks_.part(o.function, true), kept[o.kept].code);
         o.waited = true;
     }
+    t.left--;
 }
 void Events::cut_blocks(u32 thread) {
     Thread &t = threads_[thread];

@@ -39,6 +39,7 @@ private:
         u64 from;
         bool waited;              // a wait in it is over
         Function *away = nullptr; // its function, where the thread is elsewhere meanwhile
+        int left = 0;             // the how manieth leave that was
     };
     struct Last {
         u32 variable = ~0u;
@@ -61,6 +62,7 @@ private:
         Last last;
         Retries retries;
         int cuts_after = 0; // a kind of event, the last one before a wait
+        int left = 0;       // how often it has left, and not returned
         bool greets = false;
         std::set<u32> knows; // threads whose ends it knows of
     };

@@ -43,6 +43,7 @@ static void team(void) {
         add(1);
 #pragma omp barrier
         add(2);
+#pragma omp barrier
 #pragma omp single
         total++;
 #pragma omp task
