@@ -89,6 +89,7 @@ static void add_again() {
 }
 static void add_badly() {
     long old = other_total.load();
+    usleep(10);
     other_total.store(old + 1);
 }
 static bool is_due() {
