@@ -274,13 +274,13 @@ class Sarif(unittest.TestCase):
             self.assertNotIn("region", location)
 
     def test_a_path_is_a_uri(self) -> None:
-        place = Place("/home/a b/ü%.c", 3)
+        place = Place("/srv/a b/ü%.c", 3)
         finding = samples.pool_finding(1)
         finding.function = Function("f", "f", place)
         report = Report(samples.runs(1, {}), [finding])
         result = json.loads(golden.printed("", "sarif", report))["runs"][0]["results"][0]
         location = result["locations"][0]["physicalLocation"]["artifactLocation"]
-        self.assertEqual(location["uri"], "file:///home/a%20b/%C3%BC%25.c")
+        self.assertEqual(location["uri"], "file:///srv/a%20b/%C3%BC%25.c")
 
 
 class JUnit(unittest.TestCase):
