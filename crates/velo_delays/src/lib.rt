@@ -19,4 +19,3 @@ pub use deadlocks::{Deadlocks, search_deadlocks};
 pub use judged::{Differing, PredictedCycle};
 pub use rounds::{Draws, PredictedCycles, search};
 pub use stuck::{Awaited, Deadlock};
-

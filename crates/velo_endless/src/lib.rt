@@ -10,4 +10,3 @@ pub use piece::LogPiece;
 pub use reading::{LongReader, MAX_WATCHED};
 pub use watch::EndlessWatch;
 pub use whole::Whole;
-

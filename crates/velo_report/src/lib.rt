@@ -13,4 +13,3 @@ pub use certificate::certificate_lines;
 pub use closed::{report, report_so_far};
 pub use counted::report_counts;
 pub use names::Names;
-

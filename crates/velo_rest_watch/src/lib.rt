@@ -8,4 +8,3 @@ mod whole;
 
 pub use rest::ClosedRest;
 pub use watch::RestWatch;
-

@@ -10,4 +10,3 @@ mod sites;
 pub use fault::SitesFault;
 pub use limits::{MAX_PLACE_BYTES, MAX_SITES, MAX_SITES_BYTES};
 pub use sites::{Sites, place_in, seen_from};
-

@@ -10,4 +10,3 @@ mod text;
 
 pub use limits::{MAX_FILE_BYTES, MAX_SHOWN_BYTES};
 pub use text::with_sources;
-

@@ -10,4 +10,3 @@ pub use fault::ListFault;
 pub use line::{Entry, Mention, Scope};
 pub use list::parse_list;
 pub use meaning::{add_numbers, has_all_locks, numbers_known};
-

@@ -7,4 +7,3 @@ mod watch;
 
 pub use fault::WatchFault;
 pub use state::Watch;
-
