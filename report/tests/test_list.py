@@ -27,6 +27,15 @@ deadlock possible: thread 1 and thread 2 can wait for each other:
 
 2 calls of 1 function in 1 run: 1 likely mistake
 """
+NOTHING = """\
+4 calls of 1 function in 2 runs: no mistake found
+2 of 2 runs atomic
+"""
+RUNS = """\
+a.log  not atomic: deposit(..)
+b.log  atomic
+c.log  not looked at: it is empty
+"""
 BANK = ["long balance;"] * 4 + ["    long before = balance;", "    balance = before + n;"]
 
 
@@ -74,7 +83,7 @@ class Lists(support.InFolder):
         for name in ("a.log", "b.log"):
             support.right().write(self.path(name))
         done = self.run_command("a.log", "b.log")
-        self.assertEqual(done.stdout, "4 calls of 1 function in 2 runs: no mistake found\n")
+        self.assertEqual(done.stdout, NOTHING)
         self.assertEqual(done.returncode, 0)
 
     def test_runs_are_summed_up(self) -> None:
@@ -87,6 +96,26 @@ class Lists(support.InFolder):
         self.assertEqual(found["counts"], {"calls": 4, "to_blame": 1})
         self.assertEqual(found["witness"]["run"], "a.log")
         self.assertFalse(found["witness"]["predicted"])
+
+    def test_each_run(self) -> None:
+        support.lost_update().write(self.path("a.log"))
+        support.right().write(self.path("b.log"))
+        support.put(self.path("c.log"), "")
+        done = self.run_command("a.log", "b.log", "c.log", "--runs")
+        self.assertTrue(done.stdout.endswith(f"1 of 3 runs atomic\n\n{RUNS}"), done.stdout)
+        self.assertNotIn(RUNS, self.run_command("a.log", "b.log", "c.log").stdout)
+
+    def test_how_each_run_ended(self) -> None:
+        for number, ending in ((1, {"exit": 0}), (2, {"exit": 0}), (3, {"signal": 6})):
+            support.right().write(self.path("r", str(number), "trace.7.log"))
+            run = json.dumps({"schema": 1, "seed": number, **ending})
+            support.put(self.path("r", str(number), "run.json"), run)
+        done = self.run_command("r", "--runs")
+        self.assertIn("3 of 3 runs atomic; ended with exit 0 (2) and signal 6 (1)\n", done.stdout)
+        self.assertIn("r/3  seed 3  signal 6  atomic\n", done.stdout)
+        alone = self.run_command("r/3").stdout
+        self.assertIn("1 of 1 run atomic; ended with signal 6\n", alone)
+        self.assertNotIn("atomic", self.run_command("r/1").stdout)
 
     def test_the_best_cycle_and_not_the_first(self) -> None:
         log = Log(variables=2, locks=2).named(label_0="get", label_1="find", variable_1="map")
@@ -226,6 +255,18 @@ class Lists(support.InFolder):
         self.assertIn("worker(): counter is written from an old value: seen in 1 of 1", said)
         self.assertIn("worker() (counter.cpp:5), the routine of a thread, loops", said)
         self.assertEqual(done.returncode, 3)
+
+    def test_a_checker_that_always_counts(self) -> None:
+        """It has no option for the counts, and answers with them."""
+        support.lost_update().write(self.path("run.log"))
+        asked = self.answer("run.log")["findings"]
+        script = 'case "$*" in *--counts*) exit 2;; esac\n'
+        script += f'[ "$1" = audit ] && set -- "$@" --counts\nexec {support.CHECKER} "$@"'
+        program = support.program(self.path("velodrome"), script)
+        done = self.run_command("run.log", "--format", "json", checker=program)
+        found = json.loads(done.stdout)["findings"]
+        self.assertEqual(found, asked)
+        self.assertEqual(found[0]["counts"], {"calls": 2, "to_blame": 1})
 
     def test_how_to_repeat_it(self) -> None:
         log = self.path("velodrome.runs", "0001", "01", "trace.7.log")

@@ -6,7 +6,7 @@ import shlex
 from dataclasses import replace
 from typing import Dict, Iterable, List, Optional, Sequence
 
-from . import apart, finding, folding, judge, names, ranking
+from . import apart, finding, folding, judge, names, ranking, touched
 from .judge import Looked
 from .model import Counts, Event, Finding, Kind, Report, Run, Witness
 from .source import Sources
@@ -17,7 +17,8 @@ def report(every: Sequence[Looked], reasons: Iterable[str] = ()) -> Report:
     gathering = finding.Gathering()
     for looked in every:
         gathering.take(looked)
-    made = _arranged([looked.run for looked in every], gathering.findings(), reasons)
+    findings = touched.added(gathering.findings(), every)
+    made = _arranged([looked.run for looked in every], findings, reasons)
     made.known = tuple(dict.fromkeys(name for looked in every for name in judge.left_out(looked)))
     return made
 
@@ -131,7 +132,14 @@ def with_sources(made: Report, sources: Sources) -> Report:
 
 
 def _sourced(witness: Witness, sources: Sources) -> Witness:
-    return replace(witness, events=tuple(_line(event, sources) for event in witness.events))
+    return replace(
+        witness,
+        events=tuple(_line(event, sources) for event in witness.events),
+        touched=tuple(
+            replace(one, before=_line(one.before, sources), after=_line(one.after, sources))
+            for one in witness.touched
+        ),
+    )
 
 
 def _line(event: Event, sources: Sources) -> Event:

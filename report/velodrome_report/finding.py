@@ -61,7 +61,7 @@ def witness(run: str, alarm: Alarm, label: int, predicted: bool) -> Optional[Wit
             for first, second in alarm.cycle.edges
         ),
         transactions=tuple(_transaction(*ends) for ends in alarm.cycle.transactions),
-        blocks=tuple(_block(block) for block in alarm.blocks) if alarm.to_blame else (),
+        blocks=tuple(_block(block, alarm) for block in alarm.blocks) if alarm.to_blame else (),
     )
 
 
@@ -103,8 +103,19 @@ def _transaction(first: Step, last: Step) -> Transaction:
     )
 
 
-def _block(block: OpenBlock) -> Block:
-    return Block(block.label.word(), block.begin.position, block.begin.at)
+def _block(block: OpenBlock, alarm: Alarm) -> Block:
+    begin = block.begin
+    reasons = alarm.cycle.reasons if alarm.cycle is not None else ()
+    steps = [step for of, step in reasons if of.begin.position == begin.position]
+    by = _reason(steps[0]) if steps else None
+    return Block(block.label.word(), begin.position, begin.at, by)
+
+
+def _reason(step: Step) -> Event:
+    """The event that interrupts a block."""
+    return Event(
+        step.thread, step.action, step.target, step.position, step.at, at=step.at, interrupts=True
+    )
 
 
 # ---- functions over all runs
