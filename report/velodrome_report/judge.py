@@ -7,7 +7,7 @@ import tempfile
 from dataclasses import dataclass, field
 from typing import Any, Dict, List, Optional, Sequence, Set, Tuple
 
-from . import answers, beside, checker, closer, deadlocks, gaps, making
+from . import answers, beside, checker, closer, deadlocks, gaps, making, racing
 from .answers import Alarm, Audit, NotAnAnswer, Predictions
 from .beside import Beside, Stale, Wait
 from .gap import Scanned
@@ -61,6 +61,8 @@ class Looked:
     sites: Sites = field(default_factory=lambda: Sites(None, 0))
     waits: Tuple[Wait, ...] = ()
     stale: List[Tuple[Stale, Audit]] = field(default_factory=list)
+    # values that can be written from an old one, with the alarm of a run in which they are
+    racing: List[Tuple[racing.Gap, Alarm]] = field(default_factory=list)
     # the options of the checker that leave known things out
     leaving: Tuple[str, ...] = ()
     all_variables: bool = True
@@ -248,6 +250,10 @@ def _ask(looked: Looked, asked: Asked) -> None:
     closer.look(looked.closer, looked.scanned, program, log, names, looked.sites, _left_out(looked))
     for one in looked.beside.notes.stale:
         _ask_about_stale(looked, program, one)
+    for gap in racing.scan(log, looked.beside.notes.racing, looked.sites):
+        alarm = racing.alarm(gap, program, log, names, looked.sites, _left_out(looked))
+        if alarm is not None:
+            looked.racing.append((gap, alarm))
 
 
 def _ask_about_stale(looked: Looked, program: str, one: Stale) -> None:
@@ -327,7 +333,7 @@ def _judge_what_was_seen(looked: Looked) -> None:
     unnamed = [label for label in scanned.calls if label not in labels]
     if labels and unnamed:
         run.reasons += (f"{looked.beside.names} is of another log: it lacks a name",)
-    elif not run.calls and not looked.stale:
+    elif not run.calls and not looked.stale and not looked.racing:
         run.reasons += (_no_function(looked),)
     elif run.threads == 1 and not looked.stale:
         run.reasons += ("only one thread ran, so nothing could be interrupted",)

@@ -61,7 +61,8 @@ def claim(finding: Finding, room: int = NAME_ROOM) -> str:
         return f"{function} is not atomic"
     if finding.kind is Kind.STALE_WRITE:
         function = name(finding.function.short, room // 2)
-        return f"{function}: {name(_written(finding), room // 2)} is written from an old value"
+        can = "is" if finding.seen else "can be"
+        return f"{function}: {name(_written(finding), room // 2)} {can} written from an old value"
     if finding.kind is Kind.DEADLOCK:
         return f"deadlock: {_threads(finding)} wait for each other"
     return f"deadlock possible: {_threads(finding)} can wait for each other"
