@@ -30,7 +30,12 @@ SECONDS = 1200
 TESTS = ("test_forms.Golden", "test_forms", "test_drawing")
 PAGE = ("page.js", "page.css", "html.py")
 # what needs the checker, VELODROME
-JUDGED = {"touched.py": ["test_touched"]}
+JUDGED = {
+    "touched.py": ["test_touched"],
+    "racing.py": ["test_racing"],
+    "source.py": ["test_sources"],
+    "html.py": ["test_sources"],
+}
 
 Edit = Tuple[str, str, str]
 EDITS: List[Edit] = [
@@ -249,6 +254,37 @@ EDITS: List[Edit] = [
     ("touched.py", "access.since == hold or side.first <=", "0 <="),
     ("touched.py", "or side.first <= access.position <= side.last", ""),
     ("touched.py", "if begin <= side.at", ""),
+    # lines of source
+    ("source.py", "if kept.is_older_than(today):", "if False:"),
+    ("source.py", "times.append(_time(_program(description)))", "pass"),
+    ("source.py", "min(known)", "max(known)"),
+    ("source.py", "_keep(today, copy)", "pass"),
+    ("source.py", "_lines(today) != lines", "_lines(today) == lines"),
+    ("source.py", "setdefault(file, (run, False))", "setdefault(file, (run, True))"),
+    ("html.py", "sources.lines(file, run)", "sources.lines(file)"),
+    # what can be written from an old value
+    ("racing.py", "last.time > clock[number]", "True"),
+    ("racing.py", "write.time > before.clock[number]", "True"),
+    ("racing.py", "write.time > before.clock[number]", "False"),
+    ("racing.py", "self.clocks[thread][thread] += 1", "pass"),
+    ("racing.py", "self._learn(thread, one.written, one.read)\n        elif", "pass\n        elif"),
+    ("racing.py", "self._learn(thread, one.written)\n        elif word", "pass\n        elif word"),
+    ("racing.py", "one.read = _joined(one.read, self._told(thread))\n\n", "pass\n\n"),
+    ("racing.py", "self._learn(other, self._told(thread))", "pass"),
+    ("racing.py", "self._learn(thread, self._ended.get(other, self.clocks[other]))", "pass"),
+    ("racing.py", "if not self._held[thread]:", "if True:"),
+    ("racing.py", "before is not None and not self._held[thread] and", "before is not None and"),
+    ("racing.py", "before.stack[0] == after.stack[0]", "True"),
+    ("racing.py", "function == self._sites.at(after.position)[1]", "True"),
+    (
+        "racing.py",
+        "self._reads.pop((variable, thread), None)",
+        "self._reads.get((variable, thread))",
+    ),
+    ("racing.py", "in_order=False", "in_order=True"),
+    ("racing.py", "if block is not None and label_of(block) in left_out:", "if False:"),
+    ("racing.py", "if gap.block() else [(gap", "if True else [(gap"),
+    ("words.py", '"is" if finding.seen else "can be"', '"is"'),
     # the page
     ("html.py", "<bdi>{xml(text)}</bdi>", "<bdi>{text}</bdi>"),
     ("html.py", 'data-words="{xml(" ".join(found_by))}"', 'data-words="{" ".join(found_by)}"'),

@@ -42,8 +42,8 @@ BANK = ["long balance;"] * 4 + ["    long before = balance;", "    balance = bef
 @support.needs_checker
 class Lists(support.InFolder):
     def test_a_lost_update(self) -> None:
-        support.lost_update().write(self.path("run.log"))
         support.put(self.path("bank.cpp"), support.lines_of(BANK))
+        support.lost_update().write(self.path("run.log"))
         done = self.run_command("run.log")
         self.assertEqual((done.stdout, done.returncode), (LOST, 3))
 

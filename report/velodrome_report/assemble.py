@@ -126,25 +126,29 @@ def repeat(one: Finding, runs: Dict[str, Run]) -> Optional[str]:
 
 
 def with_sources(made: Report, sources: Sources) -> Report:
-    """The report with the line of source of each event."""
+    """The report with the line of source of each event, and what changed since the runs."""
     findings = [replace(one, witness=_sourced(one.witness, sources)) for one in made.findings]
-    return replace(made, findings=findings)
+    told = [_changed(file, *since) for file, since in sources.changed.items()]
+    return replace(made, findings=findings, warnings=(*made.warnings, *told))
+
+
+def _changed(file: str, run: str, known: bool) -> str:
+    lines = "its lines are shown as they were" if known else "its lines are not shown"
+    return f"{file} was changed since {run}: {lines}"
 
 
 def _sourced(witness: Witness, sources: Sources) -> Witness:
+    def line(event: Event) -> Event:
+        return replace(
+            event,
+            source=event.source or sources.line(event.place, witness.run),
+            at_source=event.at_source or sources.line(event.at, witness.run),
+        )
+
     return replace(
         witness,
-        events=tuple(_line(event, sources) for event in witness.events),
+        events=tuple(map(line, witness.events)),
         touched=tuple(
-            replace(one, before=_line(one.before, sources), after=_line(one.after, sources))
-            for one in witness.touched
+            replace(one, before=line(one.before), after=line(one.after)) for one in witness.touched
         ),
-    )
-
-
-def _line(event: Event, sources: Sources) -> Event:
-    return replace(
-        event,
-        source=event.source or sources.line(event.place),
-        at_source=event.at_source or sources.line(event.at),
     )

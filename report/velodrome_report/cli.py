@@ -152,7 +152,7 @@ def _run(words: List[str]) -> int:
     report = _merged(options) if options.merge else _looked(options)
     report = _chosen(report, options)
     explained = _numbered(report, options.explain)
-    sources = Sources(_folders(options, report))
+    sources = Sources(_folders(options, report), report.runs)
     report = assemble.with_sources(report, sources)
     terminal = sys.stdout.isatty()
     settings = Settings(

@@ -182,7 +182,8 @@ def _excerpts(finding: Finding, sources: Sources) -> str:
     for place in [finding.place, *(event.place for event in finding.witness.events)]:
         if isinstance(place, Place) and place.line:
             wanted.setdefault(place.file, set()).add(place.line)
-    out = "".join(_excerpt(file, lines, sources.lines(file)) for file, lines in wanted.items())
+    run = finding.witness.run
+    out = "".join(_excerpt(file, lines, sources.lines(file, run)) for file, lines in wanted.items())
     return f"<h3>Source</h3>\n{out}" if out else ""
 
 
