@@ -3,6 +3,7 @@
 import json
 import os
 import unittest
+from typing import Any, Optional
 
 import support
 from support import Log, hold
@@ -276,6 +277,32 @@ class Lists(support.InFolder):
         done = self.run_command()
         words = "to repeat: velodrome-record --mode serial --noise 5 --seed 7 -- ./bank 'a b'"
         self.assertIn(words, done.stdout)
+
+    def repeated(self, log: Log, **run: Any) -> Optional[str]:
+        """How the first finding of a run is repeated."""
+        log.write(self.path("velodrome.runs", "0001", "01", "trace.7.log"))
+        described = {"command": ["./bank"], "seed": 7, "folder": self.folder, **run}
+        support.put(self.path("velodrome.runs", "0001", "01", "run.json"), json.dumps(described))
+        told = self.answer()["findings"][0]["repeat"]
+        return None if told is None else str(told)
+
+    def test_where_and_how_it_is_repeated(self) -> None:
+        self.assertEqual(
+            self.repeated(support.lost_update()), "velodrome-record --seed 7 -- ./bank"
+        )
+        environment = {"VELODROME_PERIOD": "3", "VELODROME_SEED": "7", "VELODROME_CC": "gcc"}
+        told = self.repeated(
+            support.lost_update(), mode="serial", folder="/a b", environment=environment
+        )
+        words = "VELODROME_PERIOD=3 velodrome-record --mode serial --seed 7 -- ./bank"
+        self.assertEqual(told, f"cd '/a b' && {words}")
+
+    def test_what_never_happened_is_not_repeated(self) -> None:
+        self.assertIsNone(self.repeated(support.lost_update(interrupted=False)))
+        self.assertIsNone(self.repeated(support.inverted_order()))
+
+    def test_a_run_without_a_command_is_not_repeated(self) -> None:
+        self.assertIsNone(self.repeated(support.lost_update(), command=None))
 
 
 if __name__ == "__main__":

@@ -2,6 +2,7 @@
 
 from __future__ import annotations
 
+import os
 import shlex
 from dataclasses import replace
 from typing import Dict, Iterable, List, Optional, Sequence
@@ -108,18 +109,24 @@ def _renamed(one: Finding, short: Dict[str, str]) -> Finding:
 
 
 def repeat(one: Finding, runs: Dict[str, Run]) -> Optional[str]:
-    """The command that repeats the run of the witness, None where the run is not described."""
-    run = runs.get(one.witness.run)
-    if run is None or not run.command:
+    """The command that repeats a run in which it was seen; None where none is described."""
+    seen = [one.witness.run] if not one.witness.predicted else list(one.seen)
+    described = [runs[name] for name in seen if name in runs and runs[name].command]
+    if not described:
         return None
-    words = ["velodrome-record"]
+    run = described[0]
+    words = [f"{name}={shlex.quote(value)}" for name, value in sorted(run.settings.items())]
+    words.append("velodrome-record")
     if run.mode not in (None, "exact"):
-        words += ["--mode", str(run.mode)]
+        words += ["--mode", shlex.quote(str(run.mode))]
     if run.noise:
         words += ["--noise", str(run.noise)]
     if run.seed is not None:
         words += ["--seed", str(run.seed)]
-    return " ".join(words + ["--"] + [shlex.quote(word) for word in run.command])
+    words += ["--", *(shlex.quote(word) for word in run.command)]
+    if run.folder and os.path.realpath(run.folder) != os.path.realpath("."):
+        words[:0] = ["cd", shlex.quote(run.folder), "&&"]
+    return " ".join(words)
 
 
 # ---- lines of source

@@ -24,6 +24,10 @@ STATES = {
     "unhooked": "has code that was not compiled by velodrome-cc",
 }
 MOST_OBJECTS = 4
+SETTINGS = (
+    *("STRATEGY", "PERIOD", "DEPTH", "STEPS", "SEIZE_MS"),
+    *("SITES", "VALUES", "MOST", "FORKS"),
+)
 WEAKENS = {
     "dropped": "variables or locks were too many to be looked at",
     "odd": "events do not fit together, and were left out",
@@ -103,12 +107,20 @@ def _described(source: Source) -> Run:
         seed=_number(description.get("seed")),
         mode=description.get("mode") if isinstance(description.get("mode"), str) else None,
         noise=_number(description.get("noise")),
+        settings=_settings(description.get("environment")),
         ended=_ended(description),
     )
 
 
 def _number(value: Any) -> Optional[int]:
     return value if isinstance(value, int) and not isinstance(value, bool) else None
+
+
+def _settings(environment: Any) -> Dict[str, str]:
+    """The settings of the recorder that no option of velodrome-record has."""
+    given = environment if isinstance(environment, dict) else {}
+    names = [f"VELODROME_{name}" for name in SETTINGS]
+    return {name: str(given[name]) for name in names if given.get(name)}
 
 
 def _ended(description: Dict[str, Any]) -> Optional[str]:

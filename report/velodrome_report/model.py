@@ -308,6 +308,8 @@ class Run:
     seed: Optional[int] = None
     mode: Optional[str] = None
     noise: Optional[int] = None
+    # what else of the environment changes what the recorder does with a program
+    settings: Dict[str, str] = field(default_factory=dict)
     # how it ended, as `exit 0` or `signal 11`; None where nothing says so
     ended: Optional[str] = None
     looked_at: bool = False
