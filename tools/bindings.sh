@@ -284,7 +284,7 @@ if wants examples && have cmake; then
     fi
     if have pkg-config pkgconf; then
         by_pkg_config=$(PKG_CONFIG_PATH=$prefix/lib/pkgconfig pkg-config --cflags --libs velodrome)
-        step "install: pkg-config" sh -c "g++ -std=c++17 -o '$out/by_pkg_config' '$top/bindings/examples/cpp/lost_update.cpp' $by_pkg_config -Wl,-rpath,'$prefix/lib'"
+        step "install: pkg-config" sh -c "g++ -std=c++17 -o '$out/by_pkg_config' '$top/bindings/examples/cpp/lost_update.cpp' $by_pkg_config"
         step "install: linked with libvelodrome.so.0" status 3 "$out/by_pkg_config"
     fi
 fi
