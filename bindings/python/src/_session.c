@@ -367,6 +367,7 @@ struct entry {
     struct block *block; /* whose label it has */
     entry *next;         /* of the same Block */
     const void *frame;   /* that began it: compared, never used */
+    vs_block begun;
     bool over;
 };
 
@@ -584,7 +585,7 @@ static void end_innermost(actor *a) {
     PyObject *its_block = (PyObject *)e->block;
     a->innermost = e->outer;
     e->of = NULL;
-    vs_end();
+    vs_end_block(e->begun);
     drop(a);
     Py_DECREF(its_block);
 }
@@ -763,16 +764,19 @@ static PyObject *block_enter(block *self, PyObject *unused) {
     }
     vs_switch(of->self);
     catch_up(of);
+    begun++;
+    of->references++;
+    of->busy++;
+    vs_block id = vs_begin_block(&self->label->object);
+    of->busy--;
     *e = (entry){.of = of,
                  .outer = of->innermost,
                  .block = self,
                  .next = self->entries,
-                 .frame = PyEval_GetFrame()};
+                 .frame = PyEval_GetFrame(),
+                 .begun = id};
     of->innermost = self->entries = e;
-    of->references++;
     Py_INCREF(self);
-    begun++;
-    vs_begin(&self->label->object);
     Py_RETURN_NONE;
 }
 

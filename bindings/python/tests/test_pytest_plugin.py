@@ -71,13 +71,13 @@ def test_an_alarm_fails_its_test(run, pytester):
     result.stdout.fnmatch_lines(
         [
             "*not atomic: Account.deposit (test_an_alarm_fails_its_test.py:*)",
-            "*velodrome explain */.velodrome/*test_lost.vlog --names *",
+            "*velodrome explain */.velodrome/*test_lost.vlog --names *.names --sites *.sites",
         ]
     )
     result.stdout.no_fnmatch_line("*pytest_plugin.py*")
     kept = sorted(path.name for path in pathlib.Path(pytester.path, ".velodrome").iterdir())
     assert kept == [
-        f"test_an_alarm_fails_its_test.py..test_lost.vlog{end}" for end in ("", ".names")
+        f"test_an_alarm_fails_its_test.py..test_lost.vlog{end}" for end in ("", ".names", ".sites")
     ]
     names = pathlib.Path(pytester.path, ".velodrome", kept[1]).read_text()
     assert "variable 0 Account.balance\n" in names

@@ -1335,7 +1335,7 @@ class Types(Case):
             self.assertEqual(run.outcome.verdict, "alarm")
             self.assertTrue(run.finish("tests/bank::test_lost"))
             self.assertIn(f"velodrome explain {folder}/", run.outcome.text)
-            self.assertEqual(len(os.listdir(folder)), 2)
+            self.assertEqual(len(os.listdir(folder)), 3)
             for setting in ("fail", "warn", ""):
                 os.environ["VELODROME_INCOMPLETE"] = setting
                 run = velodrome.session(events=8)

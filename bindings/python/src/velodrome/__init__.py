@@ -152,15 +152,11 @@ class Session:
 
     def _judged(self, verdict: int, text: str) -> Outcome:
         word: _Verdict = _VERDICTS.get(verdict, "incomplete")
-        if word == "clean" and _session.counts()[0] == self._before[0]:
-            return Outcome(
-                "incomplete",
-                "nothing was recorded: no field, Var, Lock or RLock of velodrome was used while it was open\n",
-            )
         return Outcome(word, text or ("it could not be watched" if word == "incomplete" else ""))
 
     def save(self, path: str | os.PathLike[str]) -> bool:
-        """PATH gets the log, and PATH.names the names: for `velodrome explain PATH --names PATH.names`. False where it could not."""
+        """PATH gets the log, PATH.names the names and PATH.sites the places: for `velodrome explain PATH --names PATH.names --sites
+        PATH.sites`. False where they could not be written."""
         return _session.save(self._number, path)
 
     def close(self) -> Outcome:
@@ -190,7 +186,7 @@ class Session:
         fails = self._outcome.verdict == "alarm" or (strict and not self._outcome.clean)
         if saved:
             quoted = shlex.quote(path)
-            self._add(f"velodrome explain {quoted} --names {quoted}.names\n")
+            self._add(f"velodrome explain {quoted} --names {quoted}.names --sites {quoted}.sites\n")
         elif fails and self._outcome.verdict == "alarm":
             self._add(f"the log could not be written to {path}\n")
         return fails
