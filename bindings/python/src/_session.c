@@ -1545,6 +1545,22 @@ static PyObject *py_close(PyObject *module, PyObject *args) {
     return text ? Py_BuildValue("iNO", (int)verdict, text, saved ? Py_True : Py_False) : NULL;
 }
 
+/* Leaves out the variables (0), locks (1) or blocks (2) of a name. */
+static PyObject *py_ignore(PyObject *module, PyObject *args) {
+    (void)module;
+    unsigned long long session;
+    int kind;
+    PyObject *name, *kept = NULL;
+    if (!PyArg_ParseTuple(args, "KiU", &session, &kind, &name))
+        return NULL;
+    const char *text = text_of(name, &kept);
+    if (!text)
+        return NULL;
+    bool done = vs_ignore(session, (vs_named)kind, text);
+    Py_DECREF(kept);
+    return done ? PyBool_FromLong(true) : PyErr_NoMemory();
+}
+
 static PyObject *py_so_far(PyObject *module, PyObject *args) {
     (void)module;
     unsigned long long session;
@@ -1638,6 +1654,7 @@ static PyObject *py_know(PyObject *module, PyObject *args) {
 
 static PyMethodDef methods[] = {{"open", py_open, METH_VARARGS, NULL},
                                 {"close", py_close, METH_VARARGS, NULL},
+                                {"ignore", py_ignore, METH_VARARGS, NULL},
                                 {"so_far", py_so_far, METH_VARARGS, NULL},
                                 {"save", py_save, METH_VARARGS, NULL},
                                 {"counts", py_counts, METH_NOARGS, NULL},

@@ -1264,6 +1264,26 @@ class Types(Case):
         line = body.__code__.co_firstlineno + 2
         self.watch("alarm", body, f"lock at test_velodrome.py:{line}")
 
+    def test_what_is_ignored_makes_no_alarm(self):
+        x, lock = Var(0, "x"), Lock("log of x")
+
+        def use():
+            with lock:
+                x.get()
+
+        def body():
+            with atomic("twice"):
+                use()
+                elsewhere(lambda: (use(), x.set(1)))
+                use()
+
+        self.watch("alarm", body)
+        self.watch("alarm", body, ignore_locks=["log*"])
+        self.watch("clean", body, ignore_locks=["log*"], ignore_variables=iter("xyz"))
+        self.watch("clean", body, ignore_labels=["twice"])
+        with self.assertRaises(TypeError):
+            velodrome.session(ignore_labels=[7])
+
     def test_nothing_was_recorded(self):
         with velodrome.session() as run:
             pass

@@ -30,7 +30,7 @@ import shlex
 import sysconfig
 import threading
 import typing
-from typing import Any, Callable, Iterator, Literal, TypeVar, overload
+from typing import Any, Callable, Iterable, Iterator, Literal, TypeVar, overload
 
 from velodrome import _session
 from velodrome._session import Actor, Lock, RLock, Var, field, switch
@@ -130,6 +130,9 @@ class Session:
         noise: int | None = None,
         seed: int | None = None,
         places: bool = True,
+        ignore_variables: Iterable[str] = (),
+        ignore_locks: Iterable[str] = (),
+        ignore_labels: Iterable[str] = (),
     ) -> None:
         self._outcome: Outcome | None = None
         self._number = 0
@@ -138,7 +141,11 @@ class Session:
             for key, asked in (("EVENTS", events), ("NOISE", noise), ("SEED", seed))
         ]
         self._before = _session.counts()
+        ignored = [list(names) for names in (ignore_variables, ignore_locks, ignore_labels)]
         self._number = _session.open(numbers[0], numbers[1], numbers[2], places)
+        for kind, names in enumerate(ignored if self._number else ()):
+            for name in names:
+                _session.ignore(self._number, kind, name)
 
     @property
     def outcome(self) -> Outcome:
@@ -211,6 +218,9 @@ def session(
     noise: int | None = None,
     seed: int | None = None,
     places: bool = True,
+    ignore_variables: Iterable[str] = (),
+    ignore_locks: Iterable[str] = (),
+    ignore_labels: Iterable[str] = (),
 ) -> Session:
     """Watches the program until the session is closed, as by `with velodrome.session() as run:`.
 
@@ -218,10 +228,20 @@ def session(
     noise: one event in `noise` waits for up to 200 us, so that more schedules happen (0: none). seed: which ones.
     places: whether an event has its file and line, which costs a tenth of its time.
     What is not given is what VELODROME_EVENTS, VELODROME_NOISE and VELODROME_SEED say.
+    ignore_variables, ignore_locks, ignore_labels: what has one of these names is left out, and so makes no alarm; a star in a name
+    stands for any characters.
 
     A run of which nothing was recorded is incomplete. Raises ValueError for a number that is out of range, also of the environment.
     """
-    return Session(events=events, noise=noise, seed=seed, places=places)
+    return Session(
+        events=events,
+        noise=noise,
+        seed=seed,
+        places=places,
+        ignore_variables=ignore_variables,
+        ignore_locks=ignore_locks,
+        ignore_labels=ignore_labels,
+    )
 
 
 class Block(_session.Block):
