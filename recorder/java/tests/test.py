@@ -1,0 +1,286 @@
+"""Tests of the recorder for Java: python3 tests/test.py [-k WORD] [--show]. The last line is `N passed, N failed`.
+
+VELODROME is the path of the checker; without one, what it would say is not run, and that is told. --show prints what the cases
+record, as cases.txt has it, in place of comparing it."""
+import argparse
+import concurrent.futures
+import difflib
+import glob
+import os
+import re
+import shutil
+import subprocess
+import sys
+import tempfile
+from typing import Callable, Dict, List, Optional
+
+HERE = os.path.dirname(os.path.realpath(__file__))
+JAVA = os.path.dirname(HERE)
+AGENT = os.path.join(JAVA, "out", "velodrome.jar")
+ATOMIC = os.path.join(JAVA, "out", "velodrome-atomic.jar")
+LOG_MAKER = os.path.join(os.path.dirname(JAVA), "out", "bin", "velodrome-log")
+CHECKER = os.environ.get("VELODROME") or shutil.which("velodrome")
+MODES = ("exact", "free")
+AT_ONCE = 2
+SECONDS_MOST = 120
+PREFIX = "cases.Cases$"
+
+
+class Room:
+    """A folder with the compiled programs, and one for each run in it."""
+
+    def __init__(self, path: str) -> None:
+        self.path = path
+        self.classes = os.path.join(path, "classes")
+        sources = sorted(glob.glob(f"{HERE}/programs/**/*.java", recursive=True))
+        words = ["javac", "-g", "--release", "11", "-cp", ATOMIC, "-d", self.classes, *sources]
+        subprocess.run(words, check=True)
+
+    def folder(self, name: str) -> str:
+        path = os.path.join(self.path, name)
+        os.makedirs(path)
+        return path
+
+
+class Run:
+    """A program that ran with the agent, and the log of its trace."""
+
+    def __init__(
+        self, room: Room, folder: str, words: List[str], env: Dict[str, str], status: int = 0
+    ) -> None:
+        self.folder = folder
+        self.log = os.path.join(folder, "log")
+        java = ["java", f"-javaagent:{AGENT}", "-XX:TieredStopAtLevel=1", "-cp", room.classes]
+        settings = {"VELODROME_OUT": os.path.join(folder, "run"), "VELODROME_MOST": "1000000"}
+        self.done = subprocess.run(
+            java + words,
+            env={**os.environ, **settings, **env},
+            capture_output=True,
+            text=True,
+            timeout=SECONDS_MOST,
+            check=False,
+        )
+        if self.done.returncode != status:
+            raise RuntimeError(f"{words}: status {self.done.returncode}: {self.done.stderr}")
+
+    def trace(self) -> str:
+        found = glob.glob(os.path.join(self.folder, "run.*.maps"))
+        if len(found) != 1:
+            raise RuntimeError(f"{len(found)} traces: {self.done.stderr}")
+        return found[0][: -len(".maps")]
+
+    def make_log(self, *options: str) -> str:
+        """Makes the log: what velodrome-log says."""
+        words = [LOG_MAKER, self.trace(), self.log, *options]
+        return subprocess.run(words, capture_output=True, text=True, check=True).stdout
+
+    def names(self) -> Dict[str, str]:
+        """The names by kind and number, as `lock 0`."""
+        with open(self.log + ".names", encoding="utf-8") as f:
+            words = [line.rstrip("\n").split(" ", 2) for line in f]
+        return {f"{w[0]} {w[1]}": w[2] for w in words}
+
+    def events(self) -> List[str]:
+        """The log with names in the place of numbers."""
+        names = self.names()
+        kinds = {"rd": "variable", "wr": "variable", "begin": "label", "fork": "thread"}
+        kinds.update(dict.fromkeys(("acq", "rel", "acqs", "rels"), "lock"), join="thread")
+        told = []
+        with open(self.log, encoding="ascii") as f:
+            for line in list(f)[1:]:
+                words = line.split()
+                thread = names.get(f"thread {words[0]}", words[0])
+                about = names.get(f"{kinds.get(words[1])} {words[2]}", "?") if words[2:] else ""
+                told.append(f"{thread} {words[1]} {about}".rstrip())
+        return told
+
+    def check(self) -> str:
+        """What the checker lists: the labels that are not atomic."""
+        assert CHECKER
+        words = [CHECKER, "audit", self.log, "--names", self.log + ".names", "--no-witness"]
+        done = subprocess.run(words, capture_output=True, text=True, check=False)
+        if done.returncode not in (0, 3):
+            raise RuntimeError(f"audit: status {done.returncode}: {done.stdout}{done.stderr}")
+        return done.stdout
+
+
+# ---- each kind of hook, by its log
+def plain(event: str) -> str:
+    return re.sub(r" \(made at [^)]*\)", "", event).replace(PREFIX, "").replace("Cases$", "").replace("cases.", "")
+
+
+def case_names() -> List[str]:
+    with open(f"{HERE}/programs/Cases.java", encoding="utf-8") as f:
+        return re.findall(r"class (\w+) implements Case", f.read())
+
+
+def case_events(room: Room, mode: str) -> List[str]:
+    """What all cases record, one after the other."""
+    folder = room.folder(f"cases-{mode}")
+    run = Run(room, folder, ["cases.Cases", *case_names()], {"VELODROME_MODE": mode})
+    said_by_maker = run.make_log("--all-variables")
+    if "odd 0 late 0 lost 0" not in said_by_maker:
+        raise RuntimeError(said_by_maker)
+    return by_thread([plain(event) for event in run.events()])
+
+
+def by_thread(events: List[str]) -> List[str]:
+    """One thread after the other: what two threads do with different objects has no order."""
+    threads = dict.fromkeys(event.split(" ")[0] for event in events)
+    return [event for thread in threads for event in events if event.startswith(thread + " ")]
+
+
+def cases(room: Room, mode: str) -> Optional[str]:
+    with open(f"{HERE}/cases.txt", encoding="utf-8") as f:
+        want = [line for line in f.read().splitlines() if line and not line.startswith("#")]
+    got = case_events(room, mode)
+    if got == want:
+        return None
+    return "\n".join(difflib.unified_diff(want, got, "cases.txt", mode, lineterm="", n=8))
+
+
+# ---- whole programs
+def said(run: Run, *words: str) -> Optional[str]:
+    """Whether velodrome-log says all of these."""
+    out = run.make_log("--all-variables")
+    return next((f"`{word}` is not in {out}" for word in words if word not in out), None)
+
+
+def ends(room: Room, name: str, status: int, *words: str) -> Optional[str]:
+    """However the program ends, its status is its own and all is recorded."""
+    run = Run(room, room.folder(f"ends-{name}"), ["cases.Ends", name], {}, status)
+    return said(run, "odd 0 late 0 lost 0", *words)
+
+
+def tells_names(room: Room) -> Optional[str]:
+    run = Run(room, room.folder("names"), ["cases.Ends", "names"], {})
+    run.make_log("--all-variables")
+    line = line_of("new Account(), new Account()")
+    want = f"Ends$Account.balance of Ends$Account#1 (made at Ends.java:{line})"
+    if want not in run.names().values():
+        return f"no `{want}` in {run.names()}"
+    with open(run.log + ".sites", encoding="utf-8") as f:
+        sites = f.read()
+    site = f"cases/Ends.java:{line_of('all[1].balance = 2')} cases.Ends.names"
+    return None if site in sites else f"no `{site}` in {sites}"
+
+
+def line_of(text: str) -> int:
+    with open(f"{HERE}/programs/Ends.java", encoding="utf-8") as f:
+        return next(i for i, line in enumerate(f, 1) if text in line)
+
+
+def killed(room: Room) -> Optional[str]:
+    """What was recorded until a second before the end has names."""
+    folder = room.folder("killed")
+    java = ["java", f"-javaagent:{AGENT}", "-cp", room.classes, "cases.Ends", "hang"]
+    env = {**os.environ, "VELODROME_OUT": os.path.join(folder, "run")}
+    with subprocess.Popen(java, env=env, stdout=subprocess.PIPE, text=True) as process:
+        assert process.stdout
+        process.stdout.readline()
+        process.kill()
+    run = Run.__new__(Run)
+    run.folder, run.log = folder, os.path.join(folder, "log")
+    run.make_log("--all-variables")
+    want = ["main rd Ends.shared", "main wr Ends.shared"]
+    got = run.events()
+    return None if all(event in got for event in want) else "\n".join(got)
+
+
+def full(room: Room) -> Optional[str]:
+    """A full trace stops the recording, and not the program."""
+    run = Run(room, room.folder("full"), ["cases.Ends", "work"], {"VELODROME_MOST": "2000"})
+    if run.done.stdout != "1000000\n":
+        return f"it printed {run.done.stdout}"
+    if "the trace is full (VELODROME_MOST): the recording stops here" not in run.done.stderr:
+        return f"it said {run.done.stderr}"
+    return said(run, "(stopped)", "odd 0")
+
+
+def unrecorded(room: Room) -> Optional[str]:
+    """Without VELODROME_OUT, or with one that cannot be written, the program runs as always."""
+    for out, words in (("", ""), ("/nowhere/run", "velodrome: nothing is recorded: /nowhere/run")):
+        folder = room.folder(f"unrecorded{len(out)}")
+        run = Run(room, folder, ["cases.Ends", "names"], {"VELODROME_OUT": out})
+        if run.done.stdout != "2\n" or not run.done.stderr.startswith(words):
+            return f"it printed {run.done.stdout}{run.done.stderr}"
+        if not words and run.done.stderr:
+            return f"it said {run.done.stderr}"
+    return None
+
+
+def keeps_trace_of_stack(room: Room) -> Optional[str]:
+    """An exception has the places that it would have."""
+    run = Run(room, room.folder("stack"), ["cases.Ends", "throw"], {}, 1)
+    line = line_of("as it was")
+    want = f"java.lang.IllegalStateException: as it was\n\tat cases.Ends.main(Ends.java:{line})\n"
+    return None if run.done.stderr.endswith(want) else f"it said {run.done.stderr}"
+
+
+# ---- all of it
+Test = Callable[[], Optional[str]]
+
+
+def all_tests(room: Room) -> Dict[str, Test]:
+    tests: Dict[str, Test] = {}
+    for mode in MODES:
+        tests[f"cases, {mode}"] = lambda m=mode: cases(room, m)
+    for name, status in (("two", 0), ("exit", 5), ("halt", 6), ("throw", 1)):
+        tests[f"ends {name}"] = lambda n=name, s=status: ends(room, n, s, "threads 2", "locks 1")
+    tests["ends many"] = lambda: ends(room, "many", 0, "threads 121")
+    tests["ends deadlock"] = lambda: ends(
+        room, "deadlock", 7, "deadlock", "thread 1 first waits for the mutex Object#"
+    )
+    for body in (tells_names, killed, full, unrecorded, keeps_trace_of_stack):
+        tests[body.__name__] = lambda b=body: b(room)
+    return tests
+
+
+def outcome(body: Test) -> Optional[str]:
+    try:
+        return body()
+    except (RuntimeError, OSError, subprocess.SubprocessError, AssertionError) as e:
+        return repr(e)
+
+
+def missing() -> Optional[str]:
+    """The package that the tests cannot do without."""
+    for program, package in (("javac", "openjdk-17-jdk-headless"), ("nm", "binutils")):
+        if not shutil.which(program):
+            return package
+    return None if os.path.exists(LOG_MAKER) else "`make -C recorder`, for velodrome-log,"
+
+
+def show(room: Room) -> None:
+    for event in case_events(room, "exact"):
+        begins = re.match(r"\w+ begin \w+\.[fg](, before|$)", event)
+        print(("\n" if begins else "") + event)
+
+
+def main() -> int:
+    parser = argparse.ArgumentParser(description=__doc__)
+    parser.add_argument("-k", default="")
+    parser.add_argument("--show", action="store_true")
+    arguments = parser.parse_args()
+    if package := missing():
+        print(f"not run: java needs {package}")
+        return 0
+    if not CHECKER:
+        print("not run: what the checker says needs VELODROME, its path")
+    with tempfile.TemporaryDirectory() as path:
+        room = Room(path)
+        if arguments.show:
+            show(room)
+            return 0
+        tests = {name: body for name, body in all_tests(room).items() if arguments.k in name}
+        with concurrent.futures.ThreadPoolExecutor(AT_ONCE) as pool:
+            wrong = dict(zip(tests, pool.map(outcome, tests.values())))
+    failed = {name: why for name, why in wrong.items() if why is not None}
+    for name, why in failed.items():
+        print(f"FAILED {name}: {why}")
+    print(f"{len(tests) - len(failed)} passed, {len(failed)} failed")
+    return 1 if failed else 0
+
+
+if __name__ == "__main__":
+    sys.exit(main())
