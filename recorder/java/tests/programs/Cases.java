@@ -1,5 +1,20 @@
 package cases;
 
+import java.util.concurrent.ExecutorService;
+import java.util.concurrent.Executors;
+import java.util.concurrent.TimeUnit;
+import java.util.concurrent.atomic.AtomicBoolean;
+import java.util.concurrent.atomic.AtomicInteger;
+import java.util.concurrent.atomic.AtomicIntegerArray;
+import java.util.concurrent.atomic.AtomicLong;
+import java.util.concurrent.atomic.AtomicLongArray;
+import java.util.concurrent.atomic.AtomicReference;
+import java.util.concurrent.atomic.AtomicReferenceArray;
+import java.util.concurrent.locks.Condition;
+import java.util.concurrent.locks.Lock;
+import java.util.concurrent.locks.ReadWriteLock;
+import java.util.concurrent.locks.ReentrantLock;
+import java.util.concurrent.locks.ReentrantReadWriteLock;
 import velodrome.Atomic;
 import velodrome.tests.Turns;
 
@@ -350,6 +365,192 @@ public class Cases {
 
     public void g() {
       x = y;
+    }
+  }
+
+  // ---- java.util.concurrent
+  static class Values implements Case {
+    final AtomicInteger number = new AtomicInteger();
+    final AtomicLong wide = new AtomicLong();
+    final AtomicBoolean bit = new AtomicBoolean();
+    final AtomicReference<String> word = new AtomicReference<>();
+
+    public void f() {
+      number.set(1);
+      wide.getAndAdd(2);
+      bit.compareAndSet(true, false);
+      word.compareAndSet(null, "word");
+    }
+
+    public void g() {
+      int sum = number.incrementAndGet() + number.get();
+      sum += wide.updateAndGet(x -> x + 1) == 3 ? wide.intValue() : 0;
+      sum += bit.getAndSet(true) ? 1 : 0;
+      if (sum != 7 || word.compareAndExchange("none", "other") != word.get()) {
+        throw new AssertionError(sum);
+      }
+      word.compareAndExchange(word.get(), "other");
+      wide.compareAndExchange(4, 5);
+      number.compareAndExchange(2, 3);
+    }
+  }
+
+  static class ValueArrays implements Case {
+    final AtomicIntegerArray numbers = new AtomicIntegerArray(3);
+    final AtomicLongArray wides = new AtomicLongArray(new long[] {1, 2});
+    final AtomicReferenceArray<String> words = new AtomicReferenceArray<>(2);
+
+    public void f() {
+      numbers.set(0, 1);
+      wides.getAndIncrement(1);
+      words.lazySet(1, "word");
+    }
+
+    public void g() {
+      int caught = 0;
+      try {
+        numbers.get(3);
+      } catch (IndexOutOfBoundsException e) {
+        caught = numbers.get(0);
+      }
+      if (caught + wides.accumulateAndGet(1, 2, Long::sum) != 6 || words.get(1) == null) {
+        throw new AssertionError(caught);
+      }
+      numbers.compareAndSet(0, 1, 2);
+    }
+  }
+
+  static class Locks implements Case {
+    final ReentrantLock lock = new ReentrantLock();
+    int x;
+
+    public void f() {
+      lock.lock();
+      try {
+        lock.lock();
+        x = 1;
+        lock.unlock();
+      } finally {
+        lock.unlock();
+      }
+    }
+
+    public void g() throws Exception {
+      Lock same = lock;
+      if (same.tryLock()) {
+        x = 2;
+        same.unlock();
+      }
+      if (same.tryLock(1, TimeUnit.SECONDS)) {
+        x = 3;
+        same.unlock();
+      }
+      try {
+        same.unlock();
+      } catch (IllegalMonitorStateException e) {
+        x = 4;
+      }
+      same.lockInterruptibly();
+      same.unlock();
+    }
+  }
+
+  static class OwnLock extends ReentrantLock {
+    private static final long serialVersionUID = 1;
+    int x;
+
+    void twice() {
+      lock();
+      super.lock();
+      x++;
+      unlock();
+      super.unlock();
+    }
+  }
+
+  static class Subclasses implements Case {
+    final OwnLock lock = new OwnLock();
+
+    public void f() {
+      lock.twice();
+    }
+
+    public void g() {
+      lock.twice();
+    }
+  }
+
+  static class Shares implements Case {
+    final ReadWriteLock both = new ReentrantReadWriteLock();
+    final ReentrantReadWriteLock.ReadLock reads = new ReentrantReadWriteLock().readLock();
+    int x;
+
+    public void f() {
+      both.writeLock().lock();
+      x = 1;
+      both.writeLock().unlock();
+      reads.lock();
+      reads.unlock();
+    }
+
+    public void g() {
+      both.readLock().lock();
+      both.readLock().lock();
+      int y = x;
+      both.readLock().unlock();
+      both.readLock().unlock();
+      reads.lock();
+      reads.unlock();
+    }
+  }
+
+  static class Conditions implements Case {
+    final ReentrantLock lock = new ReentrantLock();
+    final Condition ready = lock.newCondition();
+    int x;
+
+    public void f() throws Exception {
+      lock.lock();
+      lock.lock();
+      x = 1;
+      ready.awaitNanos(1);
+      x = 2;
+      lock.unlock();
+      lock.unlock();
+    }
+
+    public void g() throws Exception {
+      lock.lock();
+      ready.await(1, TimeUnit.MILLISECONDS);
+      lock.unlock();
+      Thread.currentThread().interrupt();
+      lock.lock();
+      try {
+        ready.await();
+      } catch (InterruptedException e) {
+        x = 3;
+      }
+      lock.unlock();
+    }
+  }
+
+  /** What an executor runs is told of its threads, which nobody is seen to start. */
+  static class Pools implements Case {
+    final AtomicInteger number = new AtomicInteger();
+
+    private void more() {
+      number.getAndIncrement();
+    }
+
+    public void f() throws Exception {
+      ExecutorService pool = Executors.newSingleThreadExecutor(r -> new Thread(r, "pooled"));
+      pool.submit(this::more).get();
+      pool.shutdown();
+      pool.awaitTermination(60, TimeUnit.SECONDS);
+    }
+
+    public void g() {
+      more();
     }
   }
 

@@ -33,7 +33,7 @@ public final class Hooks {
       if ((slot & 1) != 0) {
         s.touch(t);
         t.atomic(!write, write, s.address(slot >> 1), site);
-      } else if (!s.covers(t, slot >> 1, write)) {
+      } else if (!s.coversField(t, slot >> 1, write)) {
         t.access(write, s.address(slot >> 1), site);
       }
     } catch (Throwable e) {
@@ -94,8 +94,8 @@ public final class Hooks {
         return;
       }
       ThreadStream t = Recorder.stream();
-      if (!s.covers(t, index + 1, write)) {
-        t.access(write, s.address(index + 1), site);
+      if (!s.coversElement(t, index, write)) {
+        t.access(write, s.element(index), site);
       }
     } catch (Throwable e) {
       Recorder.failed(e);

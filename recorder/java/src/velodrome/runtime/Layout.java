@@ -26,6 +26,7 @@ final class Layout {
   private final int inherited;
   private final String name;
   private final boolean isClass;
+  private final boolean isValue;
   private final Declared declared;
   private final Layout outer;
   private final AtomicInteger count;
@@ -39,6 +40,7 @@ final class Layout {
     slots = inherited + (declared == null ? 0 : declared.count());
     name = simpleName(type);
     isClass = type == Class.class;
+    isValue = Places.isValue(type);
     count = numbers.computeIfAbsent(name, n -> new AtomicInteger());
   }
 
@@ -58,6 +60,10 @@ final class Layout {
     int slash = full.indexOf('/'); // of a hidden class
     String plain = slash < 0 ? full : full.substring(0, slash);
     return plain.substring(plain.lastIndexOf('.') + 1) + "[]".repeat(dimensions);
+  }
+
+  boolean isOf(Class<?> type) {
+    return name.equals(type.getSimpleName());
   }
 
   int nextNumber() {
@@ -115,7 +121,7 @@ final class Layout {
   }
 
   String element(Shadow s, int index) {
-    return "[" + index + "] of " + object(s);
+    return isValue ? object(s) : "[" + index + "] of " + object(s);
   }
 
   String elements(Shadow s) {

@@ -70,11 +70,11 @@ final class Names {
       elf.variable(s.layout.field(s, slot), s.address(slot), 8);
     }
     if (s.length > ELEMENTS_MOST) {
-      elf.variable(s.layout.elements(s), s.address(1), 8L * s.length);
+      elf.variable(s.layout.elements(s), s.element(0), 8L * s.length);
       return;
     }
     for (int i = 0; i < s.length; i++) {
-      elf.variable(s.layout.element(s, i), s.address(1 + i), 8);
+      elf.variable(s.layout.element(s, i), s.element(i), 8);
     }
   }
 

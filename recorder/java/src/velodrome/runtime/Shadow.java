@@ -17,7 +17,7 @@ final class Shadow extends WeakReference<Object> {
   /** The address of the object as a lock. Its fields or elements follow, each of 8 bytes. */
   final long base;
 
-  /** Of an array; else 0. */
+  /** How many elements it has, or values that change atomically. */
   final int length;
 
   /** In the chain of its place in {@link Shadows}. */
@@ -29,6 +29,8 @@ final class Shadow extends WeakReference<Object> {
 
   /** As a lock: some thread has it. */
   private volatile boolean held;
+
+  private volatile Shadow whole;
 
   /** Of a thread: what it writes. */
   volatile ThreadStream stream;
@@ -54,6 +56,10 @@ final class Shadow extends WeakReference<Object> {
     return base + 8L * slot;
   }
 
+  long element(int index) {
+    return address(1 + layout.slots + index);
+  }
+
   int madeAt() {
     return madeAt != 0 ? madeAt : layout.onlySite();
   }
@@ -69,6 +75,15 @@ final class Shadow extends WeakReference<Object> {
       number = layout.nextNumber();
     }
     return number;
+  }
+
+  /** The lock that this one belongs to, or null. */
+  Shadow whole() {
+    return whole;
+  }
+
+  void setWhole(Shadow lock) {
+    whole = lock;
   }
 
   boolean isHeld() {
@@ -114,22 +129,26 @@ final class Shadow extends WeakReference<Object> {
     return !shared;
   }
 
+  /** Whether this thread made the object in the block that is open, and no other touched it. */
+  private boolean isNew(ThreadStream t) {
+    return madeIn != 0 && madeIn == t.outermost;
+  }
+
   /**
-   * Whether the access adds nothing. No other thread has touched the object, and it was made in
+   * Whether the access adds nothing: no other thread has touched the object, and it was made in
    * the open block, or the same was done in the innermost block before (outside of blocks: with no
    * event since).
    */
-  boolean covers(ThreadStream t, int slot, boolean write) {
-    if (!touch(t)) {
-      return false;
-    }
-    if (madeIn != 0 && madeIn == t.outermost) {
-      return true;
-    }
-    return length > 0 ? coversElement(t, slot - 1, write) : coversField(t, slot, write);
+  boolean coversField(ThreadStream t, int slot, boolean write) {
+    return touch(t) && (isNew(t) || repeatsField(t, slot, write));
   }
 
-  private boolean coversField(ThreadStream t, int slot, boolean write) {
+  /** Likewise of an element. */
+  boolean coversElement(ThreadStream t, int index, boolean write) {
+    return touch(t) && (isNew(t) || repeatsElement(t, index, write));
+  }
+
+  private boolean repeatsField(ThreadStream t, int slot, boolean write) {
     if (slot >= FIELD_BITS) {
       return false;
     }
@@ -150,7 +169,7 @@ final class Shadow extends WeakReference<Object> {
     return false;
   }
 
-  private boolean coversElement(ThreadStream t, int index, boolean write) {
+  private boolean repeatsElement(ThreadStream t, int index, boolean write) {
     if (length > ELEMENTS_MOST) {
       return false;
     }

@@ -2,7 +2,6 @@ package velodrome.runtime;
 
 import java.lang.ref.Reference;
 import java.lang.ref.ReferenceQueue;
-import java.lang.reflect.Array;
 
 /**
  * The shadows of all objects that hooks have met, by identity. An object that is there is found
@@ -55,7 +54,7 @@ final class Shadows {
 
     private Shadow ofNew(Object o, int hash) {
       Layout layout = Layout.of(o.getClass());
-      int length = o.getClass().isArray() ? Array.getLength(o) : 0;
+      int length = Places.in(o);
       synchronized (this) {
         removeGone();
         Shadow s = find(o, hash);

@@ -30,6 +30,9 @@ final class ThreadStream {
   private boolean finished;
   private int heldStripe = NONE;
 
+  /** The address of the atomic access that comes next. */
+  private long atomic;
+
   // ---- blocks
   private int[] functions = new int[64];
   private long[] positions = new long[64];
@@ -183,19 +186,48 @@ final class ThreadStream {
     event(write ? Kind.WR : Kind.RD, flags, 8, address, site);
   }
 
+  /** An access to a volatile field, which is done right after it. */
   void atomic(boolean reads, boolean writes, long address, int site) {
-    begin();
-    hold(address);
+    holdAtomic(address);
     atomicHeld(reads, writes, address, site);
   }
 
-  /** The stripe of an atomic access is taken; what it did is told later. */
+  /** An atomic access comes next; address 0: to nothing. */
   void holdAtomic(long address) {
     begin();
-    hold(address);
+    atomic = address;
+    if (address != 0) {
+      hold(address);
+    }
   }
 
-  void atomicHeld(boolean reads, boolean writes, long address, int site) {
+  /** That access is done. A hook in between took over, and it is not told. */
+  void tellAtomic(boolean reads, boolean writes, int site) {
+    if (isAtomicHeld()) {
+      atomicHeld(reads, writes, atomic, site);
+    }
+    atomic = 0;
+    settle();
+  }
+
+  /** A compare-and-swap is done. */
+  void tellSwap(boolean done, int site) {
+    if (isAtomicHeld()) {
+      event(Kind.ARD, done ? Kind.TRIED : Kind.TRIED | Kind.MISSED, 8, atomic, site);
+      if (done) {
+        stampIn(heldStripe);
+        event(Kind.AWR, Kind.CHANGES, 8, atomic, site);
+      }
+    }
+    atomic = 0;
+    settle();
+  }
+
+  private boolean isAtomicHeld() {
+    return atomic != 0 && heldStripe == Stripes.of(atomic);
+  }
+
+  private void atomicHeld(boolean reads, boolean writes, long address, int site) {
     if (reads) {
       event(Kind.ARD, 0, 8, address, site);
     }
@@ -205,11 +237,6 @@ final class ThreadStream {
     if (writes) {
       event(Kind.AWR, reads ? Kind.CHANGES : 0, 8, address, site);
     }
-  }
-
-  /** A compare-and-swap that found another value. */
-  void atomicMissed(long address, int site) {
-    event(Kind.ARD, Kind.TRIED | Kind.MISSED, 8, address, site);
   }
 
   // ---- what orders

@@ -199,7 +199,11 @@ final class MethodChanger {
   static InsnList list(Object... parts) {
     InsnList all = new InsnList();
     for (Object p : parts) {
-      all.add(p instanceof Integer ? new InsnNode((Integer) p) : (AbstractInsnNode) p);
+      if (p instanceof InsnList) {
+        all.add((InsnList) p);
+      } else {
+        all.add(p instanceof Integer ? new InsnNode((Integer) p) : (AbstractInsnNode) p);
+      }
     }
     return all;
   }
@@ -217,8 +221,8 @@ final class MethodChanger {
     code.remove(at);
   }
 
-  ClassChanger type() {
-    return type;
+  Temporaries temporaries(MethodInsnNode call) {
+    return new Temporaries(call, method.maxLocals);
   }
 
   // ---- one instruction
