@@ -12,7 +12,7 @@ import shutil
 import subprocess
 import sys
 import tempfile
-from typing import Callable, Dict, List, Optional
+from typing import Callable, Dict, List, Optional, Sequence, Set
 
 HERE = os.path.dirname(os.path.realpath(__file__))
 JAVA = os.path.dirname(HERE)
@@ -22,6 +22,11 @@ LOG_MAKER = os.path.join(os.path.dirname(JAVA), "out", "bin", "velodrome-log")
 CHECKER = os.environ.get("VELODROME") or shutil.which("velodrome")
 MODES = ("exact", "free")
 AT_ONCE = 2
+# Of a virtual machine that lives for a second.
+QUICK = ("-XX:TieredStopAtLevel=1", "-XX:+UseSerialGC", "-Xshare:auto")
+# What a copy of a collection of the JDK needs.
+COPIED = ("--add-exports", "java.base/jdk.internal.util=ALL-UNNAMED")
+ASM = ":".join(f"/usr/share/java/{name}.jar" for name in ("asm", "asm-tree", "asm-commons"))
 SECONDS_MOST = 120
 PREFIX = "cases.Cases$"
 
@@ -32,8 +37,10 @@ class Room:
     def __init__(self, path: str) -> None:
         self.path = path
         self.classes = os.path.join(path, "classes")
+        copier = ["java", "-cp", ASM, f"{HERE}/copier/Copier.java", self.classes]
+        subprocess.run(copier, check=True)
         sources = sorted(glob.glob(f"{HERE}/programs/**/*.java", recursive=True))
-        words = ["javac", "-g", "--release", "11", "-cp", ATOMIC, "-d", self.classes, *sources]
+        words = ["javac", "-g", "--release", "11", "-cp", f"{ATOMIC}:{self.classes}", "-d", self.classes, *sources]
         subprocess.run(words, check=True)
 
     def folder(self, name: str) -> str:
@@ -46,14 +53,20 @@ class Run:
     """A program that ran with the agent, and the log of its trace."""
 
     def __init__(
-        self, room: Room, folder: str, words: List[str], env: Dict[str, str], status: int = 0
+        self,
+        room: Room,
+        folder: str,
+        words: List[str],
+        env: Dict[str, str],
+        status: int = 0,
+        java: Sequence[str] = (),
     ) -> None:
         self.folder = folder
         self.log = os.path.join(folder, "log")
-        java = ["java", f"-javaagent:{AGENT}", "-XX:TieredStopAtLevel=1", "-cp", room.classes]
+        options = [f"-javaagent:{AGENT}", *QUICK, *java, "-cp", room.classes]
         settings = {"VELODROME_OUT": os.path.join(folder, "run"), "VELODROME_MOST": "1000000"}
         self.done = subprocess.run(
-            java + words,
+            ["java", *options, *words],
             env={**os.environ, **settings, **env},
             capture_output=True,
             text=True,
@@ -94,8 +107,8 @@ class Run:
                 told.append(f"{thread} {words[1]} {about}".rstrip())
         return told
 
-    def check(self) -> str:
-        """What the checker lists: the labels that are not atomic."""
+    def audit(self) -> str:
+        """What the checker lists: the labels that are not atomic, and then how many are."""
         assert CHECKER
         words = [CHECKER, "audit", self.log, "--names", self.log + ".names", "--no-witness"]
         done = subprocess.run(words, capture_output=True, text=True, check=False)
@@ -137,6 +150,50 @@ def cases(room: Room, mode: str) -> Optional[str]:
     if got == want:
         return None
     return "\n".join(difflib.unified_diff(want, got, "cases.txt", mode, lineterm="", n=8))
+
+
+# ---- planted mistakes, and their repairs
+MISTAKES = {
+    "Counter.increment",
+    "Lazy.get",
+    "Bank.transfer",
+    "Range.set",
+    "Tickets.sell",
+    "Cache.refresh",
+    "Stack.popIfAny",
+    "Once.begin",
+}
+CLASSICS = {
+    "cases.Classics$StringBuffer.append",
+    "copied.Vector.containsAll",
+    "copied.AbstractCollection.containsAll",
+    "copied.Collections$SynchronizedCollection.containsAll",
+}
+# What only calls them.
+AROUND = ["Mistakes.guarded", "Mistakes.run", "Classics.guarded", "Classics.with", "Classics.ask"]
+
+
+def found(room: Room, program: str, how: str, mode: str) -> Set[str]:
+    """The methods that the checker lists, of a run of all programs of a file."""
+    folder = room.folder(f"{program}-{how}-{mode}")
+    words = [f"cases.{program}", how]
+    run = Run(room, folder, words, {"VELODROME_MODE": mode}, java=COPIED)
+    around = AROUND + [f"Mistakes${mistake.split('.')[0]}.first" for mistake in MISTAKES]
+    no_blocks = os.path.join(folder, "no-blocks")
+    with open(no_blocks, "w", encoding="ascii") as f:
+        f.writelines(f"cases.{name}\n" for name in around)
+    run.make_log("--not-blocks", no_blocks)
+    return set(re.findall(r"^not atomic \d+ (\S+)", run.audit(), re.M))
+
+
+def mistakes(room: Room, program: str, mode: str) -> Optional[str]:
+    """Each planted mistake is found, and nothing else; and nothing once they are repaired."""
+    want = CLASSICS if program == "Classics" else {f"cases.Mistakes${name}" for name in MISTAKES}
+    got = found(room, program, "broken", mode)
+    if got != want:
+        return f"it found {sorted(got)}"
+    got = found(room, program, "repaired", mode)
+    return f"repaired, it found {sorted(got)}" if got else None
 
 
 # ---- whole programs
@@ -214,7 +271,9 @@ def keeps_trace_of_stack(room: Room) -> Optional[str]:
     run = Run(room, room.folder("stack"), ["cases.Ends", "throw"], {}, 1)
     line = line_of("as it was")
     want = f"java.lang.IllegalStateException: as it was\n\tat cases.Ends.main(Ends.java:{line})\n"
-    return None if run.done.stderr.endswith(want) else f"it said {run.done.stderr}"
+    if not run.done.stderr.endswith(want):
+        return f"it said {run.done.stderr}"
+    return said(run, "odd 0 late 0 lost 0", "threads 2", "locks 1")
 
 
 # ---- all of it
@@ -225,8 +284,11 @@ def all_tests(room: Room) -> Dict[str, Test]:
     tests: Dict[str, Test] = {}
     for mode in MODES:
         tests[f"cases, {mode}"] = lambda m=mode: cases(room, m)
-    for name, status in (("two", 0), ("exit", 5), ("halt", 6), ("throw", 1)):
+    for name, status in (("exit", 5), ("halt", 6)):
         tests[f"ends {name}"] = lambda n=name, s=status: ends(room, n, s, "threads 2", "locks 1")
+    if CHECKER:
+        for program in ("Mistakes", "Classics"):
+            tests[f"mistakes {program}"] = lambda p=program: mistakes(room, p, "exact")
     tests["ends many"] = lambda: ends(room, "many", 0, "threads 121")
     tests["ends deadlock"] = lambda: ends(
         room, "deadlock", 7, "deadlock", "thread 1 first waits for the mutex Object#"

@@ -17,13 +17,7 @@ public final class Turns {
             return t;
           });
 
-  private static final CountDownLatch[] steps = new CountDownLatch[64];
-
-  static {
-    for (int i = 0; i < steps.length; i++) {
-      steps[i] = new CountDownLatch(1);
-    }
-  }
+  private static final CountDownLatch[] steps = latches();
 
   private Turns() {}
 
@@ -54,12 +48,55 @@ public final class Turns {
 
   /** Waits until the step is done. */
   public static void await(int step) {
+    await(steps[step]);
+  }
+
+  private static void await(CountDownLatch latch) {
     try {
-      if (!steps[step].await(SECONDS_MOST, TimeUnit.SECONDS)) {
-        throw new IllegalStateException("step " + step + " was never done");
+      if (!latch.await(SECONDS_MOST, TimeUnit.SECONDS)) {
+        throw new IllegalStateException("nobody came");
       }
     } catch (InterruptedException e) {
       throw new IllegalStateException(e);
     }
+  }
+
+  // ---- one thread in the middle of another's method
+  private static final CountDownLatch[] given = latches();
+  private static final CountDownLatch[] taken = latches();
+  private static final CountDownLatch[] over = latches();
+  private static volatile Thread taker;
+
+  private static CountDownLatch[] latches() {
+    CountDownLatch[] all = new CountDownLatch[64];
+    for (int i = 0; i < all.length; i++) {
+      all[i] = new CountDownLatch(1);
+    }
+    return all;
+  }
+
+  /** The other thread does what it has to do now, as far as it comes: it may wait for a lock. */
+  public static void give(int turn) {
+    if (given[turn].getCount() == 0) {
+      return; // a second try in one turn
+    }
+    given[turn].countDown();
+    await(taken[turn]);
+    while (over[turn].getCount() > 0 && !isWaiting(taker)) {
+      Thread.onSpinWait();
+    }
+  }
+
+  private static boolean isWaiting(Thread t) {
+    return t.getState() == Thread.State.BLOCKED || t.getState() == Thread.State.WAITING;
+  }
+
+  /** Waits for the turn, does this, and ends the turn. */
+  public static void take(int turn, Runnable task) {
+    await(given[turn]);
+    taker = Thread.currentThread();
+    taken[turn].countDown();
+    task.run();
+    over[turn].countDown();
   }
 }
