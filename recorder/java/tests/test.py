@@ -1,7 +1,7 @@
-"""Tests of the recorder for Java: python3 tests/test.py [-k WORD] [--show]. The last line is `N passed, N failed`.
+"""Tests of the recorder for Java: python3 tests/test.py [-k WORD] [--show] [--long]. The last line is `N passed, N failed`.
 
 VELODROME is the path of the checker; without one, what it would say is not run, and that is told. --show prints what the cases
-record, as cases.txt has it, in place of comparing it."""
+record, as cases.txt has it, in place of comparing it. --long has Maven do more than tell its version."""
 import argparse
 import concurrent.futures
 import difflib
@@ -21,6 +21,7 @@ ATOMIC = os.path.join(JAVA, "out", "velodrome-atomic.jar")
 LOG_MAKER = os.path.join(os.path.dirname(JAVA), "out", "bin", "velodrome-log")
 CHECKER = os.environ.get("VELODROME") or shutil.which("velodrome")
 MODES = ("exact", "free")
+LONG = "--long" in sys.argv
 AT_ONCE = 2
 # Of a virtual machine that lives for a second.
 QUICK = ("-XX:TieredStopAtLevel=1", "-XX:+UseSerialGC", "-Xshare:auto")
@@ -37,10 +38,10 @@ class Room:
     def __init__(self, path: str) -> None:
         self.path = path
         self.classes = os.path.join(path, "classes")
-        copier = ["java", "-cp", ASM, f"{HERE}/copier/Copier.java", self.classes]
+        copier = ["java", *QUICK, "-cp", ASM, f"{HERE}/copier/Copier.java", self.classes]
         subprocess.run(copier, check=True)
         sources = sorted(glob.glob(f"{HERE}/programs/**/*.java", recursive=True))
-        words = ["javac", "-g", "--release", "11", "-cp", f"{ATOMIC}:{self.classes}", "-d", self.classes, *sources]
+        words = ["javac", *(f"-J{option}" for option in QUICK), "-g", "--release", "11", "-cp", f"{ATOMIC}:{self.classes}", "-d", self.classes, *sources]
         subprocess.run(words, check=True)
 
     def folder(self, name: str) -> str:
@@ -276,6 +277,77 @@ def keeps_trace_of_stack(room: Room) -> Optional[str]:
     return said(run, "odd 0 late 0 lost 0", "threads 2", "locks 1")
 
 
+def left_as_it_is(room: Room) -> Optional[str]:
+    """A class that cannot take hooks, since a method gets too long, runs as it was."""
+    folder = room.folder("left")
+    stores = "".join(f"a[{i % 1000}] = {i};" for i in range(7000))
+    with open(f"{folder}/Long.java", "w", encoding="ascii") as f:
+        f.write(
+            "public class Long { public static void main(String[] s) { int[] a = new int[1000];"
+            + stores
+            + ' System.out.println(a[999]); Short.say(); } } class Short { static int x;'
+            + " static void say() { x++; System.out.println(x); } }"
+        )
+    subprocess.run(["javac", "-d", folder, f"{folder}/Long.java"], check=True)
+    run = Run(room, folder, ["-cp", folder, "Long"], {})
+    told = "1 classes, 1 left as they are" in run.done.stderr
+    return None if run.done.stdout == "6999\n1\n" and told else run.done.stderr
+
+
+MODULE = """package inside; public class Main { static int x; static synchronized void touch() { x++; }
+public static void main(String[] a) throws Exception {
+Thread t = new Thread(Main::touch); t.start(); t.join(); touch(); System.out.println(x); } }"""
+
+
+def module(room: Room) -> Optional[str]:
+    """A program that is a module of its own."""
+    folder = room.folder("module")
+    os.makedirs(f"{folder}/source/inside")
+    for name, text in (("module-info", "module inside { }"), ("inside/Main", MODULE)):
+        with open(f"{folder}/source/{name}.java", "w", encoding="ascii") as f:
+            f.write(text)
+    sources = [f"{folder}/source/module-info.java", f"{folder}/source/inside/Main.java"]
+    subprocess.run(["javac", "-d", f"{folder}/classes", *sources], check=True)
+    run = Run(room, folder, ["-p", f"{folder}/classes", "-m", "inside/inside.Main"], {})
+    return said(run, "odd 0 late 0 lost 0", "threads 2", "locks 1", "functions 1")
+
+
+def write_projects(folder: str) -> None:
+    """A project with two parts, which two threads of Maven can look at."""
+    ids = "<modelVersion>4.0.0</modelVersion>{}<artifactId>{}</artifactId><packaging>pom</packaging>"
+    group = "<groupId>g</groupId><version>1</version>"
+    parent = f"<parent>{group}<artifactId>top</artifactId></parent>"
+    modules = "<modules><module>a</module><module>b</module></modules>"
+    for name, content in (
+        ("", ids.format(group, "top") + modules),
+        ("a", ids.format(parent, "a")),
+        ("b", ids.format(parent, "b")),
+    ):
+        os.makedirs(os.path.join(folder, name), exist_ok=True)
+        with open(os.path.join(folder, name, "pom.xml"), "w", encoding="ascii") as f:
+            f.write(f"<project>{content}</project>")
+
+
+def maven(room: Room, name: str, *words: str) -> Optional[str]:
+    """Maven as it is, recorded; its log is one that the checker takes."""
+    folder = room.folder(name)
+    write_projects(folder)
+    options = " ".join([f"-javaagent:{AGENT}", *QUICK])
+    env = {**os.environ, "MAVEN_OPTS": options, "VELODROME_OUT": os.path.join(folder, "run")}
+    done = subprocess.run(
+        ["mvn", *words], env=env, cwd=folder, capture_output=True, text=True, check=False
+    )
+    run = Run.__new__(Run)
+    run.folder, run.log, run.done = folder, os.path.join(folder, "log"), done
+    if done.returncode or "Apache Maven 3" not in done.stdout + done.stderr:
+        return done.stdout + done.stderr
+    wrong = said(run, "odd 0", "lost 0")
+    if wrong or not CHECKER:
+        return wrong
+    checked = subprocess.run([CHECKER, "check", run.log], capture_output=True, check=False)
+    return None if checked.returncode in (0, 3) else f"check: status {checked.returncode}"
+
+
 # ---- all of it
 Test = Callable[[], Optional[str]]
 
@@ -293,7 +365,13 @@ def all_tests(room: Room) -> Dict[str, Test]:
     tests["ends deadlock"] = lambda: ends(
         room, "deadlock", 7, "deadlock", "thread 1 first waits for the mutex Object#"
     )
-    for body in (tells_names, killed, full, unrecorded, keeps_trace_of_stack):
+    if LONG and shutil.which("mvn"):
+        validate = ("-V", "-o", "-B", "-T", "2", "validate")
+        tests["maven validate"] = lambda: maven(room, "validate", *validate)
+    elif shutil.which("mvn"):
+        tests["maven"] = lambda: maven(room, "version", "-v")
+    whole = (tells_names, killed, full, unrecorded, keeps_trace_of_stack, left_as_it_is, module)
+    for body in whole:
         tests[body.__name__] = lambda b=body: b(room)
     return tests
 
@@ -323,10 +401,13 @@ def main() -> int:
     parser = argparse.ArgumentParser(description=__doc__)
     parser.add_argument("-k", default="")
     parser.add_argument("--show", action="store_true")
+    parser.add_argument("--long", action="store_true")
     arguments = parser.parse_args()
     if package := missing():
         print(f"not run: java needs {package}")
         return 0
+    if not shutil.which("mvn"):
+        print("not run: java needs maven, to record it")
     if not CHECKER:
         print("not run: what the checker says needs VELODROME, its path")
     with tempfile.TemporaryDirectory() as path:
