@@ -114,13 +114,6 @@ module _ (trace : List Event) (p : ℕ) (within : p < length trace) where
     (λ s. says.1 (subst (λ a. IsCycleFrom (take (p + 1) trace) a cycle) (sym last-owner) (IsCycleFrom-at cycle s.is_cycle))),
   )
 
--- two shortest cycles are of one length
-pub shortest-same_length : (trace : List Event) (p : ℕ) (found cycle : List ℕ) → IsShortestCycleAt trace p found → IsShortestCycleAt trace p cycle → length cycle ≡ length found
-shortest-same_length trace p found cycle v w =
-    let one = v.shortest cycle w.is_cycle in
-    let two = w.shortest found v.is_cycle in
-    omega (arith, one, two)
-
 -- ---- links
 
 Path-by : (R : ℕ → ℕ → Type 0) (x : ℕ) (xs : List ℕ) (y : ℕ) → ((i : ℕ) → i ≤ length xs → R (slice_index (x ∷ xs) i) (slice_index (xs ++ y ∷ []) i)) → Path R x xs y

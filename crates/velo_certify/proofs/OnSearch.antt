@@ -1,11 +1,11 @@
 -- A search backwards along the edges of the graph: one transaction, and all of them in the order in which they are found.
-use Rattle.std.proofs.Common.{◌≡◌, ◌≢◌, ℕ, suc, ◌+◌, ◌<◌, ◌≤◌, List, length, Option, Some, refl, sym, ap, ◌∙◌, subst, arith, ⊎_elim}
+use Rattle.std.proofs.Common.{◌≡◌, ◌≢◌, ℕ, suc, ◌+◌, ◌<◌, ◌≤◌, List, length, Some, refl, sym, ap, ◌∙◌, subst, arith, ⊎_elim}
 use Rattle.std.specs.Prelude.{slice_index, IsTrue}
 use Rattle.std.proofs.lemmas.Bool.{cases_lt}
 use Rattle.std.proofs.lemmas.List.{get_or_past}
 use Rattle.std.proofs.lemmas.Option.{same_Some}
 use Rattle.velo_events.specs.declared.event.Event.{Event}
-use Rattle.velo_events.specs.About.{is_about, thread_in, forked_or_joined_in, written_in, read_in}
+use Rattle.velo_events.specs.About.{is_about, thread_in, read_in}
 use Rattle.velo_events.specs.Block.{owner}
 use Rattle.velo_events.specs.Conflict.{conflict}
 use Rattle.velo_events.specs.Graph.{conflict_at, Edge}
@@ -15,37 +15,15 @@ use Rattle.velo_events.proofs.OnScans.{owner-owner}
 use Rattle.velo_certify.specs.declared.lists.Lists.{Lists}
 use Rattle.velo_certify.specs.declared.reached.Reached.{Reached}
 use Rattle.velo_certify.specs.Distances.{AreDistances, AreTowards}
-use Rattle.velo_certify.specs.Lists.{IsFirst, IsListed, AreListed, list_sizes}
+use Rattle.velo_certify.specs.Lists.{IsFirst}
 use Rattle.velo_certify.specs.Owners.{event_at}
-use Rattle.velo_certify.specs.Search.{IsStart, IsQueued, Grows, LeadsNewTo, AreOnLevel, IsSortedFrom, IsVisited, AreVisited, level_at, Visits, VisitsConflicts, ExpandsBelow, Expands, IsSearched}
-use Rattle.velo_conflicts.specs.Places.{AllHavePlaces}
+use Rattle.velo_certify.specs.Search.{Grows, LeadsNewTo, AreOnLevel, IsSortedFrom, AreVisited, level_at, Visits, VisitsConflicts, ExpandsBelow, Expands, IsSearched}
 use Rattle.velo_certify.specs.Threads.{thread_at, IsFirstFrom}
 use Rattle.velo_certify.proofs.OnGreatest.{passes-conflict, conflict-passes}
 use Rattle.velo_certify.proofs.OnLists.{here, about-named, named-about}
 use Rattle.velo_certify.proofs.OnVisits.{Grows-reached}
 use Rattle.velo_certify.proofs.OnReached.{cases_zero, Grows-same, Grows-twice, LeadsNewTo-same, LeadsNewTo-twice}
 use Rattle.velo_certify.proofs.OnThreads.{one-thread, own-thread, Follows, Follows-next}
-
--- ---- before anything is visited
-
-IsVisited-start : (trace : List Event) (named : Event → Option ℕ) (distance fronts following : List ℕ) → IsListed trace named 0 fronts following → IsVisited trace named distance fronts following
-IsVisited-start trace named distance fronts following w = record {
-  next = w.next;
-  own = λ x l. (w.first x l).own;
-  visited = λ x i l upto h. absurd ((w.first x l).none i (omega arith) upto h);
-}
-
-pub AreVisited-start : (trace : List Event) (lists : Lists) (reached : Reached) → AreListed trace 0 lists → AllHavePlaces (list_sizes lists) trace (length trace) → length reached.distance.items ≡ length trace → AreVisited trace lists reached
-AreVisited-start trace lists reached w names count = record {
-  threads = IsVisited-start trace thread_in reached.distance.items lists.threads.items lists.following.items w.threads;
-  handles = IsVisited-start trace forked_or_joined_in reached.distance.items lists.handles.items lists.next_same.items w.handles;
-  writes = IsVisited-start trace written_in reached.distance.items lists.writes.items lists.next_same.items w.writes;
-  reads = IsVisited-start trace read_in reached.distance.items lists.reads.items lists.next_same.items w.reads;
-  following = w.following;
-  next_same = w.next_same;
-  names = names;
-  count = count;
-}
 
 -- ---- one transaction
 
@@ -150,24 +128,6 @@ module _ (trace : List Event) (b n : ℕ) (old now : Reached) (positive : 0 < sl
     }
 
 -- ---- all transactions
-
-pub IsSearched-start : (trace : List Event) (target : ℕ) (reached : Reached) → IsStart (length trace) target reached → IsSearched trace target 0 reached
-IsSearched-start trace target reached w = record {
-  count = w.long;
-  begins = w.begins;
-  alone = λ a is. w.alone a (omega (arith, is));
-  towards = record {
-    edges = λ a has other. absurd (other (w.alone a has));
-    nearer = record { each = λ a has other. absurd (other (w.alone a has)) };
-  };
-  queued = λ a has. subst (IsQueued reached) (sym (w.alone a has)) w.queued;
-  sorted = λ i j l h. let x = one i (omega (arith, l, h)) in let y = one j h in omega (arith, x, y);
-  close = λ i l h. let x = one i l in let y = one 0 h in omega (arith, x, y);
-  least = λ i a l. absurd (omega (arith, l));
-}
-  where
-    one : (i : ℕ) → i < length reached.found.items → slice_index reached.distance.items (slice_index reached.found.items i) ≡ 1
-    one i l = ap (slice_index reached.distance.items) (w.alone (slice_index reached.found.items i) (reached.queue.each i l)) ∙ w.begins
 
 module _ (trace : List Event) (target k : ℕ) (old new : Reached) (w : IsSearched trace target k old) (inside : k < length old.found.items) (x : Expands trace (slice_index old.found.items k) old new) where
   abbrev b : ℕ
@@ -317,16 +277,6 @@ IsSearched-sorted trace target from old new inside s level w = record {
 
     late_one : (i : ℕ) → from ≤ i → i < length old.found.items → slice_index new.distance.items (slice_index new.found.items i) ≡ slice_index old.distance.items (slice_index old.found.items from)
     late_one i g l = let (j, h, m, is) = s.found.has i g l in same (slice_index new.found.items i) ∙ (ap (slice_index old.distance.items) is ∙ level.each j h m)
-
--- only the target is on the first level
-pub AreOnLevel-start : (count target : ℕ) (reached : Reached) → IsStart count target reached → AreOnLevel reached 0
-AreOnLevel-start count target reached w = record {
-  each = λ i g l. ap (slice_index reached.distance.items) (w.alone (slice_index reached.found.items i) (reached.queue.each i l) ∙ sym (w.alone (slice_index reached.found.items 0) (reached.queue.each 0 (omega (arith, l)))));
-}
-
--- what the transactions of one level reach is on the next one
-pub AreOnLevel-end : (level : ℕ) (old new : Reached) → Grows level old new → AreOnLevel new (length old.found.items)
-AreOnLevel-end level old new w = record { each = λ i g l. w.behind i g l ∙ sym (w.behind (length old.found.items) (omega arith) (omega (arith, g, l))) }
 
 -- one transaction of the level more
 module _ (trace : List Event) (begin k : ℕ) (old now new : Reached) (level : AreOnLevel old begin) (from : begin ≤ k) (inside : k < length old.found.items) (grown : Grows (slice_index old.distance.items (slice_index old.found.items begin)) old now) (x : Expands trace (slice_index now.found.items k) now new) where

@@ -1,10 +1,7 @@
 -- Lists in which nothing is known.
-use Rattle.std.proofs.Common.{◌≡◌, ℕ, zero, suc, List, [], ◌∷◌, length, get_or, refl, arith}
-use Rattle.std.proofs.lemmas.List.{get_or_past, length-replicate}
+use Rattle.std.proofs.Common.{◌≡◌, ℕ, zero, suc, List, [], ◌∷◌, get_or, refl, arith}
+use Rattle.std.proofs.lemmas.List.{get_or_past}
 use Rattle.velo_clocks.specs.Noted.{nothing_in}
-
-pub length-nothing : (xs : List ℕ) → length (nothing_in xs) ≡ length xs
-length-nothing xs = length-replicate (length xs) 0
 
 pub get_or-nothing : (xs : List ℕ) (u : ℕ) → get_or (nothing_in xs) u 0 ≡ 0
 get_or-nothing [] u = get_or_past [] u 0 (omega arith)

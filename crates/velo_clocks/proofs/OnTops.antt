@@ -1,25 +1,16 @@
 -- A clock that knows the events of a place that no other there knows.
-use Rattle.std.proofs.Common.{◌≡◌, ℕ, ◌<◌, ◌≤◌, List, length, get_or, refl, sym, ap, ◌∙◌, subst, arith, ⊎_elim}
+use Rattle.std.proofs.Common.{◌≡◌, ℕ, ◌<◌, ◌≤◌, List, length, get_or, refl, ap, ◌∙◌, arith, ⊎_elim}
 use Rattle.velo_events.specs.declared.event.Access.{Access}
 use Rattle.velo_events.specs.declared.event.Access.TheVariants.{Shared, Exclusive, Nothing}
-use Rattle.std.proofs.lemmas.Bool.{cases_eq, cases_lt}
-use Rattle.std.proofs.lemmas.List.{get_or-set_other}
+use Rattle.std.proofs.lemmas.Bool.{cases_lt}
 use Rattle.velo_clocks.specs.Clocks.{ClockState, ClockPlace, OfLast, OfWrite, OfReads, clock_at, known_at}
-use Rattle.velo_clocks.specs.Noted.{maxima, alone_at, clock_beside}
+use Rattle.velo_clocks.specs.Noted.{maxima, clock_beside}
 use Rattle.velo_clocks.specs.Order.{KnowsTops, KnowsBeside, TopsTell, IsClosed}
 use Rattle.velo_clocks.proofs.OnNoted.{IsSized}
 use Rattle.velo_clocks.proofs.OnRaised.{raised-same}
 use Rattle.velo_clocks.proofs.OnOrder.{IsGathered, follows-gathered}
 
 -- ---- one place
-
-pub tops-alone : (known clock : List ℕ) (by : ℕ) → get_or known by 0 ≤ get_or clock by 0 → KnowsTops (alone_at known by) clock
-tops-alone known clock by upto = record {
-  each = λ u top. ⊎_elim
-      (λ at. subst (λ k. get_or known k 0 ≤ get_or clock k 0) (sym at) upto)
-      (λ off. absurd (omega (arith, top, get_or-set_other known by u 0 0 off)))
-      (cases_eq u by);
-}
 
 pub tops-none : (known clock : List ℕ) → KnowsTops (record { known = known; by_others = known }) clock
 tops-none known clock = record { each = λ u top. absurd (omega (arith, top)) }

@@ -1,13 +1,10 @@
 -- The words of small deadlocks, computed.
-use Rattle.std.proofs.Common.{◌≡◌, List, [], ◌∷◌, refl}
+use Rattle.std.proofs.Common.{List, [], ◌∷◌}
 use Rattle.std.specs.Prelude.{codes}
 use Rattle.velo_events.specs.declared.event.Event.{Event}
 use Rattle.velo_events.specs.declared.event.Kind.TheVariants.{Acquire, Fork}
-use Rattle.velo_events.specs.Heap.{happened, latest, times}
 use Rattle.velo_workload.specs.declared.statement.Statement.TheVariants as s
 use Rattle.velo_workload.specs.Program.{Program}
-use Rattle.velo_worker.specs.Walk.{levels, repeated, walk_of}
-use Rattle.velo_deadlock.specs.Waits.{texts_below, waits_text}
 
 abbrev crossing : Program
 crossing = record {
@@ -26,7 +23,3 @@ log =
     record { thread = record { 0 = 0 }; kind = Fork (record { 0 = 1 }) }
     ∷ record { thread = record { 0 = 0 }; kind = Acquire (record { 0 = 0 }) }
     ∷ record { thread = record { 0 = 1 }; kind = Acquire (record { 0 = 1 }) } ∷ []
-
-pub crossing_words : waits_text crossing log ≡ codes "waiting: main for lock n, held by a\nwaiting: a for lock m, held by main\n"
-unfolding texts_below levels repeated happened latest times walk_of
-crossing_words = refl

@@ -1,5 +1,5 @@
 -- Bytes that are read piece by piece.
-use Rattle.std.proofs.Common.{◌≡◌, ◌∙◌, ◌+◌, ◌≤◌, ◌<◌, ◌++◌, ℕ, List, [], refl, sym, ap, arith, take, drop, length}
+use Rattle.std.proofs.Common.{◌≡◌, ◌∙◌, ◌+◌, ◌≤◌, ◌<◌, ◌++◌, ℕ, List, [], sym, ap, arith, take, drop, length}
 use Rattle.std.proofs.lemmas.List.{append_assoc, length-append, length-take, take-append-drop, take-append-le, take_all, take_at}
 use Rattle.std.proofs.Math.Seq.{take-append-add}
 use Rattle.std.specs.Prelude.{Option, Some, None}
@@ -36,10 +36,6 @@ kept old more done k is le =
     take_at (take k old) more done (ap length full ∙ sym is) ∙ full
 
 -- ---- what a source gave
-
-pub gave_nothing : (a : Option (List ℕ)) → Consumes a a []
-gave_nothing None = tt
-gave_nothing (Some xs) = refl
 
 pub gave_then : (a b c : Option (List ℕ)) (xs ys : List ℕ) → Consumes a b xs → Consumes b c ys → Consumes a c (xs ++ ys)
 gave_then None b c xs ys first next = tt

@@ -43,12 +43,6 @@ pub nothing_begins : HasNoBegin []
 unfolding passes_at
 nothing_begins i = refl
 
-pub prologue_more : (log : List Event) (e : Event) (n : ℕ) → BeginsWithPrologue log n → BeginsWithPrologue (log ++ e ∷ []) n
-prologue_more log e n h = record {
-  within = omega (arith, h.within, length-append log (e ∷ []));
-  no_begin = subst HasNoBegin (sym (take-append-le n log (e ∷ []) h.within)) h.no_begin;
-}
-
 pub prologue_alone : (log : List Event) → HasNoBegin log → BeginsWithPrologue log (length log)
 prologue_alone log none = record { within = omega arith; no_begin = subst HasNoBegin (sym (take_all (length log) log (omega arith))) none }
 

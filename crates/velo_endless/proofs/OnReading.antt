@@ -13,12 +13,12 @@ use Rattle.velo_logtext.specs.declared.fault.LogFault.{LogFault}
 use Rattle.velo_logtext.specs.declared.fault.LogFault.TheVariants.{BadHeader, BadLine, Truncated, TooLong, Read, Memory}
 use Rattle.velo_logtext.specs.Text.{Head, AreBounds, AreEventsIn, header_line, event_line, event_lines, text_in, Begins}
 use Rattle.velo_logtext.specs.Finding.{Stands, ReadsAs, IsFirstWrongLine, IsBadLine, IsCutLine, IsTooLong}
-use Rattle.velo_logtext.specs.Reader.{ReaderState, HasGiven, IsMetBehind, IsMetInHeader}
+use Rattle.velo_logtext.specs.Reader.{ReaderState, HasGiven, IsMetBehind}
 use Rattle.velo_logtext.specs.Reading.{header_at}
 use Rattle.velo_logtext.proofs.OnLines.{header_again, event_short}
 use Rattle.velo_logtext.proofs.OnStreams.{fit_more}
 use Rattle.velo_endless.specs.declared.reading.TheConstants.{MAX_WATCHED}
-use Rattle.velo_endless.specs.Reading.{HasRead, Gives, IsMetEndless, fault_after}
+use Rattle.velo_endless.specs.Reading.{HasRead, Gives, fault_after}
 
 -- ---- what the reader has still to give, behind a header
 
@@ -45,15 +45,6 @@ given_anew bytes events r remaining h = record {
 -- the header is given, and there is no event yet
 pub opened : (bytes : Option (List ℕ)) (r : ReaderState) (remaining : Option (List ℕ)) → HasGiven bytes [] r remaining → HasRead bytes [] (anew r) remaining
 opened bytes r remaining h = record { bounds_fit = h.bounds_fit; events_fit = tt; text = h.text; count = refl; few = omega arith; end = h.end }
-
-pub fault_of_header : (bytes : Option (List ℕ)) (fault : LogFault) → IsMetInHeader fault → IfSome bytes (λ all. ReadsAs MAX_EVENTS all (Err fault)) → IfSome bytes (λ all. ReadsAs MAX_WATCHED all (Err fault))
-fault_of_header None fault met h = tt
-fault_of_header (Some all) BadHeader met h = h
-fault_of_header (Some all) Read met h = h
-fault_of_header (Some all) Memory met h = h
-fault_of_header (Some all) (BadLine n) met h = absurd met
-fault_of_header (Some all) (Truncated n) met h = absurd met
-fault_of_header (Some all) TooLong met h = absurd met
 
 -- ---- one event
 
@@ -189,22 +180,6 @@ fault_read (Some all) events r (Some more) Read h few met found = tt
 fault_read (Some all) events r (Some more) TooLong h few met found = absurd (omega (arith, met))
 fault_read (Some all) events r (Some more) BadHeader h few met found = absurd met
 fault_read (Some all) events r (Some more) Memory h few met found = absurd met
-
-pub fault_met : (given : ℕ) (fault : LogFault) → IsMetBehind 0 fault → IsMetEndless given (fault_after given fault)
-fault_met given (BadLine n) met =
-    elim (cases_eq given MAX_WATCHED) [
-      | inl full ↦ subst (λ (b : Bool). IsMetEndless given (if b then TooLong else BadLine (given + 2))) (sym (eq-eqb given MAX_WATCHED full)) full
-      | inr other ↦ subst (λ (b : Bool). IsMetEndless given (if b then TooLong else BadLine (given + 2))) (sym (ne_eqb given MAX_WATCHED other)) refl
-    ]
-fault_met given (Truncated n) met =
-    elim (cases_eq given MAX_WATCHED) [
-      | inl full ↦ subst (λ (b : Bool). IsMetEndless given (if b then TooLong else Truncated (given + 2))) (sym (eq-eqb given MAX_WATCHED full)) full
-      | inr other ↦ subst (λ (b : Bool). IsMetEndless given (if b then TooLong else Truncated (given + 2))) (sym (ne_eqb given MAX_WATCHED other)) refl
-    ]
-fault_met given TooLong met = absurd (omega (arith, met))
-fault_met given Read met = tt
-fault_met given BadHeader met = absurd met
-fault_met given Memory met = absurd met
 
 -- an event where as many were given as there may be
 pub long_read : (bytes : Option (List ℕ)) (events : List Event) (r r' : ReaderState) (remaining remaining' : Option (List ℕ)) (e : Event) → HasRead bytes events r remaining → HasGiven (from_header r remaining) (e ∷ []) r' remaining' → r'.shares ≡ r.shares → r'.bounds ≡ r.bounds → r.given ≡ MAX_WATCHED

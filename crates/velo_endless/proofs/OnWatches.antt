@@ -1,6 +1,6 @@
 -- What a watch without end has told, event by event.
 use Rattle.std.proofs.Common.{◌≡◌, ℕ, ◌+◌, ◌<◌, ◌≤◌, Bool, true, false, List, [], ◌∷◌, ◌++◌, length, Option, Some, None, Result, Ok, Err, refl, sym, ap, ◌∙◌, subst, append_assoc, length-append, arith}
-use Rattle.std.specs.Prelude.{IsTrue, IsFalse, is_some, IfSome, IfErr, OnOk, OnErr}
+use Rattle.std.specs.Prelude.{IsTrue, IsFalse, is_some, IfErr, OnOk, OnErr}
 use Rattle.std.specs.Option.{option_copied}
 use Rattle.std.specs.Io.KnownBytes.{Appends}
 use Rattle.std.proofs.lemmas.Bool.{false≢true}
@@ -16,9 +16,8 @@ use Rattle.velo_traces.proofs.OnFlaws.{MayFollow-from_no_flaw}
 use Rattle.velo_heap.specs.Contents.{bounds_of}
 use Rattle.velo_logtext.specs.declared.fault.LogFault.{LogFault}
 use Rattle.velo_logtext.specs.declared.fault.LogFault.TheVariants.{BadHeader, BadLine, Truncated, TooLong, Read, Memory}
-use Rattle.velo_logtext.specs.Finding.{Stands}
 use Rattle.velo_logtext.specs.Reader.{ReaderState}
-use Rattle.velo_logtext.specs.Text.{IsLogText, text_in}
+use Rattle.velo_logtext.specs.Text.{text_in}
 use Rattle.velo_bytes.specs.Device.{AppendsBeginning}
 use Rattle.velo_bytes.proofs.OnDevices.{appends_then, appends_nothing, beginning_then}
 use Rattle.velo_report.specs.Alarm.{alarm_line}
@@ -73,10 +72,6 @@ front_read None events r remaining bounds same h = tt
 front_read (Some all) events r None bounds same h = absurd h.text
 front_read (Some all) events r (Some more) bounds same h = subst (λ (b : Bounds). IsFront (Some all) b events) (sym same)
     (r.shares, r.held ++ more, record { bounds_fit = h.bounds_fit; events_fit = h.events_fit; text = sym h.text ∙ append_assoc (text_in r.shares r.bounds events) r.held more })
-
-pub text_read : (read : Option (List ℕ)) (log : List Event) (bounds own : Bounds) → bounds ≡ own → IfSome read (λ all. Stands MAX_WATCHED all (Ok (own, log))) → IfSome read (λ all. IsLogText all bounds log)
-text_read None log bounds own same h = tt
-text_read (Some all) log bounds own same h = subst (λ (b : Bounds). IsLogText all b log) (sym same) h.0
 
 -- nothing was told before, and the alarm now
 pub told_first : (old between new : Option (List ℕ)) (was alarm : Option Alarm) → IsFalse (is_some was) → Appends old between (told_text was) → Appends between new (told_text alarm) → Appends old new (told_text alarm)

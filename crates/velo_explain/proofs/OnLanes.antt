@@ -1,17 +1,14 @@
 -- The lists and counts of a picture in lanes, one item more.
-use Rattle.std.proofs.Common.{◌≡◌, ℕ, zero, suc, ◌+◌, ◌-◌, ◌<◌, ◌≤◌, Bool, true, false, cond, ◌&&◌, if◌then◌else◌, List, [], ◌∷◌, ◌++◌, map, length, take, get_or, nat_eq, nat_le, count_by, refl, sym, ap, ap₂, ◌∙◌, subst, arith, ⊎_elim}
+use Rattle.std.proofs.Common.{◌≡◌, ℕ, zero, suc, ◌+◌, ◌-◌, ◌<◌, ◌≤◌, Bool, true, false, cond, ◌&&◌, if◌then◌else◌, List, [], ◌∷◌, ◌++◌, length, take, get_or, nat_eq, nat_le, count_by, refl, sym, ap, ap₂, ◌∙◌, subst, arith, ⊎_elim}
 use Rattle.std.specs.List.{list_any}
 use Rattle.std.proofs.lemmas.Bool.{cases_lt, ne_eqb, le-leb, lt-leb}
-use Rattle.std.proofs.lemmas.List.{map-append, get_or_append_left, get_or_push, length_push}
+use Rattle.std.proofs.lemmas.List.{get_or_append_left, get_or_push, length_push}
 use Rattle.std.proofs.lemmas.List.Sums.{sum_by-cons}
 use Rattle.velo_events.specs.declared.event.Event.{Event}
 use Rattle.velo_names.specs.Names.{NameLists}
 use Rattle.velo_explain.specs.Fitting.{begins_character, characters, first_characters}
 use Rattle.velo_explain.specs.declared.fitting.TheConstants.{SCREEN_LINES, SCREEN_LANES}
 use Rattle.velo_explain.specs.Lanes.{among_below, shown_of, lanes_of, rows_text, marked_text, fits, AreBelow}
-
-pub map-more : {X : Type 0} (f : X → ℕ) (xs : List X) (i : ℕ) (x : X) → take (i + 1) xs ≡ take i xs ++ x ∷ [] → map f (take i xs) ++ f x ∷ [] ≡ map f (take (i + 1) xs)
-map-more f xs i x is = sym (map-append f (take i xs) (x ∷ [])) ∙ ap (map f) (sym is)
 
 -- ---- the first characters of a text
 

@@ -1,26 +1,14 @@
 -- What is read by a format, from the bytes that were read.
 use Rattle.std.proofs.Common.{◌≡◌, ◌∙◌, inl, inr, sym, ◌≤◌, ◌++◌, ap, arith}
-use Rattle.std.specs.Prelude.{ℕ, List, Option, Some, None, Result, Ok, Err, IfOk, IfErr, OnOk, [], length}
+use Rattle.std.specs.Prelude.{ℕ, List, Option, Some, None, [], length}
 use Rattle.std.specs.Borrow.{Bor}
 use Rattle.velo_delivery.specs.Disk.{Disk}
-use Rattle.velo_delivery.specs.Reading.{IsReadOf, Reading}
+use Rattle.velo_delivery.specs.Reading.{IsReadOf}
 use Rattle.velo_fate.specs.declared.fate.Fate.{Fate}
 use Rattle.velo_fate.specs.declared.fate.Fate.TheVariants as fate
-use Rattle.velo_fate.specs.Failures.{FailuresAsTold, failures_told}
+use Rattle.velo_fate.specs.Failures.{failures_told}
 use Rattle.velo_fate.specs.Format.{Format, LacksAt, LacksGiven, Reads, SaysNone, bytes_up_to}
 use Rattle.std.proofs.lemmas.List.{append-nil, length-append}
-
--- ---- a file that is read whole
-
-pub file_read : (disk : Disk) (path : List ℕ) (most : ℕ) (read : Reading) → disk.gives path read → (result : Result (List ℕ) Fate) → IfOk result (IsReadOf most read.bytes)
-    → OnOk result (read.failures_after ≡ read.failures_before) → IfOk result (Reads (bytes_up_to most) disk path)
-file_read disk path most read given (Ok bytes) is kept = record { read = read; given = given; said = is; no_failure = kept }
-file_read disk path most read given (Err f) is kept = tt
-
-pub file_broken : {X : Type 0} (disk : Disk) (path : List ℕ) (most : ℕ) (read : Reading) → disk.gives path read → (result : Result X Fate) → IfErr result (SaysNone (bytes_up_to most) read.bytes)
-    → IfErr result (FailuresAsTold read) → IfErr result (LacksAt (bytes_up_to most) disk path)
-file_broken disk path most read given (Ok bytes) failed failures = tt
-file_broken disk path most read given (Err f) failed failures = inr (record { read = read; given = given; unsaid = failed; failures = failures })
 
 -- ---- what its bytes mean
 

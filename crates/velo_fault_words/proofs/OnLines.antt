@@ -1,13 +1,6 @@
 -- Lines by their numbers.
-use Rattle.std.proofs.Common.{◌≡◌, ◌<◌, ◌≤◌, ◌⊎◌, ◌-◌, ◌∙◌, ℕ, zero, suc, List, [], ◌∷◌, ap, arith, get_or, inl, inr, length, min, refl, sym, take, take_all}
+use Rattle.std.proofs.Common.{◌≡◌, ◌<◌, ◌≤◌, ◌⊎◌, ◌∙◌, ℕ, zero, suc, List, [], ap, arith, get_or, inl, inr, length, min, refl, sym, take, take_all}
 use Rattle.velo_names.specs.Line.{lines}
-
--- a line after the first one
-pub after_first : (text rest first : List ℕ) (n : ℕ) → 0 < n → lines text ≡ first ∷ lines rest → get_or (lines text) n [] ≡ get_or (lines rest) (n - 1) []
-after_first text rest first zero some is = absurd (omega (arith, some))
-after_first text rest first (suc n) some is =
-    let same : n ≡ suc n - 1 = omega arith in
-    ap (λ (ls : List (List ℕ)). get_or ls (suc n) []) is ∙ ap (λ k. get_or (lines rest) k []) same
 
 -- there is none in no text
 pub none_there : (n : ℕ) → get_or (lines []) n [] ≡ []

@@ -21,9 +21,6 @@ no_more [] [] same = refl
 no_more [] (y ∷ ys) same = absurd (omega (arith, same))
 no_more (x ∷ xs) ys same = no_more xs ys (omega (arith, same))
 
-pub some_more : (xs ys : List ℕ) → length (xs ++ ys) ≢ length xs → ys ≢ []
-some_more xs ys more none = more (ap (λ (zs : List ℕ). length (xs ++ zs)) none ∙ ap length (append-nil xs))
-
 -- ---- the words
 
 -- what the rest means, behind the ids so far

@@ -72,9 +72,6 @@ with_locks_below-none left = left_same left (with_locks_below left true 0) (λ l
 pub with_locks_below-more : (left : Omitted) (n : ℕ) → with_lock (with_locks_below left true n) n ≡ with_locks_below left true (n + 1)
 with_locks_below-more left n = left_same (with_lock (with_locks_below left true n) n) (with_locks_below left true (n + 1)) (λ l. refl) (λ m. one_below (left.locks m) m n) (λ x. refl)
 
-pub with_locks_below-no : (left : Omitted) (n : ℕ) → left ≡ with_locks_below left false n
-with_locks_below-no left n = left_same left (with_locks_below left false n) (λ l. refl) (λ m. or_false (left.locks m)) (λ x. refl)
-
 pub with_variables-nil : (left : Omitted) → left ≡ with_variables left []
 with_variables-nil left = left_same left (with_variables left []) (λ l. refl) (λ m. refl) (λ x. none_more (left.variables x) x)
 

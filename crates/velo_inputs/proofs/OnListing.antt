@@ -14,7 +14,7 @@ use Rattle.velo_fate.specs.Format.{LacksAt, Reads, SaysNone, bytes_up_to}
 use Rattle.velo_inputs.specs.Listing.{AreNoList, HaveFaultOfList, Known, MeansKnown, SayKnown, list_file}
 use Rattle.velo_fate.specs.Failures.{failures_told}
 use Rattle.velo_delivery.specs.Reading.{IsReadOf}
-use Rattle.velo_fate.proofs.OnFormats.{meant, unmeant, unread, longer, whole}
+use Rattle.velo_fate.proofs.OnFormats.{meant, unmeant, longer, whole}
 
 -- ---- from the bytes that were read to those of the file
 
@@ -36,9 +36,6 @@ fault_so scope (Some all) bytes list_fault.NotText is h = subst (λ (b : List �
 
 -- ---- the list at a path
 
-pub known_found : (scope : Scope) (names : NameLists) (disk : Disk) (path bytes : List ℕ) (known : Known) → Reads (bytes_up_to MAX_NAMES_BYTES) disk path bytes → MeansKnown scope names bytes known → Reads (list_file scope names) disk path known
-known_found scope names disk path bytes known read means = meant (list_file scope names) disk path MAX_NAMES_BYTES bytes known read (λ all whole. said_so scope names all bytes known whole means)
-
 by_fault : (scope : Scope) (names : NameLists) (read : Option (List ℕ)) (bytes : List ℕ) (f : Fate) → IsReadOf MAX_NAMES_BYTES read bytes → AreNoList scope bytes f → SaysNone (list_file scope names) read f
 by_fault scope names read bytes (fate.List fault) is h = fault_so scope read bytes fault is h
 by_fault scope names read bytes fate.Memory is h = h
@@ -56,6 +53,3 @@ none_lacking scope names disk path bytes lent (Ok x) read same h = tt
 none_lacking scope names disk path bytes lent (Err f) read same h =
     let none = subst (λ (b : List ℕ). AreNoList scope b f) same h in
     unmeant (list_file scope names) disk path MAX_NAMES_BYTES bytes f read (λ n. reads_same scope bytes f n none) (λ all whole. by_fault scope names all bytes f whole none)
-
-pub list_unread : (scope : Scope) (names : NameLists) (disk : Disk) (path : List ℕ) (f : Fate) → LacksAt (bytes_up_to MAX_NAMES_BYTES) disk path f → LacksAt (list_file scope names) disk path f
-list_unread scope names disk path f h = unread (list_file scope names) disk path MAX_NAMES_BYTES f h

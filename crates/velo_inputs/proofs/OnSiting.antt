@@ -60,10 +60,6 @@ pub without : (disk : Disk) (bytes : List ℕ) (plain : Option Table) → AreSou
 without disk bytes None = refl
 without disk bytes (Some plain) = refl
 
-pub of_none : (disk : Disk) (source : Option (Bor (List ℕ))) (bytes : List ℕ) (plain : Option Table) → is_some plain ≡ false → AreSourced disk source bytes plain plain
-of_none disk source bytes None none = refl
-of_none disk source bytes (Some plain) none = absurd (true≢false none)
-
 pub sourced : (disk : Disk) (folder : Bor (List ℕ)) (bytes text : List ℕ) (plain sites : Option Table) → is_some plain ≡ true → AreWithSources disk folder.now (lines bytes) text → AreOfText text plain sites
     → AreSourced disk (Some folder) bytes plain sites
 sourced disk folder bytes text None sites some are of = absurd (true≢false (sym some))

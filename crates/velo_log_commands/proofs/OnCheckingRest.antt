@@ -1,5 +1,5 @@
 -- What a check of what is left of a log comes to.
-use Rattle.std.proofs.Common.{◌≡◌, ◌∙◌, ◌≤◌, List, ap, arith, inl, inr, length, refl, subst, ⊎_elim}
+use Rattle.std.proofs.Common.{◌≡◌, ◌∙◌, ◌≤◌, List, ap, arith, inl, inr, length, refl, subst}
 use Rattle.std.specs.Prelude.{◌⊎◌, ℕ, None, Option, slice_index}
 use Rattle.velo_events.specs.declared.config.Bounds.{Bounds}
 use Rattle.velo_events.specs.declared.config.Config.{Config}
@@ -32,10 +32,6 @@ full_at limit nodes bounds rest p refusal formed short (inr (inl full)) = absurd
 full_at limit nodes bounds rest p refusal formed short (inr (inr full)) = full.1
 
 -- ---- what is said of it
-
--- what says one thing says another
-pub says_as : (says others : CommandAnswer → Type 0) (stdout : Writing) (f : Fate) → ((answer : CommandAnswer) → says answer → others answer) → Says says stdout f → Says others stdout f
-says_as says others stdout f so told = (told.0, ⊎_elim (λ is. inl (so told.0 is)) (λ lacks. inr lacks) told.1, told.2)
 
 -- what is said of these events and places is said of the rest of the log that they are
 pub of_rest : (names : Names) (config : Config) (bounds : Bounds) (nodes : ℕ) (omitted : Omitted) (read log events : List Event) (places : List ℕ) (stdout : Writing) (f : Fate)

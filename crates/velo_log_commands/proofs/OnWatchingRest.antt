@@ -1,5 +1,5 @@
 -- What a watch of what is left of a log came to.
-use Rattle.std.proofs.Common.{◌≡◌, ◌∙◌, ◌+◌, ◌-◌, ◌<◌, ◌≤◌, ℕ, Bool, true, false, List, [], ◌∷◌, ◌++◌, length, Option, None, Some, Result, Ok, Err, ap, arith, refl, subst, sym, ◌≢◌}
+use Rattle.std.proofs.Common.{◌≡◌, ◌∙◌, ◌+◌, ◌-◌, ◌<◌, ◌≤◌, ℕ, Bool, true, false, List, [], ◌∷◌, ◌++◌, length, Option, None, Some, Result, Ok, Err, ap, arith, refl, subst, sym}
 use Rattle.std.specs.Prelude.{IfOk, OnOk, if◌then◌else◌, option_map, slice_index}
 use Rattle.std.proofs.lemmas.Bool.{false≢true}
 use Rattle.velo_events.specs.declared.config.Bounds.{Bounds}
@@ -32,7 +32,7 @@ use Rattle.velo_fate.specs.declared.verdict.Verdict.{Verdict}
 use Rattle.velo_report.specs.declared.names.Names.{Names}
 use Rattle.velo_log_commands.specs.Steps.{ShowsText}
 use Rattle.velo_log_commands.specs.Watching.{HasCome, HasLimits, StepsOn, Terms}
-use Rattle.velo_log_commands.specs.WatchingRest.{CanWatchRest, FitRest, IsSitedReport, terms_of_rest}
+use Rattle.velo_log_commands.specs.WatchingRest.{CanWatchRest, IsSitedReport, terms_of_rest}
 
 -- where an alarm is there, a cycle is
 alarm_cycle : (rest : List Event) (place : ℕ → ℕ) (own : Option Alarm) (alarm : Alarm) → AlarmOf rest own → Some alarm ≡ option_map (alarm_as_read place) own → HasCycle rest
@@ -141,20 +141,6 @@ module _ (options : WatchOptions) (sites : Option Table) (omitted : Omitted) whe
           tt,
           tt,
         )
-
--- ---- the sites
-
--- with as many sites as events were read they fit
-pub fit_as_many : (stop : Bool) (sites : Table) (omitted : Omitted) (log : List Event) → length log ≡ length sites.events → FitRest stop (Some sites) omitted log
-fit_as_many stop sites omitted log same = (omega (arith, same), λ goes_on. sym same)
-
--- with another number they do not, unless the alarm ended the watch
-pub other_number : (stop : Bool) (sites : Table) (omitted : Omitted) (log : List Event) → (stop ≡ true → ¬ HasCycle (rest_of omitted log)) → length log ≢ length sites.events → ¬ FitRest stop (Some sites) omitted log
-other_number stop sites omitted log goes_on other fits = other (sym (fits.1 goes_on))
-
--- where the alarm ended it, no more events were read than there are sites
-pub fit_at_alarm : (stop : Bool) (sites : Table) (omitted : Omitted) (log : List Event) → stop ≡ true → HasCycle (rest_of omitted log) → length log ≤ length sites.events → FitRest stop (Some sites) omitted log
-fit_at_alarm stop sites omitted log on cycle room = (room, λ goes_on. absurd (goes_on on cycle))
 
 -- ---- the report
 

@@ -3,7 +3,7 @@ use Rattle.std.proofs.Common.{◌≡◌, ℕ, ◌<◌, ◌+◌, ◌-◌, List, [
 use Rattle.std.specs.Prelude.{All}
 use Rattle.std.specs.Borrow.{Bor}
 use Rattle.std.specs.List.{AllZip}
-use Rattle.std.proofs.lemmas.List.{append-nil, drop-take, take-append-drop, take-take, take_at, take_more, take_rest}
+use Rattle.std.proofs.lemmas.List.{drop-take, take-append-drop, take-take, take_at, take_more, take_rest}
 use Rattle.std.proofs.lemmas.List.Elements.{All-nil, All-cons}
 use Rattle.std.proofs.lemmas.Bool.Decides.{nat_tests}
 use Rattle.std.proofs.lemmas.Slice.Zip.{all_zipped_more}
@@ -44,9 +44,6 @@ pub written_back : {X : Type 0} (n : ℕ) (old new : List X) → n ≡ length ol
 written_back n old new is same = take_at new (drop (length new) old) n (same ∙ sym is)
 
 -- ---- what is told
-
-pub adds_none : (logs : List LogAudit) → AddsAudits [] logs logs
-adds_none logs = record { logs = []; grown = sym (append-nil logs); told = tt }
 
 pub adds_more : (slots : List LogSlot) (old mid new : List LogAudit) (slot : LogSlot) (log : LogAudit) → AddsAudits slots old mid → new ≡ mid ++ log ∷ [] → IsToldOf slot log → AddsAudits (slots ++ slot ∷ []) old new
 adds_more slots old mid new slot log added grown told = record {

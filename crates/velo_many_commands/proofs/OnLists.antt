@@ -7,12 +7,11 @@ use Rattle.velo_suppressions.specs.declared.line.Scope.{Scope}
 use Rattle.velo_suppressions.specs.Line.{Entry}
 use Rattle.velo_suppressions.specs.List.{HasFault, Stands}
 use Rattle.velo_names.specs.declared.limits.TheConstants.{MAX_NAMES_BYTES}
-use Rattle.velo_fate.specs.declared.fate.Fate.{Fate}
 use Rattle.velo_fate.specs.declared.fate.Fate.TheVariants as fate
 use Rattle.velo_delivery.specs.Disk.{Disk}
 use Rattle.velo_delivery.specs.Reading.{IsReadOf}
 use Rattle.velo_fate.specs.Format.{LacksAt, Reads, bytes_up_to}
-use Rattle.velo_fate.proofs.OnFormats.{meant, unmeant, unread, longer, whole}
+use Rattle.velo_fate.proofs.OnFormats.{meant, unmeant, longer, whole}
 use Rattle.velo_inputs.specs.Listing.{HaveFaultOfList}
 use Rattle.velo_many_commands.specs.Commands.{SayEntries, entries_file}
 
@@ -39,6 +38,3 @@ entries_found scope disk path bytes entries read says = meant (entries_file scop
 pub entries_lacking : (scope : Scope) (disk : Disk) (path bytes : List ℕ) (fault : ListFault) → Reads (bytes_up_to MAX_NAMES_BYTES) disk path bytes → HasFault scope bytes fault → LacksAt (entries_file scope) disk path (fate.List fault)
 entries_lacking scope disk path bytes fault read has =
     unmeant (entries_file scope) disk path MAX_NAMES_BYTES bytes (fate.List fault) read (λ n. refl) (λ all whole. fault_so scope all bytes fault whole has)
-
-pub list_unread : (scope : Scope) (disk : Disk) (path : List ℕ) (f : Fate) → LacksAt (bytes_up_to MAX_NAMES_BYTES) disk path f → LacksAt (entries_file scope) disk path f
-list_unread scope disk path f h = unread (entries_file scope) disk path MAX_NAMES_BYTES f h

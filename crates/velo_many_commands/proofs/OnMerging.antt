@@ -31,9 +31,6 @@ no_summary disk path bytes number read few never =
 
 -- ---- one after another
 
-pub merged_none : (disk : Disk) → AreMerged disk [] []
-merged_none disk = record { parts = []; are_parts = tt; joined = refl }
-
 -- the number counts for nothing in what a file says
 said : (disk : Disk) (path : List ℕ) (number : ℕ) (logs : List LogAudit) → Reads (summary_file number) disk path logs → Reads (summary_file 0) disk path logs
 said disk path number logs read = record { read = read.read; given = read.given; said = read.said; no_failure = read.no_failure }

@@ -31,9 +31,3 @@ read_back logs text w h few utf8 =
           ∙ ap (option_and_then (λ p. if_last p.0 p.1)) (value-json_tokens json max_depth [] (summary-deep logs w.listed)));
       has_logs = member-logs logs w.listed;
     }
-
--- and the logs that it gives are written as those are
-pub written_alike : (one other : List LogAudit) (text : List ℕ) → HasLogs text one → HasLogs text other → array_of log_json one ≡ array_of log_json other
-written_alike one other text w v =
-    let whole : w.whole ≡ v.whole = cc in
-    cc

@@ -57,14 +57,6 @@ pub first-none : (seen : Option (Goal × List ThreadId)) → IsFirst seen Never 
 first-none None first = tt
 first-none (Some s) first = absurd first
 
-pub first-kept : (seen other : Option (Goal × List ThreadId)) (witness : Witness) → IsFirst seen (Shown witness) → IsFirst (option_or seen other) (Shown witness)
-first-kept (Some s) other witness first = first
-first-kept None other witness first = absurd first
-
-pub first-open : (seen other : Option (Goal × List ThreadId)) → IsFirst seen Open → IsFirst (option_or seen other) Open
-first-open (Some s) other first = absurd first
-first-open None other first = absurd first
-
 capped : (n more total : ℕ) → n + more < 2 ^ 64 → total ≡ min (n + more) (2 ^ 64 - 1) → total ≡ n + more
 capped n more total small is = omega (arith, small, is)
 

@@ -10,14 +10,7 @@ use Rattle.velo_filter.specs.Left.{Omitted, is_left_out, rest_of}
 use Rattle.velo_world.specs.Faults.{IsFaultAtEvent}
 use Rattle.velo_world.specs.declared.log_replay.LogReplayFault.{LogReplayFault}
 use Rattle.velo_world.specs.declared.log_replay.LogReplayFault.TheVariants.{Memory, Refused, WrongValue}
-use Rattle.velo_rest_watch.specs.Faults.{IsFaultOfRest, IsFaultOfWhole, fault_at}
-
--- what keeps it from coming next in the whole log
-pub of_whole : (omitted : Omitted) (config : Config) (log : List Event) (e : Event) (fault : LogReplayFault) → IsFaultOfWhole config.events config.bounds log e fault → IsFaultOfRest omitted config log e fault
-of_whole omitted config log e (Refused p refusal) (at, inl flawed) = (at, inl flawed)
-of_whole omitted config log e (Refused p refusal) (at, inr (none, is, full)) = (at, inr (none, inl (is, full)))
-of_whole omitted config log e (WrongValue p) is = is
-of_whole omitted config log e Memory is = is
+use Rattle.velo_rest_watch.specs.Faults.{IsFaultOfRest, fault_at}
 
 -- what keeps one that has no flaw from coming next after what is left: no node is free
 module _ (omitted : Omitted) (config : Config) (log : List Event) (e : Event) (none : flaw_of config.bounds log e ≡ None) (short : length log < config.events)

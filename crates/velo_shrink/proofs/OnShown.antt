@@ -11,7 +11,6 @@ use Rattle.velo_events.specs.declared.config.Config.{Config}
 use Rattle.velo_events.specs.declared.event.ThreadId.{ThreadId}
 use Rattle.velo_events.specs.declared.event.Event.{Event}
 use Rattle.velo_events.specs.declared.limits.TheConstants.{MAX_THREADS}
-use Rattle.velo_events.specs.declared.refusal.Refusal.{Refusal}
 use Rattle.velo_events.specs.Graph.{HasCycle, IsClosing, Edge}
 use Rattle.velo_events.proofs.OnGraphs.{HasCycle-from_closing, HasCycle-from_take, IsCycle-none_by_rank}
 use Rattle.velo_workload.specs.Program.{Program}
@@ -78,17 +77,6 @@ pub soonest-none : (goal : Goal) (closed : WorldState) (alarm : Option (Bor Alar
 soonest-none goal closed (Some b) turns same is none n ending within = absurd (none-some b (sym is))
 soonest-none goal closed None turns same is none n ending within = absurd (none (HasCycle-from_take closed.log n (subst (λ g. ReachesWithin n g ending closed) same within)))
 
-pub soonest-stuck : (goal : Goal) (closed : WorldState) (turns : ℕ) → goal ≡ Stuck → turns ≤ length closed.log → (n : ℕ) (ending : Ending) → ReachesWithin n goal ending closed → turns ≤ n
-soonest-stuck goal closed turns same few n ending within =
-    let some = (subst (λ g. ReachesWithin n g ending closed) same within).1 in
-    omega (arith, few, some)
-
-pub soonest-refused : (goal : Goal) (t : ThreadId) (r : Refusal) (closed : WorldState) (turns : ℕ) → goal ≡ Refused t r → turns ≤ length closed.log + 1
-    → (n : ℕ) (ending : Ending) → ReachesWithin n goal ending closed → turns ≤ n
-soonest-refused goal t r closed turns same few n ending within =
-    let some = (subst (λ g. ReachesWithin n g ending closed) same within).1 in
-    omega (arith, few, some)
-
 -- a run that does not reach the goal, or later
 pub misses-none : (found : Bool) (n : ℕ) (goal : Goal) (ending : Ending) (closed : WorldState) → IsTrue found ↔ Reaches goal ending closed → IsFalse found → ¬ ReachesWithin n goal ending closed
 misses-none found n goal ending closed is none within = false≢true (sym none ∙ is.1 (within-reaches n goal ending closed within))
@@ -119,10 +107,6 @@ above-none n (Some t) is = absurd (none-some t (sym is))
 pub above-some : (n : ℕ) (found : Option (Vec ThreadId)) (turns : Vec ThreadId) → found ≡ Some turns → n < length turns.items → IsAbove n found
 above-some n (Some x) turns is more = subst (λ (v : Vec ThreadId). n < length v.items) (sym (same_Some x turns is)) more
 above-some n None turns is more = absurd (none-some turns is)
-
-pub at_is_some : {X P : Type 0} (found : Option X) → IsTrue (is_some found) → IfSome found (λ y. P) → P
-at_is_some (Some y) is given = given
-at_is_some None is given = absurd (false≢true is)
 
 pub at_is_none : {X P : Type 0} (found : Option X) → IsFalse (is_some found) → IfNone found P → P
 at_is_none None is given = given

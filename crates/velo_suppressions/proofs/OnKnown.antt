@@ -39,13 +39,6 @@ module _ {X : Type 0} (xs : List X) (i : ℕ) (d : X) (more : i < length xs) whe
       let on : suc i ≡ i + 1 = omega arith in
       drop-cons xs i d more ∙ ap (λ (n : ℕ). get_or xs i d ∷ drop n xs) on
 
--- what the rest leads to, the whole leads to
-pub number_added : (all : List ℕ) (i d : ℕ) → i < length all → (numbers new : List ℕ) (whole : List ℕ) → fold with_number numbers (drop i all) ≡ whole
-    → new ≡ with_number numbers (get_or all i d) → fold with_number new (drop (i + 1) all) ≡ whole
-number_added all i d more numbers new whole so is =
-    ap (λ (xs : List ℕ). fold with_number xs (drop (i + 1) all)) is
-    ∙ (sym (ap (fold with_number numbers) (next all i d more)) ∙ so)
-
 -- ---- entries one after another
 
 pub any_of_all : (found : List Found) → list_any (λ f. is_all_locks (entry f)) found ≡ has_all_locks (entries found)

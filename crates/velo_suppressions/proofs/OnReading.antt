@@ -1,16 +1,15 @@
 -- The steps of the reader.
-use Rattle.std.proofs.Common.{◌≡◌, ℕ, ◌+◌, Bool, true, false, cond, nat_lt, List, [], ◌∷◌, ◌++◌, Option, Some, None, Result, Ok, Err, refl, sym, ap, ◌∙◌}
+use Rattle.std.proofs.Common.{◌≡◌, ℕ, ◌+◌, Bool, false, cond, nat_lt, List, [], ◌∷◌, ◌++◌, Option, Some, Result, Ok, Err, refl, sym, ap, ◌∙◌}
 use Rattle.std.specs.Option.{option_map_or}
 use Rattle.std.proofs.lemmas.List.{map-append}
-use Rattle.velo_names.specs.Names.{IsText}
 use Rattle.velo_names.specs.declared.limits.TheConstants.{MAX_NAME_LINES}
 use Rattle.velo_suppressions.specs.declared.fault.ListFault.{ListFault}
-use Rattle.velo_suppressions.specs.declared.fault.ListFault.TheVariants.{BadLine, TooManyLines, TooManyBytes, NotText, Memory}
+use Rattle.velo_suppressions.specs.declared.fault.ListFault.TheVariants.{BadLine, TooManyLines}
 use Rattle.velo_suppressions.specs.declared.line.Entry.{Entry as Found}
 use Rattle.velo_suppressions.specs.declared.line.Scope.{Scope}
-use Rattle.velo_suppressions.specs.Answers.{AnswersAs, entries, entry}
+use Rattle.velo_suppressions.specs.Answers.{entries, entry}
 use Rattle.velo_suppressions.specs.Line.{Entry, entry_of}
-use Rattle.velo_suppressions.specs.List.{HasFault, and_then, entries_after, entries_from, entries_in_text}
+use Rattle.velo_suppressions.specs.List.{and_then, entries_after, entries_from}
 
 -- ---- one line
 
@@ -21,14 +20,8 @@ after_is : (scope : Scope) (so_far : List Entry) (n : ℕ) (line : List ℕ) →
 unfolding entries_after
 after_is scope so_far n line = refl
 
-pub one_too_many : (scope : Scope) (so_far : List Entry) (n : ℕ) (line : List ℕ) → nat_lt MAX_NAME_LINES n ≡ true → entries_after scope so_far n line ≡ Err TooManyLines
-one_too_many scope so_far n line e = after_is scope so_far n line ∙ ap (λ (v : Bool). by_tests v (entry_of scope line) so_far n) e
-
 few : (scope : Scope) (so_far : List Entry) (n : ℕ) (line : List ℕ) → nat_lt MAX_NAME_LINES n ≡ false → entries_after scope so_far n line ≡ by_tests false (entry_of scope line) so_far n
 few scope so_far n line e = after_is scope so_far n line ∙ ap (λ (v : Bool). by_tests v (entry_of scope line) so_far n) e
-
-pub no_entry : (scope : Scope) (so_far : List Entry) (n : ℕ) (line : List ℕ) → nat_lt MAX_NAME_LINES n ≡ false → entry_of scope line ≡ None → entries_after scope so_far n line ≡ Err (BadLine n)
-no_entry scope so_far n line e none = few scope so_far n line e ∙ ap (λ (o : Option Entry). by_tests false o so_far n) none
 
 pub one_entry : (scope : Scope) (so_far : List Entry) (n : ℕ) (line : List ℕ) (x : Entry) → nat_lt MAX_NAME_LINES n ≡ false → entry_of scope line ≡ Some x → entries_after scope so_far n line ≡ Ok (so_far ++ x ∷ [])
 one_entry scope so_far n line x e some = few scope so_far n line e ∙ ap (λ (o : Option Entry). by_tests false o so_far n) some
@@ -42,24 +35,8 @@ taken scope found more x n line e some is = one_entry scope (entries found) n li
 abbrev wrong : ListFault → Result (Unit {0}) ListFault
 wrong fault = Err fault
 
-pub fault_on : (meaning whole : Result (List Entry) ListFault) (a b : List Entry) (fault : ListFault) → ((f : ListFault) → meaning ≡ Err f → whole ≡ Err f) → AnswersAs meaning a (wrong fault) → AnswersAs whole b (wrong fault)
-fault_on meaning whole a b (BadLine n) h e = h (BadLine n) e
-fault_on meaning whole a b TooManyLines h e = h TooManyLines e
-fault_on meaning whole a b TooManyBytes h e = e
-fault_on meaning whole a b NotText h e = e
-fault_on meaning whole a b Memory h e = e
-
 pub line_wrong : (scope : Scope) (so_far : List Entry) (n : ℕ) (line : List ℕ) (others : List (List ℕ)) (f : ListFault) → entries_after scope so_far (n + 1) line ≡ Err f → entries_from scope so_far n (line ∷ others) ≡ Err f
 line_wrong scope so_far n line others f e = ap (λ (r : Result (List Entry) ListFault). and_then r (λ more. entries_from scope more (n + 1) others)) e
 
 pub line_right : (scope : Scope) (so_far more : List Entry) (n : ℕ) (line : List ℕ) (others : List (List ℕ)) → entries_after scope so_far (n + 1) line ≡ Ok more → entries_from scope so_far n (line ∷ others) ≡ entries_from scope more (n + 1) others
 line_right scope so_far more n line others e = ap (λ (r : Result (List Entry) ListFault). and_then r (λ more. entries_from scope more (n + 1) others)) e
-
--- ---- the whole
-
-pub fault_stands : (scope : Scope) (bytes : List ℕ) (a : List Entry) (fault : ListFault) → IsText bytes → AnswersAs (entries_in_text scope bytes) a (wrong fault) → HasFault scope bytes fault
-fault_stands scope bytes a (BadLine n) text e = (text, e)
-fault_stands scope bytes a TooManyLines text e = (text, e)
-fault_stands scope bytes a TooManyBytes text e = absurd e
-fault_stands scope bytes a NotText text e = absurd e
-fault_stands scope bytes a Memory text e = e

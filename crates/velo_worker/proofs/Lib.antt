@@ -8,6 +8,5 @@ pub mod OnTurns
 pub mod OnEndings
 pub mod OnCauses
 pub mod OnDone
-pub mod OnBodies
 pub mod OnListing
 pub mod OnLogs

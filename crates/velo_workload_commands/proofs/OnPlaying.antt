@@ -1,12 +1,12 @@
 -- What replaying or running a workload comes to.
-use Rattle.std.proofs.Common.{◌≡◌, ◌≤◌, refl, subst, inl, inr, arith}
-use Rattle.std.specs.Prelude.{ℕ, Bool, IsUtf8, List, length, Option, Some, None, Result, Ok, Err, IfErr, IfOk, OnOk}
+use Rattle.std.proofs.Common.{◌≡◌, refl, subst, inl, inr, arith}
+use Rattle.std.specs.Prelude.{ℕ, Bool, List, Option, Some, None, Result, Ok, Err, IfErr, IfOk, OnOk}
 use Rattle.std.specs.Borrow.{Bor}
 use Rattle.velo_worker.specs.declared.ending.Ending.{Ending}
 use Rattle.velo_workload.specs.declared.fault.WorkFault.{WorkFault}
 use Rattle.velo_workload.specs.declared.fault.WorkFault.TheVariants as work_fault
 use Rattle.velo_workload.specs.declared.limits.TheConstants.{MAX_WORKLOAD_BYTES}
-use Rattle.velo_workload.specs.Program.{Program, meaning_of}
+use Rattle.velo_workload.specs.Program.{Program}
 use Rattle.velo_world.specs.World.{WorldState}
 use Rattle.velo_fate.specs.declared.fate.Fate.{Fate}
 use Rattle.velo_fate.specs.declared.fate.Fate.TheVariants as fate
@@ -25,11 +25,6 @@ use Rattle.velo_fate.proofs.OnDelivery.{same_fate}
 use Rattle.velo_fate.proofs.OnFormats.{whole, longer}
 
 -- ---- from the bytes that were read to those of the file
-
-pub text_read : (read : Option (List ℕ)) (bytes : List ℕ) (program : Program) → IsReadOf MAX_WORKLOAD_BYTES read bytes → IsWorkload (Some bytes) program → IsWorkload read program
-text_read None bytes program is text = tt
-text_read (Some all) bytes program is text =
-    subst (λ (b : List ℕ). (length b ≤ MAX_WORKLOAD_BYTES) × IsUtf8 b × (meaning_of b ≡ Ok program)) (whole all bytes is.0 is.1 (is.2 text.0)) text
 
 fault_of_text : (all bytes : List ℕ) (fault : WorkFault) → IsReadOf MAX_WORKLOAD_BYTES (Some all) bytes → IsFaultOfText bytes fault → IsFaultOfText all fault
 fault_of_text all bytes fault is (inl many) = inl (let n = longer all bytes is.0 is.1 in let m = many.0 in omega (arith, n, m), many.1)

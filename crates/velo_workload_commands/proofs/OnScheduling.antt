@@ -13,7 +13,7 @@ use Rattle.velo_fate.specs.Format.{LacksAt, Reads, SaysNone, bytes_up_to}
 use Rattle.velo_fate.specs.Failures.{failures_told}
 use Rattle.velo_workload_commands.specs.Scheduling.{IsNoScheduleIn, SaySchedule, turns_file}
 use Rattle.velo_delivery.specs.Reading.{IsReadOf}
-use Rattle.velo_fate.proofs.OnFormats.{meant, unmeant, unread, longer, whole}
+use Rattle.velo_fate.proofs.OnFormats.{meant, unmeant, longer, whole}
 
 -- ---- from the bytes that were read to those of the file
 
@@ -47,6 +47,3 @@ reads_same bytes f n h = absurd h
 pub none_found : (disk : Disk) (path bytes : List ℕ) (f : Fate) → Reads (bytes_up_to MAX_SCHEDULE_BYTES) disk path bytes → IsNoScheduleIn bytes f → LacksAt turns_file disk path f
 none_found disk path bytes f read none =
     unmeant turns_file disk path MAX_SCHEDULE_BYTES bytes f read (λ n. reads_same bytes f n none) (λ all whole. unsaid_so all bytes f whole none)
-
-pub schedule_unread : (disk : Disk) (path : List ℕ) (f : Fate) → LacksAt (bytes_up_to MAX_SCHEDULE_BYTES) disk path f → LacksAt turns_file disk path f
-schedule_unread disk path f h = unread turns_file disk path MAX_SCHEDULE_BYTES f h

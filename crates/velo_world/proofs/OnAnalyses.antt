@@ -66,14 +66,6 @@ room-reserved old new trace e alarm nodes entries slot monitor clocks = record {
   clocks = λ _. clocks;
 }
 
--- after an alarm nothing needs room
-pub room-alarmed : (analysis : Analysis) (trace : List Event) (e : Event) → IsTrue (is_some analysis.alarm) → HasRoomForNext analysis trace e
-room-alarmed analysis trace e some = record {
-  monitor = λ none. absurd (alarm-not_none analysis.alarm some none);
-  slot = record { slot = λ none. absurd (alarm-not_none analysis.alarm some none) };
-  clocks = λ none. absurd (alarm-not_none analysis.alarm some none);
-}
-
 -- the clocks know the threads of the event that may come next
 pub threads-next : (analysis : Analysis) (trace : List Event) (e : Event) → IsAnalysisOf analysis trace → MayFollow (bounds_of analysis.heap) trace e → IsOfThreads analysis.clocks.bounds.threads e
 threads-next analysis trace e stands follows = subst (λ (b : Bounds). IsOfThreads b.threads e) (sym stands.watched.bounds_are) (IsOfThreads-follows (bounds_of analysis.heap) trace e follows)
