@@ -60,7 +60,7 @@ scripts() {
 }
 
 python() {
-    scripts check_links.py check_definitions.py "definitions.py --check" "crate_picture.py --check" \
+    scripts words.py check_links.py check_definitions.py "definitions.py --check" "crate_picture.py --check" \
         "compare_help.py $program" "shell_pages.py --check $program" "overwrites.py $program" \
         "colours.py $program" "watch.py $program" \
         "formats.py $program docs/data/leveldb.log crates/velodrome/data/lost.log" \
