@@ -4,8 +4,7 @@
 
 A word is what stands between blanks and has a letter or a digit, in prose, tables and blocks of code alike. Of each group it prints
 how many there are and how many there may be; with --pages of each page, too. All pages are counted but those of tests/, which are
-run and not read, and those that are made of the program's help (docs/man). The status is 1 where a group has too many, or a page
-is in no group.
+run and not read, and what evaluation/run.py writes. The status is 1 where a group has too many, or a page is in no group.
 """
 
 import argparse
@@ -18,13 +17,13 @@ from typing import Dict, List, Tuple
 ROOT = os.path.dirname(os.path.dirname(os.path.abspath(__file__)))
 WORD = re.compile(r"\S*\w\S*")
 USERS, MAINTAINERS = "for whoever has a bug", "for whoever carries it on"
-MOST = {USERS: 14_000, MAINTAINERS: 11_000}
+MOST = {USERS: 14_500, MAINTAINERS: 11_500}
 # the first pattern that fits a page decides
 GROUPS = (
-    (r"tests/", None),
+    (r"tests/|docs/EVALUATION\.md", None),
     (r"README\.md|recorder/|report/|bindings/\w+/", USERS),
     (r"docs/(QUICK_START|GUIDE|IN_CI|EMBEDDING|REFERENCE|FORMATS|GLOSSARY)\.md", USERS),
-    (r"docs/(EVALUATION|DECISIONS|DEFINITIONS)\.md|docs/internals/", MAINTAINERS),
+    (r"docs/(DECISIONS|DEFINITIONS)\.md|docs/internals/", MAINTAINERS),
     (r"CHANGELOG\.md|bindings/|evaluation/", MAINTAINERS),
 )
 
