@@ -81,6 +81,17 @@ quiet-no_access (Read y v) x h = absurd (false≢true h)
 quiet-no_access (Write y v) x h = absurd (false≢true h)
 quiet-no_access _ x h = refl
 
+-- ---- marks
+
+-- what is known may be said otherwise, and the lists may stand elsewhere
+pub judged-as : (old now new items : List Bool) (x : ℕ) (A B : Type 0) → now ≡ old → items ≡ new → (A → B) → (B → A) → IsJudged now new x A → IsJudged old items x B
+judged-as old now new items x A B was is to from judged = subst (λ xs. IsJudged xs items x B) was (subst (λ xs. IsJudged now xs x B) (sym is) (record {
+  count = judged.count;
+  others = judged.others;
+  marked_still = λ marks. let kept = judged.marked_still marks in (kept.0, to kept.1);
+  known_still = λ marks b. judged.known_still marks (from b);
+}))
+
 -- ---- before the first event
 
 pub swept-new : (log : List Event) (s : Sweep) → s.clocks.count ≡ s.bounds.threads → s.bounds.threads ≤ 64 → KnowsNothing s.clocks → s.count ≡ 0
