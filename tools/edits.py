@@ -18,7 +18,6 @@ MOST = {
     "velo_blame": 3,
     "velo_bytes": 1,
     "velo_certify": 3,
-    "velo_clocks": 1,
     "velo_collect": 1,
     "velo_conflicts": 1,
     "velo_events": 4,
@@ -30,7 +29,7 @@ MOST = {
     "velo_monitor": 5,
     "velo_rows": 2,
     "velo_runtime": 14,
-    "velo_tables": 4,
+    "velo_tables": 5,
     "velo_worker": 2,
     "velo_world": 9,
 }

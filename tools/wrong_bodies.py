@@ -205,7 +205,7 @@ BODIES = (
     Body("overwrites bits where it joins them", ("velo_rows/join_chunk-bits_overwritten",)),
     Body(
         "counts a thread's own reads as those of others",
-        ("velo_clocks/raise_but-own_reads_count_as_those_of_others",),
+        ("velo_tables/ClockTables.note-own_reads_count_as_those_of_others",),
     ),
 )
 

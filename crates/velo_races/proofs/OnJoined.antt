@@ -16,7 +16,7 @@ use Rattle.velo_events.proofs.OnHappening.{ConflictsInOrder-same_thread}
 use Rattle.velo_events.proofs.OnLast.{last_at-is}
 use Rattle.velo_events.proofs.OnLookUps.{are_same-from, fork_handles}
 use Rattle.velo_events.proofs.OnReorderings.{conflict_at-within}
-use Rattle.velo_clocks.specs.Clocks.{ClockState, OfLast, known_at, AreClocksOf}
+use Rattle.velo_tables.specs.Clocks.{ClockState, OfLast, known_at, AreClocksOf}
 use Rattle.velo_filter.specs.Left.{is_left_out, is_among}
 use Rattle.velo_filter.proofs.OnRanks.{rank-lt_back, rank-le_back}
 use Rattle.velo_laws.specs.Ordered.{only, IsInner, IsInnerStep}

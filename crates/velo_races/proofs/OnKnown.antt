@@ -17,7 +17,7 @@ use Rattle.velo_events.proofs.OnOwners.{passes_at-one_thread}
 use Rattle.velo_events.proofs.OnReorderings.{conflict_at-within}
 use Rattle.velo_events.proofs.OnScans.{passes_at-event, passes_at-is}
 use Rattle.velo_events.proofs.OnWellFormed.{IsWellFormed-take}
-use Rattle.velo_clocks.specs.Clocks.{ClockState, OfLast, known_at, AreClocksOf}
+use Rattle.velo_tables.specs.Clocks.{ClockState, OfLast, known_at, AreClocksOf}
 use Rattle.velo_filter.specs.Left.{is_left_out}
 use Rattle.velo_filter.proofs.OnRanks.{rank, rank-le, rank-lt}
 use Rattle.velo_laws.specs.Ordered.{only}

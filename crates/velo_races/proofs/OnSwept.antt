@@ -21,9 +21,8 @@ use Rattle.velo_events.proofs.OnLists.{get_or-set}
 use Rattle.velo_events.proofs.OnScans.{take-next, passes_at-is}
 use Rattle.velo_events.proofs.OnTraces.{slice_get-take}
 use Rattle.velo_events.proofs.OnWellFormed.{IsWellFormed-take}
-use Rattle.velo_clocks.specs.Clocks.{ClockState, KnowsNothing, AreClocksOf, IsNoted}
-use Rattle.velo_clocks.specs.Noted.{IsOfThreads, ForksOneOf}
-use Rattle.velo_clocks.proofs.OnClocks.{opens, reserves, notes}
+use Rattle.velo_tables.specs.Clocks.{ClockState, KnowsNothing, AreClocksOf, IsNoted, IsOfThreads, ForksOneOf}
+use Rattle.velo_tables.proofs.OnClocks.{opens, reserves, notes}
 use Rattle.velo_laws.specs.Ordered.{IsInner}
 use Rattle.velo_races.specs.declared.sweep.Sweep.{Sweep}
 use Rattle.velo_races.specs.declared.sweep.LastWrite as written
@@ -82,9 +81,20 @@ quiet-no_access (Read y v) x h = absurd (false≢true h)
 quiet-no_access (Write y v) x h = absurd (false≢true h)
 quiet-no_access _ x h = refl
 
+-- ---- marks
+
+-- what is known may be said otherwise, and the lists may stand elsewhere
+pub judged-as : (old now new items : List Bool) (x : ℕ) (A B : Type 0) → now ≡ old → items ≡ new → (A → B) → (B → A) → IsJudged now new x A → IsJudged old items x B
+judged-as old now new items x A B was is to from judged = subst (λ xs. IsJudged xs items x B) was (subst (λ xs. IsJudged now xs x B) (sym is) (record {
+  count = judged.count;
+  others = judged.others;
+  marked_still = λ marks. let kept = judged.marked_still marks in (kept.0, to kept.1);
+  known_still = λ marks b. judged.known_still marks (from b);
+}))
+
 -- ---- before the first event
 
-pub swept-new : (log : List Event) (s : Sweep) → length s.clocks.threads ≡ s.bounds.threads → s.bounds.threads ≤ 64 → KnowsNothing s.clocks → s.count ≡ 0
+pub swept-new : (log : List Event) (s : Sweep) → s.clocks.count ≡ s.bounds.threads → s.bounds.threads ≤ 64 → KnowsNothing s.clocks → s.count ≡ 0
     → s.writes.items ≡ replicate s.bounds.variables no_write → s.reads.items ≡ replicate (s.bounds.variables * 64) 0 → s.ordered.items ≡ replicate s.bounds.variables true → IsSwept log 0 s
 swept-new log s threads few nothing count writes reads ordered = record {
   threads = threads;
@@ -366,7 +376,7 @@ pub swept-read : (log : List Event) (n y v : ℕ) (th : ThreadId) → slice_get 
     → t.bounds ≡ s.bounds → t.clocks ≡ s.clocks → t.count ≡ s.count → t.writes.items ≡ s.writes.items → t.reads.items ≡ slice_set s.reads.items (y * 64 + th.0) (s.count + 1)
     → IsJudged s.ordered.items t.ordered.items y (KnowsWrite s th.0 y) → IsSwept log (n + 1) t
 swept-read log n y v th here s t well old bounds clocks count writes reads ordered = record {
-  threads = ap (λ (c : ClockState). length c.threads) clocks ∙ (old.threads ∙ sym threads);
+  threads = ap (λ (c : ClockState). c.count) clocks ∙ (old.threads ∙ sym threads);
   few = omega (arith, old.few, threads);
   clocks = subst (AreClocksOf t.clocks) (sym same) (subst (λ c. AreClocksOf c (synchronizing (take n log))) (sym clocks) old.clocks);
   count = count ∙ (old.count ∙ ap length (sym same));
@@ -447,7 +457,7 @@ pub swept-write : (log : List Event) (n y v : ℕ) (th : ThreadId) → slice_get
     → t.bounds ≡ s.bounds → t.clocks ≡ s.clocks → t.count ≡ s.count → t.writes.items ≡ slice_set s.writes.items y (record { by = th; stamp = s.count + 1 }) → t.reads.items ≡ s.reads.items
     → IsJudged s.ordered.items t.ordered.items y (KnowsWrite s th.0 y × KnowsReads s th.0 y) → IsSwept log (n + 1) t
 swept-write log n y v th here s t well old bounds clocks count writes reads ordered = record {
-  threads = ap (λ (c : ClockState). length c.threads) clocks ∙ (old.threads ∙ sym threads);
+  threads = ap (λ (c : ClockState). c.count) clocks ∙ (old.threads ∙ sym threads);
   few = omega (arith, old.few, threads);
   clocks = subst (AreClocksOf t.clocks) (sym same) (subst (λ c. AreClocksOf c (synchronizing (take n log))) (sym clocks) old.clocks);
   count = count ∙ (old.count ∙ ap length (sym same));

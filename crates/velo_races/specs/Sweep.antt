@@ -5,7 +5,7 @@ use Rattle.velo_events.specs.Event.{is_by, is_writing}
 use Rattle.velo_events.specs.Block.{passes_at}
 use Rattle.velo_events.specs.Graph.{Leads}
 use Rattle.velo_events.specs.Place.{LastWrite, LastRead, last_at}
-use Rattle.velo_clocks.specs.Clocks.{ClockState, OfLast, known_at, AreClocksOf, IsNoted, KnowsTheSame}
+use Rattle.velo_tables.specs.Clocks.{ClockState, OfLast, known_at, AreClocksOf, IsNoted, KnowsTheSame}
 use Rattle.velo_laws.specs.Ordered.{only, IsInnerStep}
 use Rattle.velo_filter.specs.Left.{Omitted, with_variable}
 use Rattle.velo_filter.specs.Tables.{marked}
@@ -71,7 +71,7 @@ pub record IsLastWrite (log : List Event) (n x : ℕ) (last : written.LastWrite)
 
 -- this is kept of the events before position n
 pub record IsSwept (log : List Event) (n : ℕ) (s : Sweep) : Type 0 where
-  pub threads : length s.clocks.threads ≡ s.bounds.threads
+  pub threads : s.clocks.count ≡ s.bounds.threads
   pub few : s.bounds.threads ≤ 64
   pub clocks : AreClocksOf s.clocks (synchronizing (take n log))
   pub count : s.count ≡ length (synchronizing (take n log))
@@ -89,7 +89,7 @@ pub record IsNotedAfterRoom (old : ClockState) (position : ℕ) (e : Event) (new
   pub between : ClockState
   pub same : KnowsTheSame old between
   pub noted : IsNoted between position e new
-  pub threads : length new.threads ≡ length old.threads
+  pub threads : new.count ≡ old.count
 
 -- ---- what is left out
 

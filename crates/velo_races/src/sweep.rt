@@ -3,14 +3,13 @@ ghost use Rattle.std.specs.Prelude.{◌≡◌, ◌↔◌, List, ◌≤◌, ◌<�
 ghost use Rattle.velo_events.specs.declared.limits.TheConstants.{MAX_EVENTS};
 ghost use Rattle.velo_events.specs.declared.event.Event.{Event};
 ghost use Rattle.velo_events.specs.WellFormed.{IsWellFormed};
-ghost use Rattle.velo_clocks.specs.Clocks.{ClockState};
-ghost use Rattle.velo_clocks.specs.Noted.{IsOfThreads};
+ghost use Rattle.velo_tables.specs.Clocks.{ClockState, IsOfThreads};
 ghost use Rattle.velo_races.specs.Sweep.{is_known, KnowsWrite, KnowsReads, IsJudged, IsNotedAfterRoom, IsSwept};
 
 use std::alloc::Global;
-use velo_clocks::ClockTables;
 use velo_events::growth::filled;
 use velo_events::{Bounds, Config, Event, Kind, Memory, ThreadId};
+use velo_tables::ClockTables;
 
 /// The stamps of a variable's reads: one for each number that a thread can have.
 const WIDTH: usize = 64;
@@ -157,7 +156,7 @@ impl Sweep {
     /// `Memory` where a growth was refused.
     fn synchronize(&mut self, event: &Event) -> Result<(), Memory>
         requires count { self.old.count + 2 < 2 ^ 32 }
-        requires threads { IsOfThreads (length self.old.clocks.threads) event.now }
+        requires threads { IsOfThreads self.old.clocks.count event.now }
         ensures bounds { self.new.bounds ≡ self.old.bounds }
         ensures noted { OnOk result (IsNotedAfterRoom self.old.clocks self.old.count event.now self.new.clocks) }
         ensures count { OnOk result (self.new.count ≡ self.old.count + 1) }

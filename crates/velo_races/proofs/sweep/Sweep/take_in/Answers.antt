@@ -6,7 +6,7 @@ use Rattle.velo_events.specs.declared.event.Event.{Event}
 use Rattle.velo_events.specs.declared.event.Kind.{Kind}
 use Rattle.velo_events.specs.WellFormed.{NamesKnown, IsWellFormed}
 use Rattle.velo_traces.proofs.Past.{past}
-use Rattle.velo_clocks.specs.Noted.{IsOfThreads}
+use Rattle.velo_tables.specs.Clocks.{IsOfThreads}
 use Rattle.velo_races.specs.Sweep.{KnowsWrite, KnowsReads, IsJudged}
 use Rattle.velo_races.proofs.OnSwept.{swept-count, kinds_left, block_kinds, of_threads, swept-read, swept-write, swept-block, swept-synchronizing}
 use Rattle.velo_races.proofs.sweep.Sweep.take_in.Goals as goal
