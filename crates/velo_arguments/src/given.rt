@@ -1,17 +1,11 @@
 //! Which options the words give.
-ghost use Rattle.std.specs.Prelude.{◌≡◌, option_map};
-ghost use Rattle.clap.specs.Takes.{is_given};
-ghost use Rattle.clap.specs.Words.{found_of, rows_of, subcommand_rows_of};
-ghost use Rattle.velo_arguments.specs.Together.{given_by, given_in, has_file_of_one_log, has_option_of_logs, has_option_of_one_log, has_option_that_leaves_out, has_option_that_tells_places, is_file, is_neither_text_nor_json, is_other_form};
 
 use crate::requests::{form_named, is_auto, text_or_json_named};
 use clap::ArgMatches;
 use clap::parser::ValueSource;
 
 /// Whether the words give this option: a value by default does not count.
-pub fn is_given(found: &ArgMatches, option: &str) -> bool
-    ensures { result ≡ is_given option.now (rows_of (found_of found.now)) }
-{
+pub fn is_given(found: &ArgMatches, option: &str) -> bool {
     match found.value_source(option) {
         Some(ValueSource::CommandLine) => true,
         Some(ValueSource::DefaultValue) => false,
@@ -20,9 +14,7 @@ pub fn is_given(found: &ArgMatches, option: &str) -> bool
 }
 
 /// Whether an option is given that the audit of one log alone has.
-pub fn has_option_of_one_log(found: &ArgMatches) -> bool
-    ensures { result ≡ has_option_of_one_log (rows_of (found_of found.now)) }
-{
+pub fn has_option_of_one_log(found: &ArgMatches) -> bool {
     is_given(found, "source")
         || is_given(found, "no-witness")
         || is_given(found, "counts")
@@ -31,9 +23,7 @@ pub fn has_option_of_one_log(found: &ArgMatches) -> bool
 }
 
 /// Whether an option is given that leaves something out of a log.
-pub fn has_option_that_leaves_out(found: &ArgMatches) -> bool
-    ensures { result ≡ has_option_that_leaves_out (rows_of (found_of found.now)) }
-{
+pub fn has_option_that_leaves_out(found: &ArgMatches) -> bool {
     is_given(found, "not-atomic")
         || is_given(found, "ignore")
         || is_given(found, "ignore-label")
@@ -43,16 +33,12 @@ pub fn has_option_that_leaves_out(found: &ArgMatches) -> bool
 }
 
 /// Whether an option is given that tells places.
-fn has_option_that_tells_places(found: &ArgMatches) -> bool
-    ensures { result ≡ has_option_that_tells_places (rows_of (found_of found.now)) }
-{
+fn has_option_that_tells_places(found: &ArgMatches) -> bool {
     is_given(found, "sites") || is_given(found, "source")
 }
 
 /// Whether an option is given that an audit of logs has, and a merge of summaries has not.
-pub fn has_option_of_logs(found: &ArgMatches) -> bool
-    ensures { result ≡ has_option_of_logs (rows_of (found_of found.now)) }
-{
+pub fn has_option_of_logs(found: &ArgMatches) -> bool {
     is_given(found, "summary")
         || is_given(found, "names")
         || is_given(found, "sites")
@@ -92,9 +78,7 @@ pub struct Given {
 }
 
 /// Whether a word is given that names no form of an answer.
-fn is_other_form(word: Option<&str>) -> bool
-    ensures { result ≡ is_other_form (option_map (λ w. w.now) word.entry) }
-{
+fn is_other_form(word: Option<&str>) -> bool {
     match word {
         Some(word) => form_named(word).is_none(),
         None => false,
@@ -102,9 +86,7 @@ fn is_other_form(word: Option<&str>) -> bool
 }
 
 /// Whether a word is given that names neither of two forms.
-fn is_neither_text_nor_json(word: Option<&str>) -> bool
-    ensures { result ≡ is_neither_text_nor_json (option_map (λ w. w.now) word.entry) }
-{
+fn is_neither_text_nor_json(word: Option<&str>) -> bool {
     match word {
         Some(word) => text_or_json_named(word).is_none(),
         None => false,
@@ -112,23 +94,17 @@ fn is_neither_text_nor_json(word: Option<&str>) -> bool
 }
 
 /// Whether a word is given that names a file, and does not ask for those beside the logs.
-fn is_file(word: Option<&str>) -> bool
-    ensures { result ≡ is_file (option_map (λ w. w.now) word.entry) }
-{
+fn is_file(word: Option<&str>) -> bool {
     word.is_some() && !is_auto(word)
 }
 
 /// Whether the names or the sites of one log are given.
-fn has_file_of_one_log(found: &ArgMatches) -> bool
-    ensures { result ≡ has_file_of_one_log (rows_of (found_of found.now)) }
-{
+fn has_file_of_one_log(found: &ArgMatches) -> bool {
     is_file(found.get_str("names")) || is_file(found.get_str("sites"))
 }
 
 /// Which of the options a subcommand is given that a request does not show.
-fn given_in(found: &ArgMatches) -> Given
-    ensures { result ≡ given_in (rows_of (found_of found.now)) }
-{
+fn given_in(found: &ArgMatches) -> Given {
     Given {
         states: is_given(found, "states"),
         seed: is_given(found, "seed"),
@@ -146,9 +122,7 @@ fn given_in(found: &ArgMatches) -> Given
 }
 
 /// Which of the options the words give that a request does not show.
-pub fn given_by(matches: &ArgMatches) -> Given
-    ensures { result ≡ given_by (subcommand_rows_of matches.now) }
-{
+pub fn given_by(matches: &ArgMatches) -> Given {
     match matches.subcommand() {
         Some((_, found)) => given_in(found),
         None => Given {

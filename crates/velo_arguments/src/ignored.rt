@@ -1,15 +1,10 @@
 //! What the matches of a subcommand leave out of a log.
-ghost use Rattle.std.specs.Prelude.{◌≡◌};
-ghost use Rattle.clap.specs.Words.{found_of, rows_of};
-ghost use Rattle.velo_arguments.specs.Asked.{AreLeftOut, leaves_out};
 
 use clap::ArgMatches;
 use velo_request::Ignored;
 
 /// What is left out of a log.
-pub fn left_out<'a>(found: &'a ArgMatches) -> Ignored<'a>
-    ensures { AreLeftOut (rows_of (found_of found.now)) result }
-{
+pub fn left_out<'a>(found: &'a ArgMatches) -> Ignored<'a> {
     let wide = found.get_str("ignore");
     let labels = found.get_str("not-atomic");
     Ignored {
@@ -23,9 +18,7 @@ pub fn left_out<'a>(found: &'a ArgMatches) -> Ignored<'a>
 }
 
 /// Whether something is left out.
-pub fn leaves_out(ignored: &Ignored) -> bool
-    ensures { result ≡ leaves_out ignored.now }
-{
+pub fn leaves_out(ignored: &Ignored) -> bool {
     ignored.known.is_some()
         || !ignored.labels.is_empty()
         || !ignored.locks.is_empty()

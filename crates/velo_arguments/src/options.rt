@@ -1,6 +1,4 @@
 //! The arguments of the subcommands, each a constant.
-ghost use Rattle.velo_arguments.specs.CommandLine.{IsArgument, flag, numbered, valued, word, words};
-ghost use Rattle.velo_arguments.specs.Options.{rule_for};
 
 use clap::{Arg, ArgAction, value_parser};
 use std::alloc::Global;
@@ -352,9 +350,7 @@ pub const ALL_NODES: Argument<'static> = Argument {
 };
 
 /// A required operand.
-fn word<'a>(alloc: Global, name: &'a str, help: &'a str) -> Arg<'a>
-    ensures { IsArgument (word name.entry.now) result }
-{
+fn word<'a>(alloc: Global, name: &'a str, help: &'a str) -> Arg<'a> {
     Arg::new(alloc, name)
         .help(help)
         .required(true)
@@ -362,9 +358,7 @@ fn word<'a>(alloc: Global, name: &'a str, help: &'a str) -> Arg<'a>
 }
 
 /// One or more operands.
-fn words<'a>(alloc: Global, name: &'a str, help: &'a str) -> Arg<'a>
-    ensures { IsArgument (words name.entry.now) result }
-{
+fn words<'a>(alloc: Global, name: &'a str, help: &'a str) -> Arg<'a> {
     Arg::new(alloc, name)
         .help(help)
         .required(true)
@@ -372,9 +366,7 @@ fn words<'a>(alloc: Global, name: &'a str, help: &'a str) -> Arg<'a>
 }
 
 /// An option with a value, under its name.
-fn valued<'a>(alloc: Global, name: &'a str, value: &'a str, help: &'a str) -> Arg<'a>
-    ensures { IsArgument (valued name.entry.now) result }
-{
+fn valued<'a>(alloc: Global, name: &'a str, value: &'a str, help: &'a str) -> Arg<'a> {
     Arg::new(alloc, name)
         .long(name)
         .value_name(value)
@@ -382,9 +374,7 @@ fn valued<'a>(alloc: Global, name: &'a str, value: &'a str, help: &'a str) -> Ar
 }
 
 /// An option without a value, under its name.
-fn flag<'a>(alloc: Global, name: &'a str, help: &'a str) -> Arg<'a>
-    ensures { IsArgument (flag name.entry.now) result }
-{
+fn flag<'a>(alloc: Global, name: &'a str, help: &'a str) -> Arg<'a> {
     Arg::new(alloc, name)
         .long(name)
         .help(help)
@@ -392,16 +382,12 @@ fn flag<'a>(alloc: Global, name: &'a str, help: &'a str) -> Arg<'a>
 }
 
 /// An option with a number from 1 to `most`, under its name.
-fn numbered<'a>(alloc: Global, name: &'a str, help: &'a str, most: u32) -> Arg<'a>
-    ensures { IsArgument (numbered name.entry.now most) result }
-{
+fn numbered<'a>(alloc: Global, name: &'a str, help: &'a str, most: u32) -> Arg<'a> {
     valued(alloc, name, "N", help).value_parser(value_parser!(u32).range(1..=i64::from(most)))
 }
 
 /// The argument, for `clap`.
-pub fn argument_of<'a>(alloc: Global, argument: &Argument<'a>) -> Arg<'a>
-    ensures { IsArgument (rule_for argument.now) result }
-{
+pub fn argument_of<'a>(alloc: Global, argument: &Argument<'a>) -> Arg<'a> {
     let (name, help) = (argument.name, argument.help);
     match argument.takes {
         Takes::Operand => word(alloc, name, help),

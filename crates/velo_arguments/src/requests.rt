@@ -1,22 +1,4 @@
 //! What the matches of the command line ask for.
-ghost use Rattle.std.specs.Prelude.{◌≡◌, ◌≤◌, ℕ, Option, Some, codes, option_map, IfNone, IfSome};
-ghost use Rattle.clap.specs.Words.{first_of, found_of, one_of, rows_of, subcommand_rows_of};
-ghost use Rattle.velo_request.specs.declared.request.Limits.{Limits};
-ghost use Rattle.velo_request.specs.declared.request.AuditOptions.{AuditOptions};
-ghost use Rattle.velo_request.specs.declared.request.CarryOptions.{CarryOptions};
-ghost use Rattle.velo_request.specs.declared.request.CheckOptions.{CheckOptions};
-ghost use Rattle.velo_request.specs.declared.request.ExplainOptions.{ExplainOptions};
-ghost use Rattle.velo_request.specs.declared.request.EndlessOptions.{EndlessOptions};
-ghost use Rattle.velo_request.specs.declared.request.ExploreOptions.{ExploreOptions};
-ghost use Rattle.velo_request.specs.declared.request.ManyOptions.{ManyOptions};
-ghost use Rattle.velo_request.specs.declared.request.PredictOptions.{PredictOptions};
-ghost use Rattle.velo_request.specs.declared.request.RandomRuns.{RandomRuns};
-ghost use Rattle.velo_request.specs.declared.request.ReplayOptions.{ReplayOptions};
-ghost use Rattle.velo_request.specs.declared.request.RunOptions.{RunOptions};
-ghost use Rattle.velo_request.specs.declared.request.ThinOptions.{ThinOptions};
-ghost use Rattle.velo_request.specs.declared.request.VerifyOptions.{VerifyOptions};
-ghost use Rattle.velo_request.specs.declared.request.WatchOptions.{WatchOptions};
-ghost use Rattle.velo_arguments.specs.Asked.{AreLimits, AreRandomRuns, AreSeconds, AreTurns, AreWords, AsksFor, AsksForNothing, AsksAudit, AsksAuditMany, AsksCarry, AsksCheck, AsksEndless, AsksExplain, AsksExplore, AsksMerge, AsksPredict, AsksReplay, AsksRun, IsScheduleSource, IsSeed, AsksThin, AsksVerify, AsksWatch, WritesNumber, form_named, form_of, has_summary, is_auto, text_or_json_named, text_or_json_of, asks_more};
 
 use crate::given::is_given;
 use crate::ignored::{leaves_out, left_out};
@@ -31,12 +13,7 @@ use velo_request::{
 };
 
 /// Reads a number from 1 to `most`; none where it is missing or out of this range.
-fn number_of(found: &ArgMatches, option: &str, most: u32) -> Option<u32>
-    ensures some { IfSome result (λ n. (1 ≤ n) × (n ≤ most)
-        × WritesNumber 32 (one_of option.now (rows_of (found_of found.now))) n) }
-    ensures none { IfNone result ((n : ℕ) → 1 ≤ n → n ≤ most
-        → ¬ WritesNumber 32 (one_of option.now (rows_of (found_of found.now))) n) }
-{
+fn number_of(found: &ArgMatches, option: &str, most: u32) -> Option<u32> {
     let number = found.get_one::<u32>(option)?;
     if number < 1 || number > most {
         return None;
@@ -45,11 +22,7 @@ fn number_of(found: &ArgMatches, option: &str, most: u32) -> Option<u32>
 }
 
 /// Reads the limits from the matches of a subcommand; none where one is out of its range.
-fn limits_of<'a>(found: &ArgMatches<'a>) -> Option<Limits>
-    ensures some { IfSome result (AreLimits (rows_of (found_of found.now))) }
-    ensures none { IfNone result ((limits : Limits)
-        → ¬ AreLimits (rows_of (found_of found.now)) limits) }
-{
+fn limits_of<'a>(found: &ArgMatches<'a>) -> Option<Limits> {
     let events = number_of(found, "events", MAX_EVENTS)?;
     let nodes = found.get_one::<u16>("nodes")?;
     if nodes < 1 || nodes > MAX_NODES {
@@ -58,11 +31,7 @@ fn limits_of<'a>(found: &ArgMatches<'a>) -> Option<Limits>
     Some(Limits { events, nodes })
 }
 
-fn check_options<'a>(found: &ArgMatches<'a>) -> Option<CheckOptions<'a>>
-    ensures some { IfSome result (AsksCheck (rows_of (found_of found.now))) }
-    ensures none { IfNone result ((options : CheckOptions)
-        → ¬ AsksCheck (rows_of (found_of found.now)) options) }
-{
+fn check_options<'a>(found: &ArgMatches<'a>) -> Option<CheckOptions<'a>> {
     Some(CheckOptions {
         input: found.get_str("LOG")?,
         limits: limits_of(found)?,
@@ -74,19 +43,13 @@ fn check_options<'a>(found: &ArgMatches<'a>) -> Option<CheckOptions<'a>>
 
 /// Whether a watch is asked for more than the report of the whole log: something is left out, or places are
 /// told.
-fn asks_more(options: &WatchRestOptions) -> bool
-    ensures { result ≡ asks_more options.now }
-{
+fn asks_more(options: &WatchRestOptions) -> bool {
     leaves_out(&options.ignored) || options.sites.is_some() || options.source.is_some()
 }
 
 /// What a check is asked for, of the whole log or of what is left of it; none where its word is
 /// missing or a limit is out of its range.
-fn check_request<'a>(found: &'a ArgMatches) -> Option<Request<'a>>
-    ensures some { IfSome result (AsksFor (Some (codes "check", rows_of (found_of found.now)))) }
-    ensures none { IfNone result ((options : CheckOptions)
-        → ¬ AsksCheck (rows_of (found_of found.now)) options) }
-{
+fn check_request<'a>(found: &'a ArgMatches) -> Option<Request<'a>> {
     let check = check_options(found)?;
     let ignored = left_out(found);
     if leaves_out(&ignored) {
@@ -96,9 +59,7 @@ fn check_request<'a>(found: &'a ArgMatches) -> Option<Request<'a>>
 }
 
 /// Where the turns of this word are: what follows an `@` is a path.
-fn turns_source<'a>(word: &'a str) -> ScheduleSource<'a>
-    ensures { AreTurns word.entry.now result }
-{
+fn turns_source<'a>(word: &'a str) -> ScheduleSource<'a> {
     match word.strip_prefix('@') {
         Some(path) => ScheduleSource::File(path),
         None => ScheduleSource::Turns(word),
@@ -106,32 +67,21 @@ fn turns_source<'a>(word: &'a str) -> ScheduleSource<'a>
 }
 
 /// Where the schedule is: the turns that are given, or else the text.
-fn schedule_source<'a>(found: &ArgMatches<'a>) -> ScheduleSource<'a>
-    ensures { IsScheduleSource (first_of (codes "turns") (rows_of (found_of found.now)))
-        (first_of (codes "schedule") (rows_of (found_of found.now))) result }
-{
+fn schedule_source<'a>(found: &ArgMatches<'a>) -> ScheduleSource<'a> {
     match found.get_str("turns") {
         Some(turns) => turns_source(turns),
         None => ScheduleSource::Text(found.get_str("schedule").unwrap_or("")),
     }
 }
 
-fn replay_options<'a>(found: &ArgMatches<'a>) -> Option<ReplayOptions<'a>>
-    ensures some { IfSome result (AsksReplay (rows_of (found_of found.now))) }
-    ensures none { IfNone result ((options : ReplayOptions)
-        → ¬ AsksReplay (rows_of (found_of found.now)) options) }
-{
+fn replay_options<'a>(found: &ArgMatches<'a>) -> Option<ReplayOptions<'a>> {
     Some(ReplayOptions {
         schedule: schedule_source(found),
         run: run_options(found)?,
     })
 }
 
-fn run_options<'a>(found: &ArgMatches<'a>) -> Option<RunOptions<'a>>
-    ensures some { IfSome result (AsksRun (rows_of (found_of found.now))) }
-    ensures none { IfNone result ((options : RunOptions)
-        → ¬ AsksRun (rows_of (found_of found.now)) options) }
-{
+fn run_options<'a>(found: &ArgMatches<'a>) -> Option<RunOptions<'a>> {
     Some(RunOptions {
         input: found.get_str("FILE")?,
         stop: found.get_flag("stop"),
@@ -144,9 +94,7 @@ fn run_options<'a>(found: &ArgMatches<'a>) -> Option<RunOptions<'a>>
 }
 
 /// The one of the two forms that a word names, if it names one.
-pub fn text_or_json_named(word: &str) -> Option<TextOrJson>
-    ensures { result ≡ text_or_json_named word.now }
-{
+pub fn text_or_json_named(word: &str) -> Option<TextOrJson> {
     match word {
         "text" => Some(TextOrJson::Text),
         "json" => Some(TextOrJson::Json),
@@ -155,18 +103,12 @@ pub fn text_or_json_named(word: &str) -> Option<TextOrJson>
 }
 
 /// The one of the two that is asked for: text, where no other one is named.
-fn text_or_json_of(word: Option<&str>) -> TextOrJson
-    ensures { result ≡ text_or_json_of (option_map (λ w. w.now) word.entry) }
-{
+fn text_or_json_of(word: Option<&str>) -> TextOrJson {
     word.and_then(text_or_json_named)
         .unwrap_or(TextOrJson::Text)
 }
 
-fn explain_options<'a>(found: &'a ArgMatches) -> Option<ExplainOptions<'a>>
-    ensures some { IfSome result (AsksExplain (rows_of (found_of found.now))) }
-    ensures none { IfNone result ((options : ExplainOptions)
-        → ¬ AsksExplain (rows_of (found_of found.now)) options) }
-{
+fn explain_options<'a>(found: &'a ArgMatches) -> Option<ExplainOptions<'a>> {
     Some(ExplainOptions {
         input: found.get_str("LOG")?,
         target: found.get_str("dot"),
@@ -180,11 +122,7 @@ fn explain_options<'a>(found: &'a ArgMatches) -> Option<ExplainOptions<'a>>
     })
 }
 
-fn carry_options<'a>(found: &ArgMatches<'a>) -> Option<CarryOptions<'a>>
-    ensures some { IfSome result (AsksCarry (rows_of (found_of found.now))) }
-    ensures none { IfNone result ((options : CarryOptions)
-        → ¬ AsksCarry (rows_of (found_of found.now)) options) }
-{
+fn carry_options<'a>(found: &ArgMatches<'a>) -> Option<CarryOptions<'a>> {
     Some(CarryOptions {
         input: found.get_str("LOG")?,
         target: found.get_str("log")?,
@@ -192,10 +130,7 @@ fn carry_options<'a>(found: &ArgMatches<'a>) -> Option<CarryOptions<'a>>
 }
 
 /// Reads the seed; none where it is no number that 64 bits hold.
-fn seed_of(found: &ArgMatches) -> Option<u64>
-    ensures some { IfSome result (IsSeed (rows_of (found_of found.now))) }
-    ensures none { IfNone result ((seed : ℕ) → ¬ IsSeed (rows_of (found_of found.now)) seed) }
-{
+fn seed_of(found: &ArgMatches) -> Option<u64> {
     match found.get_str("seed") {
         Some(_) => found.get_one::<u64>("seed"),
         None => Some(DEFAULT_SEED),
@@ -203,12 +138,7 @@ fn seed_of(found: &ArgMatches) -> Option<u64>
 }
 
 /// Reads the random runs; none where one of their numbers is missing or out of its range.
-fn random_of(found: &ArgMatches) -> Option<RandomRuns>
-    ensures some { IfSome result (λ random.
-        AreRandomRuns (rows_of (found_of found.now)) (Some random)) }
-    ensures none { IfNone result ((random : RandomRuns)
-        → ¬ AreRandomRuns (rows_of (found_of found.now)) (Some random)) }
-{
+fn random_of(found: &ArgMatches) -> Option<RandomRuns> {
     Some(RandomRuns {
         runs: number_of(found, "random", MAX_RUNS)?,
         seed: seed_of(found)?,
@@ -217,11 +147,7 @@ fn random_of(found: &ArgMatches) -> Option<RandomRuns>
 
 /// Reads the random runs, if they are asked for; none where one of their numbers is out of its
 /// range.
-fn random_if(found: &ArgMatches) -> Option<Option<RandomRuns>>
-    ensures some { IfSome result (AreRandomRuns (rows_of (found_of found.now))) }
-    ensures none { IfNone result ((random : Option RandomRuns)
-        → ¬ AreRandomRuns (rows_of (found_of found.now)) random) }
-{
+fn random_if(found: &ArgMatches) -> Option<Option<RandomRuns>> {
     match found.get_str("random") {
         Some(_) => Some(Some(random_of(found)?)),
         None => Some(None),
@@ -229,22 +155,14 @@ fn random_if(found: &ArgMatches) -> Option<Option<RandomRuns>>
 }
 
 /// Reads the seconds of a search, if they are asked for; none where they are out of their range.
-fn seconds_if(found: &ArgMatches) -> Option<Option<u32>>
-    ensures some { IfSome result (AreSeconds (rows_of (found_of found.now))) }
-    ensures none { IfNone result ((seconds : Option ℕ)
-        → ¬ AreSeconds (rows_of (found_of found.now)) seconds) }
-{
+fn seconds_if(found: &ArgMatches) -> Option<Option<u32>> {
     match found.get_str("seconds") {
         Some(_) => Some(Some(number_of(found, "seconds", MAX_SECONDS)?)),
         None => Some(None),
     }
 }
 
-fn explore_options<'a>(found: &ArgMatches<'a>) -> Option<ExploreOptions<'a>>
-    ensures some { IfSome result (AsksExplore (rows_of (found_of found.now))) }
-    ensures none { IfNone result ((options : ExploreOptions)
-        → ¬ AsksExplore (rows_of (found_of found.now)) options) }
-{
+fn explore_options<'a>(found: &ArgMatches<'a>) -> Option<ExploreOptions<'a>> {
     Some(ExploreOptions {
         input: found.get_str("FILE")?,
         states: number_of(found, "states", MAX_STATES)?,
@@ -262,11 +180,7 @@ fn explore_options<'a>(found: &ArgMatches<'a>) -> Option<ExploreOptions<'a>>
 
 /// What an exploration is asked for, of whole logs or of what is left of them; none where its word is
 /// missing or a number is out of its range.
-fn explore_request<'a>(found: &'a ArgMatches) -> Option<Request<'a>>
-    ensures some { IfSome result (AsksFor (Some (codes "explore", rows_of (found_of found.now)))) }
-    ensures none { IfNone result
-        (AsksForNothing (Some (codes "explore", rows_of (found_of found.now)))) }
-{
+fn explore_request<'a>(found: &'a ArgMatches) -> Option<Request<'a>> {
     let explore = explore_options(found)?;
     let ignored = left_out(found);
     if leaves_out(&ignored) {
@@ -277,12 +191,7 @@ fn explore_request<'a>(found: &'a ArgMatches) -> Option<Request<'a>>
 
 /// What a watch is asked for, endless or not, of the whole log or of what is left of it, with sites or
 /// without; none where its word is missing or a limit is out of its range.
-fn watch_request<'a>(found: &'a ArgMatches) -> Option<Request<'a>>
-    ensures some { IfSome result (AsksFor (Some (codes "watch", rows_of (found_of found.now)))) }
-    ensures none { IfNone result
-        (((options : WatchOptions) → ¬ AsksWatch (rows_of (found_of found.now)) options)
-        × ((options : EndlessOptions) → ¬ AsksEndless (rows_of (found_of found.now)) options)) }
-{
+fn watch_request<'a>(found: &'a ArgMatches) -> Option<Request<'a>> {
     let input = found.get_str("LOG")?;
     let limits = limits_of(found)?;
     let stop = found.get_flag("stop");
@@ -315,9 +224,7 @@ fn watch_request<'a>(found: &'a ArgMatches) -> Option<Request<'a>>
 }
 
 /// The form of an answer that a word names, if it names one.
-pub fn form_named(word: &str) -> Option<OutputFormat>
-    ensures { result ≡ form_named word.now }
-{
+pub fn form_named(word: &str) -> Option<OutputFormat> {
     match word {
         "text" => Some(OutputFormat::Text),
         "json" => Some(OutputFormat::Json),
@@ -328,17 +235,11 @@ pub fn form_named(word: &str) -> Option<OutputFormat>
 }
 
 /// The form that is asked for: text, where no other one is named.
-fn form_of(word: Option<&str>) -> OutputFormat
-    ensures { result ≡ form_of (option_map (λ w. w.now) word.entry) }
-{
+fn form_of(word: Option<&str>) -> OutputFormat {
     word.and_then(form_named).unwrap_or(OutputFormat::Text)
 }
 
-fn audit_options<'a>(found: &'a ArgMatches) -> Option<AuditOptions<'a>>
-    ensures some { IfSome result (AsksAudit (rows_of (found_of found.now))) }
-    ensures none { IfNone result ((options : AuditOptions)
-        → ¬ AsksAudit (rows_of (found_of found.now)) options) }
-{
+fn audit_options<'a>(found: &'a ArgMatches) -> Option<AuditOptions<'a>> {
     Some(AuditOptions {
         input: found.get_str("LOG")?,
         names: found.get_str("names"),
@@ -355,31 +256,21 @@ fn audit_options<'a>(found: &'a ArgMatches) -> Option<AuditOptions<'a>>
 }
 
 /// The words of the operand of an audit, in the order in which they are given.
-fn operands<'a>(found: &'a ArgMatches) -> &'a [&'a str]
-    ensures { AreWords (codes "LOG") (rows_of (found_of found.now)) result.now }
-{
+fn operands<'a>(found: &'a ArgMatches) -> &'a [&'a str] {
     found.get_strs("LOG").unwrap_or(&[])
 }
 
 /// Whether the logs have one summary: there are several, or it is asked for.
-fn has_summary(found: &ArgMatches) -> bool
-    ensures { result ≡ has_summary (rows_of (found_of found.now)) }
-{
+fn has_summary(found: &ArgMatches) -> bool {
     is_given(found, "summary") || operands(found).len() > 1
 }
 
 /// Whether the word asks for the files beside the logs.
-pub fn is_auto(word: Option<&str>) -> bool
-    ensures { result ≡ is_auto (option_map (λ w. w.now) word.entry) }
-{
+pub fn is_auto(word: Option<&str>) -> bool {
     matches!(word, Some("auto"))
 }
 
-fn many_options<'a>(found: &'a ArgMatches) -> Option<ManyOptions<'a>>
-    ensures some { IfSome result (AsksAuditMany (rows_of (found_of found.now))) }
-    ensures none { IfNone result ((options : ManyOptions)
-        → ¬ AsksAuditMany (rows_of (found_of found.now)) options) }
-{
+fn many_options<'a>(found: &'a ArgMatches) -> Option<ManyOptions<'a>> {
     Some(ManyOptions {
         inputs: operands(found),
         names: is_auto(found.get_str("names")),
@@ -390,9 +281,7 @@ fn many_options<'a>(found: &'a ArgMatches) -> Option<ManyOptions<'a>>
     })
 }
 
-fn merge_options<'a>(found: &'a ArgMatches) -> MergeOptions<'a>
-    ensures { AsksMerge (rows_of (found_of found.now)) result }
-{
+fn merge_options<'a>(found: &'a ArgMatches) -> MergeOptions<'a> {
     MergeOptions {
         inputs: operands(found),
         format: text_or_json_of(found.get_str("format")),
@@ -401,11 +290,7 @@ fn merge_options<'a>(found: &'a ArgMatches) -> MergeOptions<'a>
 
 /// What an audit is asked for: of one log, of logs that have one summary, or of summaries; none where
 /// a word is missing or a limit is out of its range.
-fn audit_request<'a>(found: &'a ArgMatches) -> Option<Request<'a>>
-    ensures some { IfSome result (AsksFor (Some (codes "audit", rows_of (found_of found.now)))) }
-    ensures none { IfNone result
-        (AsksForNothing (Some (codes "audit", rows_of (found_of found.now)))) }
-{
+fn audit_request<'a>(found: &'a ArgMatches) -> Option<Request<'a>> {
     if is_given(found, "merge") {
         return Some(Request::MergeAudits(merge_options(found)));
     }
@@ -415,11 +300,7 @@ fn audit_request<'a>(found: &'a ArgMatches) -> Option<Request<'a>>
     Some(Request::Audit(audit_options(found)?))
 }
 
-fn thin_options<'a>(found: &'a ArgMatches) -> Option<ThinOptions<'a>>
-    ensures some { IfSome result (AsksThin (rows_of (found_of found.now))) }
-    ensures none { IfNone result ((options : ThinOptions)
-        → ¬ AsksThin (rows_of (found_of found.now)) options) }
-{
+fn thin_options<'a>(found: &'a ArgMatches) -> Option<ThinOptions<'a>> {
     let target = found.get_str("log")?;
     Some(ThinOptions {
         input: found.get_str("LOG")?,
@@ -430,22 +311,14 @@ fn thin_options<'a>(found: &'a ArgMatches) -> Option<ThinOptions<'a>>
     })
 }
 
-fn verify_options<'a>(found: &ArgMatches<'a>) -> Option<VerifyOptions<'a>>
-    ensures some { IfSome result (AsksVerify (rows_of (found_of found.now))) }
-    ensures none { IfNone result ((options : VerifyOptions)
-        → ¬ AsksVerify (rows_of (found_of found.now)) options) }
-{
+fn verify_options<'a>(found: &ArgMatches<'a>) -> Option<VerifyOptions<'a>> {
     Some(VerifyOptions {
         input: found.get_str("LOG")?,
         report: found.get_str("REPORT")?,
     })
 }
 
-fn predict_options<'a>(found: &'a ArgMatches) -> Option<PredictOptions<'a>>
-    ensures some { IfSome result (AsksPredict (rows_of (found_of found.now))) }
-    ensures none { IfNone result ((options : PredictOptions)
-        → ¬ AsksPredict (rows_of (found_of found.now)) options) }
-{
+fn predict_options<'a>(found: &'a ArgMatches) -> Option<PredictOptions<'a>> {
     Some(PredictOptions {
         input: found.get_str("LOG")?,
         names: found.get_str("names"),
@@ -463,10 +336,7 @@ fn predict_options<'a>(found: &'a ArgMatches) -> Option<PredictOptions<'a>>
 
 /// What the matches of the command ask for; none where a word is missing or a number is out of its
 /// range, which the command has refused already.
-pub fn request_of<'a>(matches: &'a ArgMatches) -> Option<Request<'a>>
-    ensures some { IfSome result (AsksFor (subcommand_rows_of matches.now)) }
-    ensures none { IfNone result (AsksForNothing (subcommand_rows_of matches.now)) }
-{
+pub fn request_of<'a>(matches: &'a ArgMatches) -> Option<Request<'a>> {
     let (name, found) = matches.subcommand()?;
     match name {
         "check" => check_request(found),

@@ -1,8 +1,4 @@
 //! Options of a request that do not go together.
-ghost use Rattle.std.specs.Prelude.{◌≡◌, ◌∷◌, IfErr, IfOk};
-ghost use Rattle.clap.specs.Words.{subcommand_rows_of};
-ghost use Rattle.velo_arguments.specs.Asked.{AsksForNothing};
-ghost use Rattle.velo_arguments.specs.Together.{IsApart, IsTogether, clash_of, clash_of_audit, clash_of_certificate, clash_of_chance, clash_of_check_rest, clash_of_endless, clash_of_explain, clash_of_explore, clash_of_explore_rest, clash_of_lists, clash_of_many, clash_of_merge, clash_of_predict, clash_of_replay, clash_of_schedule, clash_of_search, clash_of_source, clash_of_thin, clash_of_watch_rest};
 
 use crate::clash::Clash;
 use crate::given::{Given, given_by};
@@ -19,9 +15,7 @@ use velo_request::{
 };
 
 /// Why the options of the request do not go together, if they do not, where the words give these.
-fn clash_of(request: &Request, given: Given) -> Option<Clash>
-    ensures { result ≡ clash_of request.now given }
-{
+fn clash_of(request: &Request, given: Given) -> Option<Clash> {
     match request {
         Request::Check(options) => clash_of_inputs(options.input, options.names),
         Request::CheckRest(options) => clash_of_check_rest(options, given.not_atomic),
@@ -44,18 +38,14 @@ fn clash_of(request: &Request, given: Given) -> Option<Clash>
 }
 
 /// A replay has one schedule, and no clash of its paths.
-fn clash_of_replay(options: &ReplayOptions, has_text: bool) -> Option<Clash>
-    ensures { result ≡ clash_of_replay options.now has_text }
-{
+fn clash_of_replay(options: &ReplayOptions, has_text: bool) -> Option<Clash> {
     clash_of_schedule(options.schedule, has_text)
         .or(clash_of_inputs(options.run.input, path_of_schedule(options.schedule)))
         .or(clash_of_targets(options.run.target, options.run.names_target))
 }
 
 /// A schedule is given as text or as turns.
-fn clash_of_schedule(schedule: ScheduleSource, has_text: bool) -> Option<Clash>
-    ensures { result ≡ clash_of_schedule schedule.entry has_text }
-{
+fn clash_of_schedule(schedule: ScheduleSource, has_text: bool) -> Option<Clash> {
     match schedule {
         ScheduleSource::Turns(_) | ScheduleSource::File(_) if has_text => Some(Clash::TwoSchedules),
         _ => None,
@@ -63,9 +53,7 @@ fn clash_of_schedule(schedule: ScheduleSource, has_text: bool) -> Option<Clash>
 }
 
 /// An explanation has one of two forms, and no clash of its paths.
-fn clash_of_explain(options: &ExplainOptions, given: Given) -> Option<Clash>
-    ensures { result ≡ clash_of_explain options.now given }
-{
+fn clash_of_explain(options: &ExplainOptions, given: Given) -> Option<Clash> {
     if given.neither_text_nor_json {
         return Some(Clash::NeitherTextNorJson);
     }
@@ -80,9 +68,7 @@ fn clash_of_explain(options: &ExplainOptions, given: Given) -> Option<Clash>
 }
 
 /// An audit has a form that there is, and no clash of its paths.
-fn clash_of_audit(options: &AuditOptions, given: Given) -> Option<Clash>
-    ensures { result ≡ clash_of_audit options.now given }
-{
+fn clash_of_audit(options: &AuditOptions, given: Given) -> Option<Clash> {
     if given.other_form {
         return Some(Clash::NoSuchForm);
     }
@@ -97,9 +83,7 @@ fn clash_of_audit(options: &AuditOptions, given: Given) -> Option<Clash>
 }
 
 /// A summary has one of two forms, and neither options nor files of one log, and no clash of the paths.
-fn clash_of_many(options: &ManyOptions, given: Given) -> Option<Clash>
-    ensures { result ≡ clash_of_many options.now given }
-{
+fn clash_of_many(options: &ManyOptions, given: Given) -> Option<Clash> {
     if given.neither_text_nor_json {
         return Some(Clash::NeitherTextNorJson);
     }
@@ -117,9 +101,7 @@ fn clash_of_many(options: &ManyOptions, given: Given) -> Option<Clash>
 
 /// Summaries are merged in one of two forms, without an option of an audit, and without a clash of
 /// their paths.
-fn clash_of_merge(options: &MergeOptions, given: Given) -> Option<Clash>
-    ensures { result ≡ clash_of_merge options.now given }
-{
+fn clash_of_merge(options: &MergeOptions, given: Given) -> Option<Clash> {
     if given.neither_text_nor_json {
         return Some(Clash::NeitherTextNorJson);
     }
@@ -130,9 +112,7 @@ fn clash_of_merge(options: &MergeOptions, given: Given) -> Option<Clash>
 }
 
 /// Predictions have one of two forms, and no clash of their paths.
-fn clash_of_predict(options: &PredictOptions, given: Given) -> Option<Clash>
-    ensures { result ≡ clash_of_predict options.now given }
-{
+fn clash_of_predict(options: &PredictOptions, given: Given) -> Option<Clash> {
     if given.neither_text_nor_json {
         return Some(Clash::NeitherTextNorJson);
     }
@@ -147,9 +127,7 @@ fn clash_of_predict(options: &PredictOptions, given: Given) -> Option<Clash>
 }
 
 /// A log is thinned without a clash of its paths.
-fn clash_of_thin(options: &ThinOptions, has_known: bool) -> Option<Clash>
-    ensures { result ≡ clash_of_thin options.now has_known }
-{
+fn clash_of_thin(options: &ThinOptions, has_known: bool) -> Option<Clash> {
     clash_of_files(options.input, options.names, None, options.ignored.known).or(clash_of_lists(
         &options.ignored,
         has_known,
@@ -157,9 +135,7 @@ fn clash_of_thin(options: &ThinOptions, has_known: bool) -> Option<Clash>
 }
 
 /// What is left of a log is checked without a certificate, and without a clash of its paths.
-fn clash_of_check_rest(options: &CheckRestOptions, has_known: bool) -> Option<Clash>
-    ensures { result ≡ clash_of_check_rest options.now has_known }
-{
+fn clash_of_check_rest(options: &CheckRestOptions, has_known: bool) -> Option<Clash> {
     let (check, ignored) = (&options.check, &options.ignored);
     if check.certificate {
         return Some(Clash::RestCertificate);
@@ -171,9 +147,7 @@ fn clash_of_check_rest(options: &CheckRestOptions, has_known: bool) -> Option<Cl
 
 /// What is left of a log is watched without a certificate, and without a clash of its paths; and so is a
 /// log whose places are told.
-fn clash_of_watch_rest(options: &WatchRestOptions, has_known: bool) -> Option<Clash>
-    ensures { result ≡ clash_of_watch_rest options.now has_known }
-{
+fn clash_of_watch_rest(options: &WatchRestOptions, has_known: bool) -> Option<Clash> {
     let (watch, ignored) = (&options.watch, &options.ignored);
     if watch.certificate && leaves_out(ignored) {
         return Some(Clash::RestCertificate);
@@ -187,9 +161,7 @@ fn clash_of_watch_rest(options: &WatchRestOptions, has_known: bool) -> Option<Cl
 }
 
 /// Lines of source are printed at sites.
-fn clash_of_source(sites: Option<&str>, source: Option<&str>) -> Option<Clash>
-    ensures { result ≡ clash_of_source sites.entry source.entry }
-{
+fn clash_of_source(sites: Option<&str>, source: Option<&str>) -> Option<Clash> {
     match (sites, source) {
         (None, Some(_)) => Some(Clash::SourceWithoutSites),
         _ => None,
@@ -197,9 +169,7 @@ fn clash_of_source(sites: Option<&str>, source: Option<&str>) -> Option<Clash>
 }
 
 /// One list is read: a wide one, or that of `--not-atomic`.
-fn clash_of_lists(ignored: &Ignored, has_known: bool) -> Option<Clash>
-    ensures { result ≡ clash_of_lists ignored.now has_known }
-{
+fn clash_of_lists(ignored: &Ignored, has_known: bool) -> Option<Clash> {
     if ignored.is_wide && has_known {
         Some(Clash::TwoLists)
     } else {
@@ -208,9 +178,7 @@ fn clash_of_lists(ignored: &Ignored, has_known: bool) -> Option<Clash>
 }
 
 /// An endless watch has no certificate, leaves nothing out, tells no places, and has no clash of its paths.
-fn clash_of_endless(options: &EndlessOptions, given: Given) -> Option<Clash>
-    ensures { result ≡ clash_of_endless options.now given }
-{
+fn clash_of_endless(options: &EndlessOptions, given: Given) -> Option<Clash> {
     if given.certificate {
         return Some(Clash::EndlessCertificate);
     }
@@ -225,9 +193,7 @@ fn clash_of_endless(options: &EndlessOptions, given: Given) -> Option<Clash>
 
 /// An exploration has one of two forms, a certificate behind a text alone, and no clash of its search
 /// or its paths.
-fn clash_of_explore(options: &ExploreOptions, given: Given) -> Option<Clash>
-    ensures { result ≡ clash_of_explore options.now given }
-{
+fn clash_of_explore(options: &ExploreOptions, given: Given) -> Option<Clash> {
     if given.neither_text_nor_json {
         return Some(Clash::NeitherTextNorJson);
     }
@@ -238,9 +204,7 @@ fn clash_of_explore(options: &ExploreOptions, given: Given) -> Option<Clash>
 
 /// What is left of the logs of a search is judged without a certificate and without random runs, and
 /// with no clash of the search or its paths.
-fn clash_of_explore_rest(options: &ExploreRestOptions, given: Given) -> Option<Clash>
-    ensures { result ≡ clash_of_explore_rest options.now given }
-{
+fn clash_of_explore_rest(options: &ExploreRestOptions, given: Given) -> Option<Clash> {
     let (explore, ignored) = (&options.explore, &options.ignored);
     if explore.certificate {
         return Some(Clash::RestCertificate);
@@ -254,9 +218,7 @@ fn clash_of_explore_rest(options: &ExploreRestOptions, given: Given) -> Option<C
 }
 
 /// A certificate stands behind a report, which a JSON object does not have.
-fn clash_of_certificate(format: TextOrJson, certificate: bool) -> Option<Clash>
-    ensures { result ≡ clash_of_certificate format certificate }
-{
+fn clash_of_certificate(format: TextOrJson, certificate: bool) -> Option<Clash> {
     match format {
         TextOrJson::Json if certificate => Some(Clash::JsonCertificate),
         TextOrJson::Json | TextOrJson::Text => None,
@@ -264,17 +226,13 @@ fn clash_of_certificate(format: TextOrJson, certificate: bool) -> Option<Clash>
 }
 
 /// A search tries every schedule or random ones, and either has its own options.
-fn clash_of_search(options: &ExploreOptions, given: Given) -> Option<Clash>
-    ensures { result ≡ clash_of_search options.now given }
-{
+fn clash_of_search(options: &ExploreOptions, given: Given) -> Option<Clash> {
     let searches = given.states || options.first || options.progress || options.seconds.is_some();
     clash_of_chance(options.random, searches, given.seed)
 }
 
 /// Random runs have a seed, and nothing that a search alone has.
-fn clash_of_chance(random: Option<RandomRuns>, searches: bool, seeds: bool) -> Option<Clash>
-    ensures { result ≡ clash_of_chance random searches seeds }
-{
+fn clash_of_chance(random: Option<RandomRuns>, searches: bool, seeds: bool) -> Option<Clash> {
     match random {
         Some(_) if searches => Some(Clash::SearchByChance),
         None if seeds => Some(Clash::SeedAlone),
@@ -282,21 +240,16 @@ fn clash_of_chance(random: Option<RandomRuns>, searches: bool, seeds: bool) -> O
     }
 }
 
-/// What the matches ask for, if its options go together. If the words have no fault, they ask for
-/// something.
+/// What the matches ask for, if its options go together.
 ///
 /// # Errors
 /// Why its options do not go together.
-pub fn read_request<'a>(matches: &'a ArgMatches) -> Result<Request<'a>, Clash>
-    requires { ¬ AsksForNothing (subcommand_rows_of matches.now) }
-    ensures together { IfOk result (IsTogether (subcommand_rows_of matches.now)) }
-    ensures apart { IfErr result (IsApart (subcommand_rows_of matches.now)) }
-{
-    match request_of(matches) {
-        Some(request) => match clash_of(&request, given_by(matches)) {
-            Some(clash) => Err(clash),
-            None => Ok(request),
-        },
-        None => unreachable!(),
+pub fn read_request<'a>(matches: &'a ArgMatches) -> Result<Request<'a>, Clash> {
+    let Some(request) = request_of(matches) else {
+        return Err(Clash::NothingAsked);
+    };
+    match clash_of(&request, given_by(matches)) {
+        Some(clash) => Err(clash),
+        None => Ok(request),
     }
 }

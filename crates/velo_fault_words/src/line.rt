@@ -1,6 +1,4 @@
 //! What is wrong with the line of an event.
-ghost use Rattle.std.specs.Prelude.{◌≡◌, ◌≤◌, option_map};
-ghost use Rattle.velo_fault_words.specs.Line.{access_fault, block_fault, ends, event_fault, has_tab, is_badly_spaced, likely, line_fault_of, lock_fault, number_fault, operand_at, operation_fault, thread_operation_fault};
 
 use crate::header::begins;
 use crate::lines::ends_in_return;
@@ -68,16 +66,12 @@ pub enum LineFault {
 }
 
 /// Whether a line has a tab.
-fn has_tab(line: &[u8]) -> bool
-    ensures { result ≡ has_tab line.now }
-{
+fn has_tab(line: &[u8]) -> bool {
     line.contains(&b'\t')
 }
 
 /// Whether a line has a space at its front, at its end or after another one.
-fn is_badly_spaced(line: &[u8]) -> bool
-    ensures { result ≡ is_badly_spaced 32 line.now }
-{
+fn is_badly_spaced(line: &[u8]) -> bool {
     let mut before = b' ';
     for byte in line {
         if before == b' ' && *byte == b' ' {
@@ -89,10 +83,7 @@ fn is_badly_spaced(line: &[u8]) -> bool
 }
 
 /// The word of an event that is likely to be meant by a word at the front.
-#[tactic(auto, unfolding(crate::specs::Line::likely))]
-fn likely(bytes: &[u8]) -> Option<Word>
-    ensures { result ≡ likely bytes.now }
-{
+fn likely(bytes: &[u8]) -> Option<Word> {
     if begins(b"read", bytes) || begins(b"load", bytes) {
         return Some(Word::Read);
     }
@@ -121,9 +112,7 @@ fn likely(bytes: &[u8]) -> Option<Word>
 }
 
 /// What stands after the word at the front and its space; nothing where the word is alone.
-fn operand<'a>(bytes: &'a [u8], word: &[u8]) -> Option<&'a [u8]>
-    ensures { option_map (λ r. r.now) result ≡ operand_at word.now bytes.now }
-{
+fn operand<'a>(bytes: &'a [u8], word: &[u8]) -> Option<&'a [u8]> {
     let rest = after(bytes, word)?;
     if rest.is_empty() {
         return Some(rest);
@@ -132,9 +121,7 @@ fn operand<'a>(bytes: &'a [u8], word: &[u8]) -> Option<&'a [u8]>
 }
 
 /// The fault where the bytes end here.
-fn ends(bytes: &[u8], fault: LineFault) -> LineFault
-    ensures { result ≡ ends bytes.now fault }
-{
+fn ends(bytes: &[u8], fault: LineFault) -> LineFault {
     if bytes.is_empty() {
         fault
     } else {
@@ -143,10 +130,7 @@ fn ends(bytes: &[u8], fault: LineFault) -> LineFault
 }
 
 /// What is wrong with a number up to `most` that ends the line.
-fn number_fault(bytes: &[u8], most: u64, lacking: LineFault, otherwise: LineFault) -> LineFault
-    requires { 9 ≤ most }
-    ensures { result ≡ number_fault most lacking otherwise bytes.now }
-{
+fn number_fault(bytes: &[u8], most: u64, lacking: LineFault, otherwise: LineFault) -> LineFault {
     match number(bytes, most) {
         None => lacking,
         Some((_, rest)) => ends(rest, otherwise),
@@ -154,9 +138,7 @@ fn number_fault(bytes: &[u8], most: u64, lacking: LineFault, otherwise: LineFaul
 }
 
 /// What is wrong with a variable and a value.
-fn access_fault(bytes: &[u8]) -> LineFault
-    ensures { result ≡ access_fault bytes.now }
-{
+fn access_fault(bytes: &[u8]) -> LineFault {
     match number(bytes, u64::from(u16::MAX)) {
         None => LineFault::Variable,
         Some((_, rest)) => match after(rest, b" ") {
@@ -167,10 +149,7 @@ fn access_fault(bytes: &[u8]) -> LineFault
 }
 
 /// What is wrong with forks, joins and exits.
-#[tactic(auto, unfolding(crate::specs::Line::thread_operation_fault))]
-fn thread_operation_fault(words: &[u8]) -> LineFault
-    ensures { result ≡ thread_operation_fault words.now }
-{
+fn thread_operation_fault(words: &[u8]) -> LineFault {
     if let Some(rest) = operand(words, b"fork") {
         return number_fault(rest, u64::from(u8::MAX), LineFault::Other, LineFault::Sound);
     }
@@ -184,10 +163,7 @@ fn thread_operation_fault(words: &[u8]) -> LineFault
 }
 
 /// What is wrong with begins and ends, or the above.
-#[tactic(auto, unfolding(crate::specs::Line::block_fault))]
-fn block_fault(words: &[u8]) -> LineFault
-    ensures { result ≡ block_fault words.now }
-{
+fn block_fault(words: &[u8]) -> LineFault {
     if let Some(rest) = operand(words, b"begin") {
         return number_fault(
             rest,
@@ -203,10 +179,7 @@ fn block_fault(words: &[u8]) -> LineFault
 }
 
 /// What is wrong with operations on locks, or the above.
-#[tactic(auto, unfolding(crate::specs::Line::lock_fault))]
-fn lock_fault(words: &[u8]) -> LineFault
-    ensures { result ≡ lock_fault words.now }
-{
+fn lock_fault(words: &[u8]) -> LineFault {
     if let Some(rest) = operand(words, b"acq") {
         return number_fault(rest, u64::from(u16::MAX), LineFault::Lock, LineFault::Sound);
     }
@@ -223,10 +196,7 @@ fn lock_fault(words: &[u8]) -> LineFault
 }
 
 /// What is wrong with any operation.
-#[tactic(auto, unfolding(crate::specs::Line::operation_fault))]
-fn operation_fault(words: &[u8]) -> LineFault
-    ensures { result ≡ operation_fault words.now }
-{
+fn operation_fault(words: &[u8]) -> LineFault {
     if let Some(rest) = operand(words, b"rd") {
         return access_fault(rest);
     }
@@ -237,9 +207,7 @@ fn operation_fault(words: &[u8]) -> LineFault
 }
 
 /// What is wrong with the thread and the operation.
-fn event_fault(line: &[u8]) -> LineFault
-    ensures { result ≡ event_fault line.now }
-{
+fn event_fault(line: &[u8]) -> LineFault {
     match number(line, u64::from(u8::MAX)) {
         None => LineFault::Thread,
         Some((_, rest)) => match after(rest, b" ") {
@@ -250,10 +218,7 @@ fn event_fault(line: &[u8]) -> LineFault
 }
 
 /// What is wrong with a line, without its newline, that is no event's.
-#[tactic(auto, unfolding(crate::specs::Line::line_fault_of))]
-pub fn line_fault_of(line: &[u8]) -> LineFault
-    ensures { result ≡ line_fault_of line.now }
-{
+pub fn line_fault_of(line: &[u8]) -> LineFault {
     if line.is_empty() {
         return LineFault::Blank;
     }

@@ -1,6 +1,4 @@
 //! The lines of a text, and how one is shown.
-ghost use Rattle.std.specs.Prelude.{◌≡◌, ◌++◌, IfOk, OnOk};
-ghost use Rattle.velo_fault_words.specs.Lines.{ends_in_return, first_line, line_at, of_file, of_line, shown, shown_byte, shown_line};
 
 use std::alloc::Global;
 use velo_bytes::append;
@@ -13,9 +11,7 @@ use velo_names::split_line;
 const SHOWN: usize = 64;
 
 /// Line `n`, counted from 1, without its newline; nothing where there is none.
-pub fn line_at(n: usize, text: &[u8]) -> &[u8]
-    ensures { result.now ≡ line_at n text.now }
-{
+pub fn line_at(n: usize, text: &[u8]) -> &[u8] {
     let mut rest = text;
     let mut left = n.saturating_sub(1);
     while left > 0 && !rest.is_empty() {
@@ -31,16 +27,12 @@ pub fn line_at(n: usize, text: &[u8]) -> &[u8]
 }
 
 /// The first line.
-pub fn first_line(text: &[u8]) -> &[u8]
-    ensures { result.now ≡ first_line text.now }
-{
+pub fn first_line(text: &[u8]) -> &[u8] {
     line_at(1, text)
 }
 
 /// Whether the last byte of a line is a carriage return.
-pub fn ends_in_return(line: &[u8]) -> bool
-    ensures { result ≡ ends_in_return line.now }
-{
+pub fn ends_in_return(line: &[u8]) -> bool {
     match line.last() {
         None => false,
         Some(last) => *last == b'\r',
@@ -48,9 +40,7 @@ pub fn ends_in_return(line: &[u8]) -> bool
 }
 
 /// A byte as it is shown.
-fn shown_byte(byte: u8) -> u8
-    ensures { result ≡ shown_byte byte }
-{
+fn shown_byte(byte: u8) -> u8 {
     if 32 <= byte && byte <= 126 {
         byte
     } else {
@@ -59,9 +49,7 @@ fn shown_byte(byte: u8) -> u8
 }
 
 /// A line as it is shown.
-pub(crate) fn shown(alloc: Global, line: &[u8]) -> Result<Vec<u8>, Memory>
-    ensures { IfOk result (λ text. text.items ≡ shown line.now) }
-{
+pub(crate) fn shown(alloc: Global, line: &[u8]) -> Result<Vec<u8>, Memory> {
     let front = &line[..line.len().min(SHOWN)];
     let mut text = Vec::new(alloc);
     for byte in front {
@@ -74,9 +62,7 @@ pub(crate) fn shown(alloc: Global, line: &[u8]) -> Result<Vec<u8>, Memory>
 ///
 /// # Errors
 /// `Memory` if an allocation failed.
-pub fn add_text(page: &mut Page, text: &str) -> Result<(), Memory>
-    ensures { OnOk result (page.new ≡ page.old ++ text.now) }
-{
+pub fn add_text(page: &mut Page, text: &str) -> Result<(), Memory> {
     page.add(&[Piece::Text(text)])
 }
 
@@ -84,10 +70,7 @@ pub fn add_text(page: &mut Page, text: &str) -> Result<(), Memory>
 ///
 /// # Errors
 /// `Memory` if an allocation failed.
-#[tactic(auto, unfolding(crate::specs::Lines::shown_line))]
-pub fn add_shown(page: &mut Page, alloc: Global, line: &[u8]) -> Result<(), Memory>
-    ensures { OnOk result (page.new ≡ page.old ++ shown_line line.now) }
-{
+pub fn add_shown(page: &mut Page, alloc: Global, line: &[u8]) -> Result<(), Memory> {
     let text = shown(alloc, line)?;
     page.add(&[
         Piece::Text("   "),
@@ -100,10 +83,7 @@ pub fn add_shown(page: &mut Page, alloc: Global, line: &[u8]) -> Result<(), Memo
 ///
 /// # Errors
 /// `Memory` if an allocation failed.
-#[tactic(auto, unfolding(crate::specs::Lines::of_file))]
-pub fn add_file(page: &mut Page, alloc: Global, path: &str) -> Result<(), Memory>
-    ensures { OnOk result (page.new ≡ page.old ++ of_file path.now) }
-{
+pub fn add_file(page: &mut Page, alloc: Global, path: &str) -> Result<(), Memory> {
     let path = escaped(alloc, path.as_bytes())?;
     page.add(&[
         Piece::Text("velodrome:"),
@@ -116,10 +96,7 @@ pub fn add_file(page: &mut Page, alloc: Global, path: &str) -> Result<(), Memory
 ///
 /// # Errors
 /// `Memory` if an allocation failed.
-#[tactic(auto, unfolding(crate::specs::Lines::of_line))]
-pub fn add_line(page: &mut Page, alloc: Global, path: &str, n: usize) -> Result<(), Memory>
-    ensures { OnOk result (page.new ≡ page.old ++ of_line path.now n) }
-{
+pub fn add_line(page: &mut Page, alloc: Global, path: &str, n: usize) -> Result<(), Memory> {
     let path = escaped(alloc, path.as_bytes())?;
     page.add(&[
         Piece::Text("velodrome:"),

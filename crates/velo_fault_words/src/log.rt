@@ -1,6 +1,4 @@
 //! What is said of a log that could not be read.
-ghost use Rattle.std.specs.Prelude.{◌≡◌, ◌++◌, IfOk, OnOk};
-ghost use Rattle.velo_fault_words.specs.Log.{bad_line_words, cut_line_words, empty_words, faulty_line_words, first_line_words, header_help, header_reason, header_words, likely_text, line_help, log_words, meant, plain_reason, too_long_words, word_text};
 
 use crate::header::{HeaderFault, header_fault_of};
 use crate::line::{LineFault, Word, line_fault_of};
@@ -11,10 +9,7 @@ use velo_explain::{Page, Piece};
 use velo_logtext::LogFault;
 
 /// Adds what is wrong with the first line.
-#[tactic(auto, unfolding(crate::specs::Log::header_reason))]
-fn add_header_reason(page: &mut Page, fault: HeaderFault) -> Result<(), Memory>
-    ensures { OnOk result (page.new ≡ page.old ++ header_reason fault) }
-{
+fn add_header_reason(page: &mut Page, fault: HeaderFault) -> Result<(), Memory> {
     match fault {
         HeaderFault::Marked => page.add(&[Piece::Text(
             "a byte-order mark stands before the header",
@@ -59,10 +54,7 @@ fn add_header_reason(page: &mut Page, fault: HeaderFault) -> Result<(), Memory>
 }
 
 /// Adds what to do about the first line.
-#[tactic(auto, unfolding(crate::specs::Log::header_help))]
-fn add_header_help(page: &mut Page, fault: HeaderFault) -> Result<(), Memory>
-    ensures { OnOk result (page.new ≡ page.old ++ header_help fault) }
-{
+fn add_header_help(page: &mut Page, fault: HeaderFault) -> Result<(), Memory> {
     match fault {
         HeaderFault::Marked => page.add(&[Piece::Text(
             "help: save it without the mark: sed -i '1s/^\\xef\\xbb\\xbf//'\n",
@@ -78,10 +70,7 @@ fn add_header_help(page: &mut Page, fault: HeaderFault) -> Result<(), Memory>
 }
 
 /// Adds that there is no byte.
-#[tactic(auto, unfolding(crate::specs::Log::empty_words))]
-fn add_empty(page: &mut Page, alloc: Global, path: &str) -> Result<(), Memory>
-    ensures { OnOk result (page.new ≡ page.old ++ empty_words path.now) }
-{
+fn add_empty(page: &mut Page, alloc: Global, path: &str) -> Result<(), Memory> {
     add_file(page, alloc, path)?;
     page.add(&[Piece::Text(
         "the log is empty\nhelp: did the program that records end before it wrote?\n",
@@ -89,10 +78,7 @@ fn add_empty(page: &mut Page, alloc: Global, path: &str) -> Result<(), Memory>
 }
 
 /// Adds what is said of a first line that is no header.
-#[tactic(auto, unfolding(crate::specs::Log::first_line_words))]
-fn add_first_line(page: &mut Page, alloc: Global, path: &str, bytes: &[u8]) -> Result<(), Memory>
-    ensures { OnOk result (page.new ≡ page.old ++ first_line_words path.now bytes.now) }
-{
+fn add_first_line(page: &mut Page, alloc: Global, path: &str, bytes: &[u8]) -> Result<(), Memory> {
     let fault = header_fault_of(bytes);
     add_line(page, alloc, path, 1)?;
     add_header_reason(page, fault)?;
@@ -102,9 +88,12 @@ fn add_first_line(page: &mut Page, alloc: Global, path: &str, bytes: &[u8]) -> R
 }
 
 /// Adds what is said of bytes in which no header stands.
-fn add_header_words(page: &mut Page, alloc: Global, path: &str, bytes: &[u8]) -> Result<(), Memory>
-    ensures { OnOk result (page.new ≡ page.old ++ header_words path.now bytes.now) }
-{
+fn add_header_words(
+    page: &mut Page,
+    alloc: Global,
+    path: &str,
+    bytes: &[u8],
+) -> Result<(), Memory> {
     if bytes.is_empty() {
         return add_empty(page, alloc, path);
     }
@@ -112,9 +101,7 @@ fn add_header_words(page: &mut Page, alloc: Global, path: &str, bytes: &[u8]) ->
 }
 
 /// The text of an event's word.
-fn word_text(word: Word) -> &'static str
-    ensures { result.now ≡ word_text word }
-{
+fn word_text(word: Word) -> &'static str {
     match word {
         Word::Read => "rd",
         Word::Write => "wr",
@@ -128,9 +115,7 @@ fn word_text(word: Word) -> &'static str
 }
 
 /// What is wrong with the line of an event.
-fn plain_reason(fault: LineFault) -> &'static str
-    ensures { result.now ≡ plain_reason fault }
-{
+fn plain_reason(fault: LineFault) -> &'static str {
     match fault {
         LineFault::Blank => "the line is empty",
         LineFault::Comment => "a log has no comments",
@@ -152,9 +137,7 @@ fn plain_reason(fault: LineFault) -> &'static str
 }
 
 /// What to do about the line of an event.
-fn line_help(fault: LineFault) -> &'static str
-    ensures { result.now ≡ line_help fault }
-{
+fn line_help(fault: LineFault) -> &'static str {
     match fault {
         LineFault::Blank | LineFault::Comment => {
             "help: a log has a line for each event, and no other lines\n"
@@ -171,9 +154,7 @@ fn line_help(fault: LineFault) -> &'static str
 }
 
 /// Adds the operation that is likely to be meant.
-fn add_likely(page: &mut Page, word: Word) -> Result<(), Memory>
-    ensures { OnOk result (page.new ≡ page.old ++ likely_text word) }
-{
+fn add_likely(page: &mut Page, word: Word) -> Result<(), Memory> {
     page.add(&[
         Piece::Text(": did you mean "),
         Piece::Text(word_text(word)),
@@ -182,9 +163,7 @@ fn add_likely(page: &mut Page, word: Word) -> Result<(), Memory>
 }
 
 /// Adds the operation that is likely to be meant, if there is one.
-fn add_meant(page: &mut Page, fault: LineFault) -> Result<(), Memory>
-    ensures { OnOk result (page.new ≡ page.old ++ meant fault) }
-{
+fn add_meant(page: &mut Page, fault: LineFault) -> Result<(), Memory> {
     match fault {
         LineFault::Unknown(Some(word)) => add_likely(page, word),
         _ => Ok(()),
@@ -192,17 +171,13 @@ fn add_meant(page: &mut Page, fault: LineFault) -> Result<(), Memory>
 }
 
 /// Adds what is wrong with the line of an event.
-fn add_plain_reason(page: &mut Page, fault: LineFault) -> Result<(), Memory>
-    ensures { OnOk result (page.new ≡ page.old ++ plain_reason fault) }
-{
+fn add_plain_reason(page: &mut Page, fault: LineFault) -> Result<(), Memory> {
     add_text(page, plain_reason(fault))?;
     Ok(())
 }
 
 /// Adds what to do about the line of an event.
-fn add_line_help(page: &mut Page, fault: LineFault) -> Result<(), Memory>
-    ensures { OnOk result (page.new ≡ page.old ++ line_help fault) }
-{
+fn add_line_help(page: &mut Page, fault: LineFault) -> Result<(), Memory> {
     add_text(page, line_help(fault))?;
     Ok(())
 }
@@ -215,9 +190,7 @@ fn add_faulty_line(
     n: usize,
     line: &[u8],
     fault: LineFault,
-) -> Result<(), Memory>
-    ensures { OnOk result (page.new ≡ page.old ++ faulty_line_words path.now n line.now fault) }
-{
+) -> Result<(), Memory> {
     add_line(page, alloc, path, n)?;
     add_plain_reason(page, fault)?;
     add_meant(page, fault)?;
@@ -234,9 +207,7 @@ fn add_bad_line(
     path: &str,
     bytes: &[u8],
     n: usize,
-) -> Result<(), Memory>
-    ensures { OnOk result (page.new ≡ page.old ++ bad_line_words path.now bytes.now n) }
-{
+) -> Result<(), Memory> {
     let line = line_at(n, bytes);
     add_faulty_line(page, alloc, path, n, line, line_fault_of(line))
 }
@@ -248,9 +219,7 @@ fn add_cut_line(
     path: &str,
     bytes: &[u8],
     n: usize,
-) -> Result<(), Memory>
-    ensures { OnOk result (page.new ≡ page.old ++ cut_line_words path.now bytes.now n) }
-{
+) -> Result<(), Memory> {
     add_line(page, alloc, path, n)?;
     add_text(page, "the log is cut off in this line\n")?;
     add_shown(page, alloc, line_at(n, bytes))?;
@@ -262,10 +231,7 @@ fn add_cut_line(
 }
 
 /// Adds that there are too many events.
-#[tactic(auto, unfolding(crate::specs::Log::too_long_words))]
-fn add_too_long(page: &mut Page, alloc: Global, path: &str) -> Result<(), Memory>
-    ensures { OnOk result (page.new ≡ page.old ++ too_long_words path.now) }
-{
+fn add_too_long(page: &mut Page, alloc: Global, path: &str) -> Result<(), Memory> {
     add_file(page, alloc, path)?;
     page.add(&[Piece::Text("the log has more than 16777216 events\n")])
 }
@@ -277,9 +243,7 @@ fn add_log_words(
     path: &str,
     bytes: &[u8],
     fault: LogFault,
-) -> Result<(), Memory>
-    ensures { OnOk result (page.new ≡ page.old ++ log_words path.now bytes.now fault) }
-{
+) -> Result<(), Memory> {
     match fault {
         LogFault::BadHeader => add_header_words(page, alloc, path, bytes),
         LogFault::BadLine(n) => add_bad_line(page, alloc, path, bytes, n),
@@ -293,9 +257,7 @@ fn add_log_words(
 ///
 /// # Errors
 /// `Memory` if an allocation failed.
-pub fn log_words(alloc: Global, path: &str, bytes: &[u8], fault: LogFault) -> Result<Page, Memory>
-    ensures { IfOk result (λ page. page ≡ log_words path.now bytes.now fault) }
-{
+pub fn log_words(alloc: Global, path: &str, bytes: &[u8], fault: LogFault) -> Result<Page, Memory> {
     let mut page = Page::new(alloc);
     add_log_words(&mut page, alloc, path, bytes, fault)?;
     Ok(page)

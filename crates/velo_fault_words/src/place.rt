@@ -1,6 +1,4 @@
 //! What is said of a place of a file.
-ghost use Rattle.std.specs.Prelude.{◌≡◌, ◌++◌, IfOk, OnOk};
-ghost use Rattle.velo_fault_words.specs.Place.{line_words, place_words, whole_words};
 
 use crate::lines::{add_file, add_line, add_shown, add_text, line_at};
 use std::alloc::Global;
@@ -19,16 +17,13 @@ pub struct Complaint<'a> {
 }
 
 /// Adds what is wrong with a file.
-#[tactic(auto, unfolding(crate::specs::Place::whole_words))]
 fn add_whole(
     page: &mut Page,
     alloc: Global,
     path: &str,
     reason: &str,
     help: &str,
-) -> Result<(), Memory>
-    ensures { OnOk result (page.new ≡ page.old ++ whole_words path.now reason.now help.now) }
-{
+) -> Result<(), Memory> {
     add_file(page, alloc, path)?;
     page.add(&[Piece::Text(reason), Piece::Text("\n"), Piece::Text(help)])
 }
@@ -40,10 +35,7 @@ fn add_line_words(
     path: &str,
     bytes: &[u8],
     complaint: Complaint,
-) -> Result<(), Memory>
-    ensures { OnOk result (page.new ≡ page.old ++ line_words path.now bytes.now complaint.entry.line
-        complaint.entry.reason.now complaint.entry.help.now) }
-{
+) -> Result<(), Memory> {
     add_line(page, alloc, path, complaint.line)?;
     add_text(page, complaint.reason)?;
     add_text(page, "\n")?;
@@ -59,10 +51,7 @@ fn add_place(
     path: &str,
     bytes: &[u8],
     complaint: Complaint,
-) -> Result<(), Memory>
-    ensures { OnOk result (page.new ≡ page.old ++ place_words path.now bytes.now complaint.entry.line
-        complaint.entry.reason.now complaint.entry.help.now) }
-{
+) -> Result<(), Memory> {
     if complaint.line == 0 {
         return add_whole(page, alloc, path, complaint.reason, complaint.help);
     }
@@ -78,10 +67,7 @@ pub fn place_words(
     path: &str,
     bytes: &[u8],
     complaint: Complaint,
-) -> Result<Page, Memory>
-    ensures { IfOk result (λ page. page ≡ place_words path.now bytes.now complaint.entry.line
-        complaint.entry.reason.now complaint.entry.help.now) }
-{
+) -> Result<Page, Memory> {
     let mut page = Page::new(alloc);
     add_place(&mut page, alloc, path, bytes, complaint)?;
     Ok(page)

@@ -1,9 +1,4 @@
 //! What is said of a text that is no schedule.
-ghost use Rattle.std.specs.Prelude.{◌≡◌, ◌≤◌, ◌<◌, ◌==◌, ◌++◌, ◌∷◌, IfOk, OnOk, IfSome, length, option_map};
-ghost use Rattle.std.specs.List.{list_any, position_or_len};
-ghost use Rattle.std.specs.Option.{option_copied};
-ghost use Rattle.velo_fault_words.specs.Schedule.{bad_word, bad_word_words, count_fault, first_bad, many_words, numbers_reason, numbers_words, others_of, rest_fault, schedule_words, turns_fault, turns_reason, turns_words, without_newline, words_of};
-ghost use Rattle.velo_fault_words.specs.Place.{whole_words};
 
 use crate::lines::{add_file, add_shown};
 use crate::place::{Complaint, place_words};
@@ -36,9 +31,7 @@ struct BadWord<'a> {
 }
 
 /// What is wrong with a number of turns.
-fn count_fault(count: Option<u64>) -> Option<TurnsFault>
-    ensures { result ≡ count_fault count }
-{
+fn count_fault(count: Option<u64>) -> Option<TurnsFault> {
     match count {
         Some(count) if count >= 2 => None,
         _ => Some(TurnsFault::Count),
@@ -46,9 +39,7 @@ fn count_fault(count: Option<u64>) -> Option<TurnsFault>
 }
 
 /// What is wrong with what stands after the number of a thread.
-fn rest_fault(rest: &[u8]) -> Option<TurnsFault>
-    ensures { result ≡ rest_fault rest.now }
-{
+fn rest_fault(rest: &[u8]) -> Option<TurnsFault> {
     if rest.is_empty() {
         return None;
     }
@@ -59,9 +50,7 @@ fn rest_fault(rest: &[u8]) -> Option<TurnsFault>
 }
 
 /// What is wrong with a word, if something is.
-fn turns_fault(word: &[u8]) -> Option<TurnsFault>
-    ensures { result ≡ turns_fault word.now }
-{
+fn turns_fault(word: &[u8]) -> Option<TurnsFault> {
     if word.is_empty() {
         return Some(TurnsFault::Blank);
     }
@@ -72,9 +61,7 @@ fn turns_fault(word: &[u8]) -> Option<TurnsFault>
 }
 
 /// What is wrong with a word, in words.
-fn turns_reason(fault: TurnsFault) -> &'static str
-    ensures { result.now ≡ turns_reason fault }
-{
+fn turns_reason(fault: TurnsFault) -> &'static str {
     match fault {
         TurnsFault::Blank => "one space parts words, and none stands at either end",
         TurnsFault::Thread => {
@@ -85,9 +72,7 @@ fn turns_reason(fault: TurnsFault) -> &'static str
 }
 
 /// What is wrong with a word of thread numbers alone, in which no star stands.
-fn numbers_reason(fault: TurnsFault) -> &'static str
-    ensures { result.now ≡ numbers_reason fault }
-{
+fn numbers_reason(fault: TurnsFault) -> &'static str {
     match fault {
         TurnsFault::Thread => "expected a thread's number from 0 to 63",
         _ => turns_reason(fault),
@@ -95,10 +80,7 @@ fn numbers_reason(fault: TurnsFault) -> &'static str
 }
 
 /// The index of the first space, or the length.
-fn word_end(bytes: &[u8]) -> usize
-    ensures value { result ≡ position_or_len (λ b. b == 32) bytes.now }
-    ensures within { result ≤ length bytes.now }
-{
+fn word_end(bytes: &[u8]) -> usize {
     for (i, byte) in bytes.iter().enumerate() {
         if *byte == b' ' {
             return i;
@@ -108,10 +90,7 @@ fn word_end(bytes: &[u8]) -> usize
 }
 
 /// The first word, and what stands after its space, if it has one.
-fn split_word(bytes: &[u8]) -> (&[u8], Option<&[u8]>)
-    ensures word { words_of bytes.now ≡ result.0.now ∷ others_of (option_copied result.1) }
-    ensures shorter { IfSome result.1 (λ rest. length rest.now < length bytes.now) }
-{
+fn split_word(bytes: &[u8]) -> (&[u8], Option<&[u8]>) {
     let (word, rest) = bytes.split_at(word_end(bytes));
     match rest.split_first() {
         Some((_, others)) => (word, Some(others)),
@@ -120,9 +99,7 @@ fn split_word(bytes: &[u8]) -> (&[u8], Option<&[u8]>)
 }
 
 /// The first word with which something is wrong.
-fn first_bad(text: &[u8]) -> Option<BadWord<'_>>
-    ensures { option_map bad_word result ≡ first_bad 1 (words_of text.now) }
-{
+fn first_bad(text: &[u8]) -> Option<BadWord<'_>> {
     let mut rest = text;
     let mut place = 1;
     loop {
@@ -139,17 +116,13 @@ fn first_bad(text: &[u8]) -> Option<BadWord<'_>>
 }
 
 /// Adds what is said of a word.
-#[tactic(auto, unfolding(crate::specs::Schedule::bad_word_words))]
 fn add_bad_word(
     page: &mut Page,
     alloc: Global,
     place: &str,
     reason: &str,
     bad: BadWord,
-) -> Result<(), Memory>
-    ensures { OnOk result
-        (page.new ≡ page.old ++ bad_word_words place.now reason.now (bad_word bad.entry)) }
-{
+) -> Result<(), Memory> {
     add_file(page, alloc, place)?;
     page.add(&[
         Piece::Text("word "),
@@ -162,18 +135,14 @@ fn add_bad_word(
 }
 
 /// What is said of a word.
-fn bad_word_words(alloc: Global, place: &str, reason: &str, bad: BadWord) -> Result<Page, Memory>
-    ensures { IfOk result (λ page. page ≡ bad_word_words place.now reason.now (bad_word bad.entry)) }
-{
+fn bad_word_words(alloc: Global, place: &str, reason: &str, bad: BadWord) -> Result<Page, Memory> {
     let mut page = Page::new(alloc);
     add_bad_word(&mut page, alloc, place, reason, bad)?;
     Ok(page)
 }
 
 /// What is said of all of a text.
-fn whole_words(alloc: Global, place: &str, reason: &str, help: &str) -> Result<Page, Memory>
-    ensures { IfOk result (λ page. page ≡ whole_words place.now reason.now help.now) }
-{
+fn whole_words(alloc: Global, place: &str, reason: &str, help: &str) -> Result<Page, Memory> {
     let complaint = Complaint {
         line: 0,
         reason,
@@ -183,9 +152,7 @@ fn whole_words(alloc: Global, place: &str, reason: &str, help: &str) -> Result<P
 }
 
 /// What is said of a text in which each word is one of turns.
-fn many_words(alloc: Global, place: &str) -> Result<Page, Memory>
-    ensures { IfOk result (λ page. page ≡ many_words place.now) }
-{
+fn many_words(alloc: Global, place: &str) -> Result<Page, Memory> {
     whole_words(alloc, place, "the schedule has more than 1000000 turns", "")
 }
 
@@ -193,9 +160,7 @@ fn many_words(alloc: Global, place: &str) -> Result<Page, Memory>
 ///
 /// # Errors
 /// `Memory` if an allocation failed.
-pub fn turns_words(alloc: Global, place: &str, text: &[u8]) -> Result<Page, Memory>
-    ensures { IfOk result (λ page. page ≡ turns_words place.now text.now) }
-{
+pub fn turns_words(alloc: Global, place: &str, text: &[u8]) -> Result<Page, Memory> {
     match first_bad(text) {
         Some(bad) => bad_word_words(alloc, place, turns_reason(bad.fault), bad),
         None => many_words(alloc, place),
@@ -206,9 +171,7 @@ pub fn turns_words(alloc: Global, place: &str, text: &[u8]) -> Result<Page, Memo
 ///
 /// # Errors
 /// `Memory` if an allocation failed.
-pub fn numbers_words(alloc: Global, place: &str, text: &[u8]) -> Result<Page, Memory>
-    ensures { IfOk result (λ page. page ≡ numbers_words place.now text.now) }
-{
+pub fn numbers_words(alloc: Global, place: &str, text: &[u8]) -> Result<Page, Memory> {
     if text.contains(&b'*') {
         return whole_words(
             alloc,
@@ -224,9 +187,7 @@ pub fn numbers_words(alloc: Global, place: &str, text: &[u8]) -> Result<Page, Me
 }
 
 /// The bytes without a newline at their end.
-fn without_newline(bytes: &[u8]) -> &[u8]
-    ensures { result.now ≡ without_newline bytes.now }
-{
+fn without_newline(bytes: &[u8]) -> &[u8] {
     match bytes.split_last() {
         Some((last, front)) if *last == b'\n' => front,
         _ => bytes,
@@ -237,9 +198,7 @@ fn without_newline(bytes: &[u8]) -> &[u8]
 ///
 /// # Errors
 /// `Memory` if an allocation failed.
-pub fn schedule_words(alloc: Global, path: &str, bytes: &[u8]) -> Result<Page, Memory>
-    ensures { IfOk result (λ page. page ≡ schedule_words path.now bytes.now) }
-{
+pub fn schedule_words(alloc: Global, path: &str, bytes: &[u8]) -> Result<Page, Memory> {
     if bytes.len() > MAX_SCHEDULE_BYTES {
         return whole_words(alloc, path, "the file has more than 3000000 bytes", "");
     }

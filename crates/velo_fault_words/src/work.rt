@@ -1,6 +1,4 @@
 //! What is said of a text that is no workload.
-ghost use Rattle.std.specs.Prelude.{◌≡◌, IfOk};
-ghost use Rattle.velo_fault_words.specs.Work.{bad_line_help, bad_line_reason, line_help, line_reason, many_help, text_reason, whole_reason, work_help, work_line, work_reason, work_words};
 
 use crate::lines::line_at;
 use crate::place::{Complaint, place_words};
@@ -11,9 +9,7 @@ use velo_explain::Page;
 use velo_workload::WorkFault;
 
 /// The line of a fault; 0 where it is one of the whole text, or none of the text.
-fn work_line(fault: WorkFault) -> usize
-    ensures { result ≡ work_line fault }
-{
+fn work_line(fault: WorkFault) -> usize {
     match fault {
         WorkFault::BadLine(n) | WorkFault::Unknown(n) | WorkFault::Twice(n) => n,
         WorkFault::Unmatched(n) | WorkFault::TooMany(n) => n,
@@ -22,9 +18,7 @@ fn work_line(fault: WorkFault) -> usize
 }
 
 /// What is wrong with a line that is no statement.
-fn bad_line_reason(line: &[u8]) -> &'static str
-    ensures { result.now ≡ bad_line_reason line.now }
-{
+fn bad_line_reason(line: &[u8]) -> &'static str {
     match after(line, b"vlog ") {
         Some(_) => "this is not a workload: it looks like a log",
         None => "this is not a statement, or not one for this place",
@@ -32,9 +26,7 @@ fn bad_line_reason(line: &[u8]) -> &'static str
 }
 
 /// What to do about such a line.
-fn bad_line_help(line: &[u8]) -> &'static str
-    ensures { result.now ≡ bad_line_help line.now }
-{
+fn bad_line_help(line: &[u8]) -> &'static str {
     match after(line, b"vlog ") {
         Some(_) => "help: for a log there are check, explain, watch and audit\n",
         None => {
@@ -44,9 +36,7 @@ fn bad_line_help(line: &[u8]) -> &'static str
 }
 
 /// What is wrong with the line of a fault.
-fn line_reason(fault: WorkFault, line: &[u8]) -> &'static str
-    ensures { result.now ≡ line_reason fault line.now }
-{
+fn line_reason(fault: WorkFault, line: &[u8]) -> &'static str {
     match fault {
         WorkFault::BadLine(_) => bad_line_reason(line),
         WorkFault::Unknown(_) => "the variable, lock or thread is not declared",
@@ -59,9 +49,7 @@ fn line_reason(fault: WorkFault, line: &[u8]) -> &'static str
 }
 
 /// What is wrong with a text that is not too long.
-fn text_reason(bytes: &[u8]) -> &'static str
-    ensures { result.now ≡ text_reason bytes.now }
-{
+fn text_reason(bytes: &[u8]) -> &'static str {
     if bytes.is_empty() {
         return "the workload is empty";
     }
@@ -69,9 +57,7 @@ fn text_reason(bytes: &[u8]) -> &'static str
 }
 
 /// What is wrong with all of the text.
-fn whole_reason(fault: WorkFault, bytes: &[u8]) -> &'static str
-    ensures { result.now ≡ whole_reason fault bytes.now }
-{
+fn whole_reason(fault: WorkFault, bytes: &[u8]) -> &'static str {
     match fault {
         WorkFault::TooMany(_) => "the workload has more than 16777216 bytes",
         _ => text_reason(bytes),
@@ -79,9 +65,7 @@ fn whole_reason(fault: WorkFault, bytes: &[u8]) -> &'static str
 }
 
 /// What is wrong with the text, by the line of the fault.
-fn work_reason(fault: WorkFault, line: &[u8], bytes: &[u8]) -> &'static str
-    ensures { result.now ≡ work_reason fault line.now bytes.now }
-{
+fn work_reason(fault: WorkFault, line: &[u8], bytes: &[u8]) -> &'static str {
     if work_line(fault) == 0 {
         return whole_reason(fault, bytes);
     }
@@ -89,9 +73,7 @@ fn work_reason(fault: WorkFault, line: &[u8], bytes: &[u8]) -> &'static str
 }
 
 /// What to do about a line that is one too many.
-fn many_help(line: &[u8]) -> &'static str
-    ensures { result.now ≡ many_help line.now }
-{
+fn many_help(line: &[u8]) -> &'static str {
     match after(line, b"thread ") {
         Some(_) => {
             "help: there may be 64 threads, and a body may cost 16777216: a statement costs 1, `repeat n` 1 + n * (1 + what it repeats)\n"
@@ -103,9 +85,7 @@ fn many_help(line: &[u8]) -> &'static str
 }
 
 /// What to do about the line of a fault.
-fn line_help(fault: WorkFault, line: &[u8]) -> &'static str
-    ensures { result.now ≡ line_help fault line.now }
-{
+fn line_help(fault: WorkFault, line: &[u8]) -> &'static str {
     match fault {
         WorkFault::BadLine(_) => bad_line_help(line),
         WorkFault::TooMany(_) => many_help(line),
@@ -114,9 +94,7 @@ fn line_help(fault: WorkFault, line: &[u8]) -> &'static str
 }
 
 /// What to do about the text.
-fn work_help(fault: WorkFault, line: &[u8]) -> &'static str
-    ensures { result.now ≡ work_help fault line.now }
-{
+fn work_help(fault: WorkFault, line: &[u8]) -> &'static str {
     if work_line(fault) == 0 {
         return "";
     }
@@ -127,9 +105,12 @@ fn work_help(fault: WorkFault, line: &[u8]) -> &'static str
 ///
 /// # Errors
 /// `Memory` if an allocation failed.
-pub fn work_words(alloc: Global, path: &str, bytes: &[u8], fault: WorkFault) -> Result<Page, Memory>
-    ensures { IfOk result (λ page. page ≡ work_words path.now bytes.now fault) }
-{
+pub fn work_words(
+    alloc: Global,
+    path: &str,
+    bytes: &[u8],
+    fault: WorkFault,
+) -> Result<Page, Memory> {
     let line = work_line(fault);
     let shown = line_at(line, bytes);
     let complaint = Complaint {

@@ -1,8 +1,4 @@
 //! The line of what became of a claim.
-ghost use Rattle.std.specs.Prelude.{◌≡◌, ◌≤◌, ◌+◌, ◌++◌, length, take};
-ghost use Rattle.velo_delivery.specs.Writing.{Delivers, writing};
-ghost use Rattle.velo_fate.specs.Delivery.{IsPrinted};
-ghost use Rattle.velo_verify.specs.Verifying.{outcome_line, told, words_of_reason};
 
 use velo_bytes::{Sink, WriteFault, put_bytes, put_number, write_all};
 use velo_claims::{Outcome, Reason, is_verified};
@@ -13,10 +9,7 @@ use velo_worker::Ending;
 const LINE_ROOM: usize = 64;
 
 /// Why a claim is not borne out, in words.
-fn words_of_reason(reason: Reason) -> &'static [u8]
-    ensures words { result.now ≡ words_of_reason reason }
-    ensures short { length result.now ≤ 32 }
-{
+fn words_of_reason(reason: Reason) -> &'static [u8] {
     match reason {
         Reason::OtherEvents => b"another number of events",
         Reason::NoCertificate => b"no certificate",
@@ -27,11 +20,7 @@ fn words_of_reason(reason: Reason) -> &'static [u8]
 }
 
 /// Puts the line of an outcome at the front of a buffer, and returns where it ends.
-fn put_outcome(buffer: &mut [u8], outcome: Outcome) -> usize
-    requires { LINE_ROOM ≤ length buffer.old }
-    ensures text { take result buffer.new ≡ outcome_line outcome }
-    ensures end { result ≤ length buffer.new }
-{
+fn put_outcome(buffer: &mut [u8], outcome: Outcome) -> usize {
     match outcome {
         Outcome::Clean => put_bytes(buffer, 0, b"verified clean\n"),
         Outcome::Alarm(position) => {
@@ -48,19 +37,14 @@ fn put_outcome(buffer: &mut [u8], outcome: Outcome) -> usize
 }
 
 /// Writes the line of an outcome.
-fn write_outcome<O: Sink>(outcome: Outcome, out: &mut O) -> Result<(), WriteFault>
-    ensures { Delivers (writing O.contents O.failures out.old out.new)
-        (outcome_line outcome) result }
-{
+fn write_outcome<O: Sink>(outcome: Outcome, out: &mut O) -> Result<(), WriteFault> {
     let mut buffer = [0u8; LINE_ROOM];
     let end = put_outcome(&mut buffer, outcome);
     write_all(out, &buffer[..end])
 }
 
 /// Prints what became of a claim. A claim that is not borne out ends as an alarm does.
-pub fn tell<O: Sink>(outcome: Outcome, out: &mut O) -> Fate
-    ensures { IsPrinted (writing O.contents O.failures out.old out.new) (told outcome) result }
-{
+pub fn tell<O: Sink>(outcome: Outcome, out: &mut O) -> Fate {
     match write_outcome(outcome, out) {
         Ok(()) => Fate::Finished {
             ending: Ending::Done,

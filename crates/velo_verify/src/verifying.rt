@@ -1,11 +1,4 @@
 //! `velodrome verify`.
-ghost use Rattle.std.specs.Prelude.{IfErr, IfOk};
-ghost use Rattle.velo_delivery.specs.Disk.{store};
-ghost use Rattle.velo_delivery.specs.Reading.{reading};
-ghost use Rattle.velo_delivery.specs.Writing.{writing};
-ghost use Rattle.velo_fate.specs.Format.{LacksAt, Reads};
-ghost use Rattle.velo_verify.specs.Verifying.{ClaimIn, NoClaimIn, VerifiesInput, report_file};
-ghost use Rattle.velo_verify.specs.Commands.{DoesVerify, VerifiesLog};
 
 use crate::told::tell;
 use std::alloc::Global;
@@ -21,10 +14,7 @@ use velo_request::VerifyOptions;
 ///
 /// # Errors
 /// `Report` with the fault for which they claim nothing.
-fn claim_in(alloc: Global, bytes: &[u8]) -> Result<Claim, Fate>
-    ensures claim { IfOk result (ClaimIn bytes.now) }
-    ensures fault { IfErr result (NoClaimIn bytes.now) }
-{
+fn claim_in(alloc: Global, bytes: &[u8]) -> Result<Claim, Fate> {
     match Claim::parse(alloc, bytes) {
         Ok(claim) => Ok(claim),
         Err(fault) => Err(Fate::Report(fault)),
@@ -35,10 +25,7 @@ fn claim_in(alloc: Global, bytes: &[u8]) -> Result<Claim, Fate>
 ///
 /// # Errors
 /// As `read_file`; else `Report` with the fault for which it claims nothing.
-fn claim_at<F: Files>(alloc: Global, path: &str, files: &F) -> Result<Claim, Fate>
-    ensures claim { IfOk result (Reads report_file (F.disk files.now) path.now) }
-    ensures lacking { IfErr result (LacksAt report_file (F.disk files.now) path.now) }
-{
+fn claim_at<F: Files>(alloc: Global, path: &str, files: &F) -> Result<Claim, Fate> {
     let bytes = match read_file(alloc, path, MAX_REPORT_BYTES, files) {
         Ok(bytes) => bytes,
         Err(fate) => return Err(fate),
@@ -54,10 +41,7 @@ fn verify_source<I: Source, O: Sink>(
     claim: &Claim,
     source: &mut I,
     out: &mut O,
-) -> Fate
-    ensures { VerifiesInput claim.now (reading I.remaining I.failures source.old source.new)
-        (writing O.contents O.failures out.old out.new) result }
-{
+) -> Fate {
     let (_, log) = match read_log(alloc, source) {
         Ok(read) => read,
         Err(fault) => return Fate::Check(CheckFault::Log(fault)),
@@ -75,10 +59,7 @@ fn verify_claim<F: Files, O: Sink>(
     claim: &Claim,
     files: &F,
     out: &mut O,
-) -> Fate
-    ensures { VerifiesLog claim.now options.now (store F.disk files.now files.now)
-        (writing O.contents O.failures out.old out.new) result }
-{
+) -> Fate {
     match open_input(files, Operand::Log, options.input, None) {
         Ok(mut log) => verify_source(alloc, claim, &mut log, out),
         Err(fate) => fate,
@@ -92,10 +73,7 @@ pub fn verify_file<F: Files, O: Sink>(
     options: &VerifyOptions,
     files: &F,
     out: &mut O,
-) -> Fate
-    ensures { DoesVerify options.now (store F.disk files.now files.now)
-        (writing O.contents O.failures out.old out.new) result }
-{
+) -> Fate {
     match claim_at(alloc, options.report, files) {
         Ok(claim) => {
             let fate = verify_claim(alloc, options, &claim, files, out);

@@ -1,8 +1,4 @@
 //! Which file could not be opened, read or written, in words.
-ghost use Rattle.std.specs.Prelude.{◌≡◌, ◌++◌, ⊤, ℕ, List, IfOk, IfSome, OnOk, option_map};
-ghost use Rattle.velo_words.specs.Failing.{IsFailure, SaysFailure, failure_text, reason_of, verb_of};
-ghost use Rattle.velo_words.specs.Roles.{word_of};
-ghost use Rattle.velo_words.specs.declared.failing.SystemReason.{SystemReason as ReasonOf};
 
 use crate::roles::{ROLES, Role, asks_for_words, path_of, summaries_of, word_of};
 use std::alloc::Global;
@@ -30,13 +26,11 @@ pub enum SystemReason {
 
 /// Files that recall which of them failed last.
 pub trait Recall {
-    /// What is said of a failure that is recalled: nothing, unless an implementation says more.
-    ghost failed: { Self → List ℕ → ReasonOf → Type 0 } = { λ files path reason. ⊤ };
+ = { λ files path reason. ⊤ };
 
     /// Why the file at a path could not be opened, read or written, if it is the one that failed
     /// last, and this is known.
     fn failure_at(&self, path: &str) -> Option<SystemReason>
-        ensures { IfSome result (failed self.now path.now) }
     {
         None
     }
@@ -52,7 +46,6 @@ struct Failed<'a> {
 
 /// What was to be done with the file, where the fate is that it failed.
 fn verb_of(fate: Fate) -> Option<&'static str>
-    ensures { option_map (λ verb. verb.now) result ≡ verb_of fate }
 {
     match fate {
         Fate::CannotOpen => Some("open"),
@@ -64,7 +57,6 @@ fn verb_of(fate: Fate) -> Option<&'static str>
 
 /// A reason in words.
 fn reason_of(reason: SystemReason) -> &'static str
-    ensures { result.now ≡ reason_of reason }
 {
     match reason {
         SystemReason::NotFound => "there is no such file",
@@ -77,8 +69,6 @@ fn reason_of(reason: SystemReason) -> &'static str
 
 /// The failure of the file of a role, if the request has one and it failed.
 fn failure_of<'a, F: Recall>(role: Role, request: &Request<'a>, files: &F) -> Option<Failed<'a>>
-    ensures { IfSome result (λ it. IsFailure (F.failed files.now) request.now it.role it.path.now
-        it.reason) }
 {
     let path = path_of(role, request)?;
     let reason = files.failure_at(path)?;
@@ -87,8 +77,6 @@ fn failure_of<'a, F: Recall>(role: Role, request: &Request<'a>, files: &F) -> Op
 
 /// The failure of a summary of the request, if one failed.
 fn failed_summary_of<'a, F: Recall>(request: &Request<'a>, files: &F) -> Option<Failed<'a>>
-    ensures { IfSome result (λ it. IsFailure (F.failed files.now) request.now it.role it.path.now
-        it.reason) }
 {
     for path in summaries_of(request) {
         if let Some(reason) = files.failure_at(path) {
@@ -101,8 +89,6 @@ fn failed_summary_of<'a, F: Recall>(request: &Request<'a>, files: &F) -> Option<
 
 /// The file of a request that failed, if it is known.
 fn failed_of<'a, F: Recall>(request: &Request<'a>, files: &F) -> Option<Failed<'a>>
-    ensures { IfSome result (λ it. IsFailure (F.failed files.now) request.now it.role it.path.now
-        it.reason) }
 {
     for role in &ROLES {
         if let Some(failed) = failure_of(*role, request, files) {
@@ -113,7 +99,6 @@ fn failed_of<'a, F: Recall>(request: &Request<'a>, files: &F) -> Option<Failed<'
 }
 
 /// Adds what is said of a file, by what was to be done, its word and the reason.
-#[tactic(auto, unfolding(crate::specs::Failing::failure_text))]
 fn add_failure(
     page: &mut Page,
     alloc: Global,
@@ -122,8 +107,6 @@ fn add_failure(
     word: &str,
     reason: &str,
 ) -> Result<(), Memory>
-    ensures { OnOk result (page.new
-        ≡ page.old ++ failure_text path.now verb.now word.now reason.now) }
 {
     add_file(page, alloc, path)?;
     page.add(&[
@@ -139,8 +122,6 @@ fn add_failure(
 
 /// What is said of a file that failed.
 fn failure_words(alloc: Global, verb: &str, failed: &Failed) -> Result<Page, Memory>
-    ensures { IfOk result (λ page. page ≡ failure_text failed.now.path.now verb.now
-        (word_of failed.now.role) (reason_of failed.now.reason)) }
 {
     let mut page = Page::new(alloc);
     let word = word_of(failed.role);
@@ -157,7 +138,6 @@ pub fn words_of_failure<F: Recall>(
     fate: Fate,
     files: &F,
 ) -> Option<Page>
-    ensures { IfSome result (SaysFailure (F.failed files.now) request.now fate) }
 {
     if !asks_for_words(request) {
         return None;

@@ -1,6 +1,4 @@
 //! The files of a request, by what each is for.
-ghost use Rattle.std.specs.Prelude.{◌≡◌, map, option_map};
-ghost use Rattle.velo_words.specs.Roles.{asks_for_words, drawing_of, ignored_of, known_of, list_of, log_path_of, map_of, names_of, path_of, picture_of, report_of, saved_log_of, saved_names_of, sites_of, summaries_of, turns_of, wide_list_of, word_of, work_path_of};
 
 use velo_request::{Ignored, Request, ScheduleSource};
 
@@ -56,9 +54,7 @@ pub const ROLES: [Role; 14] = [
 ];
 
 /// The word of the command line that gives the path of a file of this role.
-pub fn word_of(role: Role) -> &'static str
-    ensures { result.now ≡ word_of role }
-{
+pub fn word_of(role: Role) -> &'static str {
     match role {
         Role::Turns => "--turns",
         Role::Names => "--names",
@@ -78,9 +74,7 @@ pub fn word_of(role: Role) -> &'static str
 }
 
 /// Whether what is wrong with a file of the request is said in words.
-pub fn asks_for_words(request: &Request) -> bool
-    ensures { result ≡ asks_for_words request.now }
-{
+pub fn asks_for_words(request: &Request) -> bool {
     match request {
         Request::Check(options) => options.why,
         Request::CheckRest(options) => options.check.why,
@@ -91,9 +85,7 @@ pub fn asks_for_words(request: &Request) -> bool
     }
 }
 
-fn turns_of<'a>(request: &Request<'a>) -> Option<&'a str>
-    ensures { option_map (λ path. path.now) result ≡ turns_of request.now }
-{
+fn turns_of<'a>(request: &Request<'a>) -> Option<&'a str> {
     match request {
         Request::Replay(options) => match options.schedule {
             ScheduleSource::File(path) => Some(path),
@@ -104,9 +96,7 @@ fn turns_of<'a>(request: &Request<'a>) -> Option<&'a str>
 }
 
 /// The path of the names, if the request has one.
-pub fn names_of<'a>(request: &Request<'a>) -> Option<&'a str>
-    ensures { option_map (λ path. path.now) result ≡ names_of request.now }
-{
+pub fn names_of<'a>(request: &Request<'a>) -> Option<&'a str> {
     match request {
         Request::Check(options) => options.names,
         Request::CheckRest(options) => options.check.names,
@@ -122,9 +112,7 @@ pub fn names_of<'a>(request: &Request<'a>) -> Option<&'a str>
 }
 
 /// What is left out, if the request leaves something out.
-pub fn ignored_of<'a>(request: &Request<'a>) -> Option<Ignored<'a>>
-    ensures { result ≡ ignored_of request.now }
-{
+pub fn ignored_of<'a>(request: &Request<'a>) -> Option<Ignored<'a>> {
     match request {
         Request::CheckRest(options) => Some(options.ignored),
         Request::Explain(options) => Some(options.ignored),
@@ -139,16 +127,12 @@ pub fn ignored_of<'a>(request: &Request<'a>) -> Option<Ignored<'a>>
 }
 
 /// The path of the list of what is left out, if the request has one.
-pub fn list_of<'a>(request: &Request<'a>) -> Option<&'a str>
-    ensures { option_map (λ path. path.now) result ≡ list_of request.now }
-{
+pub fn list_of<'a>(request: &Request<'a>) -> Option<&'a str> {
     ignored_of(request)?.known
 }
 
 /// The path of the list of known labels, if the request has one.
-fn known_of<'a>(request: &Request<'a>) -> Option<&'a str>
-    ensures { option_map (λ path. path.now) result ≡ known_of request.now }
-{
+fn known_of<'a>(request: &Request<'a>) -> Option<&'a str> {
     let ignored = ignored_of(request)?;
     if ignored.is_wide {
         return None;
@@ -157,9 +141,7 @@ fn known_of<'a>(request: &Request<'a>) -> Option<&'a str>
 }
 
 /// The path of the list of labels, locks and variables, if the request has one.
-fn wide_list_of<'a>(request: &Request<'a>) -> Option<&'a str>
-    ensures { option_map (λ path. path.now) result ≡ wide_list_of request.now }
-{
+fn wide_list_of<'a>(request: &Request<'a>) -> Option<&'a str> {
     let ignored = ignored_of(request)?;
     if !ignored.is_wide {
         return None;
@@ -168,9 +150,7 @@ fn wide_list_of<'a>(request: &Request<'a>) -> Option<&'a str>
 }
 
 /// The path of the sites, if the request has one.
-pub fn sites_of<'a>(request: &Request<'a>) -> Option<&'a str>
-    ensures { option_map (λ path. path.now) result ≡ sites_of request.now }
-{
+pub fn sites_of<'a>(request: &Request<'a>) -> Option<&'a str> {
     match request {
         Request::Explain(options) => options.sites,
         Request::WatchRest(options) => options.sites,
@@ -180,9 +160,7 @@ pub fn sites_of<'a>(request: &Request<'a>) -> Option<&'a str>
     }
 }
 
-fn log_path_of<'a>(request: &Request<'a>) -> Option<&'a str>
-    ensures { option_map (λ path. path.now) result ≡ log_path_of request.now }
-{
+fn log_path_of<'a>(request: &Request<'a>) -> Option<&'a str> {
     match request {
         Request::Check(options) => Some(options.input),
         Request::CheckRest(options) => Some(options.check.input),
@@ -200,9 +178,7 @@ fn log_path_of<'a>(request: &Request<'a>) -> Option<&'a str>
 }
 
 /// The path of the report, if the request has one.
-pub fn report_of<'a>(request: &Request<'a>) -> Option<&'a str>
-    ensures { option_map (λ path. path.now) result ≡ report_of request.now }
-{
+pub fn report_of<'a>(request: &Request<'a>) -> Option<&'a str> {
     match request {
         Request::Verify(options) => Some(options.report),
         _ => None,
@@ -210,18 +186,14 @@ pub fn report_of<'a>(request: &Request<'a>) -> Option<&'a str>
 }
 
 /// The paths of the summaries of the request.
-pub fn summaries_of<'a>(request: &Request<'a>) -> &'a [&'a str]
-    ensures { map (λ path. path.now) result.now ≡ summaries_of request.now }
-{
+pub fn summaries_of<'a>(request: &Request<'a>) -> &'a [&'a str] {
     match request {
         Request::MergeAudits(options) => options.inputs,
         _ => &[],
     }
 }
 
-fn work_path_of<'a>(request: &Request<'a>) -> Option<&'a str>
-    ensures { option_map (λ path. path.now) result ≡ work_path_of request.now }
-{
+fn work_path_of<'a>(request: &Request<'a>) -> Option<&'a str> {
     match request {
         Request::Replay(options) => Some(options.run.input),
         Request::Run(options) => Some(options.input),
@@ -231,27 +203,21 @@ fn work_path_of<'a>(request: &Request<'a>) -> Option<&'a str>
     }
 }
 
-fn picture_of<'a>(request: &Request<'a>) -> Option<&'a str>
-    ensures { option_map (λ path. path.now) result ≡ picture_of request.now }
-{
+fn picture_of<'a>(request: &Request<'a>) -> Option<&'a str> {
     match request {
         Request::Explain(options) => options.target,
         _ => None,
     }
 }
 
-fn drawing_of<'a>(request: &Request<'a>) -> Option<&'a str>
-    ensures { option_map (λ path. path.now) result ≡ drawing_of request.now }
-{
+fn drawing_of<'a>(request: &Request<'a>) -> Option<&'a str> {
     match request {
         Request::Explain(options) => options.drawing,
         _ => None,
     }
 }
 
-fn saved_log_of<'a>(request: &Request<'a>) -> Option<&'a str>
-    ensures { option_map (λ path. path.now) result ≡ saved_log_of request.now }
-{
+fn saved_log_of<'a>(request: &Request<'a>) -> Option<&'a str> {
     match request {
         Request::Carry(options) => Some(options.target),
         Request::Thin(options) => Some(options.target),
@@ -264,9 +230,7 @@ fn saved_log_of<'a>(request: &Request<'a>) -> Option<&'a str>
     }
 }
 
-fn saved_names_of<'a>(request: &Request<'a>) -> Option<&'a str>
-    ensures { option_map (λ path. path.now) result ≡ saved_names_of request.now }
-{
+fn saved_names_of<'a>(request: &Request<'a>) -> Option<&'a str> {
     match request {
         Request::Replay(options) => options.run.names_target,
         Request::Run(options) => options.names_target,
@@ -276,9 +240,7 @@ fn saved_names_of<'a>(request: &Request<'a>) -> Option<&'a str>
     }
 }
 
-fn map_of<'a>(request: &Request<'a>) -> Option<&'a str>
-    ensures { option_map (λ path. path.now) result ≡ map_of request.now }
-{
+fn map_of<'a>(request: &Request<'a>) -> Option<&'a str> {
     match request {
         Request::Thin(options) => options.map,
         _ => None,
@@ -286,9 +248,7 @@ fn map_of<'a>(request: &Request<'a>) -> Option<&'a str>
 }
 
 /// The path of the file of a role, if the request has one. Of summaries a request has any number.
-pub fn path_of<'a>(role: Role, request: &Request<'a>) -> Option<&'a str>
-    ensures { option_map (λ path. path.now) result ≡ path_of role request.now }
-{
+pub fn path_of<'a>(role: Role, request: &Request<'a>) -> Option<&'a str> {
     match role {
         Role::Turns => turns_of(request),
         Role::Names => names_of(request),

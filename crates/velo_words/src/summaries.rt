@@ -1,6 +1,4 @@
 //! What is said of a file that is no summary of logs.
-ghost use Rattle.std.specs.Prelude.{◌≡◌, IfOk, IfSome, IsSomeAnd, option_map};
-ghost use Rattle.velo_words.specs.Summaries.{no_summary_words, summary_at};
 
 use crate::roles::summaries_of;
 use std::alloc::Global;
@@ -10,9 +8,7 @@ use velo_fault_words::{Complaint, place_words};
 use velo_request::Request;
 
 /// The path of the summary of this number, counted from 1, if the request has so many.
-fn summary_at<'a>(request: &Request<'a>, file: usize) -> Option<&'a str>
-    ensures { option_map (λ path. path.now) result ≡ summary_at request.now file }
-{
+fn summary_at<'a>(request: &Request<'a>, file: usize) -> Option<&'a str> {
     if file == 0 {
         return None;
     }
@@ -20,9 +16,7 @@ fn summary_at<'a>(request: &Request<'a>, file: usize) -> Option<&'a str>
 }
 
 /// What is said of such a file, by its path.
-fn no_summary_words(alloc: Global, path: &str) -> Result<Page, Memory>
-    ensures { IfOk result (λ page. page ≡ no_summary_words path.now) }
-{
+fn no_summary_words(alloc: Global, path: &str) -> Result<Page, Memory> {
     let complaint = Complaint {
         line: 0,
         reason: "this is not a summary of logs",
@@ -32,10 +26,7 @@ fn no_summary_words(alloc: Global, path: &str) -> Result<Page, Memory>
 }
 
 /// What is said of the file of this number, counted from 1, which is no summary.
-pub(crate) fn words_of_no_summary(alloc: Global, request: &Request, file: usize) -> Option<Page>
-    ensures { IfSome result (λ page. IsSomeAnd (summary_at request.now file)
-        (λ path. page ≡ no_summary_words path)) }
-{
+pub(crate) fn words_of_no_summary(alloc: Global, request: &Request, file: usize) -> Option<Page> {
     let path = summary_at(request, file)?;
     no_summary_words(alloc, path).ok()
 }
