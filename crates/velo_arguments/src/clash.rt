@@ -28,8 +28,6 @@ pub enum Clash {
     NothingAsked,
     /// Logs are to have one summary, with an option of the audit of one.
     OneLogAlone,
-    /// Random runs are asked for, and something is to be left out of their logs.
-    RestByChance,
     /// What is left of a log is to have a certificate.
     RestCertificate,
     /// Random runs are asked for, and what a search alone has.
@@ -64,9 +62,6 @@ pub fn line_of_clash(clash: Clash) -> &'static [u8] {
         Clash::NothingAsked => b"error: the words ask for nothing\n",
         Clash::OneLogAlone => {
             b"error: a summary goes with no option but --format, --names, --sites, --events, --nodes and what leaves events out\n"
-        }
-        Clash::RestByChance => {
-            b"error: --random does not go with what leaves events out of the log\n"
         }
         Clash::RestCertificate => {
             b"error: --certificate does not go with what leaves events out of the log\n"
