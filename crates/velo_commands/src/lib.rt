@@ -14,7 +14,7 @@ pub use velo_log_commands::{CarryFault, carry_run, check_run};
 pub use velo_request::{
     AuditOptions, CarryOptions, CheckOptions, CheckRestOptions, DEFAULT_SEED, DEFAULT_TRIES,
     ExplainOptions, ExploreOptions, ExploreRestOptions, Ignorable, Ignored, Limits, MAX_RUNS,
-    MAX_SECONDS, MAX_STATES, MAX_TRIES, ManyOptions, MergeOptions, OutputFormat, PredictOptions,
+    MAX_SECONDS, MAX_STATES, MAX_TRIES, PredictOptions,
     RandomRuns, ReplayOptions, Request, RunOptions, ScheduleSource, TextOrJson, ThinOptions,
     VerifyOptions, WatchOptions, WatchRestOptions, status,
 };

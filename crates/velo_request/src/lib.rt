@@ -7,7 +7,6 @@ pub mod status;
 pub use request::{
     AuditOptions, CarryOptions, CheckOptions, CheckRestOptions, DEFAULT_SEED, DEFAULT_TRIES,
     EndlessOptions, ExplainOptions, ExploreOptions, ExploreRestOptions, Ignorable, Ignored, Limits,
-    MAX_RUNS, MAX_SECONDS, MAX_STATES, MAX_TRIES, ManyOptions, MergeOptions, OutputFormat,
-    PredictOptions, RandomRuns, ReplayOptions, Request, RunOptions, ScheduleSource, TextOrJson,
+    MAX_RUNS, MAX_SECONDS, MAX_STATES, MAX_TRIES, PredictOptions, RandomRuns, ReplayOptions, Request, RunOptions, ScheduleSource, TextOrJson,
     ThinOptions, VerifyOptions, WatchOptions, WatchRestOptions,
 };
