@@ -3,11 +3,10 @@
 use crate::growth::{with_argument, with_subcommand};
 use crate::help;
 use crate::options::{
-    ALL_EVENTS, ALL_NODES, Argument, BY_COUNT, CARRIED_LOG, CERTIFICATE, COUNTS, DELAY_SEED, DOT,
-    ENDLESS, EVENTS, FILE, FIRST, FORMAT, FOUND_LOG, IGNORE, IGNORE_LABEL, IGNORE_LOCK,
-    IGNORE_LOCKS, IGNORE_VARIABLE, INNERMOST, LOG, LOGS, MAP, MERGE, NAMES, NAMES_OUT, NO_WITNESS,
-    NODES, NOT_ATOMIC, PREDICTED_LOG, PROGRESS, RANDOM, REPORT, RUN_LOG, RUN_SEED, SCHEDULE,
-    SECONDS, SITES, SOURCE, STACKS, STATES, STOP, STOP_WATCH, SUMMARY, SVG, TEXT_OR_JSON,
+    ALL_EVENTS, ALL_NODES, Argument, CARRIED_LOG, CERTIFICATE, DELAY_SEED, ENDLESS, EVENTS, FILE,
+    FIRST, FOUND_LOG, IGNORE, IGNORE_LABEL, IGNORE_LOCK, IGNORE_LOCKS, IGNORE_VARIABLE, LOG, MAP,
+    NAMES, NAMES_OUT, NO_WITNESS, NODES, NOT_ATOMIC, PREDICTED_LOG, PROGRESS, RANDOM, REPORT,
+    RUN_LOG, RUN_SEED, SCHEDULE, SECONDS, SITES, STATES, STOP, STOP_WATCH, TEXT_OR_JSON,
     THINNED_LOG, TRIES, TURNS, VALUES, WHY, argument_of,
 };
 use clap::Command;
@@ -92,13 +91,9 @@ fn explain<'a>(alloc: Global) -> Result<Command<'a>, Memory> {
     let about = "Reads a recorded log and explains the verdict in lanes and words";
     let arguments = [
         LOG,
-        DOT,
-        SVG,
-        STACKS,
         TEXT_OR_JSON,
         NAMES,
         SITES,
-        SOURCE,
         NOT_ATOMIC,
         IGNORE,
         IGNORE_LABEL,
@@ -141,7 +136,6 @@ fn watch<'a>(alloc: Global) -> Result<Command<'a>, Memory> {
         LOG,
         NAMES,
         SITES,
-        SOURCE,
         STOP_WATCH,
         ENDLESS,
         NOT_ATOMIC,
@@ -160,17 +154,11 @@ fn watch<'a>(alloc: Global) -> Result<Command<'a>, Memory> {
 fn audit<'a>(alloc: Global) -> Result<Command<'a>, Memory> {
     let about = "Reads a recorded log and lists the labels whose blocks are not atomic";
     let arguments = [
-        LOGS,
+        LOG,
         NO_WITNESS,
-        COUNTS,
-        BY_COUNT,
-        INNERMOST,
-        SUMMARY,
-        MERGE,
-        FORMAT,
+        TEXT_OR_JSON,
         NAMES,
         SITES,
-        SOURCE,
         NOT_ATOMIC,
         IGNORE,
         IGNORE_LABEL,
@@ -211,7 +199,6 @@ fn predict<'a>(alloc: Global) -> Result<Command<'a>, Memory> {
         TEXT_OR_JSON,
         NAMES,
         SITES,
-        SOURCE,
         NOT_ATOMIC,
         IGNORE,
         IGNORE_LABEL,

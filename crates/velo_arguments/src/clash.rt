@@ -9,25 +9,16 @@ pub enum Clash {
     EndlessRest,
     /// An endless watch is to tell places.
     EndlessSites,
-    /// Logs are to have one summary, with the names or the sites of one.
-    FileOfOneLog,
     /// Both inputs are standard input.
     InputTwice,
     /// A JSON object is to have a certificate behind it.
     JsonCertificate,
-    /// Summaries are to be merged, with an option of an audit of logs.
-    MergeAlone,
     /// The names of a run are to be saved, and its log is not.
     NamesWithoutLog,
-    /// The form of an explanation, an exploration, predictions or a summary is to be neither of the
-    /// two.
+    /// The form of an answer is to be neither of the two.
     NeitherTextNorJson,
-    /// No form of an answer has this name.
-    NoSuchForm,
     /// The words ask for nothing, which the command refuses before.
     NothingAsked,
-    /// Logs are to have one summary, with an option of the audit of one.
-    OneLogAlone,
     /// What is left of a log is to have a certificate.
     RestCertificate,
     /// Random runs are asked for, and what a search alone has.
@@ -36,8 +27,6 @@ pub enum Clash {
     SeedAlone,
     /// A watch is to tell places and to have a certificate.
     SitesCertificate,
-    /// A folder of sources is given, and no sites.
-    SourceWithoutSites,
     /// Two lists of what is known are given.
     TwoLists,
     /// A schedule is given as text and as turns.
@@ -51,18 +40,12 @@ pub fn line_of_clash(clash: Clash) -> &'static [u8] {
         Clash::EndlessRest => {
             b"error: --endless does not go with what leaves events out of the log\n"
         }
-        Clash::EndlessSites => b"error: --endless goes with neither --sites nor --source\n",
-        Clash::FileOfOneLog => b"error: for a summary --names and --sites take auto alone\n",
+        Clash::EndlessSites => b"error: --endless does not go with --sites\n",
         Clash::InputTwice => b"error: standard input can be read once\n",
         Clash::JsonCertificate => b"error: --format json does not go with --certificate\n",
-        Clash::MergeAlone => b"error: --merge goes with no option but --format\n",
         Clash::NamesWithoutLog => b"error: --names-out goes only with --log\n",
         Clash::NeitherTextNorJson => b"error: --format takes text or json\n",
-        Clash::NoSuchForm => b"error: --format takes text, json, sarif or junit\n",
         Clash::NothingAsked => b"error: the words ask for nothing\n",
-        Clash::OneLogAlone => {
-            b"error: a summary goes with no option but --format, --names, --sites, --events, --nodes and what leaves events out\n"
-        }
         Clash::RestCertificate => {
             b"error: --certificate does not go with what leaves events out of the log\n"
         }
@@ -71,9 +54,8 @@ pub fn line_of_clash(clash: Clash) -> &'static [u8] {
         }
         Clash::SeedAlone => b"error: --seed goes only with --random\n",
         Clash::SitesCertificate => {
-            b"error: for a watch --certificate goes with neither --sites nor --source\n"
+            b"error: for a watch --certificate does not go with --sites\n"
         }
-        Clash::SourceWithoutSites => b"error: --source goes only with --sites\n",
         Clash::TwoLists => b"error: --ignore does not go with --not-atomic\n",
         Clash::TwoSchedules => b"error: --schedule does not go with --turns\n",
     }

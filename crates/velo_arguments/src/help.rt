@@ -173,23 +173,17 @@ the log, and how many lines are between two rows. Then it says which event close
 transactions are on it, which two events make each edge, and which blocks are to blame and why.
 Accesses to variables that make an edge by locks, too, are shown after that, where nothing is left out.
 
---svg writes the same as a drawing that a browser shows, in one file: a column for each thread, blocks
-as bars, and an arrow for each edge. --dot writes the cycle alone, for Graphviz. --format json prints the
-same for other programs, as one JSON object. docs/FORMATS.md describes it.
+--format json prints the same for other programs, as one JSON object, with the blocks that were open
+around each event of the cycle. docs/FORMATS.md describes it.
 
---stacks adds the blocks that were open around each event of the cycle, outermost first, as in the
-witness of 'velodrome audit'; with --sites each has the place of its begin, as a call stack. The JSON
-object has them always.
-
-For a log without an alarm it prints how many transactions a serial order has. It then prints no
-lanes, draws nothing, and opens neither OUT nor SVG. With --names the lanes, the words, the picture and
-the drawing have names after the numbers. A text that is too long for its lane ends in '..'.
+For a log without an alarm it prints how many transactions a serial order has, and no lanes. With
+--names the lanes and the words have names after the numbers. A text that is too long for its lane ends
+in '..'.
 
 The sites: a file that a recorder writes beside the log, 'vsites 1 SITES EVENTS', then a line
 'FILE:LINE FUNCTION' for each site, then for each event a line with the number of its site, or 0.
-With --sites the words end with the place of each event that they mention. With --source its line of
-source stands behind it, ' | LINE', if FOLDER/FILE can be read: a change of the source since the run is
-not noticed. Only one of LOG and the files of --names, --sites, --not-atomic and --ignore can be -.
+With --sites the words end with the place of each event that they mention. Only one of LOG and the files
+of --names, --sites, --not-atomic and --ignore can be -.
 
 --not-atomic, --ignore, --ignore-label, --ignore-lock, --ignore-locks and --ignore-variable are those of
 'velodrome audit'. What they name is left out, and the first alarm of what is left is explained, with
@@ -198,19 +192,15 @@ the lines of the whole log. What was left out is printed first, as 'velodrome au
 
 It uses the greatest limits, 16777216 events and 4096 nodes, which no log exceeds.
 
-OUT and SVG must be two files, and none that the command reads, by whatever path or on standard input;
-otherwise it stops before it writes to them. Devices and pipes may be given twice.
-
 Statuses, each with the lines on standard error:
   0  no alarm, or help
   2  usage; 'error: standard input can be read once'; 'error: --format takes text or json';
-     'error: --source goes only with --sites'; 'error: --ignore does not go with --not-atomic';
-     'error: LOG and OUT are one file', the same of --names, --sites, --not-atomic and --ignore, and of
-     SVG; the text is no log: 'log fault K', 'log fault K line N'; an event cannot happen:
-     'refused K at P', 'wrong value at P'; the text of --names is no file of names:
-     'names fault K line N'; the text of --sites is no file of sites, or of another log:
-     'sites fault K line N'; the text of --not-atomic or --ignore is no list: 'list fault K line N'; a
-     word of --ignore-label, --ignore-lock or --ignore-variable means nothing: 'ignored fault K'
+     'error: --ignore does not go with --not-atomic'; the text is no log: 'log fault K',
+     'log fault K line N'; an event cannot happen: 'refused K at P', 'wrong value at P'; the text of
+     --names is no file of names: 'names fault K line N'; the text of --sites is no file of sites, or of
+     another log: 'sites fault K line N'; the text of --not-atomic or --ignore is no list:
+     'list fault K line N'; a word of --ignore-label, --ignore-lock or --ignore-variable means nothing:
+     'ignored fault K'
   3  an alarm: no serial reordering of the log, or of what is left of it, exists
   5  memory or a device failed: 'out of memory', 'read failed', 'write failed', 'cannot open'
 
@@ -320,7 +310,7 @@ their numbers. The line of the alarm has numbers alone.
 is left, with the positions of the whole log. The report has no certificate, and --endless does not go
 with these options. Only one of LOG and the FILEs can be -.
 
---sites and --source are those of 'velodrome explain'. After the report come lines 'place P FILE:LINE
+--sites is that of 'velodrome explain'. After the report come lines 'place P FILE:LINE
 FUNCTION': of the event that closes the cycle, and of the begins of the blocks to blame, or without one
 of the first event of the transaction. The sites are read before the log, and are of a log that has ended:
 if they are of another number of events than LOG has at its end, or with --stop of fewer than were read,
@@ -338,14 +328,13 @@ Statuses, each with the lines on standard error:
   0  no alarm, or help
   2  usage; 'error: standard input can be read once'; 'error: --endless does not go with
      --certificate'; 'error: --endless does not go with what leaves events out of the log';
-     'error: --endless goes with neither --sites nor --source'; 'error: --certificate does not go with
-     what leaves events out of the log'; 'error: for a watch --certificate goes with neither --sites nor
-     --source'; 'error: --source goes only with --sites'; 'error: --ignore does not go with
-     --not-atomic'; the text is no log: 'log fault K', 'log fault K line N'; an event cannot happen:
-     'refused K at P', 'wrong value at P'; the text of --names is no file of names: 'names fault K line
-     N'; the text of --sites is no file of sites, or of another log: 'sites fault K line N'; the text of
-     --not-atomic or --ignore is no list: 'list fault K line N'; a word of --ignore-label, --ignore-lock
-     or --ignore-variable means nothing: 'ignored fault K'
+     'error: --endless does not go with --sites'; 'error: --certificate does not go with what leaves
+     events out of the log'; 'error: for a watch --certificate does not go with --sites'; 'error:
+     --ignore does not go with --not-atomic'; the text is no log: 'log fault K', 'log fault K line N';
+     an event cannot happen: 'refused K at P', 'wrong value at P'; the text of --names is no file of
+     names: 'names fault K line N'; the text of --sites is no file of sites, or of another log:
+     'sites fault K line N'; the text of --not-atomic or --ignore is no list: 'list fault K line N'; a
+     word of --ignore-label, --ignore-lock or --ignore-variable means nothing: 'ignored fault K'
   3  an alarm: no serial reordering of the log, or of what is left of it, exists
   4  a limit was met: 'refused 17 at P', 'refused 18 at P'
   5  memory or a device failed: 'out of memory', 'read failed', 'write failed', 'cannot open'

@@ -10,8 +10,6 @@ use velo_request::{MAX_RUNS, MAX_SECONDS, MAX_STATES, MAX_TRIES};
 pub enum Takes<'a> {
     /// It is a word that has to be there.
     Operand,
-    /// There are one or more such words.
-    Operands,
     /// Nothing.
     Nothing,
     /// A value, which help calls so.
@@ -43,12 +41,6 @@ pub const LOG: Argument<'static> = Argument {
     name: "LOG",
     takes: Takes::Operand,
     help: "The path of the log, or - for standard input",
-};
-
-pub const LOGS: Argument<'static> = Argument {
-    name: "LOG",
-    takes: Takes::Operands,
-    help: "The path of the log, or - for standard input; more than one have one summary",
 };
 
 pub const FILE: Argument<'static> = Argument {
@@ -109,30 +101,6 @@ pub const SITES: Argument<'static> = Argument {
     name: "sites",
     takes: Takes::Value("FILE"),
     help: "Read where in the source each event happened; - is standard input",
-};
-
-pub const SOURCE: Argument<'static> = Argument {
-    name: "source",
-    takes: Takes::Value("FOLDER"),
-    help: "Print the lines of source at these places, from the files below FOLDER",
-};
-
-pub const STACKS: Argument<'static> = Argument {
-    name: "stacks",
-    takes: Takes::Nothing,
-    help: "Print the blocks that were open around each event of the cycle",
-};
-
-pub const DOT: Argument<'static> = Argument {
-    name: "dot",
-    takes: Takes::Value("OUT"),
-    help: "Write the cycle of an alarm to OUT, as a Graphviz picture",
-};
-
-pub const SVG: Argument<'static> = Argument {
-    name: "svg",
-    takes: Takes::Value("SVG"),
-    help: "Write the explanation of an alarm to SVG, as a drawing",
 };
 
 pub const CERTIFICATE: Argument<'static> = Argument {
@@ -279,46 +247,10 @@ pub const NO_WITNESS: Argument<'static> = Argument {
     help: "Print no witnesses",
 };
 
-pub const FORMAT: Argument<'static> = Argument {
-    name: "format",
-    takes: Takes::Value("FORM"),
-    help: "Print the answer as text, json, sarif or junit [default: text]",
-};
-
 pub const TEXT_OR_JSON: Argument<'static> = Argument {
     name: "format",
     takes: Takes::Value("FORM"),
     help: "Print the answer as text or json [default: text]",
-};
-
-pub const COUNTS: Argument<'static> = Argument {
-    name: "counts",
-    takes: Takes::Nothing,
-    help: "Print after each label how many of its blocks are to blame",
-};
-
-pub const BY_COUNT: Argument<'static> = Argument {
-    name: "by-count",
-    takes: Takes::Nothing,
-    help: "Print the labels with the most blocks to blame first",
-};
-
-pub const INNERMOST: Argument<'static> = Argument {
-    name: "innermost",
-    takes: Takes::Nothing,
-    help: "Print only labels with a block to blame that has no other one inside it",
-};
-
-pub const SUMMARY: Argument<'static> = Argument {
-    name: "summary",
-    takes: Takes::Nothing,
-    help: "Print one summary, of one log too",
-};
-
-pub const MERGE: Argument<'static> = Argument {
-    name: "merge",
-    takes: Takes::Nothing,
-    help: "Make one summary of several: each LOG is one, as --format json prints it",
 };
 
 const EVENTS_HELP: &str = "The most events that the log may have, 1 to 16777216";
@@ -357,14 +289,6 @@ fn word<'a>(alloc: Global, name: &'a str, help: &'a str) -> Arg<'a> {
         .action(ArgAction::Set)
 }
 
-/// One or more operands.
-fn words<'a>(alloc: Global, name: &'a str, help: &'a str) -> Arg<'a> {
-    Arg::new(alloc, name)
-        .help(help)
-        .required(true)
-        .action(ArgAction::Append)
-}
-
 /// An option with a value, under its name.
 fn valued<'a>(alloc: Global, name: &'a str, value: &'a str, help: &'a str) -> Arg<'a> {
     Arg::new(alloc, name)
@@ -391,7 +315,6 @@ pub fn argument_of<'a>(alloc: Global, argument: &Argument<'a>) -> Arg<'a> {
     let (name, help) = (argument.name, argument.help);
     match argument.takes {
         Takes::Operand => word(alloc, name, help),
-        Takes::Operands => words(alloc, name, help),
         Takes::Nothing => flag(alloc, name, help),
         Takes::Value(value) => valued(alloc, name, value, help),
         Takes::Needed(value) => valued(alloc, name, value, help).required(true),

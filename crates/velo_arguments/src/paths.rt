@@ -41,21 +41,6 @@ pub fn clash_of_files(
     }
 }
 
-/// How many of these paths are that of standard input.
-fn count_standard_inputs(paths: &[&str]) -> usize {
-    paths.iter().filter(|path| **path == "-").count()
-}
-
-/// A list of what is known and logs beside it are not to be there twice either.
-pub fn clash_of_many_inputs(known: Option<&str>, logs: &[&str]) -> Option<Clash> {
-    let count = count_standard_inputs(logs);
-    if count > 1 || count == 1 && is_standard_input(known) {
-        Some(Clash::InputTwice)
-    } else {
-        None
-    }
-}
-
 /// The names of a run are saved beside its log.
 pub fn clash_of_targets(log: Option<&str>, names: Option<&str>) -> Option<Clash> {
     match (log, names) {

@@ -1,18 +1,20 @@
 //! What the matches of the command line ask for.
+ghost use Rattle.std.specs.Prelude.{◌≤◌, IfSome};
 
-use crate::given::is_given;
 use crate::ignored::{leaves_out, left_out};
 use clap::ArgMatches;
 use velo_events::{MAX_EVENTS, MAX_NODES};
 use velo_request::{
     AuditOptions, CarryOptions, CheckOptions, DEFAULT_SEED, EndlessOptions, ExplainOptions,
-    ExploreOptions, Limits, MAX_RUNS, MAX_SECONDS, MAX_STATES, MAX_TRIES, ManyOptions,
-    MergeOptions, OutputFormat, PredictOptions, RandomRuns, ReplayOptions, Request, RunOptions,
-    ScheduleSource, TextOrJson, ThinOptions, VerifyOptions, WatchOptions, WatchRestOptions,
+    ExploreOptions, Limits, MAX_RUNS, MAX_SECONDS, MAX_STATES, MAX_TRIES, PredictOptions,
+    RandomRuns, ReplayOptions, Request, RunOptions, ScheduleSource, TextOrJson, ThinOptions,
+    VerifyOptions, WatchOptions, WatchRestOptions,
 };
 
 /// Reads a number from 1 to `most`; none where it is missing or out of this range.
-fn number_of(found: &ArgMatches, option: &str, most: u32) -> Option<u32> {
+fn number_of(found: &ArgMatches, option: &str, most: u32) -> Option<u32>
+    ensures { IfSome result (λ n. (1 ≤ n) × (n ≤ most)) }
+{
     let number = found.get_one::<u32>(option)?;
     if number < 1 || number > most {
         return None;
@@ -43,7 +45,7 @@ fn check_options<'a>(found: &ArgMatches<'a>) -> Option<CheckOptions<'a>> {
 /// Whether a watch is asked for more than the report of the whole log: something is left out, or places are
 /// told.
 fn asks_more(options: &WatchRestOptions) -> bool {
-    leaves_out(&options.ignored) || options.sites.is_some() || options.source.is_some()
+    leaves_out(&options.ignored) || options.sites.is_some()
 }
 
 /// Where the turns of this word are: what follows an `@` is a path.
@@ -81,7 +83,7 @@ fn run_options<'a>(found: &ArgMatches<'a>) -> Option<RunOptions<'a>> {
     })
 }
 
-/// The one of the two forms that a word names, if it names one.
+/// The form that a word names, if it names one.
 pub fn text_or_json_named(word: &str) -> Option<TextOrJson> {
     match word {
         "text" => Some(TextOrJson::Text),
@@ -90,7 +92,7 @@ pub fn text_or_json_named(word: &str) -> Option<TextOrJson> {
     }
 }
 
-/// The one of the two that is asked for: text, where no other one is named.
+/// The form that is asked for: text, where no other one is named.
 fn text_or_json_of(word: Option<&str>) -> TextOrJson {
     word.and_then(text_or_json_named)
         .unwrap_or(TextOrJson::Text)
@@ -99,13 +101,9 @@ fn text_or_json_of(word: Option<&str>) -> TextOrJson {
 fn explain_options<'a>(found: &'a ArgMatches) -> Option<ExplainOptions<'a>> {
     Some(ExplainOptions {
         input: found.get_str("LOG")?,
-        target: found.get_str("dot"),
-        drawing: found.get_str("svg"),
-        stacks: found.get_flag("stacks"),
         format: text_or_json_of(found.get_str("format")),
         names: found.get_str("names"),
         sites: found.get_str("sites"),
-        source: found.get_str("source"),
         ignored: left_out(found),
     })
 }
@@ -191,7 +189,6 @@ fn watch_request<'a>(found: &'a ArgMatches) -> Option<Request<'a>> {
     let rest = WatchRestOptions {
         watch,
         sites: found.get_str("sites"),
-        source: found.get_str("source"),
         ignored: left_out(found),
     };
     if asks_more(&rest) {
@@ -200,81 +197,16 @@ fn watch_request<'a>(found: &'a ArgMatches) -> Option<Request<'a>> {
     Some(Request::Watch(watch))
 }
 
-/// The form of an answer that a word names, if it names one.
-pub fn form_named(word: &str) -> Option<OutputFormat> {
-    match word {
-        "text" => Some(OutputFormat::Text),
-        "json" => Some(OutputFormat::Json),
-        "sarif" => Some(OutputFormat::Sarif),
-        "junit" => Some(OutputFormat::Junit),
-        _ => None,
-    }
-}
-
-/// The form that is asked for: text, where no other one is named.
-fn form_of(word: Option<&str>) -> OutputFormat {
-    word.and_then(form_named).unwrap_or(OutputFormat::Text)
-}
-
 fn audit_options<'a>(found: &'a ArgMatches) -> Option<AuditOptions<'a>> {
     Some(AuditOptions {
         input: found.get_str("LOG")?,
         names: found.get_str("names"),
         sites: found.get_str("sites"),
-        source: found.get_str("source"),
         ignored: left_out(found),
         witness: !found.get_flag("no-witness"),
-        counts: found.get_flag("counts"),
-        by_count: found.get_flag("by-count"),
-        innermost: found.get_flag("innermost"),
-        format: form_of(found.get_str("format")),
-        limits: limits_of(found)?,
-    })
-}
-
-/// The words of the operand of an audit, in the order in which they are given.
-fn operands<'a>(found: &'a ArgMatches) -> &'a [&'a str] {
-    found.get_strs("LOG").unwrap_or(&[])
-}
-
-/// Whether the logs have one summary: there are several, or it is asked for.
-fn has_summary(found: &ArgMatches) -> bool {
-    is_given(found, "summary") || operands(found).len() > 1
-}
-
-/// Whether the word asks for the files beside the logs.
-pub fn is_auto(word: Option<&str>) -> bool {
-    matches!(word, Some("auto"))
-}
-
-fn many_options<'a>(found: &'a ArgMatches) -> Option<ManyOptions<'a>> {
-    Some(ManyOptions {
-        inputs: operands(found),
-        names: is_auto(found.get_str("names")),
-        sites: is_auto(found.get_str("sites")),
-        ignored: left_out(found),
         format: text_or_json_of(found.get_str("format")),
         limits: limits_of(found)?,
     })
-}
-
-fn merge_options<'a>(found: &'a ArgMatches) -> MergeOptions<'a> {
-    MergeOptions {
-        inputs: operands(found),
-        format: text_or_json_of(found.get_str("format")),
-    }
-}
-
-/// What an audit is asked for: of one log, of logs that have one summary, or of summaries; none where
-/// a word is missing or a limit is out of its range.
-fn audit_request<'a>(found: &'a ArgMatches) -> Option<Request<'a>> {
-    if is_given(found, "merge") {
-        return Some(Request::MergeAudits(merge_options(found)));
-    }
-    if has_summary(found) {
-        return Some(Request::AuditMany(many_options(found)?));
-    }
-    Some(Request::Audit(audit_options(found)?))
 }
 
 fn thin_options<'a>(found: &'a ArgMatches) -> Option<ThinOptions<'a>> {
@@ -300,7 +232,6 @@ fn predict_options<'a>(found: &'a ArgMatches) -> Option<PredictOptions<'a>> {
         input: found.get_str("LOG")?,
         names: found.get_str("names"),
         sites: found.get_str("sites"),
-        source: found.get_str("source"),
         ignored: left_out(found),
         values: found.get_flag("values"),
         tries: number_of(found, "tries", MAX_TRIES)?,
@@ -323,7 +254,7 @@ pub fn request_of<'a>(matches: &'a ArgMatches) -> Option<Request<'a>> {
         "carry" => Some(Request::Carry(carry_options(found)?)),
         "explore" => Some(Request::Explore(explore_options(found)?)),
         "watch" => watch_request(found),
-        "audit" => audit_request(found),
+        "audit" => Some(Request::Audit(audit_options(found)?)),
         "thin" => Some(Request::Thin(thin_options(found)?)),
         "predict" => Some(Request::Predict(predict_options(found)?)),
         "verify" => Some(Request::Verify(verify_options(found)?)),

@@ -3,15 +3,12 @@
 use crate::clash::Clash;
 use crate::given::{Given, given_by};
 use crate::ignored::leaves_out;
-use crate::paths::{
-    clash_of_files, clash_of_inputs, clash_of_many_inputs, clash_of_targets, path_of_schedule,
-};
+use crate::paths::{clash_of_files, clash_of_inputs, clash_of_targets, path_of_schedule};
 use crate::requests::request_of;
 use clap::ArgMatches;
 use velo_request::{
-    AuditOptions, EndlessOptions, ExplainOptions, ExploreOptions, Ignored, ManyOptions,
-    MergeOptions, PredictOptions, RandomRuns, ReplayOptions, Request, ScheduleSource, TextOrJson,
-    ThinOptions, WatchRestOptions,
+    AuditOptions, EndlessOptions, ExplainOptions, ExploreOptions, Ignored, PredictOptions,
+    RandomRuns, ReplayOptions, Request, ScheduleSource, TextOrJson, ThinOptions, WatchRestOptions,
 };
 
 /// Why the options of the request do not go together, if they do not, where the words give these.
@@ -27,8 +24,6 @@ fn clash_of(request: &Request, given: Given) -> Option<Clash> {
         Request::WatchEndless(options) => clash_of_endless(options, given),
         Request::WatchRest(options) => clash_of_watch_rest(options, given.not_atomic),
         Request::Audit(options) => clash_of_audit(options, given),
-        Request::AuditMany(options) => clash_of_many(options, given),
-        Request::MergeAudits(options) => clash_of_merge(options, given),
         Request::Thin(options) => clash_of_thin(options, given.not_atomic),
         Request::Predict(options) => clash_of_predict(options, given),
         Request::Verify(options) => clash_of_inputs(options.input, Some(options.report)),
@@ -61,14 +56,13 @@ fn clash_of_explain(options: &ExplainOptions, given: Given) -> Option<Clash> {
         options.sites,
         options.ignored.known,
     )
-    .or(clash_of_source(options.sites, options.source))
     .or(clash_of_lists(&options.ignored, given.not_atomic))
 }
 
-/// An audit has a form that there is, and no clash of its paths.
+/// An audit has one of two forms, and no clash of its paths.
 fn clash_of_audit(options: &AuditOptions, given: Given) -> Option<Clash> {
-    if given.other_form {
-        return Some(Clash::NoSuchForm);
+    if given.neither_text_nor_json {
+        return Some(Clash::NeitherTextNorJson);
     }
     clash_of_files(
         options.input,
@@ -76,37 +70,7 @@ fn clash_of_audit(options: &AuditOptions, given: Given) -> Option<Clash> {
         options.sites,
         options.ignored.known,
     )
-    .or(clash_of_source(options.sites, options.source))
     .or(clash_of_lists(&options.ignored, given.not_atomic))
-}
-
-/// A summary has one of two forms, and neither options nor files of one log, and no clash of the paths.
-fn clash_of_many(options: &ManyOptions, given: Given) -> Option<Clash> {
-    if given.neither_text_nor_json {
-        return Some(Clash::NeitherTextNorJson);
-    }
-    if given.of_one_log {
-        return Some(Clash::OneLogAlone);
-    }
-    if given.file_of_one_log {
-        return Some(Clash::FileOfOneLog);
-    }
-    clash_of_many_inputs(options.ignored.known, options.inputs).or(clash_of_lists(
-        &options.ignored,
-        given.not_atomic,
-    ))
-}
-
-/// Summaries are merged in one of two forms, without an option of an audit, and without a clash of
-/// their paths.
-fn clash_of_merge(options: &MergeOptions, given: Given) -> Option<Clash> {
-    if given.neither_text_nor_json {
-        return Some(Clash::NeitherTextNorJson);
-    }
-    if given.of_logs {
-        return Some(Clash::MergeAlone);
-    }
-    clash_of_many_inputs(None, options.inputs)
 }
 
 /// Predictions have one of two forms, and no clash of their paths.
@@ -120,7 +84,6 @@ fn clash_of_predict(options: &PredictOptions, given: Given) -> Option<Clash> {
         options.sites,
         options.ignored.known,
     )
-    .or(clash_of_source(options.sites, options.source))
     .or(clash_of_lists(&options.ignored, given.not_atomic))
 }
 
@@ -142,17 +105,9 @@ fn clash_of_watch_rest(options: &WatchRestOptions, has_known: bool) -> Option<Cl
     if watch.certificate {
         return Some(Clash::SitesCertificate);
     }
-    clash_of_files(watch.input, watch.names, options.sites, ignored.known)
-        .or(clash_of_source(options.sites, options.source))
-        .or(clash_of_lists(ignored, has_known))
-}
-
-/// Lines of source are printed at sites.
-fn clash_of_source(sites: Option<&str>, source: Option<&str>) -> Option<Clash> {
-    match (sites, source) {
-        (None, Some(_)) => Some(Clash::SourceWithoutSites),
-        _ => None,
-    }
+    clash_of_files(watch.input, watch.names, options.sites, ignored.known).or(clash_of_lists(
+        ignored, has_known,
+    ))
 }
 
 /// One list is read: a wide one, or that of `--not-atomic`.
@@ -172,7 +127,7 @@ fn clash_of_endless(options: &EndlessOptions, given: Given) -> Option<Clash> {
     if given.leaves_out {
         return Some(Clash::EndlessRest);
     }
-    if given.tells_places {
+    if given.sites {
         return Some(Clash::EndlessSites);
     }
     clash_of_inputs(options.input, options.names)

@@ -1,2 +1,1 @@
-mod OnAuditing
-mod OnPredicting
+mod OnFindings

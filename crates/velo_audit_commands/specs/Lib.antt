@@ -1,3 +1,2 @@
 pub mod Auditing
-pub mod Commands
 pub mod Predicting

@@ -1,23 +1,16 @@
 //! `velodrome audit`.
-ghost use Rattle.std.specs.Prelude.{◌≡◌, ◌≤◌, All, false, length, IfErr, IfOk, IsFalse, IsTrue};
+ghost use Rattle.std.specs.Prelude.{◌≡◌, ◌≤◌, false, length, IfOk, IsFalse, IsTrue};
 ghost use Rattle.velo_events.specs.declared.limits.TheConstants.{MAX_EVENTS};
 ghost use Rattle.velo_events.specs.Graph.{HasCycle};
 ghost use Rattle.velo_events.specs.Reordering.{IsSerializable};
 ghost use Rattle.velo_events.specs.WellFormed.{IsWellFormed};
 ghost use Rattle.velo_filter.specs.Tables.{left_of};
-ghost use Rattle.velo_audit.specs.Audit.{TellsTruly};
-ghost use Rattle.velo_audit_commands.specs.Auditing.{AreRoundsOf, Audits, AuditsIfOf, AuditsInput, LacksRounds, PrintsRounds, is_found, left_out_at_last};
-ghost use Rattle.velo_inputs.specs.Leaving.{left_out_at_first};
-ghost use Rattle.velo_delivery.specs.Disk.{store};
-ghost use Rattle.velo_audit_commands.specs.Commands.{AuditsLog, DoesAudit};
-ghost use Rattle.velo_delivery.specs.Reading.{reading};
-ghost use Rattle.velo_delivery.specs.Writing.{writing};
+ghost use Rattle.velo_audit_commands.specs.Auditing.{AreRoundsOf};
 
 use crate::command::{Command, Inquiry};
 use crate::page::page_of;
 use std::alloc::Global;
 use velo_audit::{AuditFault, Told, audit_checked, count_labels_left};
-use velo_audit_text::Asked;
 use velo_bytes::{Sink, Source};
 use velo_delivery::{Files, Operand};
 use velo_events::{Bounds, Config, Memory, Refusal};
@@ -30,6 +23,7 @@ use velo_inputs::{
 use velo_names::Names;
 use velo_request::AuditOptions;
 use velo_sites::Sites;
+use velo_text::Asked;
 use velo_traces::Trace;
 use velo_world::Closed;
 
@@ -44,16 +38,6 @@ pub fn is_clean(closed: &Closed) -> bool
     }
 }
 
-/// Whether a round found a label.
-fn is_found(rounds: &[Told]) -> bool
-    ensures { result ≡ is_found rounds.now }
-{
-    match rounds.first() {
-        None => false,
-        Some(_) => true,
-    }
-}
-
 /// Prints the rounds, as a whole.
 fn tell_rounds<O: Sink>(
     inquiry: &Inquiry<AuditOptions>,
@@ -65,19 +49,13 @@ fn tell_rounds<O: Sink>(
 ) -> Fate
     requires few { length log.now.events ≤ MAX_EVENTS }
     requires well_formed { IsWellFormed bounds log.now.events }
-    requires truly { All (TellsTruly log.now.events) rounds.now }
-    requires left { left_of left.now
-        ≡ left_out_at_last log.now.events (left_out_at_first inquiry.now.asked.now) rounds.now }
-    ensures { PrintsRounds inquiry.now.names.now inquiry.now.sites.now log.now.events
-        inquiry.now.asked.now inquiry.now.options.now rounds.now
-        (writing O.contents O.failures out.old out.new) result }
 {
     let atomic = match count_labels_left(inquiry.alloc, log, left) {
         Ok(atomic) => atomic,
         Err(Memory) => return Fate::Memory,
     };
     match page_of(inquiry, bounds, log, rounds, atomic) {
-        Ok(text) => print(text.as_slice(), is_found(rounds), out),
+        Ok(text) => print(text.as_slice(), !rounds.is_empty(), out),
         Err(Memory) => Fate::Memory,
     }
 }
@@ -91,7 +69,6 @@ pub fn rounds_of(
     config: &Config,
     log: &Trace,
     clean: bool,
-    asked: &Asked,
     witness: bool,
     left: &mut LeftOut,
 ) -> Result<Vec<Told>, Fate>
@@ -99,13 +76,8 @@ pub fn rounds_of(
     requires short { length log.now.events ≤ config.now.events }
     requires well_formed { IsWellFormed config.now.bounds log.now.events }
     requires clean { IsTrue clean → ¬ HasCycle log.now.events }
-    requires left { left_of left.old ≡ left_out_at_first asked.now }
     ensures rounds { IfOk result (λ rounds.
-        AreRoundsOf witness log.now.events (left_out_at_first asked.now) rounds.items) }
-    ensures left { IfOk result (λ rounds. left_of left.new
-        ≡ left_out_at_last log.now.events (left_out_at_first asked.now) rounds.items) }
-    ensures fault { IfErr result (λ fate.
-        LacksRounds asked.now config.now.nodes config.now.bounds log.now.events fate) }
+        AreRoundsOf witness log.now.events (left_of left.old) rounds.items) }
 {
     match audit_checked(alloc, config, log, clean, left, witness) {
         Ok(rounds) => Ok(rounds),
@@ -125,10 +97,6 @@ fn audit_rest<O: Sink>(
     out: &mut O,
 ) -> Fate
     requires short { length closed.now.log ≤ inquiry.now.options.now.limits.events }
-    requires left { left_of left.old ≡ left_out_at_first inquiry.now.asked.now }
-    ensures { Audits inquiry.now.names.now inquiry.now.sites.now inquiry.now.asked.now
-        inquiry.now.options.now closed.now.config.bounds closed.now.log
-        (writing O.contents O.failures out.old out.new) result }
 {
     let config = config_of_rounds(closed, inquiry.options.limits);
     let log = closed.log();
@@ -137,7 +105,6 @@ fn audit_rest<O: Sink>(
         &config,
         log,
         is_clean(closed),
-        inquiry.asked,
         inquiry.options.witness,
         left,
     ) {
@@ -153,9 +120,6 @@ fn audit_rest<O: Sink>(
 /// Audits the log of a closed world.
 fn audit_closed<O: Sink>(inquiry: &Inquiry<AuditOptions>, closed: &Closed, out: &mut O) -> Fate
     requires short { length closed.now.log ≤ inquiry.now.options.now.limits.events }
-    ensures { Audits inquiry.now.names.now inquiry.now.sites.now inquiry.now.asked.now
-        inquiry.now.options.now closed.now.config.bounds closed.now.log
-        (writing O.contents O.failures out.old out.new) result }
 {
     match left_out(inquiry.alloc, inquiry.asked) {
         Ok(mut left) => {
@@ -170,9 +134,6 @@ fn audit_closed<O: Sink>(inquiry: &Inquiry<AuditOptions>, closed: &Closed, out: 
 /// Audits the log of a closed world, if the sites are of it.
 fn audit_if_of<O: Sink>(inquiry: &Inquiry<AuditOptions>, closed: &Closed, out: &mut O) -> Fate
     requires short { length closed.now.log ≤ inquiry.now.options.now.limits.events }
-    ensures { AuditsIfOf inquiry.now.names.now inquiry.now.sites.now inquiry.now.asked.now
-        inquiry.now.options.now closed.now.config.bounds closed.now.log
-        (writing O.contents O.failures out.old out.new) result }
 {
     if !are_of_log(inquiry.sites, closed.log()) {
         return Fate::OtherSites;
@@ -185,12 +146,7 @@ fn audit_log<I: Source, O: Sink>(
     inquiry: &Inquiry<AuditOptions>,
     source: &mut I,
     out: &mut O,
-) -> Fate
-    ensures { AuditsInput inquiry.now.names.now inquiry.now.sites.now inquiry.now.asked.now
-        inquiry.now.options.now
-        (reading I.remaining I.failures source.old source.new)
-        (writing O.contents O.failures out.old out.new) result }
-{
+) -> Fate {
     let limits = inquiry.options.limits;
     match do_input(inquiry.alloc, source, limits.events, limits.nodes) {
         Ok(closed) => {
@@ -203,11 +159,11 @@ fn audit_log<I: Source, O: Sink>(
 }
 
 /// Audits the log that was asked for, and reports it by the names and with the sites.
-fn audit_input<F: Files, O: Sink>(inquiry: &Inquiry<AuditOptions>, files: &F, out: &mut O) -> Fate
-    ensures { AuditsLog inquiry.now.names.now inquiry.now.sites.now inquiry.now.asked.now
-        inquiry.now.options.now (store F.disk files.now files.now)
-        (writing O.contents O.failures out.old out.new) result }
-{
+fn audit_input<F: Files, O: Sink>(
+    inquiry: &Inquiry<AuditOptions>,
+    files: &F,
+    out: &mut O,
+) -> Fate {
     match open_input(files, Operand::Log, inquiry.options.input, None) {
         Ok(mut log) => audit_log(inquiry, &mut log, out),
         Err(fate) => fate,
@@ -215,8 +171,6 @@ fn audit_input<F: Files, O: Sink>(inquiry: &Inquiry<AuditOptions>, files: &F, ou
 }
 
 impl InContext for Command<'_, AuditOptions<'_>> {
-    ghost does = { λ command names asked sites. AuditsLog names sites asked command.options.now };
-
     fn do_in<F: Files, O: Sink>(
         &self,
         alloc: Global,
@@ -243,15 +197,11 @@ pub fn audit_file<F: Files, O: Sink>(
     options: &AuditOptions,
     files: &mut F,
     out: &mut O,
-) -> Fate
-    ensures { DoesAudit options.now (store F.disk files.old files.new)
-        (writing O.contents O.failures out.old out.new) result }
-{
+) -> Fate {
     let context = ContextOptions {
         names: options.names,
         ignored: options.ignored,
         sites: options.sites,
-        source: options.source,
     };
     do_in_context(alloc, &Command { options }, &context, files, out)
 }

@@ -1,8 +1,8 @@
 //! A command, by what it was asked for.
 use std::alloc::Global;
-use velo_audit_text::Asked;
 use velo_names::Names;
 use velo_sites::Sites;
+use velo_text::Asked;
 
 /// A command that is done in a context: what it was asked for.
 #[derive(Clone, Copy)]

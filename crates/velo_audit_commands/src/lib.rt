@@ -5,6 +5,7 @@ mod auditing;
 mod command;
 mod page;
 mod predicting;
+mod saved_trace;
 
 pub use auditing::audit_file;
 pub use predicting::predict_file;

@@ -1,29 +1,18 @@
 //! `velodrome predict`.
-ghost use Rattle.std.specs.Prelude.{◌≡◌, ◌≤◌, Some, false, true, length, option_map, IfOk};
-ghost use Rattle.std.specs.Option.{option_copied};
+ghost use Rattle.std.specs.Prelude.{◌≡◌, ◌≤◌, false, length, IfOk};
 ghost use Rattle.velo_events.specs.declared.limits.TheConstants.{MAX_EVENTS};
 ghost use Rattle.velo_events.specs.WellFormed.{IsWellFormed};
-ghost use Rattle.velo_logtext.specs.Text.{log_text};
 ghost use Rattle.velo_filter.specs.Tables.{left_of};
 ghost use Rattle.velo_delays.specs.Deadlock.{AreDeadlocksIn};
 ghost use Rattle.velo_delays.specs.Found.{AreFoundIn};
-ghost use Rattle.velo_worker.specs.declared.ending.Ending.TheVariants.{Done};
-ghost use Rattle.velo_delivery.specs.Disk.{store};
-ghost use Rattle.velo_delivery.specs.Reading.{reading};
-ghost use Rattle.velo_delivery.specs.Writing.{writing};
-ghost use Rattle.velo_fate.specs.declared.fate.Fate.TheVariants.{Finished};
-ghost use Rattle.velo_audit_commands.specs.Auditing.{AreRoundsOf, left_out_at_last};
-ghost use Rattle.velo_inputs.specs.Leaving.{left_out_at_first};
-ghost use Rattle.velo_audit_commands.specs.Commands.{DoesPredict, PredictsLog, context_of_predict};
-ghost use Rattle.velo_audit_commands.specs.Predicting.{ArePredictionsOf, Predicts, PredictsIfOf, PredictsInput, first_trace, predicted};
-ghost use Rattle.velo_inputs.specs.Sending.{DeliversOrLacks};
+ghost use Rattle.velo_audit_commands.specs.Predicting.{ArePredictionsOf};
 
 use crate::auditing::{is_clean, rounds_of};
 use crate::command::{Command, Inquiry};
 use crate::page::page_of_predictions;
+use crate::saved_trace::trace_text;
 use std::alloc::Global;
 use velo_audit::Told;
-use velo_audit_text::Asked;
 use velo_bytes::{Sink, Source};
 use velo_delays::{Deadlock, Draws, PredictedCycle, search, search_deadlocks, with_lines};
 use velo_delivery::{Files, Operand};
@@ -35,9 +24,9 @@ use velo_inputs::{
     print, reads_of, save_text,
 };
 use velo_names::Names;
-use velo_predict_text::{PredictedFindings, is_something_told, trace_text};
 use velo_request::PredictOptions;
 use velo_sites::Sites;
+use velo_text::{Asked, PredictedFindings, is_something_told};
 use velo_traces::Trace;
 use velo_world::Closed;
 
@@ -53,7 +42,6 @@ fn search_in(
     requires goes_on { config.now.stop ≡ false }
     requires few { length log.now.events ≤ MAX_EVENTS }
     requires well_formed { IsWellFormed config.now.bounds log.now.events }
-    ensures rounds { IfOk result (λ findings. findings.rounds.items ≡ rounds.items) }
     ensures cycles { IfOk result (λ findings. AreFoundIn config.now.bounds log.now.events
         (left_of left.old) findings.cycles.items) }
     ensures deadlocks { IfOk result (λ findings. AreDeadlocksIn config.now.bounds log.now.events
@@ -86,7 +74,6 @@ fn search_log(
     requires goes_on { config.now.stop ≡ false }
     requires few { length log.now.events ≤ MAX_EVENTS }
     requires well_formed { IsWellFormed config.now.bounds log.now.events }
-    ensures rounds { IfOk result (λ findings. findings.rounds.items ≡ rounds.items) }
     ensures predictions { IfOk result (λ findings. ArePredictionsOf inquiry.now.options.now.values
         config.now.bounds log.now.events (left_of left.old) findings) }
 {
@@ -99,9 +86,7 @@ fn search_log(
 }
 
 /// The trace that is told first, if there is one.
-fn first_trace<'f>(cycles: &'f [PredictedCycle], deadlocks: &'f [Deadlock]) -> Option<&'f [Event]>
-    ensures { option_copied result ≡ first_trace cycles.now deadlocks.now }
-{
+fn first_trace<'f>(cycles: &'f [PredictedCycle], deadlocks: &'f [Deadlock]) -> Option<&'f [Event]> {
     match (cycles.first(), deadlocks.first()) {
         (Some(found), _) => Some(found.trace.as_slice()),
         (None, Some(deadlock)) => Some(deadlock.trace.as_slice()),
@@ -118,16 +103,7 @@ fn save_and_print<F: Files, O: Sink>(
     trace: Option<&[Event]>,
     files: &mut F,
     out: &mut O,
-) -> Fate
-    ensures { DeliversOrLacks
-        (record {
-          saved = option_map (log_text bounds) (option_copied trace.entry);
-          printed = Some words.now;
-          fate = Finished Done alarm;
-        })
-        (store F.disk files.old files.new) inquiry.now.options.now.target
-        (writing O.contents O.failures out.old out.new) result }
-{
+) -> Fate {
     let Some(events) = trace else {
         return print(words, alarm, out);
     };
@@ -152,19 +128,7 @@ fn tell<F: Files, O: Sink>(
     findings: &PredictedFindings,
     files: &mut F,
     out: &mut O,
-) -> Fate
-    requires few { length log.now.events ≤ MAX_EVENTS }
-    requires well_formed { IsWellFormed bounds log.now.events }
-    requires rounds { AreRoundsOf true log.now.events (left_out_at_first inquiry.now.asked.now)
-        findings.now.rounds.items }
-    requires found { ArePredictionsOf inquiry.now.options.now.values bounds log.now.events
-        (left_out_at_last log.now.events (left_out_at_first inquiry.now.asked.now)
-        findings.now.rounds.items) findings.now }
-    ensures { DeliversOrLacks (predicted inquiry.now.names.now inquiry.now.sites.now
-        inquiry.now.options.now bounds log.now.events inquiry.now.asked.now findings.now)
-        (store F.disk files.old files.new) inquiry.now.options.now.target
-        (writing O.contents O.failures out.old out.new) result }
-{
+) -> Fate {
     let made = page_of_predictions(inquiry, log, findings);
     let words = match made {
         Ok(words) => words,
@@ -188,12 +152,6 @@ fn predict_after<F: Files, O: Sink>(
     requires goes_on { config.now.stop ≡ false }
     requires few { length log.now.events ≤ MAX_EVENTS }
     requires well_formed { IsWellFormed config.now.bounds log.now.events }
-    requires rounds { AreRoundsOf true log.now.events (left_out_at_first inquiry.now.asked.now) rounds.items }
-    requires left { left_of left.old
-        ≡ left_out_at_last log.now.events (left_out_at_first inquiry.now.asked.now) rounds.items }
-    ensures { Predicts inquiry.now.names.now inquiry.now.sites.now inquiry.now.asked.now
-        inquiry.now.options.now config.now.bounds log.now.events (store F.disk files.old files.new)
-        (writing O.contents O.failures out.old out.new) result }
 {
     match search_log(inquiry, config, log, rounds, left) {
         Ok(findings) => {
@@ -214,10 +172,6 @@ fn predict_rest<F: Files, O: Sink>(
     out: &mut O,
 ) -> Fate
     requires short { length closed.now.log ≤ inquiry.now.options.now.limits.events }
-    requires left { left_of left.old ≡ left_out_at_first inquiry.now.asked.now }
-    ensures { Predicts inquiry.now.names.now inquiry.now.sites.now inquiry.now.asked.now inquiry.now.options.now
-        closed.now.config.bounds closed.now.log (store F.disk files.old files.new)
-        (writing O.contents O.failures out.old out.new) result }
 {
     let config = config_of_rounds(closed, inquiry.options.limits);
     let log = closed.log();
@@ -226,7 +180,6 @@ fn predict_rest<F: Files, O: Sink>(
         &config,
         log,
         is_clean(closed),
-        inquiry.asked,
         true,
         left,
     ) {
@@ -243,9 +196,6 @@ fn predict_closed<F: Files, O: Sink>(
     out: &mut O,
 ) -> Fate
     requires short { length closed.now.log ≤ inquiry.now.options.now.limits.events }
-    ensures { Predicts inquiry.now.names.now inquiry.now.sites.now inquiry.now.asked.now inquiry.now.options.now
-        closed.now.config.bounds closed.now.log (store F.disk files.old files.new)
-        (writing O.contents O.failures out.old out.new) result }
 {
     match left_out(inquiry.alloc, inquiry.asked) {
         Ok(mut left) => {
@@ -265,9 +215,6 @@ fn predict_if_of<F: Files, O: Sink>(
     out: &mut O,
 ) -> Fate
     requires short { length closed.now.log ≤ inquiry.now.options.now.limits.events }
-    ensures { PredictsIfOf inquiry.now.names.now inquiry.now.sites.now inquiry.now.asked.now
-        inquiry.now.options.now closed.now.config.bounds closed.now.log
-        (store F.disk files.old files.new) (writing O.contents O.failures out.old out.new) result }
 {
     if !are_of_log(inquiry.sites, closed.log()) {
         return Fate::OtherSites;
@@ -281,12 +228,7 @@ fn predict_log<I: Source, F: Files, O: Sink>(
     source: &mut I,
     files: &mut F,
     out: &mut O,
-) -> Fate
-    ensures { PredictsInput inquiry.now.names.now inquiry.now.sites.now inquiry.now.asked.now inquiry.now.options.now
-        (store F.disk files.old files.new)
-        (reading I.remaining I.failures source.old source.new)
-        (writing O.contents O.failures out.old out.new) result }
-{
+) -> Fate {
     let limits = inquiry.options.limits;
     match do_input(inquiry.alloc, source, limits.events, limits.nodes) {
         Ok(closed) => {
@@ -299,14 +241,11 @@ fn predict_log<I: Source, F: Files, O: Sink>(
 }
 
 /// What is known before the log is opened.
-fn context_of<'a>(options: &PredictOptions<'a>) -> ContextOptions<'a>
-    ensures { result ≡ context_of_predict options.now }
-{
+fn context_of<'a>(options: &PredictOptions<'a>) -> ContextOptions<'a> {
     ContextOptions {
         names: options.names,
         ignored: options.ignored,
         sites: options.sites,
-        source: options.source,
     }
 }
 
@@ -315,10 +254,7 @@ fn predict_input<F: Files, O: Sink>(
     inquiry: &Inquiry<PredictOptions>,
     files: &mut F,
     out: &mut O,
-) -> Fate
-    ensures { PredictsLog inquiry.now.names.now inquiry.now.sites.now inquiry.now.asked.now inquiry.now.options.now
-        (store F.disk files.old files.new) (writing O.contents O.failures out.old out.new) result }
-{
+) -> Fate {
     let options = inquiry.options;
     let reads = reads_of(&context_of(options));
     let witness = Beside {
@@ -332,7 +268,6 @@ fn predict_input<F: Files, O: Sink>(
 }
 
 impl InContext for Command<'_, PredictOptions<'_>> {
-    ghost does = { λ command names asked sites. PredictsLog names sites asked command.options.now };
 
     fn do_in<F: Files, O: Sink>(
         &self,
@@ -361,10 +296,7 @@ pub fn predict_file<F: Files, O: Sink>(
     options: &PredictOptions,
     files: &mut F,
     out: &mut O,
-) -> Fate
-    ensures { DoesPredict options.now (store F.disk files.old files.new)
-        (writing O.contents O.failures out.old out.new) result }
-{
+) -> Fate {
     do_in_context(
         alloc,
         &Command { options },

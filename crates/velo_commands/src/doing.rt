@@ -11,14 +11,13 @@ use velo_log_commands::{
     carry_file, check_file, explain_file, thin_file, watch_endless_file, watch_file,
     watch_rest_file,
 };
-use velo_many_commands::{audit_many, merge_audits};
 use velo_request::Request;
 use velo_verify::verify_file;
 use velo_workload_commands::{ExploreProgress, explore_file, replay_file, run_file};
 
 /// Does what was asked for, with the report, the certificate or the words of an explanation on the
 /// sink, and returns its fate. How far a search is goes to `progress`. A run of a workload by
-/// threads of its own may wait. Only such a run and the audit of several logs start threads.
+/// threads of its own may wait. Only such a run starts threads.
 pub fn do_request<R: Threads + Wait + Sync, F: Files, O: Sink, P: ExploreProgress>(
     rt: &R,
     alloc: Global,
@@ -50,8 +49,6 @@ fn do_by<R: Threads + Wait + Sync, F: Files, O: Sink, P: ExploreProgress>(
         Request::WatchEndless(options) => watch_endless_file(alloc, options, files, out),
         Request::WatchRest(options) => watch_rest_file(alloc, options, files, out),
         Request::Audit(options) => audit_file(alloc, options, files, out),
-        Request::AuditMany(options) => audit_many(rt, alloc, options, files, out),
-        Request::MergeAudits(options) => merge_audits(alloc, options, files, out),
         Request::Predict(options) => predict_file(alloc, options, files, out),
         Request::Thin(options) => thin_file(alloc, options, files, out),
         Request::Verify(options) => verify_file(alloc, options, files, out),

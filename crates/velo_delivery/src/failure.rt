@@ -9,14 +9,12 @@ pub enum Operand {
     Log,
     /// `FILE`, a workload.
     File,
-    /// `OUT`, where a log or a picture is saved.
+    /// `OUT`, where a log is saved.
     Out,
     /// `NAMES`, where the names of a workload are saved.
     NamesOut,
     /// `MAP`, where the positions of what is left of a log are saved.
     Map,
-    /// `SVG`, where a drawing is saved.
-    Svg,
     /// The file of `--names`, which is read.
     Names,
     /// The file of `--sites`.

@@ -21,17 +21,6 @@ pub trait Files {
             Self.Input.remaining Self.Input.failures) }
         ensures none { IsNone result → (disk self.now).fails_to_read path.now };
 
-    /// Opens the file at a path to be read, as `open` does, unless it is known that no regular file is there: such a file may
-    /// keep its reader waiting.
-    fn open_regular(&self, path: &str) -> Option<Self::Input>
-        requires { path.now ≢ codes "-" }
-        ensures some { IfSome result (IsOpened (disk self.now) path.now
-            Self.Input.remaining Self.Input.failures) }
-        ensures none { IsNone result → (disk self.now).fails_to_read path.now }
-    {
-        self.open(path)
-    }
-
     /// Standard input.
     fn standard_input(&self) -> Self::Input
         ensures { IsOpened (disk self.now) (codes "-")
@@ -75,19 +64,6 @@ pub fn open_at<F: Files>(files: &F, path: &str) -> Option<F::Input>
         Some(files.standard_input())
     } else {
         files.open(path)
-    }
-}
-
-/// Opens the file at a path, as `open_at` does, if it may be a regular one, or standard input.
-pub fn open_regular_at<F: Files>(files: &F, path: &str) -> Option<F::Input>
-    ensures some { IfSome result (IsOpened (F.disk files.now) path.now
-        F.Input.remaining F.Input.failures) }
-    ensures none { IsNone result → FailsToOpen (F.disk files.now) path.now }
-{
-    if is_standard_input(path) {
-        Some(files.standard_input())
-    } else {
-        files.open_regular(path)
     }
 }
 

@@ -8,5 +8,5 @@ mod reading;
 
 pub use answer::{Answer, Save, StreamedText, deliver, save_all};
 pub use failure::{Failure, Operand};
-pub use files::{Files, is_standard_input, open_at, open_regular_at};
+pub use files::{Files, is_standard_input, open_at};
 pub use reading::{ReadFault, read_whole};

@@ -29,7 +29,7 @@ use Rattle.velo_schedule_text.specs.declared.schedule.ScheduleFault.TheVariants 
 use Rattle.velo_fate.specs.declared.fault.CheckFault.{CheckFault}
 use Rattle.velo_fate.specs.declared.fault.CheckFault.TheVariants.{Log, Refused, WrongValue, Write, Memory}
 use Rattle.velo_fate.specs.declared.fate.Fate.{Fate}
-use Rattle.velo_fate.specs.declared.fate.Fate.TheVariants.{Finished, Schedule, Work, Names, Sites, OtherSites, Check, CannotOpen, OneFile, ReadFailed, WriteFailed, Lost, Open, Unaudited, NoSummary}
+use Rattle.velo_fate.specs.declared.fate.Fate.TheVariants.{Finished, Schedule, Work, Names, Sites, OtherSites, Check, CannotOpen, OneFile, ReadFailed, WriteFailed, Lost, Open}
 use Rattle.velo_fate.specs.declared.fate.Fate.TheVariants as fate
 use Rattle.velo_request.specs.declared.request.Ignorable.{Ignorable}
 use Rattle.velo_request.specs.declared.request.Ignorable.TheVariants as ignorable
@@ -136,8 +136,6 @@ status_of WriteFailed = 5
 status_of fate.Memory = 5
 status_of Lost = 5
 status_of Open = 4
-status_of (Unaudited unreadable logs) = 4
-status_of (NoSummary file) = 2
 
 -- ---- the line on standard error
 
@@ -207,7 +205,6 @@ word_of operand.File = codes "FILE"
 word_of operand.Out = codes "OUT"
 word_of operand.NamesOut = codes "NAMES"
 word_of operand.Map = codes "MAP"
-word_of operand.Svg = codes "SVG"
 word_of operand.Names = codes "--names"
 word_of operand.Sites = codes "--sites"
 word_of operand.NotAtomic = codes "--not-atomic"
@@ -217,15 +214,6 @@ word_of operand.Turns = codes "--turns"
 abbrev pub line_of_one_file : Operand → Operand → List ℕ
 line_of_one_file first second =
     codes "error: " ++ word_of first ++ codes " and " ++ word_of second ++ codes " are one file\n"
-
--- "2 of 5 logs unreadable"
-abbrev pub line_of_unaudited : ℕ → ℕ → List ℕ
-line_of_unaudited unreadable logs =
-    decimal unreadable ++ codes " of " ++ decimal logs ++ codes " logs unreadable\n"
-
--- by the number of the file, counted from 1
-abbrev pub line_of_no_summary : ℕ → List ℕ
-line_of_no_summary file = codes "summary fault 1 file " ++ decimal file ++ codes "\n"
 
 abbrev pub last_line_of : Fate → List ℕ
 last_line_of (Finished how alarm) = line_of_ending how
@@ -246,8 +234,6 @@ last_line_of (OneFile first second) = line_of_one_file first second
 last_line_of ReadFailed = codes "read failed\n"
 last_line_of Lost = codes "seat lost\n"
 last_line_of Open = codes "open\n"
-last_line_of (Unaudited unreadable logs) = line_of_unaudited unreadable logs
-last_line_of (NoSummary file) = line_of_no_summary file
 last_line_of WriteFailed = codes "write failed\n"
 last_line_of fate.Memory = codes "out of memory\n"
 

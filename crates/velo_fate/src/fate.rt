@@ -1,7 +1,7 @@
 //! How the program ends: its status, and the line on standard error.
 ghost use Rattle.std.specs.Prelude.{◌≡◌, ◌≢◌, ◌≤◌, ◌+◌, ◌++◌, [], length, take, IfOk, OnOk, OnErr};
 ghost use Rattle.velo_delivery.specs.Writing.{BreaksOff, Writes, writing};
-ghost use Rattle.velo_fate.specs.Fate.{Ends, fate_of_failure, number_of, status_of, status_of_check, status_of_list, status_of_log, status_of_refused, status_of_ending, status_of_names, status_of_report, status_of_schedule, status_of_sites, status_of_work, place_of_work, last_line_of, line_of_check, line_of_log, line_of_ending, line_of_file_fault, line_of_ignored, line_of_no_summary, line_of_one_file, line_of_refused, line_of_schedule, line_of_unaudited, line_of_work, word_of};
+ghost use Rattle.velo_fate.specs.Fate.{Ends, fate_of_failure, number_of, status_of, status_of_check, status_of_list, status_of_log, status_of_refused, status_of_ending, status_of_names, status_of_report, status_of_schedule, status_of_sites, status_of_work, place_of_work, last_line_of, line_of_check, line_of_log, line_of_ending, line_of_file_fault, line_of_ignored, line_of_one_file, line_of_refused, line_of_schedule, line_of_work, word_of};
 
 use crate::fault::CheckFault;
 use std::alloc::Global;
@@ -59,10 +59,6 @@ pub enum Fate {
     Lost,
     /// Not every schedule was tried, and nothing was found.
     Open,
-    /// So many of several logs could not be audited, and in the others nothing was found.
-    Unaudited { unreadable: usize, logs: usize },
-    /// The file of this number, counted from 1, is no summary of logs.
-    NoSummary { file: usize },
 }
 
 /// The fate of a failure.
@@ -190,9 +186,8 @@ fn status_of(fate: Fate) -> u8
         Fate::Sites(fault) => status_of_sites(fault),
         Fate::Report(fault) => status_of_report(fault),
         Fate::Check(fault) => status_of_check(fault),
-        Fate::Ignored(_) | Fate::OtherSites | Fate::OneFile(..) | Fate::NoSummary { .. } =>
-            BAD_INPUT,
-        Fate::Open | Fate::Unaudited { .. } => INCOMPLETE,
+        Fate::Ignored(_) | Fate::OtherSites | Fate::OneFile(..) => BAD_INPUT,
+        Fate::Open => INCOMPLETE,
         Fate::CannotOpen | Fate::ReadFailed | Fate::WriteFailed | Fate::Memory | Fate::Lost => {
             FAILED
         }
@@ -368,7 +363,6 @@ fn put_operand(buffer: &mut [u8], at: usize, operand: Operand) -> usize
         Operand::Out => put_bytes(buffer, at, b"OUT"),
         Operand::NamesOut => put_bytes(buffer, at, b"NAMES"),
         Operand::Map => put_bytes(buffer, at, b"MAP"),
-        Operand::Svg => put_bytes(buffer, at, b"SVG"),
         Operand::Names => put_bytes(buffer, at, b"--names"),
         Operand::Sites => put_bytes(buffer, at, b"--sites"),
         Operand::NotAtomic => put_bytes(buffer, at, b"--not-atomic"),
@@ -389,29 +383,6 @@ fn put_one_file(buffer: &mut [u8], first: Operand, second: Operand) -> usize
     let at = put_bytes(buffer, at, b" and ");
     let at = put_operand(buffer, at, second);
     put_bytes(buffer, at, b" are one file\n")
-}
-
-/// Puts the line of logs that could not be audited at the front of a buffer, and returns where it ends.
-fn put_unaudited(buffer: &mut [u8], unreadable: usize, logs: usize) -> usize
-    requires { 64 ≤ length buffer.old }
-    ensures text { take result buffer.new ≡ line_of_unaudited unreadable logs }
-    ensures end { result ≤ length buffer.new }
-{
-    let at = put_number(buffer, 0, unreadable as u64);
-    let at = put_bytes(buffer, at, b" of ");
-    let at = put_number(buffer, at, logs as u64);
-    put_bytes(buffer, at, b" logs unreadable\n")
-}
-
-/// Puts the line of a file that is no summary at the front of a buffer, and returns where it ends.
-fn put_no_summary(buffer: &mut [u8], file: usize) -> usize
-    requires { 64 ≤ length buffer.old }
-    ensures text { take result buffer.new ≡ line_of_no_summary file }
-    ensures end { result ≤ length buffer.new }
-{
-    let at = put_bytes(buffer, 0, b"summary fault 1 file ");
-    let at = put_number(buffer, at, file as u64);
-    put_bytes(buffer, at, b"\n")
 }
 
 /// Puts the line about how a run ended at the front of a buffer, and returns where it ends, or 0.
@@ -438,8 +409,6 @@ fn put_line(buffer: &mut [u8], fate: Fate) -> usize
         Fate::WriteFailed => put_bytes(buffer, 0, b"write failed\n"),
         Fate::Memory => put_bytes(buffer, 0, b"out of memory\n"),
         Fate::Open => put_bytes(buffer, 0, b"open\n"),
-        Fate::Unaudited { unreadable, logs } => put_unaudited(buffer, unreadable, logs),
-        Fate::NoSummary { file } => put_no_summary(buffer, file),
     }
 }
 

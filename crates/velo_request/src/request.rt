@@ -88,7 +88,7 @@ pub struct Ignored<'a> {
     pub all_locks: bool,
 }
 
-/// In which form an explanation, an exploration or predictions are printed.
+/// In which form an answer is printed.
 #[derive(Clone, Copy, PartialEq, Eq)]
 pub enum TextOrJson {
     /// As text, for a person.
@@ -102,20 +102,12 @@ pub enum TextOrJson {
 pub struct ExplainOptions<'a> {
     /// The path of the log, or `-`.
     pub input: &'a str,
-    /// The path where the picture of the cycle is saved.
-    pub target: Option<&'a str>,
-    /// The path where the drawing is saved.
-    pub drawing: Option<&'a str>,
-    /// Whether the words end with the events of the cycle's edges, each in its open blocks.
-    pub stacks: bool,
     /// The form in which the explanation is printed.
     pub format: TextOrJson,
     /// The path of the names that are printed, or `-`.
     pub names: Option<&'a str>,
     /// The path of the sites of the log's events, or `-`.
     pub sites: Option<&'a str>,
-    /// The folder of the sources, whose lines are printed behind the sites.
-    pub source: Option<&'a str>,
     /// What is left out.
     pub ignored: Ignored<'a>,
 }
@@ -216,8 +208,6 @@ pub struct WatchRestOptions<'a> {
     pub watch: WatchOptions<'a>,
     /// The path of the sites of the log's events, or `-`.
     pub sites: Option<&'a str>,
-    /// The folder of the sources, whose lines are printed behind the sites.
-    pub source: Option<&'a str>,
     /// What is left out.
     pub ignored: Ignored<'a>,
 }
@@ -261,8 +251,6 @@ pub struct PredictOptions<'a> {
     pub names: Option<&'a str>,
     /// The path of the sites of the log's events, or `-`.
     pub sites: Option<&'a str>,
-    /// The folder of the sources, whose lines are printed behind the sites.
-    pub source: Option<&'a str>,
     /// What is left out.
     pub ignored: Ignored<'a>,
     /// Whether the values in the log are those of the program. If not, two reads have the same value
@@ -282,19 +270,6 @@ pub struct PredictOptions<'a> {
     ghost few_tries: { tries ≤ MAX_TRIES },
 }
 
-/// In which form an answer is printed.
-#[derive(Clone, Copy, PartialEq, Eq)]
-pub enum OutputFormat {
-    /// As text, for a person.
-    Text,
-    /// As one JSON object.
-    Json,
-    /// As a SARIF log, for tools that show findings beside the source.
-    Sarif,
-    /// As a JUnit report, for tools that show test results.
-    Junit,
-}
-
 /// What `velodrome audit` was asked for.
 #[derive(Clone, Copy)]
 pub struct AuditOptions<'a> {
@@ -304,48 +279,14 @@ pub struct AuditOptions<'a> {
     pub names: Option<&'a str>,
     /// The path of the sites of the log's events, or `-`.
     pub sites: Option<&'a str>,
-    /// The folder of the sources, whose lines are printed behind the sites.
-    pub source: Option<&'a str>,
     /// What is left out.
     pub ignored: Ignored<'a>,
     /// Whether the witness of each round is printed.
     pub witness: bool,
-    /// Whether each label comes with how many of its blocks are to blame.
-    pub counts: bool,
-    /// Whether the labels with the most blocks to blame come first.
-    pub by_count: bool,
-    /// Whether a label is left out if each of its blocks to blame has another one inside it.
-    pub innermost: bool,
     /// The form in which the answer is printed.
-    pub format: OutputFormat,
+    pub format: TextOrJson,
     /// The limits within which the log is checked.
     pub limits: Limits,
-}
-
-/// What `velodrome audit` was asked for of logs that have one summary.
-#[derive(Clone, Copy)]
-pub struct ManyOptions<'a> {
-    /// The paths of the logs, one of which may be `-`.
-    pub inputs: &'a [&'a str],
-    /// Whether the file of names beside each log is read, where there is one.
-    pub names: bool,
-    /// Whether the file of sites beside each log is read, where there is one.
-    pub sites: bool,
-    /// What is left out of each.
-    pub ignored: Ignored<'a>,
-    /// The form in which the summary is printed.
-    pub format: TextOrJson,
-    /// The limits within which each is checked.
-    pub limits: Limits,
-}
-
-/// What `velodrome audit --merge` was asked for.
-#[derive(Clone, Copy)]
-pub struct MergeOptions<'a> {
-    /// The paths of the summaries, one of which may be `-`.
-    pub inputs: &'a [&'a str],
-    /// The form in which the summary of all their logs is printed.
-    pub format: TextOrJson,
 }
 
 /// What events can be ignored by.
@@ -382,10 +323,6 @@ pub enum Request<'a> {
     WatchRest(WatchRestOptions<'a>),
     /// To list the labels of a recorded log whose blocks are not atomic.
     Audit(AuditOptions<'a>),
-    /// To list them of several recorded logs.
-    AuditMany(ManyOptions<'a>),
-    /// To make one summary of several.
-    MergeAudits(MergeOptions<'a>),
     /// To leave out of a recorded log what adds nothing to its verdict.
     Thin(ThinOptions<'a>),
     /// To judge by the certificate of a report what it claims of a recorded log.

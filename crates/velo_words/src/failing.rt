@@ -1,6 +1,6 @@
 //! Which file could not be opened, read or written, in words.
 
-use crate::roles::{ROLES, Role, asks_for_words, path_of, summaries_of, word_of};
+use crate::roles::{ROLES, Role, asks_for_words, path_of, word_of};
 use std::alloc::Global;
 use velo_events::Memory;
 use velo_explain::{Page, Piece};
@@ -69,17 +69,6 @@ fn failure_of<'a, F: Recall>(role: Role, request: &Request<'a>, files: &F) -> Op
     Some(Failed { role, path, reason })
 }
 
-/// The failure of a summary of the request, if one failed.
-fn failed_summary_of<'a, F: Recall>(request: &Request<'a>, files: &F) -> Option<Failed<'a>> {
-    for path in summaries_of(request) {
-        if let Some(reason) = files.failure_at(path) {
-            let role = Role::Summary;
-            return Some(Failed { role, path, reason });
-        }
-    }
-    None
-}
-
 /// The file of a request that failed, if it is known.
 fn failed_of<'a, F: Recall>(request: &Request<'a>, files: &F) -> Option<Failed<'a>> {
     for role in &ROLES {
@@ -87,7 +76,7 @@ fn failed_of<'a, F: Recall>(request: &Request<'a>, files: &F) -> Option<Failed<'
             return Some(failed);
         }
     }
-    failed_summary_of(request, files)
+    None
 }
 
 /// Adds what is said of a file, by what was to be done, its word and the reason.

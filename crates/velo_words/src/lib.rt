@@ -11,7 +11,6 @@ mod reasons;
 mod refused;
 mod roles;
 mod saying;
-mod summaries;
 
 pub use failing::{Recall, SystemReason};
 pub use saying::end_in_words;

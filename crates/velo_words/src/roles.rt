@@ -19,14 +19,8 @@ pub enum Role {
     Log,
     /// It is a report, with its certificate.
     Report,
-    /// It is a summary of logs.
-    Summary,
     /// It is a workload.
     Work,
-    /// A picture is saved there.
-    Picture,
-    /// A drawing is saved there.
-    Drawing,
     /// A log is saved there.
     SavedLog,
     /// The names of a workload are saved there.
@@ -36,7 +30,7 @@ pub enum Role {
 }
 
 /// The roles, in the order in which a command opens its files; but `verify` opens its report first.
-pub const ROLES: [Role; 14] = [
+pub const ROLES: [Role; 11] = [
     Role::Turns,
     Role::Names,
     Role::Known,
@@ -44,10 +38,7 @@ pub const ROLES: [Role; 14] = [
     Role::Sites,
     Role::Log,
     Role::Report,
-    Role::Summary,
     Role::Work,
-    Role::Picture,
-    Role::Drawing,
     Role::SavedLog,
     Role::SavedNames,
     Role::Map,
@@ -63,10 +54,7 @@ pub fn word_of(role: Role) -> &'static str {
         Role::Sites => "--sites",
         Role::Log => "LOG",
         Role::Report => "REPORT",
-        Role::Summary => "SUMMARY",
         Role::Work => "FILE",
-        Role::Picture => "--dot",
-        Role::Drawing => "--svg",
         Role::SavedLog => "--log",
         Role::SavedNames => "--names-out",
         Role::Map => "--map",
@@ -115,7 +103,6 @@ pub fn ignored_of<'a>(request: &Request<'a>) -> Option<Ignored<'a>> {
         Request::Explain(options) => Some(options.ignored),
         Request::WatchRest(options) => Some(options.ignored),
         Request::Audit(options) => Some(options.ignored),
-        Request::AuditMany(options) => Some(options.ignored),
         Request::Thin(options) => Some(options.ignored),
         Request::Predict(options) => Some(options.ignored),
         _ => None,
@@ -180,33 +167,11 @@ pub fn report_of<'a>(request: &Request<'a>) -> Option<&'a str> {
     }
 }
 
-/// The paths of the summaries of the request.
-pub fn summaries_of<'a>(request: &Request<'a>) -> &'a [&'a str] {
-    match request {
-        Request::MergeAudits(options) => options.inputs,
-        _ => &[],
-    }
-}
-
 fn work_path_of<'a>(request: &Request<'a>) -> Option<&'a str> {
     match request {
         Request::Replay(options) => Some(options.run.input),
         Request::Run(options) => Some(options.input),
         Request::Explore(options) => Some(options.input),
-        _ => None,
-    }
-}
-
-fn picture_of<'a>(request: &Request<'a>) -> Option<&'a str> {
-    match request {
-        Request::Explain(options) => options.target,
-        _ => None,
-    }
-}
-
-fn drawing_of<'a>(request: &Request<'a>) -> Option<&'a str> {
-    match request {
-        Request::Explain(options) => options.drawing,
         _ => None,
     }
 }
@@ -239,7 +204,7 @@ fn map_of<'a>(request: &Request<'a>) -> Option<&'a str> {
     }
 }
 
-/// The path of the file of a role, if the request has one. Of summaries a request has any number.
+/// The path of the file of a role, if the request has one.
 pub fn path_of<'a>(role: Role, request: &Request<'a>) -> Option<&'a str> {
     match role {
         Role::Turns => turns_of(request),
@@ -249,10 +214,7 @@ pub fn path_of<'a>(role: Role, request: &Request<'a>) -> Option<&'a str> {
         Role::Sites => sites_of(request),
         Role::Log => log_path_of(request),
         Role::Report => report_of(request),
-        Role::Summary => None,
         Role::Work => work_path_of(request),
-        Role::Picture => picture_of(request),
-        Role::Drawing => drawing_of(request),
         Role::SavedLog => saved_log_of(request),
         Role::SavedNames => saved_names_of(request),
         Role::Map => map_of(request),

@@ -8,7 +8,6 @@ use crate::given::{names_explained_of, schedule_of};
 use crate::ignoring::words_in_vain;
 use crate::refused::{refused_words, wrong_value_words};
 use crate::roles::{list_of, report_of, sites_of};
-use crate::summaries::words_of_no_summary;
 use std::alloc::Global;
 use velo_bytes::{Bytes, Sink, WriteFault, write_all};
 use velo_claims::ReportFault;
@@ -167,7 +166,6 @@ fn words_of<F: Files>(alloc: Global, request: &Request, fate: Fate, files: &F) -
         }
         Fate::Ignored(what) => words_in_vain(alloc, request, what, files),
         Fate::Open => words_of_open(alloc, request),
-        Fate::NoSummary { file } => words_of_no_summary(alloc, request, file),
         Fate::List(ListFault::Memory) => None,
         Fate::List(fault) => {
             words_of_file(alloc, list_of(request)?, FileFault::List(fault), files)

@@ -107,13 +107,6 @@ impl<'a> Files for HostFiles<'a> {
         }
     }
 
-    fn open_regular(&self, path: &str) -> Option<ReaderSource<HostInput<'a>>> {
-        match fs::metadata(self.rt, path) {
-            Ok(found) if !found.is_file() => None,
-            _ => self.open(path),
-        }
-    }
-
     fn standard_input(&self) -> ReaderSource<HostInput<'a>> {
         self.notes.open_to_read("-");
         self.input(Opened::StandardInput(self.rt.stdin()))

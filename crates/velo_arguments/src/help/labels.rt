@@ -15,18 +15,12 @@ round has no alarm. All positions and lines are those of the log as it was read.
 It prints 'left out label L', 'left out lock N' or 'left out all locks', 'left out variable N' for what
 the options leave out; 'not atomic L' for each label found, and after the labels of a round its witness,
 unless --no-witness is given; then 'atomic N labels' and 'rounds R'. With --names each number has its
-name after it. With --sites a witness has the place in the source of each event that it mentions, and
-with --source its line of source.
+name after it. With --sites a witness has the place in the source of each event that it mentions.
 
---format prints the same for other programs: json as one JSON object, sarif as a SARIF log, junit as a
-JUnit report. docs/FORMATS.md describes them.
-
---counts prints '  B of N blocks' after each label: of its N blocks, B are to blame somewhere in the log,
-not only at an alarm. --by-count prints the labels with the greatest B first. --innermost leaves out a
-label if each of its blocks to blame has another one inside it, and prints how many were left out:
-'  and N labels around these'. A function that calls one that is not atomic is not atomic either, so
-begin with the innermost ones. With these options a witness comes after the labels of its round that
-are next to one another, and may come again.
+--format json prints the same for other programs, as one JSON object, and with each label how many blocks
+it has, how many of these are to blame somewhere in the log, not only at an alarm, and how many of these
+have no other one inside them. docs/FORMATS.md describes it. A function that calls one that is not atomic
+is not atomic either, so begin with the innermost ones.
 
 --not-atomic reads the known labels, one a line: a number, a name, or a line that an audit printed. So
 the output of one audit can be the list of the next. If number and name of such a line no longer belong
@@ -39,13 +33,7 @@ each a number or a name as of --ignore-lock, 'all locks', and what an audit prin
 --ignore-label, --ignore-lock and --ignore-variable take a number, or a name in which '*' stands for any
 characters, and may be repeated. The events inside a block stay where its label is left out.
 --ignore-locks leaves out all locks: then only the accesses to variables, forks and joins order threads.
-Only one of the LOGs and the FILEs can be -.
-
-More than one LOG, or --summary, gives one summary: how many logs are atomic, how many are not, and how
-many are unreadable; each label found, with in how many logs, and in which one first; and of each log
-that cannot be audited, why. With --names auto it has the names beside each log, and with --sites auto
-the sites, where there are some: app.names and app.sites beside app.log. --format json prints it as one
-JSON object, and --merge makes the summary of all from such objects of parts. docs/MANY.md describes it.
+Only one of LOG and the FILEs can be -.
 
 List faults, line 0 for the whole text:
    1  bad line
@@ -59,20 +47,15 @@ Ignored faults, where a word of these options is no name, and no number up to 65
 
 Statuses, each with the lines on standard error:
   0  no label was found, or help
-  2  usage; 'error: standard input can be read once'; 'error: --format takes text, json, sarif or
-     junit'; 'error: --source goes only with --sites'; 'error: --ignore does not go with --not-atomic';
-     of a summary 'error: --format takes text or json', 'error: a summary goes with no option but
-     --format, --names, --sites, --events, --nodes and what leaves events out', 'error: for a summary
-     --names and --sites take auto alone', 'error: --merge goes with no option but --format'; a file of
-     --merge is no summary: 'summary fault 1 file N'; the text is no log: 'log fault K',
+  2  usage; 'error: standard input can be read once'; 'error: --format takes text or json';
+     'error: --ignore does not go with --not-atomic'; the text is no log: 'log fault K',
      'log fault K line N'; an event cannot happen: 'refused K at P', 'wrong value at P'; the text of
      --names is no file of names: 'names fault K line N'; the text of --sites is no file of sites, or of
      another log: 'sites fault K line N'; the text of --not-atomic or --ignore is no list:
      'list fault K line N'; a word of --ignore-label, --ignore-lock or --ignore-variable means nothing:
      'ignored fault K'
   3  a label was found whose blocks are not atomic
-  4  a limit was met: 'refused 17 at P', 'refused 18 at P'; of a summary, no label was found, and some
-     logs are unreadable: 'N of M logs unreadable'
+  4  a limit was met: 'refused 17 at P', 'refused 18 at P'
   5  memory or a device failed: 'out of memory', 'read failed', 'write failed', 'cannot open'
 
 Sites and their faults: see 'velodrome explain --help'. Log, names, faults and refusals: see
@@ -107,8 +90,8 @@ sections end, and of which the log has every read. So do not thin the log. Witho
 have the same value where they read from the same write, and values in the witness are lines of the log.
 Give --values if the values in the log are those of the program.
 
---names, --sites, --source, --not-atomic, --ignore and the options that begin with --ignore- are those
-of 'velodrome audit'. Only one of LOG and the FILEs can be -. The same seed tries the same delays.
+--names, --sites, --not-atomic, --ignore and the options that begin with --ignore- are those of
+'velodrome audit'. Only one of LOG and the FILEs can be -. The same seed tries the same delays.
 
 OUT must be no file that the command reads, by whatever path or on standard input; otherwise it stops
 before it writes. If nothing is predicted, OUT is not opened.
@@ -116,13 +99,12 @@ before it writes. If nothing is predicted, OUT is not opened.
 Statuses, each with the lines on standard error:
   0  nothing was found, or help
   2  usage; 'error: standard input can be read once'; 'error: LOG and OUT are one file', the same of
-     --names, --sites, --not-atomic and --ignore; 'error: --format takes text or json'; 'error: --source
-     goes only with --sites'; 'error: --ignore does not go with --not-atomic'; the text is no log:
-     'log fault K', 'log fault K line N'; an event cannot happen: 'refused K at P', 'wrong value at P';
-     the text of --names is no file of names: 'names fault K line N'; the text of --sites is no file of
-     sites, or of another log: 'sites fault K line N'; the text of --not-atomic or --ignore is no list:
-     'list fault K line N'; a word of --ignore-label, --ignore-lock or --ignore-variable means nothing:
-     'ignored fault K'
+     --names, --sites, --not-atomic and --ignore; 'error: --format takes text or json'; 'error: --ignore
+     does not go with --not-atomic'; the text is no log: 'log fault K', 'log fault K line N'; an event
+     cannot happen: 'refused K at P', 'wrong value at P'; the text of --names is no file of names:
+     'names fault K line N'; the text of --sites is no file of sites, or of another log:
+     'sites fault K line N'; the text of --not-atomic or --ignore is no list: 'list fault K line N'; a
+     word of --ignore-label, --ignore-lock or --ignore-variable means nothing: 'ignored fault K'
   3  a label was found whose blocks are not atomic, in this run or in another, or a deadlock in another
   4  a limit was met: 'refused 17 at P', 'refused 18 at P'
   5  memory or a device failed: 'out of memory', 'read failed', 'write failed', 'cannot open'

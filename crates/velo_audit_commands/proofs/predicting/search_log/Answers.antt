@@ -1,7 +1,7 @@
 use Rattle.std.proofs.Common.{refl, subst, sym}
 use Rattle.velo_filter.specs.Tables.{left_of}
 use Rattle.velo_audit_commands.specs.Predicting.{IsSearched}
-use Rattle.velo_audit_commands.proofs.OnPredicting.{foretold_of}
+use Rattle.velo_audit_commands.proofs.OnFindings.{foretold_of}
 use Rattle.velo_audit_commands.proofs.predicting.search_log.Goals as goal
 
 pub returns-then-options-clause-predictions : goal.returns-then-options-clause-predictions
