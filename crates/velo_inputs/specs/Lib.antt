@@ -1,10 +1,2 @@
-pub mod Asking
-pub mod Context
 pub mod Faults
-pub mod Ignoring
 pub mod Input
-pub mod Leaving
-pub mod Listing
-pub mod Naming
-pub mod Sending
-pub mod Siting

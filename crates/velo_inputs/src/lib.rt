@@ -11,9 +11,7 @@ mod sending;
 mod siting;
 
 pub use context::{ContextOptions, InContext, do_in_context, reads_of};
-pub use ignoring::{ignored_labels, ignored_locks, ignored_variables};
-pub use leaving::{config_of_rounds, left_out, left_out_by};
-pub use listing::{Listed, listed_of};
+pub use leaving::{config_of_rounds, left_out};
 pub use naming::{ByNames, do_by_names, shown_by};
 pub use replaying::{config_of, do_input, do_log, fault_of};
 pub use sending::{print, save_text};

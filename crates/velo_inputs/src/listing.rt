@@ -1,8 +1,4 @@
 //! What is known already, of a list.
-ghost use Rattle.std.specs.Prelude.{◌≡◌, IfErr, IfOk};
-ghost use Rattle.velo_suppressions.specs.Answers.{entries};
-ghost use Rattle.velo_fate.specs.Format.{LacksAt, Reads};
-ghost use Rattle.velo_inputs.specs.Listing.{AreNoList, IsKnownOf, LacksKnown, MeansKnown, known_by, known_of, list_file, nothing_known, scope_of};
 
 use std::alloc::Global;
 use velo_delivery::Files;
@@ -27,9 +23,7 @@ pub struct Listed {
 }
 
 /// Nothing is known.
-fn nothing_listed(alloc: Global) -> Listed
-    ensures { known_of result ≡ nothing_known }
-{
+fn nothing_listed(alloc: Global) -> Listed {
     Listed {
         labels: Vec::new(alloc),
         locks: Vec::new(alloc),
@@ -39,9 +33,7 @@ fn nothing_listed(alloc: Global) -> Listed
 }
 
 /// What the entries of a list mean by these names.
-fn listed_by(alloc: Global, names: &Names, found: &[Entry]) -> Result<Listed, Memory>
-    ensures { IfOk result (λ listed. known_of listed ≡ known_by names.now (entries found.now)) }
-{
+fn listed_by(alloc: Global, names: &Names, found: &[Entry]) -> Result<Listed, Memory> {
     let labels = numbers_known(alloc, names, NameKind::Label, found)?;
     let locks = numbers_known(alloc, names, NameKind::Lock, found)?;
     let variables = numbers_known(alloc, names, NameKind::Variable, found)?;
@@ -57,10 +49,7 @@ fn listed_by(alloc: Global, names: &Names, found: &[Entry]) -> Result<Listed, Me
 ///
 /// # Errors
 /// `List` with the fault by which they mean nothing, `Memory` if an allocation failed.
-fn listed_in(alloc: Global, scope: Scope, names: &Names, bytes: &[u8]) -> Result<Listed, Fate>
-    ensures listed { IfOk result (λ listed. MeansKnown scope names.now bytes.now (known_of listed)) }
-    ensures fault { IfErr result (AreNoList scope bytes.now) }
-{
+fn listed_in(alloc: Global, scope: Scope, names: &Names, bytes: &[u8]) -> Result<Listed, Fate> {
     let entries = match parse_list(alloc, scope, bytes) {
         Ok(entries) => entries,
         Err(fault) => return Err(Fate::List(fault)),
@@ -78,11 +67,7 @@ fn listed_at<F: Files>(
     names: &Names,
     path: &str,
     files: &F,
-) -> Result<Listed, Fate>
-    ensures listed { IfOk result (λ listed. Reads (list_file scope names.now) (F.disk files.now)
-        path.now (known_of listed)) }
-    ensures none { IfErr result (LacksAt (list_file scope names.now) (F.disk files.now) path.now) }
-{
+) -> Result<Listed, Fate> {
     let bytes = match read_file(alloc, path, MAX_NAMES_BYTES, files) {
         Ok(bytes) => bytes,
         Err(fate) => return Err(fate),
@@ -91,9 +76,7 @@ fn listed_at<F: Files>(
 }
 
 /// What the lines of a list may speak of.
-fn scope_of(is_wide: bool) -> Scope
-    ensures { result ≡ scope_of is_wide }
-{
+fn scope_of(is_wide: bool) -> Scope {
     if is_wide {
         Scope::Everything
     } else {
@@ -111,12 +94,7 @@ pub fn listed_of<F: Files>(
     names: &Names,
     ignored: &Ignored,
     files: &F,
-) -> Result<Listed, Fate>
-    ensures listed { IfOk result (λ listed. IsKnownOf (scope_of ignored.now.is_wide) names.now
-        (F.disk files.now) ignored.now.known (known_of listed)) }
-    ensures none { IfErr result (LacksKnown (scope_of ignored.now.is_wide) names.now
-        (F.disk files.now) ignored.now.known) }
-{
+) -> Result<Listed, Fate> {
     match ignored.known {
         None => Ok(nothing_listed(alloc)),
         Some(path) => listed_at(alloc, scope_of(ignored.is_wide), names, path, files),

@@ -1,12 +1,4 @@
 //! Files of names.
-ghost use Rattle.std.specs.Prelude.{◌⊎◌, IfErr, IfOk};
-ghost use Rattle.velo_delivery.specs.Disk.{Store, store};
-ghost use Rattle.velo_delivery.specs.Writing.{Writing, writing};
-ghost use Rattle.velo_fate.specs.declared.fate.Fate.{Fate as FateOf};
-ghost use Rattle.velo_names.specs.Names.{NameLists};
-ghost use Rattle.velo_inputs.specs.Context.{DoesNotName};
-ghost use Rattle.velo_fate.specs.Format.{LacksGiven, bytes_up_to};
-ghost use Rattle.velo_inputs.specs.Naming.{AreBytesOf, AreNamesIn, AreNamesOf, AreNoNamesIn, AreShown};
 
 use std::alloc::Global;
 use velo_bytes::Sink;
@@ -24,10 +16,7 @@ pub fn read_given<F: Files>(
     path: Option<&str>,
     most: usize,
     files: &F,
-) -> Result<Vec<u8>, Fate>
-    ensures bytes { IfOk result (λ bytes. AreBytesOf (F.disk files.now) most path.entry bytes.items) }
-    ensures unread { IfErr result (LacksGiven (bytes_up_to most) (F.disk files.now) path.entry) }
-{
+) -> Result<Vec<u8>, Fate> {
     match path {
         Some(path) => read_file(alloc, path, most, files),
         None => Ok(Vec::new(alloc)),
@@ -38,10 +27,7 @@ pub fn read_given<F: Files>(
 ///
 /// # Errors
 /// `Names` with the fault by which they say none.
-pub fn names_in<'a>(alloc: Global, path: Option<&str>, bytes: &'a [u8]) -> Result<Names<'a>, Fate>
-    ensures names { IfOk result (AreNamesIn path.entry bytes.now) }
-    ensures fault { IfErr result (AreNoNamesIn path.entry bytes.now) }
-{
+pub fn names_in<'a>(alloc: Global, path: Option<&str>, bytes: &'a [u8]) -> Result<Names<'a>, Fate> {
     if path.is_none() {
         return Ok(Names::new(alloc));
     }
@@ -52,9 +38,7 @@ pub fn names_in<'a>(alloc: Global, path: Option<&str>, bytes: &'a [u8]) -> Resul
 }
 
 /// What a report calls threads and labels by the names of a file, if one was given.
-pub fn shown_by<'a>(path: Option<&str>, names: &'a Names<'a>) -> ReportNames<'a>
-    ensures { AreShown path.entry names.now result }
-{
+pub fn shown_by<'a>(path: Option<&str>, names: &'a Names<'a>) -> ReportNames<'a> {
     match path {
         Some(_) => ReportNames::Listed(names),
         None => ReportNames::Numbers,
@@ -63,9 +47,6 @@ pub fn shown_by<'a>(path: Option<&str>, names: &'a Names<'a>) -> ReportNames<'a>
 
 /// What is done by the names of a file, if one is given.
 pub trait ByNames {
-    /// The fate.
-    ghost does: { Self → NameLists → Store → Writing → FateOf → Type 0 };
-
     /// Does it by these names.
     fn do_by<F: Files, O: Sink>(
         &self,
@@ -73,9 +54,7 @@ pub trait ByNames {
         names: &Names,
         files: &mut F,
         out: &mut O,
-    ) -> Fate
-        ensures { does self.now names.now (store F.disk files.old files.new)
-            (writing O.contents O.failures out.old out.new) result };
+    ) -> Fate;
 }
 
 /// Does a command by the names of the file at a path, if one is given. The names are read first.
@@ -85,13 +64,7 @@ pub fn do_by_names<C: ByNames, F: Files, O: Sink>(
     path: Option<&str>,
     files: &mut F,
     out: &mut O,
-) -> Fate
-    ensures { DoesNotName (store F.disk files.old files.new) path.entry
-        (writing O.contents O.failures out.old out.new) result
-        ⊎ ((names : NameLists) × AreNamesOf (F.disk files.old) path.entry names
-        × C.does command.now names (store F.disk files.old files.new)
-        (writing O.contents O.failures out.old out.new) result) }
-{
+) -> Fate {
     let bytes = match read_given(alloc, path, MAX_NAMES_BYTES, files) {
         Ok(bytes) => bytes,
         Err(fate) => return fate,

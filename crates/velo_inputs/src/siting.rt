@@ -1,6 +1,4 @@
 //! Files of sites.
-ghost use Rattle.std.specs.Prelude.{◌≡◌, false, IfErr, IfOk, IsTrue};
-ghost use Rattle.velo_inputs.specs.Siting.{AreNoSitesIn, HaveLengthOf, AreSitesIn};
 
 use std::alloc::Global;
 use velo_fate::Fate;
@@ -15,10 +13,7 @@ pub fn sites_in<'a>(
     alloc: Global,
     path: Option<&str>,
     bytes: &'a [u8],
-) -> Result<Option<Sites<'a>>, Fate>
-    ensures sites { IfOk result (AreSitesIn path.entry bytes.now) }
-    ensures fault { IfErr result (AreNoSitesIn path.entry bytes.now) }
-{
+) -> Result<Option<Sites<'a>>, Fate> {
     if path.is_none() {
         return Ok(None);
     }
@@ -29,10 +24,7 @@ pub fn sites_in<'a>(
 }
 
 /// Whether the sites, if there are some, are of as many events as the log has.
-pub fn are_of_log(sites: &Option<Sites>, log: &Trace) -> bool
-    ensures same { IsTrue result → HaveLengthOf sites.now log.now.events }
-    ensures other { result ≡ false → ¬ HaveLengthOf sites.now log.now.events }
-{
+pub fn are_of_log(sites: &Option<Sites>, log: &Trace) -> bool {
     match sites {
         Some(sites) => sites.count_events() == log.len(),
         None => true,

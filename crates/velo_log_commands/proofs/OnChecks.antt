@@ -6,19 +6,15 @@ use Rattle.velo_fate.specs.declared.verdict.Verdict.{Verdict}
 use Rattle.velo_fate.specs.declared.fault.CheckFault.{CheckFault}
 use Rattle.velo_fate.specs.declared.fault.CheckFault.TheVariants.{Log, Write, Memory}
 use Rattle.velo_fate.specs.declared.fate.Fate.TheVariants.{Check, Finished}
-use Rattle.velo_log_commands.specs.Check.{Checks, fate_of, IsCheckAnswer}
+use Rattle.velo_log_commands.specs.Check.{Checks, fate_of}
 use Rattle.velo_inputs.specs.Input.{ComesAbout, IsFaultOfInput}
 use Rattle.velo_fate.specs.Verdict.{is_alarm}
-use Rattle.velo_fate.specs.Delivery.{printing, silent, CommandAnswer, IsDelivered, IsPrinted}
+use Rattle.velo_fate.specs.Delivery.{printing, silent}
 use Rattle.velo_fate.specs.Failures.{failures_told}
 use Rattle.velo_delivery.specs.Writing.{Writing, WritesNothing}
 use Rattle.velo_log_commands.specs.Steps.{Shows}
 use Rattle.velo_worker.specs.declared.ending.Ending.TheVariants.{Done}
 use Rattle.velo_report.specs.declared.names.Names.{Names}
-use Rattle.std.specs.Borrow.{Bor}
-use Rattle.velo_fate.specs.declared.fate.Fate.{Fate}
-use Rattle.velo_delivery.specs.Disk.{Store}
-use Rattle.velo_fate.proofs.OnDelivery.{put_of}
 
 -- what is shown of the world of a log that came about is the answer to the input
 pub checked_by : (names : Names) (limit nodes : ℕ) (certificate : Bool) (read : Option (List ℕ)) (w : WorldState) (out : Writing) (result : Result Verdict CheckFault)
@@ -52,12 +48,3 @@ pub failures_so : (limit nodes : ℕ) (read : Option (List ℕ)) (fault : CheckF
     → after ≡ failures_told (Check fault) before → after ≡ failures_told (fate_of (Err fault)) before
 failures_so limit nodes read Write after before is h = h
 failures_so limit nodes read fault after before is h = h
-
--- ---- it has nothing to be saved
-
-module _ (store : Store) (target : Option (Bor (List ℕ))) (stdout : Writing) where
-  -- a check has nothing to be saved
-  pub check_put : (names : Names) (limit nodes : ℕ) (certificate : Bool) (read : Option (List ℕ)) (answer : CommandAnswer) → IsCheckAnswer names limit nodes certificate read answer
-      → store.is_kept → (f : Fate) → IsPrinted stdout answer f → IsDelivered store target stdout answer f
-  check_put names limit nodes certificate read answer (inl c) kept f told = put_of store target stdout answer _ _ kept c.said (λ e. cc) f told
-  check_put names limit nodes certificate read answer (inr c) kept f told = put_of store target stdout answer _ _ kept c.2 (λ e. cc) f told

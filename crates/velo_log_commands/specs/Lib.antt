@@ -1,11 +1,3 @@
 pub mod Carrying
 pub mod Check
-pub mod CheckingRest
-pub mod Commands
-pub mod Endless
-pub mod Explaining
-pub mod Places
 pub mod Steps
-pub mod Thinning
-pub mod Watching
-pub mod WatchingRest

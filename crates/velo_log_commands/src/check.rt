@@ -3,10 +3,8 @@ ghost use Rattle.std.specs.Prelude.{◌≡◌, ◌≤◌, IfSome, is_some};
 ghost use Rattle.velo_events.specs.declared.limits.TheConstants.{MAX_EVENTS, MAX_NODES};
 ghost use Rattle.velo_report.specs.declared.names.Names.TheVariants.{Numbers};
 ghost use Rattle.velo_log_commands.specs.Check.{Checks, fate_of};
-ghost use Rattle.velo_fate.specs.Verdict.{IsOrderOrCycle, is_alarm};
-ghost use Rattle.velo_log_commands.specs.Commands.{ChecksBy, ChecksLog, DoesCheck};
+ghost use Rattle.velo_fate.specs.Verdict.{IsOrderOrCycle};
 ghost use Rattle.velo_fate.specs.Failures.{failures_told};
-ghost use Rattle.velo_delivery.specs.Disk.{store};
 ghost use Rattle.velo_delivery.specs.Writing.{writing};
 ghost use Rattle.velo_log_commands.specs.Steps.{Shows};
 
@@ -154,10 +152,7 @@ fn check_named<F: Files, O: Sink>(
     names: &Names,
     files: &F,
     out: &mut O,
-) -> Fate
-    ensures { ChecksLog names.now options.now (store F.disk files.now files.now)
-        (writing O.contents O.failures out.old out.new) result }
-{
+) -> Fate {
     match open_input(files, Operand::Log, options.input, None) {
         Ok(mut log) => fate_of(check_source(
             alloc,
@@ -172,8 +167,6 @@ fn check_named<F: Files, O: Sink>(
 }
 
 impl ByNames for Command<'_, CheckOptions<'_>> {
-    ghost does = { λ command names. ChecksBy names command.options.now };
-
     fn do_by<F: Files, O: Sink>(
         &self,
         alloc: Global,
@@ -192,9 +185,6 @@ pub fn check_file<F: Files, O: Sink>(
     options: &CheckOptions,
     files: &mut F,
     out: &mut O,
-) -> Fate
-    ensures { DoesCheck options.now (store F.disk files.old files.new)
-        (writing O.contents O.failures out.old out.new) result }
-{
+) -> Fate {
     do_by_names(alloc, &Command { options }, options.names, files, out)
 }

@@ -1,14 +1,7 @@
 //! `velodrome watch --endless`: a log of any length that is checked as it comes.
-ghost use Rattle.std.specs.Prelude.{◌-◌, List, false};
-ghost use Rattle.velo_delivery.specs.Disk.{store};
-ghost use Rattle.velo_delivery.specs.Writing.{writing};
+ghost use Rattle.std.specs.Prelude.{◌-◌};
+ghost use Rattle.velo_endless.specs.Endless.{CanGoOn};
 ghost use Rattle.velo_endless.specs.declared.reading.TheConstants.{MAX_WATCHED};
-ghost use Rattle.velo_endless.specs.Endless.{CanGoOn, HasSeen, IsUnderWay};
-ghost use Rattle.velo_events.specs.declared.event.Event.{Event as EventOf};
-ghost use Rattle.velo_fate.specs.Verdict.{IsVerdict};
-ghost use Rattle.velo_log_commands.specs.Commands.{DoesWatchEndless, WatchesBy};
-ghost use Rattle.velo_log_commands.specs.Steps.{ShowsLog};
-ghost use Rattle.velo_log_commands.specs.Endless.{CanWatchOn, terms_of_endless};
 
 use crate::command::Command;
 use crate::naming::{names_given, shown_of};
@@ -26,15 +19,7 @@ use velo_watch::WatchFault;
 impl AskedWatch for EndlessOptions<'_> {
     type State = EndlessWatch;
 
-    ghost terms = { terms_of_endless };
-
-    ghost bounds = { λ watch. watch.piece.world.config.bounds };
-
-    ghost has_seen = { λ asked watch events. HasSeen events watch };
-
-    ghost is_at = { λ asked watch read remaining old new events. IsUnderWay read remaining old new events watch };
-
-    ghost can_go_on = { CanWatchOn };
+    ghost can_go_on = { λ asked watch. CanGoOn watch };
 
     ghost left = { λ watch. MAX_WATCHED - watch.reader.given };
 
@@ -83,9 +68,7 @@ impl AskedWatch for EndlessOptions<'_> {
 }
 
 /// The verdict of the events that a watch has seen.
-fn verdict_of(watch: &EndlessWatch) -> Verdict
-    ensures { (events : List EventOf) → HasSeen events watch.now → IsVerdict events result }
-{
+fn verdict_of(watch: &EndlessWatch) -> Verdict {
     if watch.has_told() {
         Verdict::Alarm
     } else {
@@ -100,9 +83,6 @@ fn report_of<O: Sink>(
     out: &mut O,
 ) -> Result<Verdict, CheckFault>
     requires { CanGoOn watch.now }
-    ensures { (events : List EventOf) → HasSeen events watch.now
-        → ShowsLog names.now false watch.now.piece.world.config.bounds.threads events
-        (writing O.contents O.failures out.old out.new) result }
 {
     match watch.report(names, out) {
         Ok(()) => Ok(verdict_of(watch)),
@@ -111,8 +91,6 @@ fn report_of<O: Sink>(
 }
 
 impl ByNames for Command<'_, EndlessOptions<'_>> {
-    ghost does = { λ command names. WatchesBy names (terms_of_endless command.options.now) };
-
     fn do_by<F: Files, O: Sink>(
         &self,
         alloc: Global,
@@ -131,9 +109,6 @@ pub fn watch_endless_file<F: Files, O: Sink>(
     options: &EndlessOptions,
     files: &mut F,
     out: &mut O,
-) -> Fate
-    ensures { DoesWatchEndless options.now (store F.disk files.old files.new)
-        (writing O.contents O.failures out.old out.new) result }
-{
+) -> Fate {
     do_by_names(alloc, &Command { options }, options.names, files, out)
 }

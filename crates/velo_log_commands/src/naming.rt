@@ -1,14 +1,9 @@
 //! The names of a file, if one is given.
-ghost use Rattle.std.specs.Prelude.{◌≡◌};
-ghost use Rattle.velo_inputs.specs.Naming.{AreShown};
-ghost use Rattle.velo_log_commands.specs.CheckingRest.{shown_of};
 
 use velo_names::Names;
 
 /// These names, if a file of names is given, and else none.
-pub fn names_given<'a>(path: Option<&str>, names: &'a Names<'a>) -> Option<&'a Names<'a>>
-    ensures { AreShown path.entry names.now (shown_of result) }
-{
+pub fn names_given<'a>(path: Option<&str>, names: &'a Names<'a>) -> Option<&'a Names<'a>> {
     match path {
         Some(_) => Some(names),
         None => None,
@@ -16,9 +11,7 @@ pub fn names_given<'a>(path: Option<&str>, names: &'a Names<'a>) -> Option<&'a N
 }
 
 /// What a report calls threads and labels by the names of a file, if there are some.
-pub fn shown_of<'a>(names: Option<&'a Names<'a>>) -> velo_report::Names<'a>
-    ensures { result ≡ shown_of names.entry }
-{
+pub fn shown_of<'a>(names: Option<&'a Names<'a>>) -> velo_report::Names<'a> {
     match names {
         Some(names) => velo_report::Names::Listed(names),
         None => velo_report::Names::Numbers,

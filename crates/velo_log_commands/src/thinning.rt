@@ -1,15 +1,7 @@
 //! `velodrome thin`: what is left out of the log goes first, and the rest is thinned.
-ghost use Rattle.std.specs.Prelude.{◌≡◌};
-ghost use Rattle.velo_delivery.specs.Disk.{store};
-ghost use Rattle.velo_delivery.specs.Writing.{writing};
-ghost use Rattle.velo_fate.specs.Failures.{failures_told};
-ghost use Rattle.velo_filter.specs.Tables.{left_of};
-ghost use Rattle.velo_log_commands.specs.Commands.{DoesThin, ThinsAsked, ThinsFile, context_of_thin};
-ghost use Rattle.velo_log_commands.specs.Thinning.{GoesOutTo, ThinsInput, check_fault_of_thinning};
 
 use crate::command::Command;
 use std::alloc::Global;
-use velo_audit_text::Asked;
 use velo_bytes::{Sink, Source};
 use velo_delivery::{Files, Operand};
 use velo_events::Memory;
@@ -19,13 +11,12 @@ use velo_inputs::{ContextOptions, InContext, do_in_context, left_out, reads_of};
 use velo_names::Names;
 use velo_request::ThinOptions;
 use velo_sites::Sites;
+use velo_text::Asked;
 use velo_thinning::{Targets, ThinFault, ThinnedLog, deliver_thinned, read_thinned};
 use velo_worker::Ending;
 
 /// The same fault of a check.
-fn fault_of(fault: ThinFault) -> CheckFault
-    ensures { result ≡ check_fault_of_thinning fault }
-{
+fn fault_of(fault: ThinFault) -> CheckFault {
     match fault {
         ThinFault::Log(fault) => CheckFault::Log(fault),
         ThinFault::Refused { position, refusal } => CheckFault::Refused { position, refusal },
@@ -41,10 +32,7 @@ fn send_thinned<F: Files, O: Sink>(
     thinned: &ThinnedLog,
     files: &mut F,
     out: &mut O,
-) -> Fate
-    ensures { GoesOutTo options.now thinned.now (store F.disk files.old files.new)
-        (writing O.contents O.failures out.old out.new) result }
-{
+) -> Fate {
     let targets = Targets {
         log: options.target,
         map: options.map,
@@ -67,12 +55,7 @@ fn thin_input<I: Source, F: Files, O: Sink>(
     source: &mut I,
     files: &mut F,
     out: &mut O,
-) -> Fate
-    ensures done { ThinsInput options.now (left_of omitted.now) (I.remaining source.old)
-        (store F.disk files.old files.new)
-        (writing O.contents O.failures out.old out.new) result }
-    ensures read { I.failures source.new ≡ failures_told result (I.failures source.old) }
-{
+) -> Fate {
     match read_thinned(alloc, source, omitted) {
         Ok(thinned) => {
             let fate = send_thinned(alloc, options, &thinned, files, out);
@@ -84,14 +67,11 @@ fn thin_input<I: Source, F: Files, O: Sink>(
 }
 
 /// What is known before the log is opened.
-fn context_of<'a>(options: &ThinOptions<'a>) -> ContextOptions<'a>
-    ensures { result ≡ context_of_thin options.now }
-{
+fn context_of<'a>(options: &ThinOptions<'a>) -> ContextOptions<'a> {
     ContextOptions {
         names: options.names,
         ignored: options.ignored,
         sites: None,
-        source: None,
     }
 }
 
@@ -102,10 +82,7 @@ fn thin_without<F: Files, O: Sink>(
     omitted: &LeftOut,
     files: &mut F,
     out: &mut O,
-) -> Fate
-    ensures { ThinsFile options.now (left_of omitted.now) (store F.disk files.old files.new)
-        (writing O.contents O.failures out.old out.new) result }
-{
+) -> Fate {
     let map = Beside {
         operand: Operand::Map,
         path: options.map,
@@ -125,8 +102,6 @@ fn thin_without<F: Files, O: Sink>(
 }
 
 impl InContext for Command<'_, ThinOptions<'_>> {
-    ghost does = { λ command names asked sites. ThinsAsked asked command.options.now };
-
     fn do_in<F: Files, O: Sink>(
         &self,
         alloc: Global,
@@ -153,10 +128,7 @@ pub fn thin_file<F: Files, O: Sink>(
     options: &ThinOptions,
     files: &mut F,
     out: &mut O,
-) -> Fate
-    ensures { DoesThin options.now (store F.disk files.old files.new)
-        (writing O.contents O.failures out.old out.new) result }
-{
+) -> Fate {
     do_in_context(
         alloc,
         &Command { options },

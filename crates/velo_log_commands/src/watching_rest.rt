@@ -1,15 +1,8 @@
 //! `velodrome watch` where something is left out or sites are given: a log is checked as it comes, what is
 //! left of it is judged, and the places of its alarm are told.
-ghost use Rattle.std.specs.Prelude.{◌≡◌, ◌-◌, IfOk, length, slice_index};
-ghost use Rattle.velo_delivery.specs.Disk.{store};
-ghost use Rattle.velo_delivery.specs.Writing.{writing};
-ghost use Rattle.velo_filter.specs.Left.{rest_of};
+ghost use Rattle.std.specs.Prelude.{◌-◌, length};
 ghost use Rattle.velo_filter.specs.Tables.{left_of};
-ghost use Rattle.velo_log_commands.specs.CheckingRest.{shown_of};
-ghost use Rattle.velo_log_commands.specs.Commands.{DoesWatchRest, WatchesRestBy};
-ghost use Rattle.velo_log_commands.specs.Steps.{ShowsText};
-ghost use Rattle.velo_log_commands.specs.WatchingRest.{CanWatchRest, IsSitedReport, terms_of_rest};
-ghost use Rattle.velo_rest_watch.specs.UnderWay.{IsUnderWay};
+ghost use Rattle.velo_rest_watch.specs.UnderWay.{CanGoOn};
 
 use crate::command::Command;
 use crate::naming::names_given;
@@ -17,7 +10,6 @@ use crate::places::add_places;
 use crate::rest_report::page_of_rest;
 use crate::watching::{AskedWatch, watch_named};
 use std::alloc::Global;
-use velo_audit_text::Asked;
 use velo_bytes::{Sink, Source, WriteFault, write_all};
 use velo_delivery::Files;
 use velo_events::Memory;
@@ -29,6 +21,7 @@ use velo_names::Names;
 use velo_request::{WatchOptions, WatchRestOptions};
 use velo_rest_watch::{ClosedRest, RestWatch};
 use velo_sites::Sites;
+use velo_text::Asked;
 use velo_watch::WatchFault;
 use velo_world::Closed;
 
@@ -43,17 +36,7 @@ struct RestAsked<'a> {
 impl AskedWatch for RestAsked<'_> {
     type State = RestWatch;
 
-    ghost terms = { λ asked. terms_of_rest asked.options.now asked.sites.now (left_of asked.left.now) };
-
-    ghost bounds = { λ watch. watch.rest.world.config.bounds };
-
-    ghost has_seen = { λ asked watch events. (watch.whole.trace.events ≡ events)
-        × (watch.rest.world.log ≡ rest_of (left_of asked.left.now) events) };
-
-    ghost is_at = { λ asked watch read remaining old new events. (watch.whole.trace.events ≡ events)
-        × IsUnderWay (left_of asked.left.now) read remaining old new watch };
-
-    ghost can_go_on = { λ asked. CanWatchRest asked.options.now (left_of asked.left.now) };
+    ghost can_go_on = { λ asked watch. CanGoOn (left_of asked.left.now) watch };
 
     ghost left = { λ watch. watch.rest.world.config.events - length watch.whole.trace.events };
 
@@ -119,11 +102,7 @@ fn sited_page(
     sites: &Option<Sites>,
     closed: &Closed,
     places: &[u32],
-) -> Result<Page, Memory>
-    requires { length places.now ≡ length closed.now.log }
-    ensures { IfOk result (IsSitedReport sites.now (shown_of names.entry)
-        closed.now.config.bounds.threads closed.now.log (slice_index places.now)) }
-{
+) -> Result<Page, Memory> {
     let mut page = page_of_rest(alloc, names, closed, places)?;
     add_places(&mut page, sites, places, closed.alarm())?;
     Ok(page)
@@ -136,13 +115,7 @@ fn report_rest<O: Sink>(
     sites: &Option<Sites>,
     rest: &ClosedRest,
     out: &mut O,
-) -> Result<Verdict, CheckFault>
-    requires { length rest.now.places.items ≡ length rest.now.closed.log }
-    ensures { ShowsText (IsSitedReport sites.now (shown_of names.entry)
-        rest.now.closed.config.bounds.threads rest.now.closed.log
-        (slice_index rest.now.places.items)) rest.now.closed.log
-        (writing O.contents O.failures out.old out.new) result }
-{
+) -> Result<Verdict, CheckFault> {
     let verdict = verdict_of(&rest.closed);
     match sited_page(alloc, names, sites, &rest.closed, &rest.places) {
         Ok(page) => match write_all(out, page.as_slice()) {
@@ -154,8 +127,6 @@ fn report_rest<O: Sink>(
 }
 
 impl InContext for Command<'_, WatchRestOptions<'_>> {
-    ghost does = { λ command names asked sites. WatchesRestBy names asked sites command.options.now };
-
     fn do_in<F: Files, O: Sink>(
         &self,
         alloc: Global,
@@ -190,15 +161,11 @@ pub fn watch_rest_file<F: Files, O: Sink>(
     options: &WatchRestOptions,
     files: &mut F,
     out: &mut O,
-) -> Fate
-    ensures { DoesWatchRest options.now (store F.disk files.old files.new)
-        (writing O.contents O.failures out.old out.new) result }
-{
+) -> Fate {
     let context = ContextOptions {
         names: options.watch.names,
         ignored: options.ignored,
         sites: options.sites,
-        source: options.source,
     };
     do_in_context(alloc, &Command { options }, &context, files, out)
 }
