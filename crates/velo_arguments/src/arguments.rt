@@ -52,20 +52,7 @@ fn bare<'a>(alloc: Global) -> Command<'a> {
 
 fn check<'a>(alloc: Global) -> Result<Command<'a>, Memory> {
     let about = "Reads a recorded log and reports the verdict";
-    let arguments = [
-        LOG,
-        NAMES,
-        WHY,
-        NOT_ATOMIC,
-        IGNORE,
-        IGNORE_LABEL,
-        IGNORE_LOCK,
-        IGNORE_LOCKS,
-        IGNORE_VARIABLE,
-        EVENTS,
-        NODES,
-        CERTIFICATE,
-    ];
+    let arguments = [LOG, NAMES, WHY, EVENTS, NODES, CERTIFICATE];
     subcommand(alloc, "check", about, help::OF_CHECK, &arguments)
 }
 
@@ -135,12 +122,6 @@ fn explore<'a>(alloc: Global) -> Result<Command<'a>, Memory> {
         RANDOM,
         RUN_SEED,
         TEXT_OR_JSON,
-        NOT_ATOMIC,
-        IGNORE,
-        IGNORE_LABEL,
-        IGNORE_LOCK,
-        IGNORE_LOCKS,
-        IGNORE_VARIABLE,
         FOUND_LOG,
         NAMES_OUT,
         EVENTS,

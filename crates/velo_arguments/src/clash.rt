@@ -19,8 +19,6 @@ pub enum Clash {
     NeitherTextNorJson,
     /// The words ask for nothing, which the command refuses before.
     NothingAsked,
-    /// Random runs are asked for, and something is to be left out of their logs.
-    RestByChance,
     /// What is left of a log is to have a certificate.
     RestCertificate,
     /// Random runs are asked for, and what a search alone has.
@@ -48,9 +46,6 @@ pub fn line_of_clash(clash: Clash) -> &'static [u8] {
         Clash::NamesWithoutLog => b"error: --names-out goes only with --log\n",
         Clash::NeitherTextNorJson => b"error: --format takes text or json\n",
         Clash::NothingAsked => b"error: the words ask for nothing\n",
-        Clash::RestByChance => {
-            b"error: --random does not go with what leaves events out of the log\n"
-        }
         Clash::RestCertificate => {
             b"error: --certificate does not go with what leaves events out of the log\n"
         }

@@ -39,22 +39,17 @@ The names: each line is 'thread N NAME', 'variable N NAME', 'lock N NAME' or 'la
 or a comment that begins with '#'. With --names they are read before the log, and the report has the
 names of threads and labels after their numbers. Only one of LOG and FILE can be -.
 
---not-atomic, --ignore, --ignore-label, --ignore-lock, --ignore-locks and --ignore-variable are those of
-'velodrome audit'. The whole log is read and judged first. The report is that of what is left, with the
-positions of the whole log. It has no certificate: for one, check what 'velodrome thin' leaves.
+To leave something out of the log, check what 'velodrome thin' leaves of it.
 
 With --why, or where standard error is a terminal, words come before the line on standard error: the
 path, the line and its text, and what is wrong with it.
 
 Statuses, each with the lines on standard error:
   0  no alarm, or help
-  2  usage; 'error: standard input can be read once'; 'error: --ignore does not go with --not-atomic';
-     'error: --certificate does not go with what leaves events out of the log'; the text is no log:
-     'log fault K', 'log fault K line N'; an event cannot happen: 'refused K at P', 'wrong value at P';
-     the text of --names is no file of names: 'names fault K line N'; the text of --not-atomic or
-     --ignore is no list: 'list fault K line N'; a word of --ignore-label, --ignore-lock or
-     --ignore-variable means nothing: 'ignored fault K'
-  3  an alarm: no serial reordering of the log, or of what is left of it, exists
+  2  usage; 'error: standard input can be read once'; the text is no log: 'log fault K',
+     'log fault K line N'; an event cannot happen: 'refused K at P', 'wrong value at P'; the text of
+     --names is no file of names: 'names fault K line N'
+  3  an alarm: no serial reordering of the log exists
   4  a limit was met: 'refused 17 at P', 'refused 18 at P'
   5  memory or a device failed: 'out of memory', 'read failed', 'write failed', 'cannot open'
 
@@ -69,8 +64,6 @@ Names faults, line 0 for the whole text:
    2  number named twice
    3  too many
    4  not UTF-8
-
-Lists, ignored words: see 'velodrome audit --help'.
 
 Refusals:
    2  thread not live
@@ -273,14 +266,6 @@ runs has it. --random goes with neither --states nor --seconds nor --first nor -
 --format json prints the findings and whom they blame for other programs, as one JSON object, and no
 report. docs/FORMATS.md describes it. --certificate does not go with it.
 
---not-atomic, --ignore, --ignore-label, --ignore-lock, --ignore-locks and --ignore-variable are those of
-'velodrome audit', with the names of the workload. What they name is left out of the log of each run
-before it is judged: an alarm is one of what is left. The runs themselves leave nothing out, so 'stuck'
-and 'refused' are those of the workload. The schedules that are printed are those that the search came
-to, no simpler ones. Nobody is blamed, and no report is printed. --log saves the whole log of the run of
-the first finding, to be explained with the same options. Only one of FILE and the list can be -.
---certificate and --random do not go with these options.
-
 If standard error is a terminal, a search of more than two seconds shows its progress in one line, and
 clears it at the end. With --progress the lines begin at once, also where standard error is no terminal;
 there each line stays, at most one in two seconds.
@@ -295,20 +280,14 @@ Statuses, each with the lines on standard error:
   2  usage; 'error: --random goes with neither --states nor --seconds nor --first nor --progress';
      'error: --seed goes only with --random'; 'error: --format takes text or json';
      'error: --format json does not go with --certificate'; 'error: --names-out goes only with --log';
-     'error: FILE and OUT are one file', the same of --not-atomic and --ignore, and of NAMES;
-     'error: --certificate does not go with what leaves events out of the log';
-     'error: --random does not go with what leaves events out of the log'; 'error: standard input can be
-     read once'; 'error: --ignore does not go with --not-atomic'; the text is no workload:
-     'workload fault K line N'; the text of --not-atomic or --ignore is no list: 'list fault K line N'; a
-     word of --ignore-label, --ignore-lock or --ignore-variable means nothing: 'ignored fault K'
-  3  an alarm was found: no serial reordering of the run by its schedule, or of what is left of its log,
-     exists
+     'error: FILE and OUT are one file', the same of NAMES; the text is no workload:
+     'workload fault K line N'
+  3  an alarm was found: no serial reordering of the run by its schedule exists
   4  no alarm was found, but a deadlock, a refusal, or an open finding: 'stuck', 'refused K thread T',
      'open'
   5  memory or a device failed: 'out of memory', 'read failed', 'write failed', 'cannot open'
 
-Workload and its faults: see 'velodrome replay --help'. Lists, ignored words: see
-'velodrome audit --help'. Refusals: see 'velodrome check --help'.";
+Workload and its faults: see 'velodrome replay --help'. Refusals: see 'velodrome check --help'.";
 
 /// After the help of `watch`.
 pub const OF_WATCH: &str = "\

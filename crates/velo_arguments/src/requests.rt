@@ -4,11 +4,9 @@ use crate::ignored::{leaves_out, left_out};
 use clap::ArgMatches;
 use velo_events::{MAX_EVENTS, MAX_NODES};
 use velo_request::{
-    AuditOptions, CarryOptions, CheckOptions, CheckRestOptions, DEFAULT_SEED, EndlessOptions,
-    ExplainOptions, ExploreOptions, ExploreRestOptions, Limits, MAX_RUNS, MAX_SECONDS, MAX_STATES,
-    MAX_TRIES, PredictOptions, RandomRuns, ReplayOptions,
-    Request, RunOptions, ScheduleSource, TextOrJson, ThinOptions, VerifyOptions, WatchOptions,
-    WatchRestOptions,
+    AuditOptions, CarryOptions, CheckOptions, DEFAULT_SEED, EndlessOptions, ExplainOptions,
+    ExploreOptions, Limits, MAX_RUNS, MAX_SECONDS, MAX_STATES, MAX_TRIES, PredictOptions, RandomRuns, ReplayOptions, Request, RunOptions,
+    ScheduleSource, TextOrJson, ThinOptions, VerifyOptions, WatchOptions, WatchRestOptions,
 };
 
 /// Reads a number from 1 to `most`; none where it is missing or out of this range.
@@ -44,17 +42,6 @@ fn check_options<'a>(found: &ArgMatches<'a>) -> Option<CheckOptions<'a>> {
 /// told.
 fn asks_more(options: &WatchRestOptions) -> bool {
     leaves_out(&options.ignored) || options.sites.is_some()
-}
-
-/// What a check is asked for, of the whole log or of what is left of it; none where its word is
-/// missing or a limit is out of its range.
-fn check_request<'a>(found: &'a ArgMatches) -> Option<Request<'a>> {
-    let check = check_options(found)?;
-    let ignored = left_out(found);
-    if leaves_out(&ignored) {
-        return Some(Request::CheckRest(CheckRestOptions { check, ignored }));
-    }
-    Some(Request::Check(check))
 }
 
 /// Where the turns of this word are: what follows an `@` is a path.
@@ -173,17 +160,6 @@ fn explore_options<'a>(found: &ArgMatches<'a>) -> Option<ExploreOptions<'a>> {
     })
 }
 
-/// What an exploration is asked for, of whole logs or of what is left of them; none where its word is
-/// missing or a number is out of its range.
-fn explore_request<'a>(found: &'a ArgMatches) -> Option<Request<'a>> {
-    let explore = explore_options(found)?;
-    let ignored = left_out(found);
-    if leaves_out(&ignored) {
-        return Some(Request::ExploreRest(ExploreRestOptions { explore, ignored }));
-    }
-    Some(Request::Explore(explore))
-}
-
 /// What a watch is asked for, endless or not, of the whole log or of what is left of it, with sites or
 /// without; none where its word is missing or a limit is out of its range.
 fn watch_request<'a>(found: &'a ArgMatches) -> Option<Request<'a>> {
@@ -267,12 +243,12 @@ fn predict_options<'a>(found: &'a ArgMatches) -> Option<PredictOptions<'a>> {
 pub fn request_of<'a>(matches: &'a ArgMatches) -> Option<Request<'a>> {
     let (name, found) = matches.subcommand()?;
     match name {
-        "check" => check_request(found),
+        "check" => Some(Request::Check(check_options(found)?)),
         "replay" => Some(Request::Replay(replay_options(found)?)),
         "run" => Some(Request::Run(run_options(found)?)),
         "explain" => Some(Request::Explain(explain_options(found)?)),
         "carry" => Some(Request::Carry(carry_options(found)?)),
-        "explore" => explore_request(found),
+        "explore" => Some(Request::Explore(explore_options(found)?)),
         "watch" => watch_request(found),
         "audit" => Some(Request::Audit(audit_options(found)?)),
         "thin" => Some(Request::Thin(thin_options(found)?)),

@@ -9,22 +9,19 @@ use crate::paths::{
 use crate::requests::request_of;
 use clap::ArgMatches;
 use velo_request::{
-    AuditOptions, CheckRestOptions, EndlessOptions, ExplainOptions, ExploreOptions,
-    ExploreRestOptions, Ignored, PredictOptions, RandomRuns,
-    ReplayOptions, Request, ScheduleSource, TextOrJson, ThinOptions, WatchRestOptions,
+    AuditOptions, EndlessOptions, ExplainOptions, ExploreOptions, Ignored, PredictOptions, RandomRuns, ReplayOptions, Request, ScheduleSource, TextOrJson,
+    ThinOptions, WatchRestOptions,
 };
 
 /// Why the options of the request do not go together, if they do not, where the words give these.
 fn clash_of(request: &Request, given: Given) -> Option<Clash> {
     match request {
         Request::Check(options) => clash_of_inputs(options.input, options.names),
-        Request::CheckRest(options) => clash_of_check_rest(options, given.not_atomic),
         Request::Replay(options) => clash_of_replay(options, given.schedule),
         Request::Run(options) => clash_of_targets(options.target, options.names_target),
         Request::Explain(options) => clash_of_explain(options, given),
         Request::Carry(_) => None,
         Request::Explore(options) => clash_of_explore(options, given),
-        Request::ExploreRest(options) => clash_of_explore_rest(options, given),
         Request::Watch(options) => clash_of_inputs(options.input, options.names),
         Request::WatchEndless(options) => clash_of_endless(options, given),
         Request::WatchRest(options) => clash_of_watch_rest(options, given.not_atomic),
@@ -100,17 +97,6 @@ fn clash_of_thin(options: &ThinOptions, has_known: bool) -> Option<Clash> {
     ))
 }
 
-/// What is left of a log is checked without a certificate, and without a clash of its paths.
-fn clash_of_check_rest(options: &CheckRestOptions, has_known: bool) -> Option<Clash> {
-    let (check, ignored) = (&options.check, &options.ignored);
-    if check.certificate {
-        return Some(Clash::RestCertificate);
-    }
-    clash_of_files(check.input, check.names, None, ignored.known).or(clash_of_lists(
-        ignored, has_known,
-    ))
-}
-
 /// What is left of a log is watched without a certificate, and without a clash of its paths; and so is a
 /// log whose places are told.
 fn clash_of_watch_rest(options: &WatchRestOptions, has_known: bool) -> Option<Clash> {
@@ -157,21 +143,6 @@ fn clash_of_explore(options: &ExploreOptions, given: Given) -> Option<Clash> {
     clash_of_certificate(options.format, options.certificate)
         .or(clash_of_search(options, given))
         .or(clash_of_targets(options.target, options.names_target))
-}
-
-/// What is left of the logs of a search is judged without a certificate and without random runs, and
-/// with no clash of the search or its paths.
-fn clash_of_explore_rest(options: &ExploreRestOptions, given: Given) -> Option<Clash> {
-    let (explore, ignored) = (&options.explore, &options.ignored);
-    if explore.certificate {
-        return Some(Clash::RestCertificate);
-    }
-    if explore.random.is_some() {
-        return Some(Clash::RestByChance);
-    }
-    clash_of_explore(explore, given)
-        .or(clash_of_inputs(explore.input, ignored.known))
-        .or(clash_of_lists(ignored, given.not_atomic))
 }
 
 /// A certificate stands behind a report, which a JSON object does not have.

@@ -8,14 +8,12 @@ use velo_bytes::Sink;
 use velo_delivery::Files;
 use velo_fate::Fate;
 use velo_log_commands::{
-    carry_file, check_file, check_rest_file, explain_file, thin_file, watch_endless_file,
-    watch_file, watch_rest_file,
+    carry_file, check_file, explain_file, thin_file, watch_endless_file, watch_file,
+    watch_rest_file,
 };
 use velo_request::Request;
 use velo_verify::verify_file;
-use velo_workload_commands::{
-    ExploreProgress, explore_file, explore_rest_file, replay_file, run_file,
-};
+use velo_workload_commands::{ExploreProgress, explore_file, replay_file, run_file};
 
 /// Does what was asked for, with the report, the certificate or the words of an explanation on the
 /// sink, and returns its fate. How far a search is goes to `progress`. A run of a workload by
@@ -42,13 +40,11 @@ fn do_by<R: Threads + Wait + Sync, F: Files, O: Sink, P: ExploreProgress>(
 ) -> Fate {
     match request {
         Request::Check(options) => check_file(alloc, options, files, out),
-        Request::CheckRest(options) => check_rest_file(alloc, options, files, out),
         Request::Replay(options) => replay_file(alloc, options, files, out),
         Request::Run(options) => run_file(rt, alloc, options, files, out),
         Request::Explain(options) => explain_file(alloc, options, files, out),
         Request::Carry(options) => carry_file(alloc, options, files),
         Request::Explore(options) => explore_file(alloc, options, files, out, progress),
-        Request::ExploreRest(options) => explore_rest_file(alloc, options, files, out, progress),
         Request::Watch(options) => watch_file(alloc, options, files, out),
         Request::WatchEndless(options) => watch_endless_file(alloc, options, files, out),
         Request::WatchRest(options) => watch_rest_file(alloc, options, files, out),

@@ -1,4 +1,5 @@
 //! What is wrong with the line of an event.
+ghost use Rattle.std.specs.Prelude.{◌≤◌};
 
 use crate::header::begins;
 use crate::lines::ends_in_return;
@@ -130,7 +131,9 @@ fn ends(bytes: &[u8], fault: LineFault) -> LineFault {
 }
 
 /// What is wrong with a number up to `most` that ends the line.
-fn number_fault(bytes: &[u8], most: u64, lacking: LineFault, otherwise: LineFault) -> LineFault {
+fn number_fault(bytes: &[u8], most: u64, lacking: LineFault, otherwise: LineFault) -> LineFault
+    requires { 9 ≤ most }
+{
     match number(bytes, most) {
         None => lacking,
         Some((_, rest)) => ends(rest, otherwise),

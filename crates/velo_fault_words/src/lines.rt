@@ -10,19 +10,25 @@ use velo_names::split_line;
 /// The most bytes of a line that are shown.
 const SHOWN: usize = 64;
 
+/// The first line of a text, without its newline, and what stands after it.
+fn next_line(text: &[u8]) -> (&[u8], &[u8]) {
+    if text.is_empty() {
+        return (text, text);
+    }
+    split_line(text)
+}
+
 /// Line `n`, counted from 1, without its newline; nothing where there is none.
 pub fn line_at(n: usize, text: &[u8]) -> &[u8] {
     let mut rest = text;
-    let mut left = n.saturating_sub(1);
-    while left > 0 && !rest.is_empty() {
-        let (_, others) = split_line(rest);
+    for _ in 1..n {
+        if rest.is_empty() {
+            return rest;
+        }
+        let (_, others) = next_line(rest);
         rest = others;
-        left -= 1;
     }
-    if rest.is_empty() {
-        return rest;
-    }
-    let (line, _) = split_line(rest);
+    let (line, _) = next_line(rest);
     line
 }
 

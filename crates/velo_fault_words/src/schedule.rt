@@ -91,28 +91,22 @@ fn word_end(bytes: &[u8]) -> usize {
 
 /// The first word, and what stands after its space, if it has one.
 fn split_word(bytes: &[u8]) -> (&[u8], Option<&[u8]>) {
-    let (word, rest) = bytes.split_at(word_end(bytes));
-    match rest.split_first() {
-        Some((_, others)) => (word, Some(others)),
-        None => (word, None),
-    }
+    let end = word_end(bytes);
+    let word = bytes.get(..end).unwrap_or(bytes);
+    (word, bytes.get(end.saturating_add(1)..))
 }
 
 /// The first word with which something is wrong.
 fn first_bad(text: &[u8]) -> Option<BadWord<'_>> {
     let mut rest = text;
-    let mut place = 1;
-    loop {
+    for place in 1..text.len().saturating_add(2) {
         let (word, others) = split_word(rest);
         if let Some(fault) = turns_fault(word) {
             return Some(BadWord { place, word, fault });
         }
-        let Some(others) = others else {
-            return None;
-        };
-        rest = others;
-        place += 1;
+        rest = others?;
     }
+    None
 }
 
 /// Adds what is said of a word.

@@ -3,7 +3,6 @@
 
 mod carrying;
 mod check;
-mod checking_rest;
 mod command;
 mod endless;
 mod explaining;
@@ -20,7 +19,6 @@ mod watching_rest;
 
 pub use carrying::{CarryFault, carry_file, carry_run};
 pub use check::{check_file, check_run};
-pub use checking_rest::check_rest_file;
 pub use endless::watch_endless_file;
 pub use explaining::explain_file;
 pub use thinning::thin_file;

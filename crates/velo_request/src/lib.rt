@@ -5,8 +5,9 @@ mod request;
 pub mod status;
 
 pub use request::{
-    AuditOptions, CarryOptions, CheckOptions, CheckRestOptions, DEFAULT_SEED, DEFAULT_TRIES,
-    EndlessOptions, ExplainOptions, ExploreOptions, ExploreRestOptions, Ignorable, Ignored, Limits,
-    MAX_RUNS, MAX_SECONDS, MAX_STATES, MAX_TRIES, PredictOptions, RandomRuns, ReplayOptions, Request, RunOptions, ScheduleSource, TextOrJson,
-    ThinOptions, VerifyOptions, WatchOptions, WatchRestOptions,
+    AuditOptions, CarryOptions, CheckOptions, DEFAULT_SEED, DEFAULT_TRIES, EndlessOptions,
+    ExplainOptions, ExploreOptions, Ignorable, Ignored, Limits, MAX_RUNS, MAX_SECONDS, MAX_STATES,
+    MAX_TRIES, PredictOptions, RandomRuns, ReplayOptions,
+    Request, RunOptions, ScheduleSource, TextOrJson, ThinOptions, VerifyOptions, WatchOptions,
+    WatchRestOptions,
 };

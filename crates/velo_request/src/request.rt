@@ -32,15 +32,6 @@ pub struct CheckOptions<'a> {
     pub why: bool,
 }
 
-/// What `velodrome check` was asked for, if something is left out of the log.
-#[derive(Clone, Copy)]
-pub struct CheckRestOptions<'a> {
-    /// The rest, which is as for the whole log; without a certificate.
-    pub check: CheckOptions<'a>,
-    /// What is left out.
-    pub ignored: Ignored<'a>,
-}
-
 /// What a run of a workload was asked for; `velodrome run` is asked for nothing else.
 #[derive(Clone, Copy)]
 pub struct RunOptions<'a> {
@@ -182,15 +173,6 @@ pub struct ExploreOptions<'a> {
     ghost few_states: { states ≤ MAX_STATES },
 }
 
-/// What `velodrome explore` was asked for, if something is left out of the logs of the runs.
-#[derive(Clone, Copy)]
-pub struct ExploreRestOptions<'a> {
-    /// The rest, which is as for whole logs; without random runs, and without a certificate.
-    pub explore: ExploreOptions<'a>,
-    /// What is left out.
-    pub ignored: Ignored<'a>,
-}
-
 /// What `velodrome watch` was asked for.
 #[derive(Clone, Copy)]
 pub struct WatchOptions<'a> {
@@ -323,8 +305,6 @@ pub enum Ignorable {
 pub enum Request<'a> {
     /// To check a recorded log.
     Check(CheckOptions<'a>),
-    /// To check what is left of a recorded log.
-    CheckRest(CheckRestOptions<'a>),
     /// To run a workload by a schedule.
     Replay(ReplayOptions<'a>),
     /// To run a workload by threads of its own.
@@ -335,8 +315,6 @@ pub enum Request<'a> {
     Carry(CarryOptions<'a>),
     /// To try every schedule of a workload.
     Explore(ExploreOptions<'a>),
-    /// To try every schedule of a workload, and judge what is left of the logs.
-    ExploreRest(ExploreRestOptions<'a>),
     /// To check a log as it comes.
     Watch(WatchOptions<'a>),
     /// To check a log of any length as it comes.

@@ -284,7 +284,7 @@ fn words_of_run<F: Files>(alloc: Global, path: &str, ending: Ending, files: &F) 
             let complaint = Complaint {
                 line: 0,
                 reason: "threads wait for one another",
-                help: "help: `velodrome explore` with nothing left out says which thread waits for which lock, held by whom\n",
+                help: "help: `velodrome explore` says which thread waits for which lock, held by whom\n",
             };
             place_words(alloc, path, &[], complaint).ok()
         }
@@ -309,9 +309,6 @@ pub(crate) fn words_of_end<F: Files>(
         (Request::Explore(options), Ending::Refused(thread, refusal)) => {
             words_of_act(alloc, options.input, thread, refusal, files)
         }
-        (Request::ExploreRest(options), _) => {
-            words_of_run(alloc, options.explore.input, ending, files)
-        }
         _ => None,
     }
 }
@@ -333,11 +330,6 @@ pub(crate) fn words_of_open(alloc: Global, request: &Request) -> Option<Page> {
             alloc,
             options.input,
             "help: raise --states, --seconds, --events or --nodes; or make runs by chance: see --random\n",
-        ),
-        Request::ExploreRest(options) => undecided(
-            alloc,
-            options.explore.input,
-            "help: raise --states, --seconds, --events or --nodes\n",
         ),
         _ => None,
     }

@@ -3,7 +3,6 @@
 use std::alloc::Global;
 use velo_bytes::Source;
 use velo_events::{Bounds, Event, Kind, LockId, MAX_EVENTS, ThreadId, VarId};
-use velo_explain::line_of;
 use velo_logtext::LogReader;
 use velo_traces::Trace;
 
@@ -39,24 +38,15 @@ fn is_sought(sought: Sought, event: Event) -> bool {
     }
 }
 
-/// The position where it passes, and else the one before.
-fn later(last: Option<usize>, at: usize, passes: bool) -> Option<usize> {
-    if passes { Some(at) } else { last }
-}
-
-/// The position of the last event that is sought, if there is one.
-fn last_position(events: &[Event], sought: Sought) -> Option<usize> {
-    let mut last = None;
-    for at in 0..events.len() {
-        last = later(last, at, is_sought(sought, events[at]));
-    }
-    last
-}
-
 /// The line of the last event that is sought, and that event, if there is one.
 pub(crate) fn last_of(events: &[Event], sought: Sought) -> Option<(u64, Event)> {
-    let at = last_position(events, sought)?;
-    Some((line_of(at), events[at]))
+    let mut last = None;
+    for (at, event) in events.iter().enumerate() {
+        if is_sought(sought, *event) {
+            last = Some(((at as u64).saturating_add(2), *event));
+        }
+    }
+    last
 }
 
 /// The next event of a log, if it has one.

@@ -26,12 +26,9 @@ pub enum SystemReason {
 
 /// Files that recall which of them failed last.
 pub trait Recall {
- = { λ files path reason. ⊤ };
-
     /// Why the file at a path could not be opened, read or written, if it is the one that failed
     /// last, and this is known.
-    fn failure_at(&self, path: &str) -> Option<SystemReason>
-    {
+    fn failure_at(&self, _path: &str) -> Option<SystemReason> {
         None
     }
 }
@@ -45,8 +42,7 @@ struct Failed<'a> {
 }
 
 /// What was to be done with the file, where the fate is that it failed.
-fn verb_of(fate: Fate) -> Option<&'static str>
-{
+fn verb_of(fate: Fate) -> Option<&'static str> {
     match fate {
         Fate::CannotOpen => Some("open"),
         Fate::ReadFailed | Fate::Check(CheckFault::Log(LogFault::Read)) => Some("read"),
@@ -56,8 +52,7 @@ fn verb_of(fate: Fate) -> Option<&'static str>
 }
 
 /// A reason in words.
-fn reason_of(reason: SystemReason) -> &'static str
-{
+fn reason_of(reason: SystemReason) -> &'static str {
     match reason {
         SystemReason::NotFound => "there is no such file",
         SystemReason::Denied => "permission is denied",
@@ -68,16 +63,14 @@ fn reason_of(reason: SystemReason) -> &'static str
 }
 
 /// The failure of the file of a role, if the request has one and it failed.
-fn failure_of<'a, F: Recall>(role: Role, request: &Request<'a>, files: &F) -> Option<Failed<'a>>
-{
+fn failure_of<'a, F: Recall>(role: Role, request: &Request<'a>, files: &F) -> Option<Failed<'a>> {
     let path = path_of(role, request)?;
     let reason = files.failure_at(path)?;
     Some(Failed { role, path, reason })
 }
 
 /// The file of a request that failed, if it is known.
-fn failed_of<'a, F: Recall>(request: &Request<'a>, files: &F) -> Option<Failed<'a>>
-{
+fn failed_of<'a, F: Recall>(request: &Request<'a>, files: &F) -> Option<Failed<'a>> {
     for role in &ROLES {
         if let Some(failed) = failure_of(*role, request, files) {
             return Some(failed);
@@ -94,8 +87,7 @@ fn add_failure(
     verb: &str,
     word: &str,
     reason: &str,
-) -> Result<(), Memory>
-{
+) -> Result<(), Memory> {
     add_file(page, alloc, path)?;
     page.add(&[
         Piece::Text("cannot "),
@@ -109,8 +101,7 @@ fn add_failure(
 }
 
 /// What is said of a file that failed.
-fn failure_words(alloc: Global, verb: &str, failed: &Failed) -> Result<Page, Memory>
-{
+fn failure_words(alloc: Global, verb: &str, failed: &Failed) -> Result<Page, Memory> {
     let mut page = Page::new(alloc);
     let word = word_of(failed.role);
     let reason = reason_of(failed.reason);
@@ -125,8 +116,7 @@ pub fn words_of_failure<F: Recall>(
     request: &Request,
     fate: Fate,
     files: &F,
-) -> Option<Page>
-{
+) -> Option<Page> {
     if !asks_for_words(request) {
         return None;
     }

@@ -143,31 +143,6 @@ fn words_by_file<F: Files>(
     words_by_names(alloc, &bytes, what, ignored, NamesFrom::File)
 }
 
-/// The text of the names that a workload has for these.
-fn own_names(alloc: Global, workload: &Workload, what: Ignorable) -> Result<Vec<u8>, Memory> {
-    let mut text = Vec::new(alloc);
-    let names = match what {
-        Ignorable::Lock => workload.lock_names(),
-        Ignorable::Variable => workload.variable_names(),
-        Ignorable::Label => workload.label_names(),
-    };
-    append_names(&mut text, kind_of(what), names)?;
-    Ok(text)
-}
-
-/// The same, by the names of the workload at a path, which is read again.
-fn words_by_workload<F: Files>(
-    alloc: Global,
-    path: &str,
-    what: Ignorable,
-    ignored: Ignored,
-    files: &F,
-) -> Option<Page> {
-    let workload = workload_at(alloc, path, files)?;
-    let text = own_names(alloc, &workload, what).ok()?;
-    words_by_names(alloc, &text, what, ignored, NamesFrom::Workload)
-}
-
 /// The same, where there are no names.
 fn words_without_names(alloc: Global, what: Ignorable, ignored: Ignored) -> Option<Page> {
     let names = Names::new(alloc);
@@ -182,9 +157,6 @@ pub(crate) fn words_in_vain<F: Files>(
     files: &F,
 ) -> Option<Page> {
     let ignored = ignored_of(request)?;
-    if let Request::ExploreRest(options) = request {
-        return words_by_workload(alloc, options.explore.input, what, ignored, files);
-    }
     match names_explained_of(request) {
         Some(path) => words_by_file(alloc, path, what, ignored, files),
         None => words_without_names(alloc, what, ignored),

@@ -130,7 +130,7 @@ fn add_refused(
     event: Event,
     refusal: Refusal,
 ) -> Result<(), Memory> {
-    add_line(page, alloc, path, before.len() + 2)?;
+    add_line(page, alloc, path, before.len().saturating_add(2))?;
     add_thread(page, event.thread)?;
     add_kind(page, event.kind)?;
     add_reason(page, bounds, before, event, refusal)?;
@@ -200,7 +200,7 @@ fn add_wrong_value(
     before: &[Event],
     event: Event,
 ) -> Result<(), Memory> {
-    add_line(page, alloc, path, before.len() + 2)?;
+    add_line(page, alloc, path, before.len().saturating_add(2))?;
     add_thread(page, event.thread)?;
     add_kind(page, event.kind)?;
     add_read(page, before, event.kind)?;

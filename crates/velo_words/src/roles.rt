@@ -65,7 +65,6 @@ pub fn word_of(role: Role) -> &'static str {
 pub fn asks_for_words(request: &Request) -> bool {
     match request {
         Request::Check(options) => options.why,
-        Request::CheckRest(options) => options.check.why,
         Request::Carry(_) => false,
         Request::Run(options) => options.why,
         Request::Replay(options) => options.run.why,
@@ -87,7 +86,6 @@ fn turns_of<'a>(request: &Request<'a>) -> Option<&'a str> {
 pub fn names_of<'a>(request: &Request<'a>) -> Option<&'a str> {
     match request {
         Request::Check(options) => options.names,
-        Request::CheckRest(options) => options.check.names,
         Request::Explain(options) => options.names,
         Request::Watch(options) => options.names,
         Request::WatchEndless(options) => options.names,
@@ -102,9 +100,7 @@ pub fn names_of<'a>(request: &Request<'a>) -> Option<&'a str> {
 /// What is left out, if the request leaves something out.
 pub fn ignored_of<'a>(request: &Request<'a>) -> Option<Ignored<'a>> {
     match request {
-        Request::CheckRest(options) => Some(options.ignored),
         Request::Explain(options) => Some(options.ignored),
-        Request::ExploreRest(options) => Some(options.ignored),
         Request::WatchRest(options) => Some(options.ignored),
         Request::Audit(options) => Some(options.ignored),
         Request::Thin(options) => Some(options.ignored),
@@ -150,7 +146,6 @@ pub fn sites_of<'a>(request: &Request<'a>) -> Option<&'a str> {
 fn log_path_of<'a>(request: &Request<'a>) -> Option<&'a str> {
     match request {
         Request::Check(options) => Some(options.input),
-        Request::CheckRest(options) => Some(options.check.input),
         Request::Explain(options) => Some(options.input),
         Request::Carry(options) => Some(options.input),
         Request::Watch(options) => Some(options.input),
@@ -177,7 +172,6 @@ fn work_path_of<'a>(request: &Request<'a>) -> Option<&'a str> {
         Request::Replay(options) => Some(options.run.input),
         Request::Run(options) => Some(options.input),
         Request::Explore(options) => Some(options.input),
-        Request::ExploreRest(options) => Some(options.explore.input),
         _ => None,
     }
 }
@@ -190,7 +184,6 @@ fn saved_log_of<'a>(request: &Request<'a>) -> Option<&'a str> {
         Request::Replay(options) => options.run.target,
         Request::Run(options) => options.target,
         Request::Explore(options) => options.target,
-        Request::ExploreRest(options) => options.explore.target,
         _ => None,
     }
 }
@@ -200,7 +193,6 @@ fn saved_names_of<'a>(request: &Request<'a>) -> Option<&'a str> {
         Request::Replay(options) => options.run.names_target,
         Request::Run(options) => options.names_target,
         Request::Explore(options) => options.names_target,
-        Request::ExploreRest(options) => options.explore.names_target,
         _ => None,
     }
 }

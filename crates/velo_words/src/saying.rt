@@ -43,7 +43,6 @@ fn log_of<'a>(request: &Request<'a>) -> Option<&'a str> {
         Request::Predict(options) => Some(options.input),
         Request::Verify(options) => Some(options.input),
         Request::Check(options) => if_asked(options.why, options.input),
-        Request::CheckRest(options) => if_asked(options.check.why, options.check.input),
         _ => None,
     }
 }
@@ -52,7 +51,6 @@ fn log_of<'a>(request: &Request<'a>) -> Option<&'a str> {
 fn work_of<'a>(request: &Request<'a>) -> Option<&'a str> {
     match request {
         Request::Explore(options) => Some(options.input),
-        Request::ExploreRest(options) => Some(options.explore.input),
         Request::Run(options) => if_asked(options.why, options.input),
         Request::Replay(options) => if_asked(options.run.why, options.run.input),
         _ => None,

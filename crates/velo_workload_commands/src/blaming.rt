@@ -1,11 +1,9 @@
 //! Who is to blame for the alarms that a search finds.
-ghost use Rattle.std.specs.Prelude.{◌≡◌, IfOk, map, take};
-ghost use Rattle.velo_workload_commands.specs.ByChance.{IsBlameOf};
-ghost use Rattle.velo_workload_commands.specs.Exploring.{most_to_blame};
+ghost use Rattle.std.specs.Prelude.{◌≡◌};
 
 use std::alloc::Global;
 use velo_events::{Config, Memory, ThreadId};
-use velo_explore_forms::ToBlame;
+use velo_finding::ToBlame;
 use velo_random::{RunTally, try_all};
 use velo_workload::Workload;
 
@@ -13,9 +11,7 @@ use velo_workload::Workload;
 pub const MAX_BLAMING: usize = 100;
 
 /// The most replays that are asked, where the first finding ends the search or does not.
-fn most_to_blame(first: bool) -> usize
-    ensures { result ≡ most_to_blame first }
-{
+fn most_to_blame(first: bool) -> usize {
     if first { 0 } else { MAX_BLAMING }
 }
 
@@ -32,8 +28,6 @@ pub fn blame_of(
     config: Config,
 ) -> Result<ToBlame, Memory>
     requires { config.bounds ≡ workload.now.bounds }
-    ensures { IfOk result (IsBlameOf workload.now config
-        (map (λ schedule. schedule.items) (take (most_to_blame first) schedules.now))) }
 {
     let most = most_to_blame(first).min(schedules.len());
     let RunTally { alarms, blamed, .. } = try_all(alloc, workload, &schedules[..most], config)?;

@@ -1,12 +1,10 @@
 //! The text of what is reported of the schedules of a workload.
-ghost use Rattle.std.specs.Prelude.{◌≡◌, ◌++◌, slice_get, IfOk, OnOk};
-ghost use Rattle.velo_workload_commands.specs.Exploring.{blame_text, blamed_text, finding_text, found_text, goal_text, label_text, name_text, survey_page, survey_text, tried_text, unforked_text, unforked_texts};
 
 use std::alloc::Global;
 use velo_bytes::{append, append_number};
 use velo_events::{Label, Memory, ThreadId};
 use velo_explore::{Finding, Findings, Goal};
-use velo_explore_forms::{Survey, ToBlame, Tried, exploration_json, never_forked};
+use velo_finding::{Survey, ToBlame, Tried, exploration_json, never_forked};
 use velo_fate::number_of;
 use velo_random::BlamedLabel;
 use velo_request::TextOrJson;
@@ -14,10 +12,7 @@ use velo_schedule_text::append_turns;
 use velo_workload::Workload;
 
 /// Adds the name of a thread after a space, if it has one.
-fn add_name(text: &mut Vec<u8>, workload: &Workload, thread: ThreadId) -> Result<(), Memory>
-    ensures { OnOk result (text.new.items
-        ≡ text.old.items ++ name_text (slice_get workload.now.thread_names thread.0)) }
-{
+fn add_name(text: &mut Vec<u8>, workload: &Workload, thread: ThreadId) -> Result<(), Memory> {
     match workload.thread_names().get(usize::from(thread.0)) {
         Some(name) => {
             append(text, b" ")?;
@@ -29,9 +24,7 @@ fn add_name(text: &mut Vec<u8>, workload: &Workload, thread: ThreadId) -> Result
 
 /// Adds what a witness shows beside the word of its finding: of a refusal its number and its
 /// thread.
-fn add_goal(text: &mut Vec<u8>, workload: &Workload, goal: Goal) -> Result<(), Memory>
-    ensures { OnOk result (text.new.items ≡ text.old.items ++ goal_text workload.now goal) }
-{
+fn add_goal(text: &mut Vec<u8>, workload: &Workload, goal: Goal) -> Result<(), Memory> {
     match goal {
         Goal::Alarm | Goal::Stuck => Ok(()),
         Goal::Refused(thread, refusal) => {
@@ -45,10 +38,7 @@ fn add_goal(text: &mut Vec<u8>, workload: &Workload, goal: Goal) -> Result<(), M
 }
 
 /// Adds what follows the word of a finding.
-fn add_finding(text: &mut Vec<u8>, workload: &Workload, finding: &Finding) -> Result<(), Memory>
-    ensures { OnOk result (text.new.items
-        ≡ text.old.items ++ finding_text workload.now finding.now) }
-{
+fn add_finding(text: &mut Vec<u8>, workload: &Workload, finding: &Finding) -> Result<(), Memory> {
     match finding {
         Finding::Shown(witness) => {
             add_goal(text, workload, witness.goal)?;
@@ -60,9 +50,7 @@ fn add_finding(text: &mut Vec<u8>, workload: &Workload, finding: &Finding) -> Re
 }
 
 /// Adds how schedules were tried.
-fn add_tried(text: &mut Vec<u8>, tried: Tried) -> Result<(), Memory>
-    ensures { OnOk result (text.new.items ≡ text.old.items ++ tried_text tried) }
-{
+fn add_tried(text: &mut Vec<u8>, tried: Tried) -> Result<(), Memory> {
     match tried {
         Tried::All { events, states } => {
             append(text, b"events ")?;
@@ -80,10 +68,7 @@ fn add_tried(text: &mut Vec<u8>, tried: Tried) -> Result<(), Memory>
 }
 
 /// Adds the lines of what was found.
-fn add_found(text: &mut Vec<u8>, workload: &Workload, found: &Findings) -> Result<(), Memory>
-    ensures { OnOk result (text.new.items
-        ≡ text.old.items ++ found_text workload.now found.now) }
-{
+fn add_found(text: &mut Vec<u8>, workload: &Workload, found: &Findings) -> Result<(), Memory> {
     append(text, b"\nalarm")?;
     add_finding(text, workload, &found.alarm)?;
     append(text, b"\nstuck")?;
@@ -94,10 +79,7 @@ fn add_found(text: &mut Vec<u8>, workload: &Workload, found: &Findings) -> Resul
 }
 
 /// Adds the name of a label, or its number, if it has none.
-fn add_label(text: &mut Vec<u8>, workload: &Workload, label: Label) -> Result<(), Memory>
-    ensures { OnOk result (text.new.items
-        ≡ text.old.items ++ label_text workload.now label.0) }
-{
+fn add_label(text: &mut Vec<u8>, workload: &Workload, label: Label) -> Result<(), Memory> {
     match workload.label_names().get(label.0 as usize) {
         Some(name) => append(text, name.as_bytes()),
         None => append_number(text, u64::from(label.0)),
@@ -110,10 +92,7 @@ fn add_blamed(
     workload: &Workload,
     alarms: u64,
     blamed: BlamedLabel,
-) -> Result<(), Memory>
-    ensures { OnOk result (text.new.items
-        ≡ text.old.items ++ blamed_text workload.now alarms blamed) }
-{
+) -> Result<(), Memory> {
     append(text, b"to blame ")?;
     add_label(text, workload, blamed.label)?;
     append(text, b" (")?;
@@ -124,43 +103,31 @@ fn add_blamed(
 }
 
 /// Adds the lines of the labels that are to blame.
-fn add_blame(text: &mut Vec<u8>, workload: &Workload, blame: &ToBlame) -> Result<(), Memory>
-    ensures { OnOk result (text.new.items
-        ≡ text.old.items ++ blame_text workload.now blame.now) }
-{
-    let labels = blame.labels.as_slice();
-    for place in 0..labels.len() {
-        add_blamed(text, workload, blame.alarms, labels[place])?;
+fn add_blame(text: &mut Vec<u8>, workload: &Workload, blame: &ToBlame) -> Result<(), Memory> {
+    for blamed in blame.labels.as_slice() {
+        add_blamed(text, workload, blame.alarms, *blamed)?;
     }
     Ok(())
 }
 
 /// Adds the line of a thread that no thread forks.
-fn add_unforked(text: &mut Vec<u8>, workload: &Workload, thread: ThreadId) -> Result<(), Memory>
-    ensures { OnOk result (text.new.items
-        ≡ text.old.items ++ unforked_text workload.now thread) }
-{
+fn add_unforked(text: &mut Vec<u8>, workload: &Workload, thread: ThreadId) -> Result<(), Memory> {
     append(text, b"never forked")?;
     add_name(text, workload, thread)?;
     append(text, b"\n")
 }
 
 /// Adds the lines of the threads that no thread forks.
-fn add_all_unforked(alloc: Global, text: &mut Vec<u8>, workload: &Workload) -> Result<(), Memory>
-    ensures { OnOk result (text.new.items ≡ text.old.items ++ unforked_texts workload.now) }
-{
+fn add_all_unforked(alloc: Global, text: &mut Vec<u8>, workload: &Workload) -> Result<(), Memory> {
     let threads = never_forked(alloc, workload)?;
-    let unforked = threads.as_slice();
-    for place in 0..unforked.len() {
-        add_unforked(text, workload, unforked[place])?;
+    for thread in threads.as_slice() {
+        add_unforked(text, workload, *thread)?;
     }
     Ok(())
 }
 
 /// The text of what is reported of the schedules of a workload.
-fn text_of_survey(alloc: Global, workload: &Workload, survey: &Survey) -> Result<Vec<u8>, Memory>
-    ensures { IfOk result (λ text. text.items ≡ survey_text workload.now survey.now) }
-{
+fn text_of_survey(alloc: Global, workload: &Workload, survey: &Survey) -> Result<Vec<u8>, Memory> {
     let mut text = Vec::new(alloc);
     add_tried(&mut text, survey.tried)?;
     add_found(&mut text, workload, &survey.shrunk.findings)?;
@@ -179,10 +146,7 @@ pub fn page_of_survey(
     form: TextOrJson,
     path: &str,
     survey: &Survey,
-) -> Result<Vec<u8>, Memory>
-    ensures { IfOk result (λ page. page.items
-        ≡ survey_page form workload.now path.now survey.now) }
-{
+) -> Result<Vec<u8>, Memory> {
     match form {
         TextOrJson::Text => text_of_survey(alloc, workload, survey),
         TextOrJson::Json => exploration_json(alloc, workload, path, survey),

@@ -1,17 +1,9 @@
 //! `velodrome explore`.
-ghost use Rattle.std.specs.Prelude.{◌≡◌, IfOk, IfSome};
-ghost use Rattle.velo_delivery.specs.Disk.{store};
-ghost use Rattle.velo_delivery.specs.Writing.{writing};
-ghost use Rattle.velo_workload_commands.specs.Commands.{DoesExplore};
-ghost use Rattle.velo_workload_commands.specs.Exploring.{fate_of_findings, fate_of_goal, fate_of_rest, is_never, run_of, survey_page, waits_after};
-ghost use Rattle.velo_workload_commands.specs.Reporting.{IsNoFileFailure};
-ghost use Rattle.velo_workload_commands.specs.Steps.{Explores, IsReportable, ReportsReplay, SaysSurvey};
 
 use crate::exploration_text::page_of_survey;
 use crate::findings::survey_of;
-use crate::page::{Said, print_alone};
 use crate::progress::ExploreProgress;
-use crate::reporting::{RunReport, report_run, save_and_print};
+use crate::reporting::{RunReport, Said, print_alone, report_run, save_and_print};
 use crate::work::{config_of_run, open_workload};
 use std::alloc::Global;
 use velo_bytes::Sink;
@@ -19,7 +11,7 @@ use velo_deadlock::waits_of;
 use velo_delivery::Files;
 use velo_events::Memory;
 use velo_explore::{Finding, Findings, Goal};
-use velo_explore_forms::Survey;
+use velo_finding::Survey;
 use velo_fate::Fate;
 use velo_request::{ExploreOptions, RunOptions, TextOrJson};
 use velo_shrink::Replay;
@@ -27,9 +19,7 @@ use velo_worker::Ending;
 use velo_workload::Workload;
 
 /// What the replays were asked for.
-pub(crate) fn run_of<'a>(options: &ExploreOptions<'a>) -> RunOptions<'a>
-    ensures { result ≡ run_of options.now }
-{
+fn run_of<'a>(options: &ExploreOptions<'a>) -> RunOptions<'a> {
     RunOptions {
         input: options.input,
         stop: false,
@@ -42,9 +32,7 @@ pub(crate) fn run_of<'a>(options: &ExploreOptions<'a>) -> RunOptions<'a>
 }
 
 /// What a goal comes to that is shown.
-fn fate_of_goal(goal: Goal) -> Fate
-    ensures { result ≡ fate_of_goal goal }
-{
+fn fate_of_goal(goal: Goal) -> Fate {
     match goal {
         Goal::Alarm => Fate::Finished {
             ending: Ending::Done,
@@ -62,9 +50,7 @@ fn fate_of_goal(goal: Goal) -> Fate
 }
 
 /// Whether no schedule has the fault.
-fn is_never(finding: &Finding) -> bool
-    ensures { result ≡ is_never finding.now }
-{
+fn is_never(finding: &Finding) -> bool {
     match finding {
         Finding::Never => true,
         Finding::Shown(_) | Finding::Open => false,
@@ -72,9 +58,7 @@ fn is_never(finding: &Finding) -> bool
 }
 
 /// What findings come to of which none is shown: all is well, if no schedule has any fault.
-fn fate_of_rest(findings: &Findings) -> Fate
-    ensures { result ≡ fate_of_rest findings.now }
-{
+fn fate_of_rest(findings: &Findings) -> Fate {
     if is_never(&findings.alarm) && is_never(&findings.stuck) && is_never(&findings.refused) {
         Fate::Finished {
             ending: Ending::Done,
@@ -86,9 +70,7 @@ fn fate_of_rest(findings: &Findings) -> Fate
 }
 
 /// What the findings come to.
-pub(crate) fn fate_of(findings: &Findings) -> Fate
-    ensures { result ≡ fate_of_findings findings.now }
-{
+fn fate_of(findings: &Findings) -> Fate {
     match findings.first() {
         Some(witness) => fate_of_goal(witness.goal),
         None => fate_of_rest(findings),
@@ -96,25 +78,13 @@ pub(crate) fn fate_of(findings: &Findings) -> Fate
 }
 
 /// Who waits for what in a replay that is reported for a deadlock.
-fn waits_after(alloc: Global, workload: &Workload, replay: &Replay) -> Result<Vec<u8>, Memory>
-    requires { replay.now.closed.config.bounds ≡ workload.now.bounds }
-    ensures { IfOk result (λ text. text.items ≡ waits_after workload.now replay.now) }
-{
+fn waits_after(alloc: Global, workload: &Workload, replay: &Replay) -> Result<Vec<u8>, Memory> {
     match replay.goal {
-        Goal::Stuck => waits_of(alloc, workload, &replay.closed),
-        Goal::Alarm | Goal::Refused(..) => Ok(Vec::new(alloc)),
+        Goal::Stuck if replay.closed.bounds() == workload.bounds() => {
+            waits_of(alloc, workload, &replay.closed)
+        }
+        _ => Ok(Vec::new(alloc)),
     }
-}
-
-/// The page of a survey in the form that was asked for.
-#[derive(Clone, Copy)]
-pub(crate) struct SurveyPage<'s> {
-    /// The survey.
-    pub survey: &'s Survey,
-    /// The form.
-    pub form: TextOrJson,
-    /// The page.
-    pub text: &'s [u8],
 }
 
 /// Reports a replay behind a text, and for a deadlock who waits for what.
@@ -126,13 +96,7 @@ fn report_replay<F: Files, O: Sink>(
     options: &RunOptions,
     files: &mut F,
     out: &mut O,
-) -> Fate
-    requires reportable { IsReportable workload.now replay.now }
-    requires plain { IsNoFileFailure said.now.end }
-    ensures { ReportsReplay workload.now options.now replay.now said.now
-        (store F.disk files.old files.new)
-        (writing O.contents O.failures out.old out.new) result }
-{
+) -> Fate {
     match waits_after(alloc, workload, replay) {
         Ok(waits) => {
             let report = RunReport {
@@ -152,26 +116,21 @@ fn report_replay<F: Files, O: Sink>(
 fn report_first<F: Files, O: Sink>(
     alloc: Global,
     workload: &Workload,
-    page: &SurveyPage,
+    survey: &Survey,
+    form: TextOrJson,
+    text: &[u8],
     options: &RunOptions,
     files: &mut F,
     out: &mut O,
-) -> Fate
-    requires first { IfSome page.now.survey.now.shrunk.first (IsReportable workload.now) }
-    requires page { page.now.text.now ≡ survey_page page.now.form workload.now
-        options.now.input.now page.now.survey.now }
-    ensures { SaysSurvey page.now.form workload.now page.now.survey.now options.now
-        (store F.disk files.old files.new)
-        (writing O.contents O.failures out.old out.new) result }
-{
+) -> Fate {
     let said = Said {
-        text: page.text,
-        end: fate_of(&page.survey.shrunk.findings),
+        text,
+        end: fate_of(&survey.shrunk.findings),
     };
-    let Some(replay) = &page.survey.shrunk.first else {
+    let Some(replay) = &survey.shrunk.first else {
         return print_alone(&said, out);
     };
-    match page.form {
+    match form {
         TextOrJson::Text => report_replay(alloc, workload, replay, &said, options, files, out),
         TextOrJson::Json => {
             save_and_print(alloc, workload, &replay.closed, &said, options, files, out)
@@ -189,20 +148,10 @@ fn report_survey<F: Files, O: Sink>(
     options: &RunOptions,
     files: &mut F,
     out: &mut O,
-) -> Fate
-    requires { IfSome survey.now.shrunk.first (IsReportable workload.now) }
-    ensures { SaysSurvey form workload.now survey.now options.now
-        (store F.disk files.old files.new)
-        (writing O.contents O.failures out.old out.new) result }
-{
+) -> Fate {
     match page_of_survey(alloc, workload, form, options.input, survey) {
         Ok(text) => {
-            let page = SurveyPage {
-                survey,
-                form,
-                text: &text,
-            };
-            let fate = report_first(alloc, workload, &page, options, files, out);
+            let fate = report_first(alloc, workload, survey, form, &text, options, files, out);
             drop(text);
             fate
         }
@@ -218,10 +167,7 @@ fn explore_workload<F: Files, O: Sink, P: ExploreProgress>(
     files: &mut F,
     out: &mut O,
     progress: &mut P,
-) -> Fate
-    ensures { Explores options.now workload.now (store F.disk files.old files.new)
-        (writing O.contents O.failures out.old out.new) result }
-{
+) -> Fate {
     let run = run_of(options);
     let config = config_of_run(workload, &run);
     progress.begin(options.progress, options.seconds);
@@ -247,10 +193,7 @@ pub fn explore_file<F: Files, O: Sink, P: ExploreProgress>(
     files: &mut F,
     out: &mut O,
     progress: &mut P,
-) -> Fate
-    ensures { DoesExplore options.now (store F.disk files.old files.new)
-        (writing O.contents O.failures out.old out.new) result }
-{
+) -> Fate {
     match open_workload(alloc, &run_of(options), &[], files) {
         Ok(workload) => {
             let fate = explore_workload(alloc, &workload, options, files, out, progress);

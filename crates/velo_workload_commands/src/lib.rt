@@ -4,10 +4,7 @@
 mod blaming;
 mod exploration_text;
 mod exploring;
-mod exploring_rest;
 mod findings;
-mod laws;
-mod page;
 mod progress;
 mod replaying;
 mod reporting;
@@ -17,8 +14,6 @@ mod work;
 
 pub use blaming::MAX_BLAMING;
 pub use exploring::explore_file;
-pub use exploring_rest::explore_rest_file;
-pub use laws::names_read_back;
 pub use progress::ExploreProgress;
 pub use replaying::replay_file;
 pub use running::run_file;

@@ -1,5 +1,4 @@
 //! Telling how far the search of an exploration is, and when it is over.
-ghost use Rattle.std.specs.Prelude.{◌≡◌, true, is_some};
 
 use velo_explore::{Progress, Quiet};
 
@@ -7,8 +6,7 @@ use velo_explore::{Progress, Quiet};
 pub trait ExploreProgress: Progress {
     /// A search begins, which is to be told of wherever this goes, if `always`, and else where
     /// somebody looks. After so many seconds it is over, if a number is given.
-    fn begin(&mut self, always: bool, seconds: Option<u32>)
-        ensures { Self.may_end self.new ≡ true → is_some seconds ≡ true };
+    fn begin(&mut self, always: bool, seconds: Option<u32>);
 
     /// The search has ended, and its report follows.
     fn end(&mut self);

@@ -1,11 +1,4 @@
 //! `velodrome replay`.
-ghost use Rattle.std.specs.Prelude.{◌∷◌, []};
-ghost use Rattle.velo_workload_commands.specs.Playing.{ByTurns};
-ghost use Rattle.velo_workload_commands.specs.Scheduling.{schedule_beside};
-ghost use Rattle.velo_workload_commands.specs.Commands.{DoesPlay, DoesReplay};
-ghost use Rattle.velo_delivery.specs.Disk.{store};
-ghost use Rattle.velo_delivery.specs.Writing.{writing};
-ghost use Rattle.velo_workload_commands.specs.Steps.{Plays};
 
 use crate::scheduling::{schedule_beside, schedule_of_source};
 use crate::work::{config_of_run, finish_run, open_workload};
@@ -26,11 +19,7 @@ fn replay_workload<F: Files, O: Sink>(
     options: &RunOptions,
     files: &mut F,
     out: &mut O,
-) -> Fate
-    ensures { Plays (ByTurns schedule.now) options.now workload.now
-        (store F.disk files.old files.new)
-        (writing O.contents O.failures out.old out.new) result }
-{
+) -> Fate {
     let config = config_of_run(workload, options);
     match replay(alloc, workload, schedule, config) {
         Ok(ended) => finish_run(alloc, workload, ended, options, files, out),
@@ -45,11 +34,7 @@ fn replay_by<F: Files, O: Sink>(
     options: &ReplayOptions,
     files: &mut F,
     out: &mut O,
-) -> Fate
-    ensures { DoesPlay (ByTurns schedule.now) (schedule_beside options.now.schedule ∷ [])
-        options.now.run (store F.disk files.old files.new)
-        (writing O.contents O.failures out.old out.new) result }
-{
+) -> Fate {
     let run = &options.run;
     match open_workload(alloc, run, &[schedule_beside(options.schedule)], files) {
         Ok(workload) => {
@@ -68,10 +53,7 @@ pub fn replay_file<F: Files, O: Sink>(
     options: &ReplayOptions,
     files: &mut F,
     out: &mut O,
-) -> Fate
-    ensures { DoesReplay options.now (store F.disk files.old files.new)
-        (writing O.contents O.failures out.old out.new) result }
-{
+) -> Fate {
     match schedule_of_source(alloc, options.schedule, files) {
         Ok(schedule) => {
             let fate = replay_by(alloc, &schedule, options, files, out);

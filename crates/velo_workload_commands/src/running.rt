@@ -1,10 +1,4 @@
 //! `velodrome run`.
-ghost use Rattle.std.specs.Prelude.{◌≤◌, length, IsTrue};
-ghost use Rattle.velo_workload_commands.specs.Playing.{ByThreads, HasNothingAfterCycle, KeepsTo};
-ghost use Rattle.velo_workload_commands.specs.Commands.{DoesRun};
-ghost use Rattle.velo_delivery.specs.Disk.{store};
-ghost use Rattle.velo_delivery.specs.Writing.{writing};
-ghost use Rattle.velo_workload_commands.specs.Steps.{Plays};
 
 use crate::work::{config_of_run, finish_run, open_workload};
 use std::alloc::Global;
@@ -19,10 +13,7 @@ use velo_workload::Workload;
 use velo_world::Closed;
 
 /// Whether no event came after the one that closes the first cycle.
-fn has_nothing_after_cycle(closed: &Closed) -> bool
-    ensures within { length closed.now.log ≤ closed.now.config.events }
-    ensures last { IsTrue result → HasNothingAfterCycle closed.now.log }
-{
+fn has_nothing_after_cycle(closed: &Closed) -> bool {
     let events = closed.log().len();
     match closed.alarm() {
         Some(alarm) => alarm.position < events && alarm.position + 1 == events,
@@ -31,10 +22,7 @@ fn has_nothing_after_cycle(closed: &Closed) -> bool
 }
 
 /// Whether a run by threads keeps to what was asked for: the gate let all go on, and where it is to stop at its first cycle, it did.
-fn keeps_to(run: &(Closed, Ending), stop: bool) -> bool
-    ensures within { length run.now.0.log ≤ run.now.0.config.events }
-    ensures keeps { IsTrue result → KeepsTo stop run.now.0.log run.now.1 }
-{
+fn keeps_to(run: &(Closed, Ending), stop: bool) -> bool {
     let is_last = has_nothing_after_cycle(&run.0);
     match run.1 {
         Ending::Gated => false,
@@ -50,10 +38,7 @@ fn run_workload<R: Threads + Wait + Sync, F: Files, O: Sink>(
     options: &RunOptions,
     files: &mut F,
     out: &mut O,
-) -> Fate
-    ensures { Plays ByThreads options.now workload.now (store F.disk files.old files.new)
-        (writing O.contents O.failures out.old out.new) result }
-{
+) -> Fate {
     let config = config_of_run(workload, options);
     match live(rt, alloc, workload, config, &OpenGate) {
         Ok(ended) => {
@@ -76,10 +61,7 @@ pub fn run_file<R: Threads + Wait + Sync, F: Files, O: Sink>(
     options: &RunOptions,
     files: &mut F,
     out: &mut O,
-) -> Fate
-    ensures { DoesRun options.now (store F.disk files.old files.new)
-        (writing O.contents O.failures out.old out.new) result }
-{
+) -> Fate {
     match open_workload(alloc, options, &[], files) {
         Ok(workload) => {
             let fate = run_workload(rt, alloc, &workload, options, files, out);

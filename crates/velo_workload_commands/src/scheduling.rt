@@ -1,8 +1,4 @@
 //! The schedule of a replay.
-ghost use Rattle.std.specs.Prelude.{◌≡◌, IfErr, IfOk};
-ghost use Rattle.velo_schedule_text.specs.File.{IsScheduleIn};
-ghost use Rattle.velo_fate.specs.Format.{LacksAt, Reads};
-ghost use Rattle.velo_workload_commands.specs.Scheduling.{IsNoScheduleIn, IsScheduleOf, LacksSchedule, schedule_beside, turns_file};
 
 use std::alloc::Global;
 use velo_delivery::{Files, Operand};
@@ -15,19 +11,12 @@ use velo_schedule_text::{MAX_SCHEDULE_BYTES, schedule_in, schedule_of, turns_of}
 ///
 /// # Errors
 /// `Schedule` with the fault for which they say none.
-fn schedule_of_bytes(alloc: Global, bytes: &[u8]) -> Result<Vec<ThreadId>, Fate>
-    ensures schedule { IfOk result (λ schedule. IsScheduleIn bytes.now schedule.items) }
-    ensures fault { IfErr result (IsNoScheduleIn bytes.now) }
-{
+fn schedule_of_bytes(alloc: Global, bytes: &[u8]) -> Result<Vec<ThreadId>, Fate> {
     schedule_in(alloc, bytes).map_err(Fate::Schedule)
 }
 
 /// The schedule of the file at a path.
-fn schedule_at<F: Files>(alloc: Global, path: &str, files: &F) -> Result<Vec<ThreadId>, Fate>
-    ensures schedule { IfOk result (λ schedule. Reads turns_file (F.disk files.now) path.now
-        schedule.items) }
-    ensures none { IfErr result (LacksAt turns_file (F.disk files.now) path.now) }
-{
+fn schedule_at<F: Files>(alloc: Global, path: &str, files: &F) -> Result<Vec<ThreadId>, Fate> {
     let bytes = match read_file(alloc, path, MAX_SCHEDULE_BYTES, files) {
         Ok(bytes) => bytes,
         Err(fate) => return Err(fate),
@@ -45,11 +34,7 @@ pub fn schedule_of_source<F: Files>(
     alloc: Global,
     source: ScheduleSource,
     files: &F,
-) -> Result<Vec<ThreadId>, Fate>
-    ensures schedule { IfOk result (λ schedule. IsScheduleOf (F.disk files.now) source.entry
-        schedule.items) }
-    ensures none { IfErr result (LacksSchedule (F.disk files.now) source.entry) }
-{
+) -> Result<Vec<ThreadId>, Fate> {
     match source {
         ScheduleSource::Text(text) => schedule_of(alloc, text).map_err(Fate::Schedule),
         ScheduleSource::Turns(text) => turns_of(alloc, text).map_err(Fate::Schedule),
@@ -58,9 +43,7 @@ pub fn schedule_of_source<F: Files>(
 }
 
 /// The file of a schedule, which is read beside the workload, if it is in one.
-pub fn schedule_beside<'p>(source: ScheduleSource<'p>) -> Beside<'p>
-    ensures { result ≡ schedule_beside source.entry }
-{
+pub fn schedule_beside<'p>(source: ScheduleSource<'p>) -> Beside<'p> {
     Beside {
         operand: Operand::Turns,
         path: match source {

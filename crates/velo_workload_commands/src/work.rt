@@ -1,11 +1,5 @@
 //! Workloads that run: where they are read, and what their runs show.
-ghost use Rattle.std.specs.Prelude.{◌≡◌, Some, IfOk, IfErr, OnOk};
-ghost use Rattle.velo_fate.specs.Failures.{failures_told};
-ghost use Rattle.velo_fate.specs.Format.{Reads};
-ghost use Rattle.velo_workload_commands.specs.Playing.{IsConfigOf, IsFaultOfWork, IsWorkload, IsUnread, is_unreported, workload_file};
-ghost use Rattle.velo_delivery.specs.Disk.{store};
-ghost use Rattle.velo_delivery.specs.Writing.{writing};
-ghost use Rattle.velo_workload_commands.specs.Steps.{OpensNoProgram, TellsEnd};
+ghost use Rattle.std.specs.Prelude.{◌≡◌};
 
 use crate::reporting::{RunReport, report_run};
 use std::alloc::Global;
@@ -19,13 +13,7 @@ use velo_workload::{MAX_WORKLOAD_BYTES, WorkFault, Workload, parse, text_of};
 use velo_world::Closed;
 
 /// Reads a workload from a source.
-fn read_workload<I: Source>(alloc: Global, source: &mut I) -> Result<Workload, Fate>
-    ensures some { IfOk result (IsWorkload (I.remaining source.old)) }
-    ensures none { IfErr result (IsUnread (I.remaining source.old)) }
-    ensures read { OnOk result (I.failures source.new ≡ I.failures source.old) }
-    ensures failure { IfErr result (λ fate. I.failures source.new ≡ failures_told fate
-        (I.failures source.old)) }
-{
+fn read_workload<I: Source>(alloc: Global, source: &mut I) -> Result<Workload, Fate> {
     match read_whole(alloc, source, MAX_WORKLOAD_BYTES) {
         Ok(bytes) => {
             let workload = workload_of(alloc, &bytes);
@@ -41,10 +29,7 @@ fn read_workload<I: Source>(alloc: Global, source: &mut I) -> Result<Workload, F
 }
 
 /// The workload of a file's bytes.
-fn workload_of(alloc: Global, bytes: &[u8]) -> Result<Workload, WorkFault>
-    ensures some { IfOk result (IsWorkload (Some bytes.now)) }
-    ensures none { IfErr result (IsFaultOfWork (Some bytes.now)) }
-{
+fn workload_of(alloc: Global, bytes: &[u8]) -> Result<Workload, WorkFault> {
     match text_of(bytes) {
         Ok(text) => parse(alloc, text),
         Err(fault) => Err(fault),
@@ -57,10 +42,7 @@ pub fn open_workload<F: Files>(
     options: &RunOptions,
     reads: &[Beside],
     files: &F,
-) -> Result<Workload, Fate>
-    ensures some { IfOk result (Reads workload_file (F.disk files.now) options.now.input.now) }
-    ensures none { IfErr result (OpensNoProgram (F.disk files.now) reads.now options.now) }
-{
+) -> Result<Workload, Fate> {
     let names = Beside {
         operand: Operand::NamesOut,
         path: options.names_target,
@@ -80,7 +62,7 @@ pub fn open_workload<F: Files>(
 
 /// The configuration of a run of the workload.
 pub fn config_of_run(workload: &Workload, options: &RunOptions) -> Config
-    ensures { IsConfigOf workload.now options.now result }
+    ensures { result.bounds ≡ workload.now.bounds }
 {
     let limits = options.limits;
     match Config::new(
@@ -96,9 +78,7 @@ pub fn config_of_run(workload: &Workload, options: &RunOptions) -> Config
 }
 
 /// Whether a run that ends so has no report: memory, or the start of a thread, was refused.
-pub fn is_unreported(ending: Ending) -> bool
-    ensures { result ≡ is_unreported ending }
-{
+pub fn is_unreported(ending: Ending) -> bool {
     matches!(
         ending,
         Ending::Refused(_, Refusal::Memory | Refusal::RuntimeMemory)
@@ -113,11 +93,7 @@ pub fn finish_run<F: Files, O: Sink>(
     options: &RunOptions,
     files: &mut F,
     out: &mut O,
-) -> Fate
-    ensures { TellsEnd workload.now options.now ended.1 ended.0
-        (store F.disk files.old files.new)
-        (writing O.contents O.failures out.old out.new) result }
-{
+) -> Fate {
     let (closed, ending) = ended;
     let fate = show_run(alloc, workload, &closed, ending, options, files, out);
     drop(closed);
@@ -133,11 +109,7 @@ fn show_run<F: Files, O: Sink>(
     options: &RunOptions,
     files: &mut F,
     out: &mut O,
-) -> Fate
-    ensures { TellsEnd workload.now options.now ending closed.now
-        (store F.disk files.old files.new)
-        (writing O.contents O.failures out.old out.new) result }
-{
+) -> Fate {
     if is_unreported(ending) {
         return Fate::Finished {
             ending,
