@@ -34,8 +34,6 @@ pub struct ContextOptions<'a> {
     pub ignored: Ignored<'a>,
     /// The path of the sites, or `-`.
     pub sites: Option<&'a str>,
-    /// The folder of the sources, whose lines stand behind the sites.
-    pub source: Option<&'a str>,
 }
 
 /// The files of a context, which are read beside the log.

@@ -1,27 +1,15 @@
 //! The page of an explanation, and the legend that it is made by.
-ghost use Rattle.std.specs.Prelude.{◌≡◌, ◌≤◌, ◌++◌, IfOk, OnOk, length};
-ghost use Rattle.velo_certify.specs.Owners.{AreOwners};
-ghost use Rattle.velo_events.specs.Graph.{HasCycle};
-ghost use Rattle.velo_events.specs.declared.limits.TheConstants.{MAX_EVENTS};
-ghost use Rattle.velo_explain.specs.Count.{transactions_of};
-ghost use Rattle.velo_explain.specs.Evidence.{AreEdgesWithin, IsWithin};
-ghost use Rattle.velo_explain.specs.Text.{clean_text};
-ghost use Rattle.velo_explain_forms.specs.Answer.{verdict_of};
-ghost use Rattle.velo_filter.specs.Thinned.{CanComeAbout};
-ghost use Rattle.velo_log_commands.specs.Explaining.{accesses_if, alarm_page, is_whole, json_page, serial_page, stacks_heading, stacks_if, words_of};
-ghost use Rattle.velo_log_commands.specs.Steps.{manner_of};
 
 use crate::explaining_rest::is_whole;
 use std::alloc::Global;
-use velo_accesses::add_accesses;
-use velo_audit_text::{Asked, Background, add_stacks};
 use velo_certify::owners_of;
 use velo_events::Memory;
 use velo_explain::{Evidence, Page, explain_clean, explain_named, explain_sited};
-use velo_explain_forms::{Shown, explanation_json};
+use velo_finding::{Shown, explanation_json};
 use velo_names::Names;
 use velo_request::{ExplainOptions, TextOrJson};
 use velo_sites::Sites;
+use velo_text::{Asked, Background, add_accesses};
 use velo_traces::Trace;
 
 /// By which names, without what, and by which options a log is explained.
@@ -58,9 +46,7 @@ pub struct ExplainedAlarm<'a> {
 }
 
 /// The words behind some text.
-fn words_behind(alloc: Global, before: &[u8], words: &[u8]) -> Result<Page, Memory>
-    ensures { IfOk result (λ page. page ≡ before.now ++ words.now) }
-{
+fn words_behind(alloc: Global, before: &[u8], words: &[u8]) -> Result<Page, Memory> {
     let mut page = Page::new(alloc);
     page.add_bytes(before)?;
     page.add_bytes(words)?;
@@ -68,14 +54,7 @@ fn words_behind(alloc: Global, before: &[u8], words: &[u8]) -> Result<Page, Memo
 }
 
 /// The words of an alarm by its evidence.
-fn words_of(alloc: Global, alarm: &ExplainedAlarm, legend: &Legend) -> Result<Page, Memory>
-    requires few { length alarm.now.log.now.events ≤ MAX_EVENTS }
-    requires within { IsWithin (length alarm.now.log.now.events) alarm.now.position
-        alarm.now.evidence.now }
-    ensures { IfOk result (λ words. words ≡ words_of legend.now.inquiry.now.names.now
-        legend.now.sites.now alarm.now.log.now.events alarm.now.position
-        alarm.now.evidence.now) }
-{
+fn words_of(alloc: Global, alarm: &ExplainedAlarm, legend: &Legend) -> Result<Page, Memory> {
     let names = legend.inquiry.names;
     match legend.sites {
         Some(sites) => {
@@ -93,12 +72,7 @@ fn words_of(alloc: Global, alarm: &ExplainedAlarm, legend: &Legend) -> Result<Pa
 }
 
 /// What the log, or what is left of it, shows as one JSON object.
-fn json_of(alloc: Global, log: &Trace, shown: &Shown, legend: &Legend) -> Result<Page, Memory>
-    requires few { length log.now.events ≤ MAX_EVENTS }
-    requires can_come_about { CanComeAbout log.now.events }
-    ensures { IfOk result (λ page. page
-        ≡ json_page (manner_of legend.now) log.now.events (verdict_of shown.now)) }
-{
+fn json_of(alloc: Global, log: &Trace, shown: &Shown, legend: &Legend) -> Result<Page, Memory> {
     let inquiry = legend.inquiry;
     explanation_json(
         alloc,
@@ -111,75 +85,26 @@ fn json_of(alloc: Global, log: &Trace, shown: &Shown, legend: &Legend) -> Result
     )
 }
 
-/// Adds the heading of the open blocks.
-#[tactic(auto, unfolding(crate::specs::Explaining::stacks_heading))]
-fn add_stacks_heading(page: &mut Page) -> Result<(), Memory>
-    ensures { OnOk result (page.new ≡ page.old ++ stacks_heading) }
-{
-    page.add_bytes(b"Each of these events, in the blocks that were open:\n")
-}
-
-/// Adds the events of the edges of a cycle, each in its open blocks, if this is asked for.
-fn add_stacks_if(
-    page: &mut Page,
-    stacks: bool,
-    background: &Background,
-    evidence: &Evidence,
-) -> Result<(), Memory>
-    requires few { length background.now.events.now ≤ MAX_EVENTS }
-    requires can_come_about { CanComeAbout background.now.events.now }
-    requires owners { AreOwners background.now.owners.now background.now.events.now }
-    requires within { AreEdgesWithin (length background.now.events.now) evidence.now.edges.items }
-    ensures { OnOk result (page.new ≡ page.old
-        ++ stacks_if stacks background.now.names.now background.now.sites.now
-        background.now.events.now evidence.now) }
-{
-    if !stacks {
-        return Ok(());
-    }
-    add_stacks_heading(page)?;
-    add_stacks(page, background, &evidence.edges)
-}
-
 /// Adds the accesses that make edges by locks, too, if nothing is left out of the log.
 fn add_accesses_if(
     page: &mut Page,
     whole: bool,
     background: &Background,
     evidence: &Evidence,
-) -> Result<(), Memory>
-    requires few { length background.now.events.now ≤ MAX_EVENTS }
-    requires owners { AreOwners background.now.owners.now background.now.events.now }
-    requires within { AreEdgesWithin (length background.now.events.now) evidence.now.edges.items }
-    ensures { OnOk result (page.new ≡ page.old
-        ++ accesses_if whole background.now.names.now background.now.sites.now
-        background.now.events.now evidence.now) }
-{
+) -> Result<(), Memory> {
     if !whole {
         return Ok(());
     }
     add_accesses(page, background, &evidence.edges)
 }
 
-/// Adds what stands behind the words of an alarm: the accesses that make edges by locks, too, and the
-/// open blocks, if they are asked for.
+/// Adds what stands behind the words of an alarm: the accesses that make edges by locks, too.
 fn add_details(
     page: &mut Page,
     alloc: Global,
     alarm: &ExplainedAlarm,
     legend: &Legend,
-) -> Result<(), Memory>
-    requires few { length alarm.now.log.now.events ≤ MAX_EVENTS }
-    requires can_come_about { CanComeAbout alarm.now.log.now.events }
-    requires within { AreEdgesWithin (length alarm.now.log.now.events)
-        alarm.now.evidence.now.edges.items }
-    ensures { OnOk result (page.new ≡ (page.old
-        ++ accesses_if (is_whole legend.now.inquiry.now.asked.now)
-        legend.now.inquiry.now.names.now legend.now.sites.now alarm.now.log.now.events
-        alarm.now.evidence.now)
-        ++ stacks_if legend.now.inquiry.now.options.now.stacks legend.now.inquiry.now.names.now
-        legend.now.sites.now alarm.now.log.now.events alarm.now.evidence.now) }
-{
+) -> Result<(), Memory> {
     let inquiry = legend.inquiry;
     let events = alarm.log.as_slice();
     let owners = owners_of(alloc, events)?;
@@ -190,25 +115,11 @@ fn add_details(
         events,
         owners: &owners,
     };
-    add_accesses_if(page, is_whole(inquiry.asked), &background, alarm.evidence)?;
-    add_stacks_if(page, inquiry.options.stacks, &background, alarm.evidence)
+    add_accesses_if(page, is_whole(inquiry.asked), &background, alarm.evidence)
 }
 
 /// The words of an alarm behind what comes before them, and the details behind these.
-fn all_words(alloc: Global, alarm: &ExplainedAlarm, legend: &Legend) -> Result<Page, Memory>
-    requires few { length alarm.now.log.now.events ≤ MAX_EVENTS }
-    requires can_come_about { CanComeAbout alarm.now.log.now.events }
-    requires within { IsWithin (length alarm.now.log.now.events) alarm.now.position
-        alarm.now.evidence.now }
-    ensures { IfOk result (λ words. words ≡ ((legend.now.before.now
-        ++ words_of legend.now.inquiry.now.names.now legend.now.sites.now
-        alarm.now.log.now.events alarm.now.position alarm.now.evidence.now)
-        ++ accesses_if (is_whole legend.now.inquiry.now.asked.now)
-        legend.now.inquiry.now.names.now legend.now.sites.now alarm.now.log.now.events
-        alarm.now.evidence.now)
-        ++ stacks_if legend.now.inquiry.now.options.now.stacks legend.now.inquiry.now.names.now
-        legend.now.sites.now alarm.now.log.now.events alarm.now.evidence.now) }
-{
+fn all_words(alloc: Global, alarm: &ExplainedAlarm, legend: &Legend) -> Result<Page, Memory> {
     let words = words_of(alloc, alarm, legend)?;
     let mut page = words_behind(alloc, legend.before, words.as_slice())?;
     add_details(&mut page, alloc, alarm, legend)?;
@@ -216,15 +127,7 @@ fn all_words(alloc: Global, alarm: &ExplainedAlarm, legend: &Legend) -> Result<P
 }
 
 /// The page of an alarm by its evidence.
-pub fn page_of_alarm(alloc: Global, alarm: &ExplainedAlarm, legend: &Legend) -> Result<Page, Memory>
-    requires few { length alarm.now.log.now.events ≤ MAX_EVENTS }
-    requires can_come_about { CanComeAbout alarm.now.log.now.events }
-    requires within { IsWithin (length alarm.now.log.now.events) alarm.now.position
-        alarm.now.evidence.now }
-    ensures { IfOk result (λ page. page
-        ≡ alarm_page (manner_of legend.now) alarm.now.log.now.events alarm.now.position
-        alarm.now.evidence.now) }
-{
+pub fn page_of_alarm(alloc: Global, alarm: &ExplainedAlarm, legend: &Legend) -> Result<Page, Memory> {
     match legend.inquiry.options.format {
         TextOrJson::Text => all_words(alloc, alarm, legend),
         TextOrJson::Json => {
@@ -238,11 +141,7 @@ pub fn page_of_alarm(alloc: Global, alarm: &ExplainedAlarm, legend: &Legend) -> 
 }
 
 /// The words of events without a cycle, behind some text.
-fn words_without(alloc: Global, rest: &Trace, before: &[u8]) -> Result<Page, Memory>
-    requires { ¬ HasCycle rest.now.events }
-    ensures { IfOk result (λ words. words ≡ before.now
-        ++ clean_text (length rest.now.events) (transactions_of rest.now.events)) }
-{
+fn words_without(alloc: Global, rest: &Trace, before: &[u8]) -> Result<Page, Memory> {
     let words = explain_clean(alloc, rest)?;
     words_behind(alloc, before, words.as_slice())
 }
@@ -253,13 +152,7 @@ pub fn page_without(
     log: &Trace,
     rest: &Trace,
     legend: &Legend,
-) -> Result<Page, Memory>
-    requires few { length log.now.events ≤ MAX_EVENTS }
-    requires can_come_about { CanComeAbout log.now.events }
-    requires clean { ¬ HasCycle rest.now.events }
-    ensures { IfOk result (λ page. page
-        ≡ serial_page (manner_of legend.now) log.now.events rest.now.events) }
-{
+) -> Result<Page, Memory> {
     match legend.inquiry.options.format {
         TextOrJson::Text => words_without(alloc, rest, legend.before),
         TextOrJson::Json => json_of(alloc, log, &Shown::Serial(rest), legend),

@@ -6,7 +6,6 @@ mod check;
 mod command;
 mod endless;
 mod explaining;
-mod explaining_alarm;
 mod explaining_rest;
 mod explaining_whole;
 mod explaining_words;

@@ -9,7 +9,7 @@ ghost use Rattle.velo_log_commands.specs.Thinning.{GoesOutTo, ThinsInput, check_
 
 use crate::command::Command;
 use std::alloc::Global;
-use velo_audit_text::Asked;
+use velo_text::Asked;
 use velo_bytes::{Sink, Source};
 use velo_delivery::{Files, Operand};
 use velo_events::Memory;

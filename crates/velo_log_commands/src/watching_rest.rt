@@ -17,7 +17,6 @@ use crate::places::add_places;
 use crate::rest_report::page_of_rest;
 use crate::watching::{AskedWatch, watch_named};
 use std::alloc::Global;
-use velo_audit_text::Asked;
 use velo_bytes::{Sink, Source, WriteFault, write_all};
 use velo_delivery::Files;
 use velo_events::Memory;
@@ -29,6 +28,7 @@ use velo_names::Names;
 use velo_request::{WatchOptions, WatchRestOptions};
 use velo_rest_watch::{ClosedRest, RestWatch};
 use velo_sites::Sites;
+use velo_text::Asked;
 use velo_watch::WatchFault;
 use velo_world::Closed;
 
@@ -198,7 +198,6 @@ pub fn watch_rest_file<F: Files, O: Sink>(
         names: options.watch.names,
         ignored: options.ignored,
         sites: options.sites,
-        source: options.source,
     };
     do_in_context(alloc, &Command { options }, &context, files, out)
 }
