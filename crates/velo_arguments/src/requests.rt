@@ -1,16 +1,20 @@
 //! What the matches of the command line ask for.
+ghost use Rattle.std.specs.Prelude.{◌≤◌, IfSome};
 
 use crate::ignored::{leaves_out, left_out};
 use clap::ArgMatches;
 use velo_events::{MAX_EVENTS, MAX_NODES};
 use velo_request::{
     AuditOptions, CarryOptions, CheckOptions, DEFAULT_SEED, EndlessOptions, ExplainOptions,
-    ExploreOptions, Limits, MAX_RUNS, MAX_SECONDS, MAX_STATES, MAX_TRIES, PredictOptions, RandomRuns, ReplayOptions, Request, RunOptions,
-    ScheduleSource, TextOrJson, ThinOptions, VerifyOptions, WatchOptions, WatchRestOptions,
+    ExploreOptions, Limits, MAX_RUNS, MAX_SECONDS, MAX_STATES, MAX_TRIES, PredictOptions,
+    RandomRuns, ReplayOptions, Request, RunOptions, ScheduleSource, TextOrJson, ThinOptions,
+    VerifyOptions, WatchOptions, WatchRestOptions,
 };
 
 /// Reads a number from 1 to `most`; none where it is missing or out of this range.
-fn number_of(found: &ArgMatches, option: &str, most: u32) -> Option<u32> {
+fn number_of(found: &ArgMatches, option: &str, most: u32) -> Option<u32>
+    ensures { IfSome result (λ n. (1 ≤ n) × (n ≤ most)) }
+{
     let number = found.get_one::<u32>(option)?;
     if number < 1 || number > most {
         return None;

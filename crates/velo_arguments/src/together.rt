@@ -3,14 +3,12 @@
 use crate::clash::Clash;
 use crate::given::{Given, given_by};
 use crate::ignored::leaves_out;
-use crate::paths::{
-    clash_of_files, clash_of_inputs, clash_of_targets, path_of_schedule,
-};
+use crate::paths::{clash_of_files, clash_of_inputs, clash_of_targets, path_of_schedule};
 use crate::requests::request_of;
 use clap::ArgMatches;
 use velo_request::{
-    AuditOptions, EndlessOptions, ExplainOptions, ExploreOptions, Ignored, PredictOptions, RandomRuns, ReplayOptions, Request, ScheduleSource, TextOrJson,
-    ThinOptions, WatchRestOptions,
+    AuditOptions, EndlessOptions, ExplainOptions, ExploreOptions, Ignored, PredictOptions,
+    RandomRuns, ReplayOptions, Request, ScheduleSource, TextOrJson, ThinOptions, WatchRestOptions,
 };
 
 /// Why the options of the request do not go together, if they do not, where the words give these.
@@ -107,8 +105,9 @@ fn clash_of_watch_rest(options: &WatchRestOptions, has_known: bool) -> Option<Cl
     if watch.certificate {
         return Some(Clash::SitesCertificate);
     }
-    clash_of_files(watch.input, watch.names, options.sites, ignored.known)
-        .or(clash_of_lists(ignored, has_known))
+    clash_of_files(watch.input, watch.names, options.sites, ignored.known).or(clash_of_lists(
+        ignored, has_known,
+    ))
 }
 
 /// One list is read: a wide one, or that of `--not-atomic`.

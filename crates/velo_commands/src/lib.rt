@@ -14,9 +14,8 @@ pub use velo_log_commands::{CarryFault, carry_run, check_run};
 pub use velo_request::{
     AuditOptions, CarryOptions, CheckOptions, DEFAULT_SEED, DEFAULT_TRIES, ExplainOptions,
     ExploreOptions, Ignorable, Ignored, Limits, MAX_RUNS, MAX_SECONDS, MAX_STATES, MAX_TRIES,
-    PredictOptions, RandomRuns, ReplayOptions, Request,
-    RunOptions, ScheduleSource, TextOrJson, ThinOptions, VerifyOptions, WatchOptions,
-    WatchRestOptions, status,
+    PredictOptions, RandomRuns, ReplayOptions, Request, RunOptions, ScheduleSource, TextOrJson,
+    ThinOptions, VerifyOptions, WatchOptions, WatchRestOptions, status,
 };
 pub use velo_schedule_text::{MAX_SCHEDULE_BYTES, MAX_TURNS, ScheduleFault, schedule_of, turns_of};
-pub use velo_workload_commands::{ExploreProgress, MAX_BLAMING, names_read_back};
+pub use velo_workload_commands::{ExploreProgress, MAX_BLAMING};
