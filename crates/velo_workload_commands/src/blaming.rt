@@ -3,7 +3,7 @@ ghost use Rattle.std.specs.Prelude.{◌≡◌};
 
 use std::alloc::Global;
 use velo_events::{Config, Memory, ThreadId};
-use velo_explore_forms::ToBlame;
+use velo_finding::ToBlame;
 use velo_random::{RunTally, try_all};
 use velo_workload::Workload;
 

@@ -4,7 +4,7 @@ use std::alloc::Global;
 use velo_bytes::{append, append_number};
 use velo_events::{Label, Memory, ThreadId};
 use velo_explore::{Finding, Findings, Goal};
-use velo_explore_forms::{Survey, ToBlame, Tried, exploration_json, never_forked};
+use velo_finding::{Survey, ToBlame, Tried, exploration_json, never_forked};
 use velo_fate::number_of;
 use velo_random::BlamedLabel;
 use velo_request::TextOrJson;

@@ -11,7 +11,7 @@ use velo_deadlock::waits_of;
 use velo_delivery::Files;
 use velo_events::Memory;
 use velo_explore::{Finding, Findings, Goal};
-use velo_explore_forms::Survey;
+use velo_finding::Survey;
 use velo_fate::Fate;
 use velo_request::{ExploreOptions, RunOptions, TextOrJson};
 use velo_shrink::Replay;

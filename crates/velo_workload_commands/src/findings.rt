@@ -5,7 +5,7 @@ use crate::blaming::blame_of;
 use std::alloc::Global;
 use velo_events::{Config, Memory};
 use velo_explore::{Exploration, Progress, explore};
-use velo_explore_forms::{Survey, ToBlame, Tried};
+use velo_finding::{Survey, ToBlame, Tried};
 use velo_filter::LeftOut;
 use velo_random::{RunTally, try_by_chance};
 use velo_request::{ExploreOptions, RandomRuns};
