@@ -8,12 +8,10 @@ use crate::naming::{names_given, shown_of};
 use crate::watching::{AskedWatch, watch_named};
 use std::alloc::Global;
 use velo_bytes::{Sink, Source, WriteFault};
-use velo_delivery::Files;
+use velo_check::{CheckFault, EndlessOptions, Fate, Files, Verdict};
 use velo_endless::EndlessWatch;
-use velo_fate::{CheckFault, Fate, Verdict};
 use velo_inputs::{ByNames, do_by_names};
 use velo_names::Names;
-use velo_request::EndlessOptions;
 use velo_watch::WatchFault;
 
 impl AskedWatch for EndlessOptions<'_> {
