@@ -5,7 +5,7 @@ use std::alloc::Global;
 use velo_events::Memory;
 use velo_explain::{Page, Piece};
 use velo_check::{CheckFault, Fate, Request};
-use velo_fault_words::add_file;
+use crate::add_file;
 use velo_logtext::LogFault;
 
 /// Why a file could not be opened, read or written.

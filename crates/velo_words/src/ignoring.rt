@@ -8,7 +8,7 @@ use std::alloc::Global;
 use velo_check::{Files, Ignorable, Ignored, Request};
 use velo_events::Memory;
 use velo_explain::Page;
-use velo_fault_words::{Complaint, add_shown, add_text, place_words};
+use crate::{Complaint, add_shown, add_text, place_words};
 use velo_names::{MAX_NAMES_BYTES, NameKind, Names, append_names};
 use velo_workload::Workload;
 
