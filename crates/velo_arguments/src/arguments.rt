@@ -18,10 +18,10 @@ use velo_events::Memory;
 /// each with its operands and its options. An unknown subcommand, or a number out of its range, is an error of
 /// usage. Numbers begin at 1, and go up to [`MAX_EVENTS`](velo_events::MAX_EVENTS) and
 /// [`MAX_NODES`](velo_events::MAX_NODES), by default 1,048,576 and 1,024 (for `audit` and `predict`
-/// the greatest); to [`MAX_STATES`](velo_request::MAX_STATES), by default 2,097,152; to
-/// [`MAX_SECONDS`](velo_request::MAX_SECONDS); to
-/// [`MAX_TRIES`](velo_request::MAX_TRIES), by default
-/// [`DEFAULT_TRIES`](velo_request::DEFAULT_TRIES); and to [`MAX_RUNS`](velo_request::MAX_RUNS). A
+/// the greatest); to [`MAX_STATES`](velo_check::MAX_STATES), by default 2,097,152; to
+/// [`MAX_SECONDS`](velo_check::MAX_SECONDS); to
+/// [`MAX_TRIES`](velo_check::MAX_TRIES), by default
+/// [`DEFAULT_TRIES`](velo_check::DEFAULT_TRIES); and to [`MAX_RUNS`](velo_check::MAX_RUNS). A
 /// seed is any number of 64 bits.
 ///
 /// # Errors

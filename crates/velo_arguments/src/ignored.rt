@@ -1,7 +1,7 @@
 //! What the matches of a subcommand leave out of a log.
 
 use clap::ArgMatches;
-use velo_request::Ignored;
+use velo_check::Ignored;
 
 /// What is left out of a log.
 pub fn left_out<'a>(found: &'a ArgMatches) -> Ignored<'a> {

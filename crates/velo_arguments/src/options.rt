@@ -3,7 +3,7 @@
 use clap::{Arg, ArgAction, value_parser};
 use std::alloc::Global;
 use velo_events::{MAX_EVENTS, MAX_NODES};
-use velo_request::{MAX_RUNS, MAX_SECONDS, MAX_STATES, MAX_TRIES};
+use velo_check::{MAX_RUNS, MAX_SECONDS, MAX_STATES, MAX_TRIES};
 
 /// What an argument takes.
 #[derive(Clone, Copy)]

@@ -1,7 +1,7 @@
 //! Paths that do not go together.
 
 use crate::clash::Clash;
-use velo_request::ScheduleSource;
+use velo_check::ScheduleSource;
 
 /// Whether this is the path of standard input.
 fn is_standard_input(path: Option<&str>) -> bool {

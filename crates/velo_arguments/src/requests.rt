@@ -4,12 +4,7 @@ ghost use Rattle.std.specs.Prelude.{◌≤◌, IfSome};
 use crate::ignored::{leaves_out, left_out};
 use clap::ArgMatches;
 use velo_events::{MAX_EVENTS, MAX_NODES};
-use velo_request::{
-    AuditOptions, CarryOptions, CheckOptions, DEFAULT_SEED, EndlessOptions, ExplainOptions,
-    ExploreOptions, Limits, MAX_RUNS, MAX_SECONDS, MAX_STATES, MAX_TRIES, PredictOptions,
-    RandomRuns, ReplayOptions, Request, RunOptions, ScheduleSource, TextOrJson, ThinOptions,
-    VerifyOptions, WatchOptions, WatchRestOptions,
-};
+use velo_check::{AuditOptions, CarryOptions, CheckOptions, DEFAULT_SEED, EndlessOptions, ExplainOptions, ExploreOptions, Limits, MAX_RUNS, MAX_SECONDS, MAX_STATES, MAX_TRIES, PredictOptions, RandomRuns, ReplayOptions, Request, RunOptions, ScheduleSource, TextOrJson, ThinOptions, VerifyOptions, WatchOptions, WatchRestOptions};
 
 /// Reads a number from 1 to `most`; none where it is missing or out of this range.
 fn number_of(found: &ArgMatches, option: &str, most: u32) -> Option<u32>

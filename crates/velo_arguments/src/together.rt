@@ -6,10 +6,7 @@ use crate::ignored::leaves_out;
 use crate::paths::{clash_of_files, clash_of_inputs, clash_of_targets, path_of_schedule};
 use crate::requests::request_of;
 use clap::ArgMatches;
-use velo_request::{
-    AuditOptions, EndlessOptions, ExplainOptions, ExploreOptions, Ignored, PredictOptions,
-    RandomRuns, ReplayOptions, Request, ScheduleSource, TextOrJson, ThinOptions, WatchRestOptions,
-};
+use velo_check::{AuditOptions, EndlessOptions, ExplainOptions, ExploreOptions, Ignored, PredictOptions, RandomRuns, ReplayOptions, Request, ScheduleSource, TextOrJson, ThinOptions, WatchRestOptions};
 
 /// Why the options of the request do not go together, if they do not, where the words give these.
 fn clash_of(request: &Request, given: Given) -> Option<Clash> {

@@ -12,16 +12,14 @@ use crate::page::page_of;
 use std::alloc::Global;
 use velo_audit::{AuditFault, Told, audit_checked, count_labels_left};
 use velo_bytes::{Sink, Source};
-use velo_delivery::{Files, Operand};
+use velo_check::{AuditOptions, CheckFault, Fate, Files, Operand, do_input, open_input};
 use velo_events::{Bounds, Config, Memory, Refusal};
-use velo_fate::{CheckFault, Fate, open_input};
 use velo_filter::LeftOut;
 use velo_inputs::{
-    ContextOptions, InContext, are_of_log, config_of_rounds, do_in_context, do_input, left_out,
+    ContextOptions, InContext, are_of_log, config_of_rounds, do_in_context, left_out,
     print,
 };
 use velo_names::Names;
-use velo_request::AuditOptions;
 use velo_sites::Sites;
 use velo_text::Asked;
 use velo_traces::Trace;

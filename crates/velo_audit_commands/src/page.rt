@@ -15,7 +15,7 @@ use velo_explain::Page;
 use velo_filter::{LeftOut, thin};
 use velo_finding::{Entry, audit_json, entries_of, predictions_json};
 use velo_inputs::left_out;
-use velo_request::{AuditOptions, PredictOptions, TextOrJson};
+use velo_check::{AuditOptions, PredictOptions, TextOrJson};
 use velo_tally::marks_of;
 use velo_text::{Background, PredictedFindings, audit_text, predictions_text};
 use velo_traces::Trace;

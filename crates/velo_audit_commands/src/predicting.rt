@@ -15,16 +15,14 @@ use std::alloc::Global;
 use velo_audit::Told;
 use velo_bytes::{Sink, Source};
 use velo_delays::{Deadlock, Draws, PredictedCycle, search, search_deadlocks, with_lines};
-use velo_delivery::{Files, Operand};
+use velo_check::{Beside, Fate, Files, Operand, PredictOptions, do_input, open_apart};
 use velo_events::{Bounds, Config, Event, Memory};
-use velo_fate::{Beside, Fate, open_apart};
 use velo_filter::LeftOut;
 use velo_inputs::{
-    ContextOptions, InContext, are_of_log, config_of_rounds, do_in_context, do_input, left_out,
+    ContextOptions, InContext, are_of_log, config_of_rounds, do_in_context, left_out,
     print, reads_of, save_text,
 };
 use velo_names::Names;
-use velo_request::PredictOptions;
 use velo_sites::Sites;
 use velo_text::{Asked, PredictedFindings, is_something_told};
 use velo_traces::Trace;

@@ -10,9 +10,8 @@ use std::thread::Threads;
 use velo_arguments::{command, matches_of, read_request};
 use velo_bytes::Sink;
 use velo_commands::do_request;
-use velo_delivery::Files;
+use velo_check::{Fate, Files, end_with};
 use velo_events::Memory;
-use velo_fate::{Fate, end_with};
 use velo_words::{Recall, end_in_words};
 use velo_workload_commands::ExploreProgress;
 

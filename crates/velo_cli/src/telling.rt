@@ -7,8 +7,8 @@ use velo_arguments::{Clash, line_of_clash, text_of};
 use velo_bytes::{Sink, write_all};
 use velo_escapes::escaped_lines;
 use velo_events::Memory;
-use velo_fate::{Fate, end_with};
-use velo_request::status::{DONE, FAILED};
+use velo_check::{Fate, end_with};
+use velo_check::status::{DONE, FAILED};
 
 /// The status of a fault of usage.
 const BAD_USAGE: u8 = 2;

@@ -5,13 +5,11 @@ use std::sync::Wait;
 use std::thread::Threads;
 use velo_audit_commands::{audit_file, predict_file};
 use velo_bytes::Sink;
-use velo_delivery::Files;
-use velo_fate::Fate;
+use velo_check::{Fate, Files, Request};
 use velo_log_commands::{
     carry_file, check_file, explain_file, thin_file, watch_endless_file, watch_file,
     watch_rest_file,
 };
-use velo_request::Request;
 use velo_verify::verify_file;
 use velo_workload_commands::{ExploreProgress, explore_file, replay_file, run_file};
 

@@ -5,7 +5,7 @@ use crate::writer::JsonWriter;
 use std::alloc::Global;
 use velo_events::{Memory, Refusal, ThreadId};
 use velo_explore::{Finding, Findings, Goal};
-use velo_fate::number_of;
+use velo_check::number_of;
 use velo_schedule_text::append_turns;
 use velo_workload::Workload;
 

@@ -6,10 +6,8 @@ use crate::naming::{names_in, read_given};
 use crate::siting::sites_in;
 use std::alloc::Global;
 use velo_bytes::Sink;
-use velo_delivery::{Files, Operand};
-use velo_fate::{Beside, Fate, list_beside};
+use velo_check::{Beside, Fate, Files, Ignored, Operand, list_beside};
 use velo_names::{MAX_NAMES_BYTES, Names};
-use velo_request::Ignored;
 use velo_sites::{MAX_SITES_BYTES, Sites};
 use velo_text::Asked;
 

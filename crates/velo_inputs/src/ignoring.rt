@@ -4,9 +4,8 @@
 use std::alloc::Global;
 use velo_events::growth::reserve;
 use velo_events::{Label, LockId, Memory, VarId};
-use velo_fate::Fate;
+use velo_check::{Fate, Ignorable};
 use velo_names::{NameKind, Names};
-use velo_request::Ignorable;
 use velo_suppressions::add_numbers;
 
 fn kind_of(what: Ignorable) -> NameKind {

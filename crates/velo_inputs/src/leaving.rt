@@ -4,7 +4,7 @@ ghost use Rattle.std.specs.Prelude.{◌≡◌, false};
 use std::alloc::Global;
 use velo_events::{Config, Label, LockId, MAX_LOCKS, Memory, VarId};
 use velo_filter::LeftOut;
-use velo_request::Limits;
+use velo_check::Limits;
 use velo_text::Asked;
 use velo_world::Closed;
 

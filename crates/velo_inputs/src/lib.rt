@@ -6,13 +6,11 @@ mod ignoring;
 mod leaving;
 mod listing;
 mod naming;
-mod replaying;
 mod sending;
 mod siting;
 
 pub use context::{ContextOptions, InContext, do_in_context, reads_of};
 pub use leaving::{config_of_rounds, left_out};
 pub use naming::{ByNames, do_by_names, shown_by};
-pub use replaying::{config_of, do_input, do_log, fault_of};
 pub use sending::{print, save_text};
 pub use siting::are_of_log;

@@ -2,8 +2,7 @@
 
 use std::alloc::Global;
 use velo_bytes::Sink;
-use velo_delivery::Files;
-use velo_fate::{Fate, read_file};
+use velo_check::{Fate, Files, read_file};
 use velo_names::{MAX_NAMES_BYTES, Names};
 use velo_report::Names as ReportNames;
 

@@ -1,8 +1,7 @@
 //! An answer is saved, and printed.
 
 use velo_bytes::{Sink, WriteFault, write_all};
-use velo_delivery::{Files, Operand, Save, save_all};
-use velo_fate::{Fate, Saved, fate_of_failure};
+use velo_check::{Fate, Files, Operand, Save, Saved, fate_of_failure, save_all};
 use velo_worker::Ending;
 
 /// Saves a text at a path.

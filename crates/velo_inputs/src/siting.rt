@@ -1,7 +1,7 @@
 //! Files of sites.
 
 use std::alloc::Global;
-use velo_fate::Fate;
+use velo_check::Fate;
 use velo_sites::Sites;
 use velo_traces::Trace;
 

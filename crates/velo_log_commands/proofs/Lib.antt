@@ -1,2 +1,1 @@
-mod OnChecks
 mod OnExplaining

@@ -1,20 +1,17 @@
 //! `velodrome watch --endless`: a log of any length that is checked as it comes.
 ghost use Rattle.std.specs.Prelude.{◌-◌};
-ghost use Rattle.velo_endless.specs.Endless.{CanGoOn};
-ghost use Rattle.velo_endless.specs.declared.reading.TheConstants.{MAX_WATCHED};
+ghost use Rattle.velo_watch.specs.Endless.{CanGoOn};
+ghost use Rattle.velo_watch.specs.declared.long.TheConstants.{MAX_WATCHED};
 
 use crate::command::Command;
 use crate::naming::{names_given, shown_of};
 use crate::watching::{AskedWatch, watch_named};
 use std::alloc::Global;
 use velo_bytes::{Sink, Source, WriteFault};
-use velo_delivery::Files;
-use velo_endless::EndlessWatch;
-use velo_fate::{CheckFault, Fate, Verdict};
+use velo_check::{CheckFault, EndlessOptions, Fate, Files, Verdict};
+use velo_watch::{EndlessWatch, WatchFault};
 use velo_inputs::{ByNames, do_by_names};
 use velo_names::Names;
-use velo_request::EndlessOptions;
-use velo_watch::WatchFault;
 
 impl AskedWatch for EndlessOptions<'_> {
     type State = EndlessWatch;

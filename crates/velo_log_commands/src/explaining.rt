@@ -8,18 +8,16 @@ use std::alloc::Global;
 use velo_audit::{AuditFault, FirstAlarm, first_alarm};
 use velo_bytes::{Sink, Source};
 use velo_certify::{CertFault, owners_of};
-use velo_delivery::{Files, Operand};
+use velo_check::{ExplainOptions, Fate, Files, Limits, Operand, TextOrJson, do_input, open_input};
 use velo_events::{Bounds, MAX_EVENTS, MAX_NODES, Memory};
 use velo_explain::{Evidence, Page, evidence_of, explain_clean, explain_named, explain_sited};
-use velo_fate::{Fate, open_input};
 use velo_filter::{LeftOut, thin};
 use velo_finding::{Shown, explanation_json};
 use velo_inputs::{
-    ContextOptions, InContext, are_of_log, config_of_rounds, do_in_context, do_input, left_out,
+    ContextOptions, InContext, are_of_log, config_of_rounds, do_in_context, left_out,
     print,
 };
 use velo_names::Names;
-use velo_request::{ExplainOptions, Limits, TextOrJson};
 use velo_sites::Sites;
 use velo_text::{Asked, Background, add_accesses, add_asked};
 use velo_traces::Trace;

@@ -13,8 +13,8 @@ mod thinning;
 mod watching;
 mod watching_rest;
 
-pub use carrying::{CarryFault, carry_file, carry_run};
-pub use check::{check_file, check_run};
+pub use carrying::carry_file;
+pub use check::check_file;
 pub use endless::watch_endless_file;
 pub use explaining::explain_file;
 pub use thinning::thin_file;

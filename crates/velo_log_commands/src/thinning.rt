@@ -3,13 +3,11 @@
 use crate::command::Command;
 use std::alloc::Global;
 use velo_bytes::{Sink, Source};
-use velo_delivery::{Files, Operand};
+use velo_check::{Beside, CheckFault, Fate, Files, Operand, ThinOptions, fate_of_failure, open_apart};
 use velo_events::Memory;
-use velo_fate::{Beside, CheckFault, Fate, fate_of_failure, open_apart};
 use velo_filter::LeftOut;
 use velo_inputs::{ContextOptions, InContext, do_in_context, left_out, reads_of};
 use velo_names::Names;
-use velo_request::ThinOptions;
 use velo_sites::Sites;
 use velo_text::Asked;
 use velo_thinning::{Targets, ThinFault, ThinnedLog, deliver_thinned, read_thinned};

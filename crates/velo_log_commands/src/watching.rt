@@ -1,16 +1,13 @@
 //! `velodrome watch`: a log that is checked as it comes.
 ghost use Rattle.std.specs.Prelude.{◌≡◌, ◌<◌, ◌-◌, ℕ, ⊤, true, length, IfOk, OnOk};
 
-use crate::check::{fate_of, finish};
 use crate::command::Command;
 use crate::naming::{names_given, shown_of};
 use std::alloc::Global;
 use velo_bytes::{Sink, Source};
-use velo_delivery::{Files, Operand};
-use velo_fate::{CheckFault, Fate, Verdict, open_input};
-use velo_inputs::{ByNames, do_by_names, fault_of};
+use velo_check::{CheckFault, Fate, Files, Operand, Verdict, WatchOptions, fate_of, fault_of, finish, open_input};
+use velo_inputs::{ByNames, do_by_names};
 use velo_names::Names;
-use velo_request::WatchOptions;
 use velo_watch::{Watch, WatchFault};
 
 /// A watch that was asked for.

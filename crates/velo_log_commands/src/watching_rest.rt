@@ -2,7 +2,7 @@
 //! left of it is judged, and the places of its alarm are told.
 ghost use Rattle.std.specs.Prelude.{◌-◌, length};
 ghost use Rattle.velo_filter.specs.Tables.{left_of};
-ghost use Rattle.velo_rest_watch.specs.UnderWay.{CanGoOn};
+ghost use Rattle.velo_watch.specs.RestUnderWay.{CanGoOn};
 
 use crate::command::Command;
 use crate::naming::names_given;
@@ -11,18 +11,15 @@ use crate::rest_report::page_of_rest;
 use crate::watching::{AskedWatch, watch_named};
 use std::alloc::Global;
 use velo_bytes::{Sink, Source, WriteFault, write_all};
-use velo_delivery::Files;
+use velo_check::{CheckFault, Fate, Files, Verdict, WatchOptions, WatchRestOptions, verdict_of};
 use velo_events::Memory;
 use velo_explain::Page;
-use velo_fate::{CheckFault, Fate, Verdict, verdict_of};
 use velo_filter::LeftOut;
 use velo_inputs::{ContextOptions, InContext, do_in_context, left_out};
 use velo_names::Names;
-use velo_request::{WatchOptions, WatchRestOptions};
-use velo_rest_watch::{ClosedRest, RestWatch};
+use velo_watch::{ClosedRest, RestWatch, WatchFault};
 use velo_sites::Sites;
 use velo_text::Asked;
-use velo_watch::WatchFault;
 use velo_world::Closed;
 
 /// A watch that was asked for, the sites of its log, and what is left out of it.

@@ -2,7 +2,7 @@
 
 use velo_bytes::{Sink, WriteFault, put_bytes, put_number, write_all};
 use velo_claims::{Outcome, Reason, is_verified};
-use velo_fate::Fate;
+use velo_check::Fate;
 use velo_worker::Ending;
 
 /// Room that is enough for the line.

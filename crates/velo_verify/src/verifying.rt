@@ -4,11 +4,9 @@ use crate::told::tell;
 use std::alloc::Global;
 use velo_bytes::{Sink, Source};
 use velo_claims::{Claim, MAX_REPORT_BYTES, judge};
-use velo_delivery::{Files, Operand};
+use velo_check::{CheckFault, Fate, Files, Operand, VerifyOptions, open_input, read_file};
 use velo_events::Memory;
-use velo_fate::{CheckFault, Fate, open_input, read_file};
 use velo_logtext::read_log;
-use velo_request::VerifyOptions;
 
 /// What the bytes of a report claim.
 ///

@@ -1,8 +1,7 @@
 //! A file that is read once more, for words.
 
 use std::alloc::Global;
-use velo_delivery::{Files, is_standard_input};
-use velo_fate::read_file;
+use velo_check::{Files, is_standard_input, read_file};
 
 /// Whether the file at a path may be read once more. Standard input would give what comes after that
 /// which was read, and what is no regular file could keep its reader waiting.

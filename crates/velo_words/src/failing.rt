@@ -4,10 +4,9 @@ use crate::roles::{ROLES, Role, asks_for_words, path_of, word_of};
 use std::alloc::Global;
 use velo_events::Memory;
 use velo_explain::{Page, Piece};
-use velo_fate::{CheckFault, Fate};
-use velo_fault_words::add_file;
+use velo_check::{CheckFault, Fate, Request};
+use crate::add_file;
 use velo_logtext::LogFault;
-use velo_request::Request;
 
 /// Why a file could not be opened, read or written.
 #[derive(Clone, Copy, PartialEq, Eq)]

@@ -1,7 +1,7 @@
 //! Where the names and the schedule of a request are whose faults are said in words.
 
 use crate::roles::{asks_for_words, names_of};
-use velo_request::{Request, ScheduleSource};
+use velo_check::{Request, ScheduleSource};
 
 /// The path of the names whose faults are said in words, if the request has one.
 pub fn names_explained_of<'a>(request: &Request<'a>) -> Option<&'a str> {

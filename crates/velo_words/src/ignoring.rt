@@ -5,12 +5,11 @@ use crate::ended::workload_at;
 use crate::given::names_explained_of;
 use crate::roles::ignored_of;
 use std::alloc::Global;
-use velo_delivery::Files;
+use velo_check::{Files, Ignorable, Ignored, Request};
 use velo_events::Memory;
 use velo_explain::Page;
-use velo_fault_words::{Complaint, add_shown, add_text, place_words};
+use crate::{Complaint, add_shown, add_text, place_words};
 use velo_names::{MAX_NAMES_BYTES, NameKind, Names, append_names};
-use velo_request::{Ignorable, Ignored, Request};
 use velo_workload::Workload;
 
 /// The option that takes these.

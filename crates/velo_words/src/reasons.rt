@@ -3,7 +3,7 @@
 use crate::events::{Sought, last_of};
 use velo_events::{Bounds, Event, Kind, LockId, Memory, Refusal, ThreadId};
 use velo_explain::{Page, Piece};
-use velo_fault_words::add_text;
+use crate::add_text;
 
 /// Adds how many of something the header has.
 fn add_bound(page: &mut Page, count: u64, what: &str) -> Result<(), Memory> {

@@ -5,7 +5,7 @@ use crate::reasons::add_reason;
 use std::alloc::Global;
 use velo_events::{Bounds, Event, Kind, Memory, Refusal, ThreadId};
 use velo_explain::{Page, Piece};
-use velo_fault_words::{add_line, add_text};
+use crate::{add_line, add_text};
 
 /// Adds what a thread does.
 fn add_kind(page: &mut Page, kind: Kind) -> Result<(), Memory> {

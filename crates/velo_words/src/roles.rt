@@ -1,6 +1,6 @@
 //! The files of a request, by what each is for.
 
-use velo_request::{Ignored, Request, ScheduleSource};
+use velo_check::{Ignored, Request, ScheduleSource};
 
 /// What a file is for.
 #[derive(Clone, Copy, PartialEq, Eq)]

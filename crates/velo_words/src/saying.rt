@@ -11,17 +11,12 @@ use crate::roles::{list_of, report_of, sites_of};
 use std::alloc::Global;
 use velo_bytes::{Bytes, Sink, WriteFault, write_all};
 use velo_claims::ReportFault;
-use velo_delivery::Files;
+use velo_check::{CheckFault, Fate, Files, Request, ScheduleSource, end_with};
 use velo_events::{Bounds, Event, Memory, Refusal};
 use velo_explain::Page;
-use velo_fate::{CheckFault, Fate, end_with};
-use velo_fault_words::{
-    FileFault, fault_words, most_bytes_for, most_up_to, numbers_words, other_sites_words,
-    schedule_words, turns_words,
-};
+use crate::{FileFault, fault_words, most_bytes_for, most_up_to, numbers_words, other_sites_words, schedule_words, turns_words};
 use velo_names::NamesFault;
-use velo_request::status::FAILED;
-use velo_request::{Request, ScheduleSource};
+use velo_check::status::FAILED;
 use velo_schedule_text::{MAX_SCHEDULE_BYTES, ScheduleFault};
 use velo_sites::SitesFault;
 use velo_suppressions::ListFault;

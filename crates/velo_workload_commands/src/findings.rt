@@ -8,7 +8,7 @@ use velo_explore::{Exploration, Progress, explore};
 use velo_finding::{Survey, ToBlame, Tried};
 use velo_filter::LeftOut;
 use velo_random::{RunTally, try_by_chance};
-use velo_request::{ExploreOptions, RandomRuns};
+use velo_check::{ExploreOptions, RandomRuns};
 use velo_shrink::shrink_findings;
 use velo_workload::Workload;
 

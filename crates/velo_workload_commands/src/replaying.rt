@@ -4,10 +4,8 @@ use crate::scheduling::{schedule_beside, schedule_of_source};
 use crate::work::{config_of_run, finish_run, open_workload};
 use std::alloc::Global;
 use velo_bytes::Sink;
-use velo_delivery::Files;
+use velo_check::{Fate, Files, ReplayOptions, RunOptions};
 use velo_events::{Memory, ThreadId};
-use velo_fate::Fate;
-use velo_request::{ReplayOptions, RunOptions};
 use velo_worker::replay;
 use velo_workload::Workload;
 

@@ -1,16 +1,14 @@
 //! How a run is reported: its log is saved, then the names of the workload, and then its report is
 //! printed.
 ghost use Rattle.std.specs.Prelude.{IfSome};
-ghost use Rattle.velo_fate.specs.Verdict.{IsOrderOrCycle};
+ghost use Rattle.velo_check.specs.Verdict.{IsOrderOrCycle};
 
 use std::alloc::Global;
 use velo_bytes::{Sink, WriteFault, write_all};
-use velo_delivery::{Files, Operand, Save, save_all};
+use velo_check::{Fate, Files, Operand, RunOptions, Save, Saved, fate_of_failure, order_or_cycle_of, save_all, write_output};
 use velo_events::Memory;
-use velo_fate::{Fate, Saved, fate_of_failure, order_or_cycle_of, write_output};
 use velo_names::{NameKind, append_names};
 use velo_report::Names;
-use velo_request::RunOptions;
 use velo_workload::Workload;
 use velo_world::Closed;
 

@@ -1,10 +1,8 @@
 //! The schedule of a replay.
 
 use std::alloc::Global;
-use velo_delivery::{Files, Operand};
+use velo_check::{Beside, Fate, Files, Operand, ScheduleSource, read_file};
 use velo_events::ThreadId;
-use velo_fate::{Beside, Fate, read_file};
-use velo_request::ScheduleSource;
 use velo_schedule_text::{MAX_SCHEDULE_BYTES, schedule_in, schedule_of, turns_of};
 
 /// The schedule that the bytes of a file say.
