@@ -16,8 +16,7 @@ use velo_check::{AuditOptions, CheckFault, Fate, Files, Operand, do_input, open_
 use velo_events::{Bounds, Config, Memory, Refusal};
 use velo_filter::LeftOut;
 use velo_inputs::{
-    ContextOptions, InContext, are_of_log, config_of_rounds, do_in_context, left_out,
-    print,
+    ContextOptions, InContext, are_of_log, config_of_rounds, do_in_context, left_out, print,
 };
 use velo_names::Names;
 use velo_sites::Sites;
@@ -157,11 +156,7 @@ fn audit_log<I: Source, O: Sink>(
 }
 
 /// Audits the log that was asked for, and reports it by the names and with the sites.
-fn audit_input<F: Files, O: Sink>(
-    inquiry: &Inquiry<AuditOptions>,
-    files: &F,
-    out: &mut O,
-) -> Fate {
+fn audit_input<F: Files, O: Sink>(inquiry: &Inquiry<AuditOptions>, files: &F, out: &mut O) -> Fate {
     match open_input(files, Operand::Log, inquiry.options.input, None) {
         Ok(mut log) => audit_log(inquiry, &mut log, out),
         Err(fate) => fate,

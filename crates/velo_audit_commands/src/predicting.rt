@@ -14,13 +14,13 @@ use crate::saved_trace::trace_text;
 use std::alloc::Global;
 use velo_audit::Told;
 use velo_bytes::{Sink, Source};
-use velo_delays::{Deadlock, Draws, PredictedCycle, search, search_deadlocks, with_lines};
 use velo_check::{Beside, Fate, Files, Operand, PredictOptions, do_input, open_apart};
+use velo_delays::{Deadlock, Draws, PredictedCycle, search, search_deadlocks, with_lines};
 use velo_events::{Bounds, Config, Event, Memory};
 use velo_filter::LeftOut;
 use velo_inputs::{
-    ContextOptions, InContext, are_of_log, config_of_rounds, do_in_context, left_out,
-    print, reads_of, save_text,
+    ContextOptions, InContext, are_of_log, config_of_rounds, do_in_context, left_out, print,
+    reads_of, save_text,
 };
 use velo_names::Names;
 use velo_sites::Sites;
@@ -173,14 +173,7 @@ fn predict_rest<F: Files, O: Sink>(
 {
     let config = config_of_rounds(closed, inquiry.options.limits);
     let log = closed.log();
-    match rounds_of(
-        inquiry.alloc,
-        &config,
-        log,
-        is_clean(closed),
-        true,
-        left,
-    ) {
+    match rounds_of(inquiry.alloc, &config, log, is_clean(closed), true, left) {
         Ok(rounds) => predict_after(inquiry, &config, log, rounds, left, files, out),
         Err(fate) => fate,
     }
@@ -266,7 +259,6 @@ fn predict_input<F: Files, O: Sink>(
 }
 
 impl InContext for Command<'_, PredictOptions<'_>> {
-
     fn do_in<F: Files, O: Sink>(
         &self,
         alloc: Global,
