@@ -38,7 +38,12 @@ fn thread_of(lane: usize) -> ThreadId {
 }
 
 /// The heading of a lane.
-fn lane_heading(alloc: Global, names: &Names, room: usize, thread: ThreadId) -> Result<Page, Memory> {
+fn lane_heading(
+    alloc: Global,
+    names: &Names,
+    room: usize,
+    thread: ThreadId,
+) -> Result<Page, Memory> {
     let mut heading = Page::new(alloc);
     heading.add(&[Piece::Text("thread "), Piece::Number(u64::from(thread.0))])?;
     let left = room.saturating_sub(heading.as_slice().len());
@@ -79,7 +84,12 @@ fn add_heading_cells(
 }
 
 /// Adds the first line.
-fn add_heading(page: &mut Page, alloc: Global, names: &Names, lanes: &[usize]) -> Result<(), Memory> {
+fn add_heading(
+    page: &mut Page,
+    alloc: Global,
+    names: &Names,
+    lanes: &[usize],
+) -> Result<(), Memory> {
     page.add_bytes(b"    line")?;
     add_heading_cells(page, alloc, names, lanes)?;
     page.add_bytes(b"\n")

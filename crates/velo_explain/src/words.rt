@@ -17,7 +17,11 @@ pub fn line_of(position: usize) -> u64 {
 /// The number of the transaction that comes after the one at a place of a cycle.
 pub fn next_number(count: usize, k: usize) -> u64 {
     let next = k.saturating_add(1);
-    if next < count { (next as u64).saturating_add(1) } else { 1 }
+    if next < count {
+        (next as u64).saturating_add(1)
+    } else {
+        1
+    }
 }
 
 /// Adds what an alarm is.

@@ -25,7 +25,11 @@ fn add_witness_or_null(
 }
 
 /// Adds the blocks that a round reports.
-fn add_blocks(json: JsonWriter, background: &Background, told: &Told) -> Result<JsonWriter, Memory> {
+fn add_blocks(
+    json: JsonWriter,
+    background: &Background,
+    told: &Told,
+) -> Result<JsonWriter, Memory> {
     add_array(json.key("blocks")?, background, &told.blocks)
 }
 
@@ -95,7 +99,8 @@ fn add_verdict(json: JsonWriter, rounds: &[Told]) -> Result<JsonWriter, Memory> 
 
 /// Adds how many rounds there were, the last one without an alarm.
 fn add_round_count(json: JsonWriter, rounds: &[Told]) -> Result<JsonWriter, Memory> {
-    json.key("rounds")?.number((rounds.len() as u64).saturating_add(1))
+    json.key("rounds")?
+        .number((rounds.len() as u64).saturating_add(1))
 }
 
 /// Adds the answer.

@@ -54,7 +54,11 @@ fn add_place(json: JsonWriter, position: usize) -> Result<JsonWriter, Memory> {
 }
 
 /// Adds the member that says whose event it is.
-pub(crate) fn add_thread(json: JsonWriter, names: &Names, thread: ThreadId) -> Result<JsonWriter, Memory> {
+pub(crate) fn add_thread(
+    json: JsonWriter,
+    names: &Names,
+    thread: ThreadId,
+) -> Result<JsonWriter, Memory> {
     add_named(
         json.key("thread")?,
         names,
@@ -64,7 +68,11 @@ pub(crate) fn add_thread(json: JsonWriter, names: &Names, thread: ThreadId) -> R
 }
 
 /// Adds the member with the text of an event.
-pub(crate) fn add_words(json: JsonWriter, alloc: Global, event: Event) -> Result<JsonWriter, Memory> {
+pub(crate) fn add_words(
+    json: JsonWriter,
+    alloc: Global,
+    event: Event,
+) -> Result<JsonWriter, Memory> {
     let words = words_of(alloc, event)?;
     json.key("text")?.string(words.as_slice())
 }

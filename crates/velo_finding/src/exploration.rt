@@ -46,11 +46,7 @@ fn add_labels(
 }
 
 /// Adds who is to blame.
-fn add_blame(
-    json: JsonWriter,
-    workload: &Workload,
-    blame: &ToBlame,
-) -> Result<JsonWriter, Memory> {
+fn add_blame(json: JsonWriter, workload: &Workload, blame: &ToBlame) -> Result<JsonWriter, Memory> {
     let json = json.begin_object()?.key("alarms")?;
     let json = json.number(blame.alarms)?.key("labels")?;
     add_labels(json, workload, &blame.labels)?.end_object()

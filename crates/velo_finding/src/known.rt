@@ -3,9 +3,9 @@
 use crate::named::add_thread;
 use crate::writer::JsonWriter;
 use std::alloc::Global;
+use velo_check::number_of;
 use velo_events::{Memory, Refusal, ThreadId};
 use velo_explore::{Finding, Findings, Goal};
-use velo_check::number_of;
 use velo_schedule_text::append_turns;
 use velo_workload::Workload;
 

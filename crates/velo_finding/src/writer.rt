@@ -132,8 +132,7 @@ impl JsonWriter {
     ///
     /// # Errors
     /// `Memory` if an allocation failed.
-    pub fn string_or_null(self, bytes: Option<&[u8]>) -> Result<JsonWriter, Memory>
-    {
+    pub fn string_or_null(self, bytes: Option<&[u8]>) -> Result<JsonWriter, Memory> {
         match bytes {
             Some(bytes) => self.string(bytes),
             None => self.token(Token::Null),

@@ -7,7 +7,11 @@ use velo_sites::{Sites, place_in};
 use velo_traces::Block;
 
 /// Adds where an event happened, if the place is known.
-pub(crate) fn add_place(page: &mut Page, sites: &Option<Sites>, position: usize) -> Result<(), Memory> {
+pub(crate) fn add_place(
+    page: &mut Page,
+    sites: &Option<Sites>,
+    position: usize,
+) -> Result<(), Memory> {
     let Some(place) = place_in(sites, position) else {
         return Ok(());
     };
@@ -16,7 +20,11 @@ pub(crate) fn add_place(page: &mut Page, sites: &Option<Sites>, position: usize)
 }
 
 /// Adds it and ends the line.
-pub(crate) fn end_line(page: &mut Page, sites: &Option<Sites>, position: usize) -> Result<(), Memory> {
+pub(crate) fn end_line(
+    page: &mut Page,
+    sites: &Option<Sites>,
+    position: usize,
+) -> Result<(), Memory> {
     add_place(page, sites, position)?;
     page.add_bytes(b"\n")
 }

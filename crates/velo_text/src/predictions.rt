@@ -1,7 +1,7 @@
 //! The whole text of predictions.
 
-use crate::findings::PredictedFindings;
 use crate::background::Background;
+use crate::findings::PredictedFindings;
 use crate::places::{add_begins, add_place, end_line};
 use crate::whole::{add_rounds, add_witness_if_any};
 use crate::words::{Asked, add_asked};
@@ -44,7 +44,12 @@ fn add_size(page: &mut Page, values: bool, count: usize) -> Result<(), Memory> {
 }
 
 /// Adds a read of a trace.
-fn add_read(page: &mut Page, names: &Names, events: &[Event], position: usize) -> Result<(), Memory> {
+fn add_read(
+    page: &mut Page,
+    names: &Names,
+    events: &[Event],
+    position: usize,
+) -> Result<(), Memory> {
     let Some(event) = events.get(position) else {
         return Ok(());
     };

@@ -82,7 +82,11 @@ fn add_left_out_locks(
 }
 
 /// Adds the variables that were to be left out.
-fn add_left_out_variables(page: &mut Page, names: &Names, variables: &[VarId]) -> Result<(), Memory> {
+fn add_left_out_variables(
+    page: &mut Page,
+    names: &Names,
+    variables: &[VarId],
+) -> Result<(), Memory> {
     for variable in variables {
         add_left_out_variable(page, names, *variable)?;
     }
