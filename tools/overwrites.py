@@ -57,11 +57,6 @@ COMMANDS = (
         {"OUT": "--log", "MAP": "--map"},
     ),
     Command(
-        "explain",
-        {"LOG": "log", "--names": "names", "--sites": "sites", "--ignore": "list"},
-        {"OUT": "--dot", "SVG": "--svg"},
-    ),
-    Command(
         "predict",
         {"LOG": "order", "--names": "names", "--sites": "order.sites", "--not-atomic": "list"},
         {"OUT": "--log"},

@@ -10,7 +10,7 @@ use std::test::Fail;
 use std::thread::Threads;
 use velo_bytes::Text;
 use velo_events::{Config, MAX_EVENTS};
-use velo_fate::{Fate, order_or_cycle_of, write_output};
+use velo_check::{Fate, order_or_cycle_of, write_output};
 use velo_logtext::write_log;
 use velo_report::Names;
 use velo_schedule_text::{MAX_TURNS, ScheduleFault, schedule_of};

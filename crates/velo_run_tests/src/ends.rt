@@ -4,7 +4,7 @@ use std::alloc::Global;
 use std::io::Write;
 use velo_bytes::{Text, WriterSink};
 use velo_events::{Refusal, ThreadId};
-use velo_fate::{CheckFault, Fate, end_line, end_with};
+use velo_check::{CheckFault, Fate, end_line, end_with};
 use velo_logtext::LogFault;
 use velo_schedule_text::ScheduleFault;
 use velo_worker::Ending;

@@ -2,8 +2,8 @@
 use super::{LOST_UPDATE, LOST_UPDATE_CERTIFIED};
 use velo_bytes::{Bytes, Text};
 use velo_events::MAX_EVENTS;
-use velo_fate::CheckFault;
-use velo_log_commands::check_run;
+use velo_check::CheckFault;
+use velo_check::check_run;
 use velo_logtext::LogFault;
 
 #[test]

@@ -5,9 +5,9 @@ use crate::growths::again;
 use std::alloc::Global;
 use velo_bytes::{Bytes, WriterSink};
 use velo_events::{Action, Refusal, ThreadId, VarId};
-use velo_fate::{CheckFault, Verdict};
-use velo_inputs::config_of;
-use velo_log_commands::check_run;
+use velo_check::{CheckFault, Verdict};
+use velo_check::config_of;
+use velo_check::check_run;
 use velo_logtext::{LogFault, read_log};
 use velo_world::{LogReplayFault, World};
 

@@ -7,7 +7,7 @@ use std::test::Fail;
 use velo_events::{
     Action, Bounds, Label, LockId, MAX_EVENTS, MAX_NODES, ThreadId, VarId, conflicts,
 };
-use velo_inputs::config_of;
+use velo_check::config_of;
 use velo_traces::Trace;
 use velo_world::World;
 

@@ -1,4 +1,0 @@
-mod OnEnded
-mod OnEvents
-mod OnIgnoring
-mod OnSaying
