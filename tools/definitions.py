@@ -50,9 +50,7 @@ PARTS = [
         {
             "velo_worker": "Progress Schedule Live Logs Causes",
             "velo_schedule_text": "Schedule Short File",
-            "velo_explore": "Logs* Goals* Told*",
-            "velo_shrink": "Simple*",
-            "velo_random": "Drawing Runs Tallies",
+            "velo_explore": "Logs* Goals* Told* Simple* Drawing Runs Tallies",
         },
     ),
     (
@@ -68,7 +66,7 @@ PARTS = [
         {
             "velo_filter": "Left* Thinned",
             "velo_audit": "Audit* Rounds* Tells Witness",
-            "velo_suppressions": "Line* Known* List",
+            "velo_sidecars": "ListLine* Known* List",
         },
     ),
     (
@@ -83,7 +81,7 @@ PARTS = [
         {
             "velo_laws": "Cut* Restart* Renumber Ordered* Repeats*",
             "velo_renew": "Renewal*",
-            "velo_races": "Races*",
+            "velo_thinning": "Races*",
         },
     ),
     (

@@ -20,7 +20,6 @@ MOST = {
     "velo_certify": 3,
     "velo_check": 1,
     "velo_collect": 1,
-    "velo_conflicts": 1,
     "velo_events": 4,
     "velo_graph": 3,
     "velo_heap": 4,
@@ -30,6 +29,7 @@ MOST = {
     "velo_rows": 2,
     "velo_runtime": 14,
     "velo_tables": 5,
+    "velo_traces": 1,
     "velo_worker": 2,
     "velo_world": 9,
 }

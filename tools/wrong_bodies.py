@@ -172,7 +172,7 @@ BODIES = (
         "has an exclusive event look up no shared ones",
         (
             "velo_tables/Tables.predecessors_into-write_looks_up_no_reads",
-            "velo_conflicts/ConflictTable.look_up-write_looks_up_no_reads",
+            "velo_traces/ConflictTable.look_up-write_looks_up_no_reads",
         ),
     ),
     Body("follows the waits of one sharer only", ("velo_runtime/Room.leads-one_sharer_alone",)),

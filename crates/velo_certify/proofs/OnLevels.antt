@@ -8,7 +8,7 @@ use Rattle.velo_events.specs.Block.{owner}
 use Rattle.velo_events.specs.Graph.{Edge}
 use Rattle.velo_events.proofs.OnBlocks.{owner-le}
 use Rattle.velo_events.proofs.OnReorderings.{conflict_at-within}
-use Rattle.velo_conflicts.specs.Numbers.{Rows, IsRow, HasNumbers}
+use Rattle.velo_traces.specs.Numbers.{Rows, IsRow, HasNumbers}
 use Rattle.velo_certify.specs.declared.reached.Reached.{Reached}
 use Rattle.velo_certify.specs.Distances.{AreShortest}
 use Rattle.velo_certify.specs.Levels.{IsStart, ReachesOne, level_numbers, MeetsLevel, ReachesBy, ReachesNone, IsPassed, IsSearched}

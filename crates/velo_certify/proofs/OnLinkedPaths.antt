@@ -18,7 +18,7 @@ use Rattle.velo_traces.proofs.Past.{past}
 use Rattle.velo_certify.specs.Links.{is_weak, IsLast, IsFirst, LinksBack, LinksSoFar}
 use Rattle.velo_certify.specs.Owners.{event_at}
 use Rattle.velo_certify.specs.Serial.{has, IsFree}
-use Rattle.velo_conflicts.specs.Numbers.{strong_for}
+use Rattle.velo_traces.specs.Numbers.{strong_for}
 use Rattle.velo_certify.proofs.OnLinks.{edge-into, edge-out, conflicts-own, conflicts-strong}
 
 -- a position is linked to a later one of another transaction

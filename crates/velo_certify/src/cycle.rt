@@ -5,7 +5,7 @@ ghost use Rattle.velo_events.specs.Reordering.{IsSelfSerializable};
 ghost use Rattle.velo_certify.specs.Shortest.{IsShortestCycleAt};
 ghost use Rattle.velo_events.specs.declared.event.Event.{Event};
 ghost use Rattle.velo_certify.specs.Owners.{AreOwners};
-ghost use Rattle.velo_conflicts.specs.Places.{AllHavePlaces, sizes};
+ghost use Rattle.velo_traces.specs.Places.{AllHavePlaces, sizes};
 ghost use Rattle.velo_certify.specs.Distances.{AreShortest, AreNearer, AreTowards};
 ghost use Rattle.velo_certify.specs.Nearest.{IsNearest};
 ghost use Rattle.velo_certify.specs.Cycle.{IsCycleFault, IsLastFault, IsCycleFrom, IsShortestFrom, IsLinked, next_in};
@@ -17,10 +17,9 @@ use crate::numbered::table_of;
 use crate::owners::{owner_of, owners_of};
 use crate::reached::Reached;
 use std::alloc::Global;
-use velo_conflicts::ConflictTable;
+use velo_traces::{ConflictTable, Trace};
 use velo_events::growth::reserve;
 use velo_events::{Event, Memory};
-use velo_traces::Trace;
 
 /// Walks from the first transaction of a cycle by way of the second back to the first.
 fn cycle_through(

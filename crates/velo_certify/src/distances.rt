@@ -2,9 +2,9 @@
 //! events for each.
 ghost use Rattle.std.specs.Prelude.{◌≡◌, ◌≤◌, ◌<◌, ◌+◌, false, ℕ, length, slice_index, IfOk, IsTrue};
 ghost use Rattle.velo_events.specs.Graph.{Edge};
-ghost use Rattle.velo_conflicts.specs.Numbers.{HasNumbers};
+ghost use Rattle.velo_traces.specs.Numbers.{HasNumbers};
 ghost use Rattle.velo_certify.specs.declared.reached.Reached.{Reached};
-ghost use Rattle.velo_conflicts.specs.Places.{AllHavePlaces, sizes};
+ghost use Rattle.velo_traces.specs.Places.{AllHavePlaces, sizes};
 ghost use Rattle.velo_certify.specs.Table.{numbers_from};
 ghost use Rattle.velo_certify.specs.Owners.{AreOwners};
 ghost use Rattle.velo_certify.specs.Distances.{AreShortest, AreTowards};
@@ -15,7 +15,7 @@ use crate::numbered::{table_of, take_in};
 use crate::owners::owner_of;
 use crate::reached::Reached;
 use std::alloc::Global;
-use velo_conflicts::ConflictTable;
+use velo_traces::ConflictTable;
 use velo_events::{Event, Memory};
 
 /// Takes in the event at a position, where those after it were taken in, and reaches its transaction

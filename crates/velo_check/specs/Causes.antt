@@ -3,12 +3,12 @@ use Rattle.std.specs.Prelude.{⊤}
 use Rattle.velo_events.specs.Refusals.{GrowthRefused}
 use Rattle.velo_logtext.specs.declared.fault.LogFault.{LogFault}
 use Rattle.velo_logtext.specs.declared.fault.LogFault.TheVariants as log_fault
-use Rattle.velo_suppressions.specs.declared.fault.ListFault.{ListFault}
-use Rattle.velo_suppressions.specs.declared.fault.ListFault.TheVariants as list_fault
+use Rattle.velo_sidecars.specs.declared.list_fault.ListFault.{ListFault}
+use Rattle.velo_sidecars.specs.declared.list_fault.ListFault.TheVariants as list_fault
 use Rattle.velo_names.specs.declared.fault.NamesFault.{NamesFault}
 use Rattle.velo_names.specs.declared.fault.NamesFault.TheVariants as names_fault
-use Rattle.velo_sites.specs.declared.fault.SitesFault.{SitesFault}
-use Rattle.velo_sites.specs.declared.fault.SitesFault.TheVariants as sites_fault
+use Rattle.velo_sidecars.specs.declared.site_fault.SitesFault.{SitesFault}
+use Rattle.velo_sidecars.specs.declared.site_fault.SitesFault.TheVariants as sites_fault
 use Rattle.velo_claims.specs.declared.fault.ReportFault.{ReportFault}
 use Rattle.velo_claims.specs.declared.fault.ReportFault.TheVariants as report_fault
 use Rattle.velo_worker.specs.declared.ending.Ending.{Ending}

@@ -7,13 +7,13 @@ use Rattle.velo_logtext.specs.declared.fault.LogFault.{LogFault}
 use Rattle.velo_logtext.specs.declared.fault.LogFault.TheVariants.{BadHeader, BadLine, Truncated, TooLong, Read}
 use Rattle.velo_logtext.specs.declared.fault.LogFault.TheVariants as log_fault
 use Rattle.velo_events.specs.declared.event.ThreadId.{ThreadId}
-use Rattle.velo_suppressions.specs.declared.fault.ListFault.{ListFault}
-use Rattle.velo_suppressions.specs.declared.fault.ListFault.TheVariants as list_fault
-use Rattle.velo_suppressions.specs.Fault.{fault_line as line_of_list_fault, fault_number as number_of_list_fault}
+use Rattle.velo_sidecars.specs.declared.list_fault.ListFault.{ListFault}
+use Rattle.velo_sidecars.specs.declared.list_fault.ListFault.TheVariants as list_fault
+use Rattle.velo_sidecars.specs.ListFault.{fault_line as line_of_list_fault, fault_number as number_of_list_fault}
 use Rattle.velo_names.specs.declared.fault.NamesFault.{NamesFault}
-use Rattle.velo_sites.specs.declared.fault.SitesFault.{SitesFault}
-use Rattle.velo_sites.specs.declared.fault.SitesFault.TheVariants as sites_fault
-use Rattle.velo_sites.specs.Fault.{fault_line as line_of_sites_fault, fault_number as number_of_sites_fault}
+use Rattle.velo_sidecars.specs.declared.site_fault.SitesFault.{SitesFault}
+use Rattle.velo_sidecars.specs.declared.site_fault.SitesFault.TheVariants as sites_fault
+use Rattle.velo_sidecars.specs.SiteFault.{fault_line as line_of_sites_fault, fault_number as number_of_sites_fault}
 use Rattle.velo_claims.specs.declared.fault.ReportFault.{ReportFault}
 use Rattle.velo_claims.specs.declared.fault.ReportFault.TheVariants as report_fault
 use Rattle.velo_claims.specs.Fault.{fault_line as line_of_report_fault, fault_number as number_of_report_fault}

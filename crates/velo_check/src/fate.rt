@@ -14,8 +14,7 @@ use velo_events::{Memory, Refusal, ThreadId};
 use velo_logtext::LogFault;
 use velo_names::NamesFault;
 use velo_schedule_text::ScheduleFault;
-use velo_sites::SitesFault;
-use velo_suppressions::ListFault;
+use velo_sidecars::{ListFault, SitesFault};
 use velo_worker::Ending;
 use velo_workload::WorkFault;
 

@@ -21,7 +21,7 @@ use velo_check::{AuditOptions, CheckFault, Fate, Files, Operand, do_input, open_
 use velo_events::{Bounds, Config, Memory, Refusal};
 use velo_filter::LeftOut;
 use velo_names::Names;
-use velo_sites::Sites;
+use velo_sidecars::Sites;
 use velo_text::Asked;
 use velo_traces::Trace;
 use velo_world::Closed;

@@ -8,7 +8,7 @@ use std::alloc::Global;
 use velo_bytes::Sink;
 use velo_check::{Beside, Fate, Files, Ignored, Operand, list_beside};
 use velo_names::{MAX_NAMES_BYTES, Names};
-use velo_sites::{MAX_SITES_BYTES, Sites};
+use velo_sidecars::{MAX_SITES_BYTES, Sites};
 use velo_text::Asked;
 
 /// What was asked for of all that a command knows before it opens its log.

@@ -19,7 +19,7 @@ use velo_explain::{Evidence, Page, evidence_of, explain_clean, explain_named, ex
 use velo_filter::{LeftOut, thin};
 use velo_finding::{Shown, explanation_json};
 use velo_names::Names;
-use velo_sites::Sites;
+use velo_sidecars::Sites;
 use velo_text::{Asked, Background, add_accesses, add_asked};
 use velo_traces::Trace;
 use velo_world::Closed;

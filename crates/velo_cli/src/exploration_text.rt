@@ -4,9 +4,8 @@ use std::alloc::Global;
 use velo_bytes::{append, append_number};
 use velo_check::{TextOrJson, number_of};
 use velo_events::{Label, Memory, ThreadId};
-use velo_explore::{Finding, Findings, Goal};
+use velo_explore::{BlamedLabel, Finding, Findings, Goal};
 use velo_finding::{Survey, ToBlame, Tried, exploration_json, never_forked};
-use velo_random::BlamedLabel;
 use velo_schedule_text::append_turns;
 use velo_workload::Workload;
 

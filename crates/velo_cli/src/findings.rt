@@ -5,11 +5,9 @@ use crate::blaming::blame_of;
 use std::alloc::Global;
 use velo_check::{ExploreOptions, RandomRuns};
 use velo_events::{Config, Memory};
-use velo_explore::{Exploration, Progress, explore};
+use velo_explore::{Exploration, Progress, RunTally, explore, shrink_findings, try_by_chance};
 use velo_filter::LeftOut;
 use velo_finding::{Survey, ToBlame, Tried};
-use velo_random::{RunTally, try_by_chance};
-use velo_shrink::shrink_findings;
 use velo_workload::Workload;
 
 /// What all schedules of the workload come to, by simple schedules, and who is to blame.

@@ -6,7 +6,7 @@ use velo_check::{Fate, Ignorable};
 use velo_events::growth::reserve;
 use velo_events::{Label, LockId, Memory, VarId};
 use velo_names::{NameKind, Names};
-use velo_suppressions::add_numbers;
+use velo_sidecars::add_numbers;
 
 fn kind_of(what: Ignorable) -> NameKind {
     match what {

@@ -2,7 +2,7 @@
 
 use std::alloc::Global;
 use velo_names::Names;
-use velo_sites::Sites;
+use velo_sidecars::Sites;
 use velo_text::Asked;
 
 /// By which names, with which sites, without what, and by which options a log is told of.

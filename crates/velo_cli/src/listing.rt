@@ -4,7 +4,7 @@ use std::alloc::Global;
 use velo_check::{Fate, Files, Ignored, read_file};
 use velo_events::Memory;
 use velo_names::{MAX_NAMES_BYTES, NameKind, Names};
-use velo_suppressions::{Entry, Scope, has_all_locks, numbers_known, parse_list};
+use velo_sidecars::{Entry, Scope, has_all_locks, numbers_known, parse_list};
 
 /// What a list means by the names of a file: numbers of labels, of locks and of variables, each
 /// once.

@@ -9,14 +9,13 @@ ghost use Rattle.velo_finding.specs.Entries.{IsListed};
 use crate::inquiry::Inquiry;
 use crate::leaving::left_out;
 use std::alloc::Global;
-use velo_audit::Told;
+use velo_audit::{Told, marks_of};
 use velo_certify::owners_of;
 use velo_check::{AuditOptions, PredictOptions, TextOrJson};
 use velo_events::{Bounds, Memory};
 use velo_explain::Page;
 use velo_filter::{LeftOut, thin};
 use velo_finding::{Entry, audit_json, entries_of, predictions_json};
-use velo_tally::marks_of;
 use velo_text::{Background, PredictedFindings, audit_text, predictions_text};
 use velo_traces::Trace;
 

@@ -2,7 +2,7 @@
 
 use velo_events::Memory;
 use velo_explain::{Page, Piece};
-use velo_sites::Sites;
+use velo_sidecars::Sites;
 use velo_traces::Block;
 use velo_world::Alarm;
 

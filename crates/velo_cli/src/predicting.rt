@@ -24,7 +24,7 @@ use velo_delays::{Deadlock, Draws, PredictedCycle, search, search_deadlocks, wit
 use velo_events::{Bounds, Config, Event, Memory};
 use velo_filter::LeftOut;
 use velo_names::Names;
-use velo_sites::Sites;
+use velo_sidecars::Sites;
 use velo_text::{Asked, PredictedFindings, is_something_told};
 use velo_traces::Trace;
 use velo_world::Closed;

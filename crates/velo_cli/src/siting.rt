@@ -2,7 +2,7 @@
 
 use std::alloc::Global;
 use velo_check::Fate;
-use velo_sites::Sites;
+use velo_sidecars::Sites;
 use velo_traces::Trace;
 
 /// The sites that the bytes of a file give, if one was given.

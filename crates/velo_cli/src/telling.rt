@@ -8,7 +8,7 @@ use std::alloc::Global;
 use velo_bytes::{Sink, write_all};
 use velo_check::status::{DONE, FAILED};
 use velo_check::{Fate, end_with};
-use velo_escapes::escaped_lines;
+use velo_words::escaped_lines;
 use velo_events::Memory;
 
 /// The status of a fault of usage.

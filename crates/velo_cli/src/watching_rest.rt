@@ -18,7 +18,7 @@ use velo_events::Memory;
 use velo_explain::Page;
 use velo_filter::LeftOut;
 use velo_names::Names;
-use velo_sites::Sites;
+use velo_sidecars::Sites;
 use velo_text::Asked;
 use velo_watch::{ClosedRest, RestWatch, WatchFault};
 use velo_world::Closed;

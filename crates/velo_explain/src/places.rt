@@ -9,7 +9,7 @@ use crate::spans::Span as SpanOf;
 use crate::words::line_of;
 use std::alloc::Global;
 use velo_events::Memory;
-use velo_sites::Sites;
+use velo_sidecars::Sites;
 
 /// Adds some positions.
 fn add_positions(positions: &mut Vec<usize>, others: &[usize]) -> Result<(), Memory> {

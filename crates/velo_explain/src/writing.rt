@@ -8,7 +8,7 @@ use crate::words::{clean_explanation, explanation};
 use std::alloc::Global;
 use velo_events::Memory;
 use velo_names::Names;
-use velo_sites::Sites;
+use velo_sidecars::Sites;
 use velo_traces::Trace;
 
 /// What an alarm at the position means: first as a picture with a lane for each thread and a row

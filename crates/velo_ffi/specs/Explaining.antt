@@ -2,9 +2,9 @@
 use Rattle.std.specs.Prelude.{◌≡◌, ◌≢◌, ◌⊎◌, ⊤, ℕ, List, [], length, Option, Some, None, Ok, Err}
 use Rattle.velo_events.specs.declared.event.Event.{Event}
 use Rattle.velo_names.specs.Names.{NameLists, Stands}
-use Rattle.velo_sites.specs.declared.fault.SitesFault.{SitesFault}
-use Rattle.velo_sites.specs.Fault.{fault_line}
-use Rattle.velo_sites.specs.Sites.{Gives, Table}
+use Rattle.velo_sidecars.specs.declared.site_fault.SitesFault.{SitesFault}
+use Rattle.velo_sidecars.specs.SiteFault.{fault_line}
+use Rattle.velo_sidecars.specs.Sites.{Gives, Table}
 use Rattle.velo_ffi.specs.declared.answers.TheConstants.{BAD_SITES, OTHER_SITES}
 use Rattle.velo_ffi.specs.Texts.{TellsFault, TellsText}
 

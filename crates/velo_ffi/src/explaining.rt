@@ -15,7 +15,7 @@ use velo_certify::CertFault;
 use velo_events::Memory;
 use velo_explain::{Evidence, Page, evidence_of, explain_clean, explain_named, explain_sited};
 use velo_names::{Names, NamesFault};
-use velo_sites::{Sites, SitesFault};
+use velo_sidecars::{Sites, SitesFault};
 use velo_traces::Trace;
 use velo_world::{Alarm, World};
 

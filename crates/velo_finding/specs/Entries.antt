@@ -4,7 +4,7 @@ use Rattle.velo_events.specs.declared.event.Event.{Event}
 use Rattle.velo_traces.specs.declared.block.Block.{Block}
 use Rattle.velo_audit.specs.Rounds.{each_once}
 use Rattle.velo_audit.specs.declared.told.Told.{Told}
-use Rattle.velo_tally.specs.Tally.{IsTally}
+use Rattle.velo_audit.specs.Tally.{IsTally}
 use Rattle.velo_finding.specs.declared.entries.Entry.{Entry}
 
 -- a label, and the round that found it

@@ -1,14 +1,13 @@
 //! The labels that an audit found, each with the counts of its blocks.
 ghost use Rattle.std.specs.Prelude.{◌≡◌, ◌++◌, ◌∷◌, [], List, map, IfOk, OnOk};
 ghost use Rattle.velo_filter.specs.Left.{is_listed};
-ghost use Rattle.velo_tally.specs.Marks.{AreMarks};
+ghost use Rattle.velo_audit.specs.Marks.{AreMarks};
 ghost use Rattle.velo_finding.specs.Entries.{Found, AreEntries, IsListed, found_in};
 
 use std::alloc::Global;
-use velo_audit::Told;
+use velo_audit::{BlameMarks, LabelTally, Told, tally_of};
 use velo_events::growth::reserve;
 use velo_events::{Label, Memory};
-use velo_tally::{BlameMarks, LabelTally, tally_of};
 use velo_traces::{Block, Trace};
 
 /// A label that an audit found.

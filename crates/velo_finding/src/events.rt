@@ -5,7 +5,7 @@ use std::alloc::Global;
 use velo_events::{Event, Kind, Memory, ThreadId};
 use velo_explain::{Page, Piece, line_of};
 use velo_names::{NameKind, Names};
-use velo_sites::{Sites, place_in};
+use velo_sidecars::{Sites, place_in};
 use velo_text::Background;
 use velo_traces::Block;
 

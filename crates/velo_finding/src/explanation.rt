@@ -9,7 +9,7 @@ use velo_certify::owners_of;
 use velo_events::{Event, Memory};
 use velo_explain::{Evidence, Page, transactions_of};
 use velo_names::Names;
-use velo_sites::Sites;
+use velo_sidecars::Sites;
 use velo_text::{Asked, Background};
 use velo_traces::Trace;
 

@@ -8,8 +8,7 @@ use crate::writer::JsonWriter;
 use std::alloc::Global;
 use velo_bytes::append;
 use velo_events::Memory;
-use velo_explore::Findings;
-use velo_random::BlamedLabel;
+use velo_explore::{BlamedLabel, Findings};
 use velo_workload::Workload;
 
 /// Adds a label that is to blame.

@@ -11,7 +11,7 @@ use velo_delays::{Awaited, Deadlock, Differing, PredictedCycle};
 use velo_events::Memory;
 use velo_explain::Page;
 use velo_names::Names;
-use velo_sites::{Sites, seen_from};
+use velo_sidecars::{Sites, seen_from};
 use velo_text::{Asked, Background, PredictedFindings, is_something_told};
 use velo_traces::Trace;
 

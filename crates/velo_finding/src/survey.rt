@@ -1,7 +1,6 @@
 //! What is reported of the schedules of a workload.
 
-use velo_random::BlamedLabel;
-use velo_shrink::Shrunk;
+use velo_explore::{BlamedLabel, Shrunk};
 
 /// How the schedules of a workload were tried.
 #[derive(Clone, Copy, PartialEq, Eq)]

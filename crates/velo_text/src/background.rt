@@ -3,7 +3,7 @@
 use std::alloc::Global;
 use velo_events::Event;
 use velo_names::Names;
-use velo_sites::Sites;
+use velo_sidecars::Sites;
 
 /// What events are described by.
 #[derive(Clone, Copy)]

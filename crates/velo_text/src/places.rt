@@ -3,7 +3,7 @@
 use velo_events::{Event, Memory};
 use velo_explain::{Blame, Page, Piece, line_of};
 use velo_names::{NameKind, Names};
-use velo_sites::{Sites, place_in};
+use velo_sidecars::{Sites, place_in};
 use velo_traces::Block;
 
 /// Adds where an event happened, if the place is known.

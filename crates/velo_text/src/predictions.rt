@@ -11,7 +11,7 @@ use velo_delays::{Awaited, Deadlock, Differing, PredictedCycle};
 use velo_events::{Event, Memory};
 use velo_explain::{Page, Piece, line_of};
 use velo_names::{NameKind, Names};
-use velo_sites::{Sites, seen_from};
+use velo_sidecars::{Sites, seen_from};
 use velo_traces::{Block, Trace};
 
 /// Adds the label of a block that may not be atomic.

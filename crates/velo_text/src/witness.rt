@@ -9,7 +9,7 @@ use velo_explain::{
     Evidence, Page, Piece, add_heading, add_members, add_reasons, line_of, next_number,
 };
 use velo_names::{NameKind, Names};
-use velo_sites::Sites;
+use velo_sidecars::Sites;
 use velo_traces::Block;
 
 /// Adds the closing event.

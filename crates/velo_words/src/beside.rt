@@ -8,8 +8,7 @@ use velo_claims::ReportFault;
 use velo_events::Memory;
 use velo_explain::Page;
 use velo_names::{MAX_NAME_BYTES, NameKind, NamesFault, is_number};
-use velo_sites::SitesFault;
-use velo_suppressions::ListFault;
+use velo_sidecars::{ListFault, SitesFault};
 
 const RETURNED: &str = "a carriage return stands at the end of the line";
 

@@ -4,9 +4,9 @@
 use crate::again::read_again;
 use crate::lines::{add_file, add_text};
 use crate::place::{Complaint, place_words};
+use crate::waits_of;
 use std::alloc::Global;
 use velo_check::{Files, ReplayOptions, Request, RunOptions, ScheduleSource};
-use velo_deadlock::waits_of;
 use velo_events::{Config, Memory, Refusal, ThreadId};
 use velo_explain::{Page, Piece};
 use velo_schedule_text::{MAX_SCHEDULE_BYTES, schedule_in, schedule_of, turns_of};

@@ -9,8 +9,7 @@ use velo_events::{MAX_EVENTS, Memory};
 use velo_explain::Page;
 use velo_logtext::LogFault;
 use velo_names::{MAX_NAMES_BYTES, NamesFault};
-use velo_sites::{MAX_SITES_BYTES, SitesFault};
-use velo_suppressions::ListFault;
+use velo_sidecars::{ListFault, MAX_SITES_BYTES, SitesFault};
 use velo_workload::{MAX_WORKLOAD_BYTES, WorkFault};
 
 /// What is wrong with a file.

@@ -1,8 +1,8 @@
 //! The lines of a text, and how one is shown.
 
+use crate::escaped;
 use std::alloc::Global;
 use velo_bytes::append;
-use velo_escapes::escaped;
 use velo_events::Memory;
 use velo_explain::{Page, Piece};
 use velo_names::split_line;

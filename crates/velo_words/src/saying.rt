@@ -20,8 +20,7 @@ use velo_events::{Bounds, Event, Memory, Refusal};
 use velo_explain::Page;
 use velo_names::NamesFault;
 use velo_schedule_text::{MAX_SCHEDULE_BYTES, ScheduleFault};
-use velo_sites::SitesFault;
-use velo_suppressions::ListFault;
+use velo_sidecars::{ListFault, SitesFault};
 use velo_workload::WorkFault;
 
 /// The path where words are asked for.

@@ -1,8 +1,8 @@
 use Rattle.std.proofs.Common.{◌≡◌, ℕ, ◌≤◌, length}
 use Rattle.std.specs.Prelude.{slice_index, IsTrue}
 use Rattle.velo_events.specs.Graph.{Edge}
-use Rattle.velo_conflicts.specs.Numbers.{HasNumbers}
-use Rattle.velo_conflicts.specs.Places.{sizes}
+use Rattle.velo_traces.specs.Numbers.{HasNumbers}
+use Rattle.velo_traces.specs.Places.{sizes}
 use Rattle.velo_certify.specs.Levels.{level_numbers, IsPassed}
 use Rattle.velo_certify.specs.Table.{numbers_from}
 use Rattle.velo_certify.proofs.distances.reach_level.Given as goal

@@ -1,5 +1,5 @@
 use Rattle.std.proofs.Common.{◌-◌, ◌<◌, ◌≤◌, length}
-use Rattle.velo_conflicts.specs.Places.{sizes, AllHavePlaces}
+use Rattle.velo_traces.specs.Places.{sizes, AllHavePlaces}
 use Rattle.velo_certify.specs.Levels.{IsSearched}
 use Rattle.velo_certify.proofs.distances.reach_target.Given as goal
 

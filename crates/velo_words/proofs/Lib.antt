@@ -1,0 +1,3 @@
+mod OnExamples
+pub mod OnReplays
+mod OnWaits
