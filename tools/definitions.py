@@ -59,7 +59,7 @@ PARTS = [
         "What is told of a log",
         {
             "velo_report": "Names Report Alarm Certificate",
-            "velo_explain": "Evidence Lanes Fitting Text Picture",
+            "velo_explain": "Evidence",
             "velo_watch": "Watch UnderWay",
         },
     ),
@@ -68,7 +68,6 @@ PARTS = [
         {
             "velo_filter": "Left* Thinned",
             "velo_audit": "Audit* Rounds* Tells Witness",
-            "velo_audit_text": "Text",
             "velo_suppressions": "Line* Known* List",
         },
     ),
@@ -77,7 +76,6 @@ PARTS = [
         {
             "velo_predict": "Predictions* Deadlocks* Feasible* Differences* Sources* Waits",
             "velo_delays": "Anew* Differing* Sources* Found* Deadlock*",
-            "velo_predict_text": "Text",
         },
     ),
     (
@@ -91,17 +89,8 @@ PARTS = [
     (
         "What the program does",
         {
-            "velo_commands": "Program* Causes",
-            "velo_inputs": "Context* Input",
-            "velo_log_commands": "Commands* Check Explaining Carrying",
-            "velo_audit_commands": "Commands* Predicting",
-            "velo_verify": "Commands* Verifying",
+            "velo_check": "Check Carrying Input Verdict Format Delivery Barred Fate Failures Causes Disk Reading Writing Answers",
             "velo_claims": "Judging* Text* Line",
-            "velo_workload_commands": "Commands* Scheduling Playing ByChance Exploring*",
-            "velo_fate": "Verdict Format Delivery Barred Fate Failures Causes",
-            "velo_delivery": "Disk Reading Writing Answers",
-            "velo_arguments": "CommandLine Asked Together",
-            "velo_cli": "Running Usage",
         },
     ),
     (

@@ -183,7 +183,7 @@ BODIES = (
     ),
     Body(
         "answers clean beside an alarm",
-        ("velo_fate/verdict_of-clean_beside_an_alarm",),
+        ("velo_check/verdict_of-clean_beside_an_alarm",),
     ),
     Body("waits for a free lock", ("velo_runtime/Room.turn_after-waits_for_a_free_lock",)),
     Body(

@@ -5,9 +5,10 @@ ghost use Rattle.velo_check.specs.Failures.{failures_told};
 ghost use Rattle.velo_check.specs.Reading.{IsReadOf};
 
 use crate::fate::Fate;
+use crate::files::{Files, open_at};
+use crate::reading::{ReadFault, read_whole};
 use std::alloc::Global;
 use velo_bytes::Source;
-use crate::{Files, ReadFault, open_at, read_whole};
 
 /// All bytes of a source; or if there are more than `most`, more than `most` of them.
 fn read_source<I: Source>(alloc: Global, source: &mut I, most: usize) -> Result<Vec<u8>, Fate>

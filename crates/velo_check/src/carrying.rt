@@ -4,10 +4,15 @@ ghost use Rattle.velo_check.specs.Carrying.{Carries, fate_of_carrying};
 ghost use Rattle.velo_check.specs.Failures.{failures_told};
 ghost use Rattle.velo_check.specs.Writing.{writing};
 
+use crate::failure::Operand;
+use crate::fate::Fate;
+use crate::fault::CheckFault;
+use crate::files::Files;
+use crate::operands::open_input;
+use crate::request::CarryOptions;
 use std::alloc::Global;
 use thiserror::Error;
 use velo_bytes::{Sink, Source, WriteFault};
-use crate::{CarryOptions, CheckFault, Fate, Files, Operand, open_input};
 use velo_logtext::{LogFault, read_log, write_log};
 use velo_worker::Ending;
 

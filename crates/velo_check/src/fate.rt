@@ -3,15 +3,16 @@ ghost use Rattle.std.specs.Prelude.{◌≡◌, ◌≢◌, ◌≤◌, ◌+◌, �
 ghost use Rattle.velo_check.specs.Writing.{BreaksOff, Writes, writing};
 ghost use Rattle.velo_check.specs.Fate.{Ends, fate_of_failure, number_of, status_of, status_of_check, status_of_list, status_of_log, status_of_refused, status_of_ending, status_of_names, status_of_report, status_of_schedule, status_of_sites, status_of_work, place_of_work, last_line_of, line_of_check, line_of_log, line_of_ending, line_of_file_fault, line_of_ignored, line_of_one_file, line_of_refused, line_of_schedule, line_of_work, word_of};
 
+use crate::failure::{Failure, Operand};
 use crate::fault::CheckFault;
+use crate::request::Ignorable;
+use crate::status::{ALARM, BAD_INPUT, DONE, FAILED, INCOMPLETE};
 use std::alloc::Global;
 use velo_bytes::{Sink, WriteFault, append, put_bytes, put_number, write_all};
 use velo_claims::ReportFault;
-use crate::{Failure, Ignorable, Operand};
 use velo_events::{Memory, Refusal, ThreadId};
 use velo_logtext::LogFault;
 use velo_names::NamesFault;
-use crate::status::{ALARM, BAD_INPUT, DONE, FAILED, INCOMPLETE};
 use velo_schedule_text::ScheduleFault;
 use velo_sites::SitesFault;
 use velo_suppressions::ListFault;

@@ -9,10 +9,10 @@ ghost use Rattle.velo_check.specs.Failures.{failures_told};
 ghost use Rattle.velo_check.specs.Faults.{check_fault_of, IsFaultOfLog};
 ghost use Rattle.velo_check.specs.declared.fate.Fate.TheVariants as fate;
 
+use crate::fault::CheckFault;
 use std::alloc::Global;
 use velo_bytes::Source;
 use velo_events::{Bounds, Config, Memory};
-use crate::CheckFault;
 use velo_logtext::read_log;
 use velo_traces::Trace;
 use velo_world::{Closed, LogReplayFault};

@@ -1,4 +1,5 @@
-//! A log that is checked, or carried over: what was asked for, what is read, saved and printed, and how it ends.
+//! A log that is checked, or carried over: what was asked for, what is read, saved and printed, and how
+//! it ends.
 #![tactic(auto)]
 
 mod answer;

@@ -3,8 +3,10 @@ ghost use Rattle.std.specs.Prelude.{◌≡◌, IfErr, IfOk, IfSome, IsTrue};
 ghost use Rattle.velo_check.specs.Disk.{AreOne, IsOpened};
 ghost use Rattle.velo_check.specs.Barred.{IsBarred, IsBarredApart, IsReadBeside, list_beside};
 
+use crate::failure::Operand;
 use crate::fate::Fate;
-use crate::{Files, Ignored, Operand, is_standard_input, open_at};
+use crate::files::{Files, is_standard_input, open_at};
+use crate::request::Ignored;
 
 /// A file of a command beside its input and its target.
 #[derive(Clone, Copy)]

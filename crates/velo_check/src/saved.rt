@@ -1,8 +1,8 @@
 //! A text that is saved.
 ghost use Rattle.velo_check.specs.Saving.{IsSavedText};
 
+use crate::answer::StreamedText;
 use velo_bytes::{Sink, WriteFault, write_all};
-use crate::StreamedText;
 use velo_logtext::write_log;
 use velo_world::Closed;
 

@@ -1,19 +1,21 @@
 //! What the program does with the words of its command line, whatever its devices are.
 
+use crate::arguments::command;
+use crate::doing::do_request;
+use crate::growth::matches_of;
+use crate::progress::ExploreProgress;
 use crate::telling::{tell_clash, tell_error, tell_fault};
+use crate::together::read_request;
 use clap::ArgMatches;
 use std::alloc::Global;
 use std::convert::AsStr;
 use std::io;
 use std::sync::Wait;
 use std::thread::Threads;
-use velo_arguments::{command, matches_of, read_request};
 use velo_bytes::Sink;
-use velo_commands::do_request;
 use velo_check::{Fate, Files, end_with};
 use velo_events::Memory;
 use velo_words::{Recall, end_in_words};
-use velo_workload_commands::ExploreProgress;
 
 /// Does what the words ask for, with reports and help on the one sink and all else on the other,
 /// and returns the status to end with. How far a search is goes to `progress`.

@@ -1,14 +1,15 @@
 //! What the program prints where the words of its command line ask for nothing to be done.
 
+use crate::clash::{Clash, line_of_clash};
+use crate::growth::text_of;
 use clap::Error;
 use clap::error::ErrorKind;
 use std::alloc::Global;
-use velo_arguments::{Clash, line_of_clash, text_of};
 use velo_bytes::{Sink, write_all};
+use velo_check::status::{DONE, FAILED};
+use velo_check::{Fate, end_with};
 use velo_escapes::escaped_lines;
 use velo_events::Memory;
-use velo_check::{Fate, end_with};
-use velo_check::status::{DONE, FAILED};
 
 /// The status of a fault of usage.
 const BAD_USAGE: u8 = 2;

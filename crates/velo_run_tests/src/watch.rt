@@ -4,7 +4,7 @@ use std::alloc::Global;
 use velo_bytes::{Bytes, Text, WriterSink};
 use velo_check::{CheckFault, Fate, Files, Limits, WatchOptions};
 use velo_events::MAX_EVENTS;
-use velo_log_commands::watch_file;
+use velo_cli::watch_file;
 use velo_logtext::LogFault;
 use velo_worker::Ending;
 

@@ -17,15 +17,15 @@ ghost use Rattle.velo_watch.specs.declared.long.TheConstants.{MAX_WATCHED};
 ghost use Rattle.velo_watch.specs.Endless.{CanGoOn, CanTakeIn, HasJudged, HasSeen, IsUnderWay, Judges, Steps, TellsPartOf};
 ghost use Rattle.velo_watch.specs.Whole.{IsWholeOf};
 
-use crate::piece::LogPiece;
+use crate::fault::WatchFault;
 use crate::long::LongReader;
+use crate::piece::LogPiece;
 use crate::summary::Whole;
 use std::alloc::Global;
 use velo_bytes::{Sink, Source, WriteFault};
 use velo_events::{Bounds, Config, Event};
 use velo_report::{Names, alarm_line, report_counts};
 use velo_traces::Flaw;
-use crate::WatchFault;
 use velo_world::{Alarm, LogReplayFault};
 
 /// A log without end that is watched as it comes. Of its events it keeps only those after a cut, as many as its limit says at

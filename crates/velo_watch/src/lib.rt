@@ -1,4 +1,6 @@
-//! A log that is watched as it comes: its events come about one by one, and the alarm is told at once. A log without end is cut where no block is open; where something is left out, what is left is judged.
+//! A log that is watched as it comes: its events come about one by one, and the alarm is told at once.
+//! A log without end is cut where no block is open, and goes on behind a prologue; where something is
+//! left out, what is left is judged.
 #![tactic(auto)]
 
 mod alarm;

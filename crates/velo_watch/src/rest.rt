@@ -9,13 +9,13 @@ ghost use Rattle.velo_watch.specs.Faults.{IsFaultOfLast, IsMovedFault, fault_at}
 ghost use Rattle.velo_watch.specs.RestUnderWay.{IsRestOf};
 
 use crate::alarm::alarm_as_read;
+use crate::fault::WatchFault;
 use std::alloc::Global;
 use velo_bytes::{Sink, WriteFault};
 use velo_events::growth::reserve;
 use velo_events::{Config, Event, Memory};
 use velo_filter::{LeftOut, no_marks, stays_at};
 use velo_report::alarm_line;
-use crate::WatchFault;
 use velo_world::{Closed, LogReplayFault, RecordedWorld};
 
 /// What is left of a log so far.

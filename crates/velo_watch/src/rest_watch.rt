@@ -10,6 +10,7 @@ ghost use Rattle.velo_watch.specs.Faults.{IsFaultOfRest};
 ghost use Rattle.velo_watch.specs.RestUnderWay.{CanGoOn, IsUnderWay, Steps};
 ghost use Rattle.velo_watch.specs.UnderWay.{IsFaultOfOpening, read_failures, write_failures};
 
+use crate::fault::WatchFault;
 use crate::rest::{ClosedRest, Rest};
 use crate::whole_log::WholeLog;
 use std::alloc::Global;
@@ -17,7 +18,6 @@ use velo_bytes::{Sink, Source};
 use velo_events::{Bounds, Config, Event};
 use velo_filter::LeftOut;
 use velo_logtext::LogReader;
-use crate::WatchFault;
 use velo_world::LogReplayFault;
 
 /// A log of which something is left out, watched as it comes. All its events happen; what is left of

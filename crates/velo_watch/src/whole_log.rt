@@ -4,8 +4,8 @@ ghost use Rattle.velo_watch.specs.Whole.{IsWholeOf};
 ghost use Rattle.velo_heap.specs.Contents.{bounds_of};
 ghost use Rattle.velo_watch.specs.Faults.{IsFaultOfWhole};
 
+use crate::summary::Whole;
 use std::alloc::Global;
-use crate::Whole;
 use velo_events::{Config, Event, Memory, Refusal};
 use velo_traces::{Flaw, Trace};
 use velo_world::LogReplayFault;

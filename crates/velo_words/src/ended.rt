@@ -2,12 +2,13 @@
 //! could not go on.
 
 use crate::again::read_again;
+use crate::lines::{add_file, add_text};
+use crate::place::{Complaint, place_words};
 use std::alloc::Global;
-use velo_deadlock::waits_of;
 use velo_check::{Files, ReplayOptions, Request, RunOptions, ScheduleSource};
+use velo_deadlock::waits_of;
 use velo_events::{Config, Memory, Refusal, ThreadId};
 use velo_explain::{Page, Piece};
-use crate::{Complaint, add_file, add_text, place_words};
 use velo_schedule_text::{MAX_SCHEDULE_BYTES, schedule_in, schedule_of, turns_of};
 use velo_worker::{Ending, replay};
 use velo_workload::{MAX_WORKLOAD_BYTES, Workload, parse, text_of};

@@ -1,11 +1,11 @@
 //! Which file could not be opened, read or written, in words.
 
+use crate::lines::add_file;
 use crate::roles::{ROLES, Role, asks_for_words, path_of, word_of};
 use std::alloc::Global;
+use velo_check::{CheckFault, Fate, Request};
 use velo_events::Memory;
 use velo_explain::{Page, Piece};
-use velo_check::{CheckFault, Fate, Request};
-use crate::add_file;
 use velo_logtext::LogFault;
 
 /// Why a file could not be opened, read or written.

@@ -3,12 +3,13 @@
 use crate::again::read_again;
 use crate::ended::workload_at;
 use crate::given::names_explained_of;
+use crate::lines::{add_shown, add_text};
+use crate::place::{Complaint, place_words};
 use crate::roles::ignored_of;
 use std::alloc::Global;
 use velo_check::{Files, Ignorable, Ignored, Request};
 use velo_events::Memory;
 use velo_explain::Page;
-use crate::{Complaint, add_shown, add_text, place_words};
 use velo_names::{MAX_NAMES_BYTES, NameKind, Names, append_names};
 use velo_workload::Workload;
 

@@ -1,9 +1,9 @@
 //! Why an event of a log is refused, in words.
 
 use crate::events::{Sought, last_of};
+use crate::lines::add_text;
 use velo_events::{Bounds, Event, Kind, LockId, Memory, Refusal, ThreadId};
 use velo_explain::{Page, Piece};
-use crate::add_text;
 
 /// Adds how many of something the header has.
 fn add_bound(page: &mut Page, count: u64, what: &str) -> Result<(), Memory> {

@@ -1,11 +1,11 @@
 //! What is said of an event of a log that is refused, or reads a wrong value.
 
 use crate::events::{Sought, last_of};
+use crate::lines::{add_line, add_text};
 use crate::reasons::add_reason;
 use std::alloc::Global;
 use velo_events::{Bounds, Event, Kind, Memory, Refusal, ThreadId};
 use velo_explain::{Page, Piece};
-use crate::{add_line, add_text};
 
 /// Adds what a thread does.
 fn add_kind(page: &mut Page, kind: Kind) -> Result<(), Memory> {

@@ -1,22 +1,24 @@
 //! What a command says of its end, before its last line.
 
 use crate::again::read_again;
+use crate::beside::other_sites_words;
 use crate::ended::{words_of_end, words_of_open};
 use crate::events::events_up_to;
 use crate::failing::{Recall, words_of_failure};
+use crate::faults::{FileFault, fault_words, most_bytes_for, most_up_to};
 use crate::given::{names_explained_of, schedule_of};
 use crate::ignoring::words_in_vain;
 use crate::refused::{refused_words, wrong_value_words};
 use crate::roles::{list_of, report_of, sites_of};
+use crate::schedule::{numbers_words, schedule_words, turns_words};
 use std::alloc::Global;
 use velo_bytes::{Bytes, Sink, WriteFault, write_all};
-use velo_claims::ReportFault;
+use velo_check::status::FAILED;
 use velo_check::{CheckFault, Fate, Files, Request, ScheduleSource, end_with};
+use velo_claims::ReportFault;
 use velo_events::{Bounds, Event, Memory, Refusal};
 use velo_explain::Page;
-use crate::{FileFault, fault_words, most_bytes_for, most_up_to, numbers_words, other_sites_words, schedule_words, turns_words};
 use velo_names::NamesFault;
-use velo_check::status::FAILED;
 use velo_schedule_text::{MAX_SCHEDULE_BYTES, ScheduleFault};
 use velo_sites::SitesFault;
 use velo_suppressions::ListFault;

@@ -6,8 +6,7 @@ use crate::terminal::STANDARD_INPUT;
 use std::fs::{self, File, Metadata};
 use std::io::{self, Read, Stdin, Write};
 use velo_bytes::{ReaderSource, WriterSink};
-use velo_cli::{Recall, SystemReason};
-use velo_commands::Files;
+use velo_cli::{Files, Recall, SystemReason};
 
 /// A file, or standard input.
 #[derive(Drop)]

@@ -1,0 +1,2 @@
+mod OnExplaining
+mod OnFindings
