@@ -63,8 +63,7 @@ COMMANDS = (
     ),
     Command("replay", {"FILE": "work", "--turns": "turns"}, RUN),
     Command("run", {"FILE": "work"}, RUN),
-    Command("explore", {"FILE": "work", "--ignore": "list"}, RUN),
-    Command("explore", {"FILE": "work", "--not-atomic": "list"}, RUN),
+    Command("explore", {"FILE": "work"}, RUN),
 )
 
 
