@@ -17,9 +17,9 @@ use crate::numbered::table_of;
 use crate::owners::{owner_of, owners_of};
 use crate::reached::Reached;
 use std::alloc::Global;
-use velo_traces::{ConflictTable, Trace};
 use velo_events::growth::reserve;
 use velo_events::{Event, Memory};
+use velo_traces::{ConflictTable, Trace};
 
 /// Walks from the first transaction of a cycle by way of the second back to the first.
 fn cycle_through(

@@ -15,8 +15,8 @@ use crate::numbered::{table_of, take_in};
 use crate::owners::owner_of;
 use crate::reached::Reached;
 use std::alloc::Global;
-use velo_traces::ConflictTable;
 use velo_events::{Event, Memory};
+use velo_traces::ConflictTable;
 
 /// Takes in the event at a position, where those after it were taken in, and reaches its transaction
 /// if one on the level has a later event that conflicts with it. Gives the lowest of these.

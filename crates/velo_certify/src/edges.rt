@@ -15,9 +15,9 @@ use crate::cycle::next_in;
 use crate::numbered::{table_of, take_in};
 use crate::owners::{owner_of, owners_of};
 use std::alloc::Global;
-use velo_traces::{ConflictTable, Trace};
 use velo_events::growth::with_capacity;
 use velo_events::{Event, Memory};
+use velo_traces::{ConflictTable, Trace};
 
 /// Two conflicting events of two transactions. They make an edge from the first one's transaction
 /// to the second one's.

@@ -14,9 +14,9 @@ use crate::chains::Links;
 use crate::numbered::take_change;
 use crate::owners::owner_of;
 use std::alloc::Global;
-use velo_traces::{ConflictTable, Counts};
 use velo_events::growth::filled;
 use velo_events::{Access, Event, Memory};
+use velo_traces::{ConflictTable, Counts};
 
 /// How many pairs of thread numbers there are.
 const PAIRS: usize = 65_536;

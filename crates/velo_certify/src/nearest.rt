@@ -9,8 +9,8 @@ ghost use Rattle.velo_certify.specs.Nearest.{own_positions, LeadsInto, IsWithNex
 
 use crate::numbered::take_in;
 use crate::owners::owner_of;
-use velo_traces::ConflictTable;
 use velo_events::Event;
+use velo_traces::ConflictTable;
 
 /// Takes in the event at a position, where those before it were taken in. Whether it makes an edge
 /// from the transaction to its own.

@@ -5,8 +5,8 @@ ghost use Rattle.velo_traces.specs.Places.{AllHavePlaces, sizes};
 ghost use Rattle.velo_certify.specs.Table.{TakesIn, TakesChanges};
 
 use std::alloc::Global;
-use velo_traces::{ConflictTable, counts_of};
 use velo_events::{Event, Memory};
+use velo_traces::{ConflictTable, counts_of};
 
 /// A table for the events, without numbers.
 ///

@@ -4,9 +4,9 @@ ghost use Rattle.velo_traces.specs.Places.{AllHavePlaces, sizes_of};
 ghost use Rattle.velo_certify.specs.Threads.{AreFirstFrom, AreFollowing, NamesFronts};
 
 use std::alloc::Global;
-use velo_traces::Counts;
 use velo_events::growth::filled;
 use velo_events::{Event, Memory};
+use velo_traces::Counts;
 
 /// Each place that is not there is the number of positions.
 #[derive(Drop)]

@@ -6,9 +6,9 @@ ghost use Rattle.velo_certify.specs.Witness.{AreMarks, IsWitness};
 
 use crate::numbered::table_of;
 use std::alloc::Global;
-use velo_traces::{ConflictTable, Trace};
 use velo_events::growth::with_capacity;
 use velo_events::{Event, Memory, conflicts};
+use velo_traces::{ConflictTable, Trace};
 
 /// Takes the next event in, and marks it where it is the begin or a marked one conflicts with it.
 fn mark_next(

@@ -3,8 +3,8 @@ ghost use Rattle.std.specs.Prelude.{◌≡◌};
 
 use std::alloc::Global;
 use velo_events::{Config, Memory, ThreadId};
-use velo_finding::ToBlame;
 use velo_explore::{RunTally, try_all};
+use velo_finding::ToBlame;
 use velo_workload::Workload;
 
 /// The most replays that are asked whom they blame.

@@ -8,10 +8,10 @@ use crate::work::{config_of_run, open_workload};
 use std::alloc::Global;
 use velo_bytes::Sink;
 use velo_check::{ExploreOptions, Fate, Files, RunOptions, TextOrJson};
-use velo_words::waits_of;
 use velo_events::Memory;
 use velo_explore::{Finding, Findings, Goal, Replay};
 use velo_finding::Survey;
+use velo_words::waits_of;
 use velo_worker::Ending;
 use velo_workload::Workload;
 

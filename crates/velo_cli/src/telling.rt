@@ -8,8 +8,8 @@ use std::alloc::Global;
 use velo_bytes::{Sink, write_all};
 use velo_check::status::{DONE, FAILED};
 use velo_check::{Fate, end_with};
-use velo_words::escaped_lines;
 use velo_events::Memory;
+use velo_words::escaped_lines;
 
 /// The status of a fault of usage.
 const BAD_USAGE: u8 = 2;

@@ -3,8 +3,8 @@ use crate::check::LOST_UPDATE;
 use std::alloc::Global;
 use velo_bytes::{Bytes, Text, WriterSink};
 use velo_check::{CheckFault, Fate, Files, Limits, WatchOptions};
-use velo_events::MAX_EVENTS;
 use velo_cli::watch_file;
+use velo_events::MAX_EVENTS;
 use velo_logtext::LogFault;
 use velo_worker::Ending;
 
