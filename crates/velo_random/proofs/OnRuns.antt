@@ -1,7 +1,6 @@
 -- What runs come to, with one more.
 use Rattle.std.proofs.Common.{◌≡◌, ◌↔◌, ℕ, ◌+◌, ◌-◌, ◌^◌, ◌<◌, ◌≤◌, min, Bool, true, false, cond, List, [], ◌∷◌, ◌++◌, length, length-append, Option, Some, None, Result, Ok, Err, option_map, refl, sym, ap, ◌∙◌, subst, arith}
 use Rattle.std.specs.Borrow.{Bor}
-use Rattle.std.specs.Global.{Vec}
 use Rattle.std.specs.Prelude.{◌==◌, All, IfNone, IsPermutation, IfOk, IfSome, IsTrue, count_by, filter_map, if◌then◌else◌, is_some, slice_get}
 use Rattle.std.specs.List.{cons_option}
 use Rattle.std.specs.Option.{option_or}
@@ -46,12 +45,6 @@ first-push : (fault : Fault) (runs : List Run) (run : Run) → first_shown fault
 first-push fault runs run =
     ap (λ (l : List (Goal × List ThreadId)). slice_get l 0) (filter_map-append (shown_in fault) runs (run ∷ []))
     ∙ first-or (filter_map (shown_in fault) runs) (shown_in fault run)
-
--- the first that shows something is kept
-pub first-new : (seen : Option (Goal × List ThreadId)) (goal : Goal) (schedule : List ThreadId) (copy : Vec ThreadId) → copy.items ≡ schedule → IsFirst seen Never
-    → IsFirst (option_or seen (Some (goal, schedule))) (Shown (record { goal = goal; schedule = copy }))
-first-new None goal schedule copy is first = ap (λ (l : List ThreadId). (goal, l)) (sym is)
-first-new (Some s) goal schedule copy is first = absurd first
 
 pub first-none : (seen : Option (Goal × List ThreadId)) → IsFirst seen Never → IsFirst (option_or seen None) Never
 first-none None first = tt
