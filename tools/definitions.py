@@ -87,7 +87,8 @@ PARTS = [
     (
         "What the program does",
         {
-            "velo_check": "Check Carrying Input Verdict Format Delivery Barred Fate Failures Causes Disk Reading Writing Answers",
+            "velo_check": "Check Carrying Input Verdict Format Delivery Barred Fate Failures Disk"
+            " Reading Writing Answers",
             "velo_claims": "Judging* Text* Line",
         },
     ),

@@ -1,11 +1,11 @@
 -- What becomes of an answer.
-use Rattle.std.proofs.Common.{◌≡◌, ◌∙◌, ap, inl, inr, refl, subst, sym}
-use Rattle.std.specs.Prelude.{ℕ, List, Option, Some, None, Result, Ok, Err, OnErr, OnOk}
+use Rattle.std.proofs.Common.{◌≡◌, ◌∙◌, ap, inr, refl, subst, sym}
+use Rattle.std.specs.Prelude.{ℕ, List, Option, None, Result, Ok, Err, OnErr, OnOk}
 use Rattle.std.specs.Borrow.{Bor}
 use Rattle.velo_check.specs.declared.fate.Fate.{Fate}
 use Rattle.velo_check.specs.declared.fate.Fate.TheVariants as fate
-use Rattle.velo_check.specs.Delivery.{CommandAnswer, DeliversBy, FailsSaving, IsDelivered, IsDeliveredInTurn, IsPrinted, Saves}
-use Rattle.velo_check.specs.Disk.{Store, behind}
+use Rattle.velo_check.specs.Delivery.{CommandAnswer, IsDelivered, IsPrinted, Saves}
+use Rattle.velo_check.specs.Disk.{Store}
 use Rattle.velo_check.specs.Failures.{failures_told}
 use Rattle.velo_check.specs.Writing.{Writing, Delivers}
 use Rattle.std.specs.Io.KnownBytes.{Appends}
@@ -29,26 +29,6 @@ module _ (store : Store) (target : Option (Bor (List ℕ))) (stdout : Writing) w
   delivered_reads answer n none fate.CannotOpen put = refl
   delivered_reads answer n none fate.WriteFailed put = refl
   delivered_reads answer n none f put = ap (λ (f : Fate). failures_told f n) put.0 ∙ none
-
--- nor with what is saved behind it
-pub in_turn_reads : (store : Store) (target : Option (Bor (List ℕ))) (names : List ℕ) (out : Writing) (answer : CommandAnswer) (f : Fate) (path : Option (Bor (List ℕ))) (n : ℕ)
-    → failures_told answer.fate n ≡ n → IsDeliveredInTurn store target path names out answer f → failures_told f n ≡ n
-in_turn_reads store target names out answer f path n none h = by answer.saved path h
-  where
-    failed : (log : List ℕ) (f : Fate) → FailsSaving store target (Some log) f → failures_told f n ≡ n
-    failed log fate.CannotOpen h = refl
-    failed log fate.WriteFailed h = refl
-    failed log f h = absurd h
-
-    by : (saved : Option (List ℕ)) (path : Option (Bor (List ℕ))) → DeliversBy saved store target path names out answer f → failures_told f n ≡ n
-    by (Some log) (Some path) (inl h) = failed log f h.0
-    by (Some log) (Some path) (inr h) = delivered_reads (behind store h.0) (Some path) out (record answer { saved = Some names }) n none f h.2
-    by (Some log) None h = delivered_reads store target out answer n none f h
-    by None path h = delivered_reads store target out answer n none f h
-
--- an answer comes to what it is
-pub same_fate : (answer there : CommandAnswer) (n : ℕ) → answer ≡ there → failures_told there.fate n ≡ n → failures_told answer.fate n ≡ n
-same_fate answer there n is none = subst (λ (a : CommandAnswer). failures_told a.fate n ≡ n) (sym is) none
 
 -- ---- what goes out
 

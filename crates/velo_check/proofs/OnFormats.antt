@@ -1,13 +1,12 @@
 -- What is read by a format, from the bytes that were read.
 use Rattle.std.proofs.Common.{◌≡◌, ◌∙◌, inl, inr, sym, ◌≤◌, ◌++◌, ap, arith}
-use Rattle.std.specs.Prelude.{ℕ, List, Option, Some, None, [], length}
-use Rattle.std.specs.Borrow.{Bor}
+use Rattle.std.specs.Prelude.{ℕ, List, Option, None, [], length}
 use Rattle.velo_check.specs.Disk.{Disk}
 use Rattle.velo_check.specs.Reading.{IsReadOf}
 use Rattle.velo_check.specs.declared.fate.Fate.{Fate}
 use Rattle.velo_check.specs.declared.fate.Fate.TheVariants as fate
 use Rattle.velo_check.specs.Failures.{failures_told}
-use Rattle.velo_check.specs.Format.{Format, LacksAt, LacksGiven, Reads, SaysNone, bytes_up_to}
+use Rattle.velo_check.specs.Format.{Format, LacksAt, Reads, SaysNone, bytes_up_to}
 use Rattle.std.proofs.lemmas.List.{append-nil, length-append}
 
 -- ---- what its bytes mean
@@ -30,10 +29,6 @@ module _ {X : Type 0} (format : Format X) (disk : Disk) (path : List ℕ) (most 
   pub unread : (f : Fate) → LacksAt (bytes_up_to most) disk path f → LacksAt format disk path f
   unread f (inl h) = inl h
   unread f (inr h) = inr (record { read = h.read; given = h.given; unsaid = broken h.read.bytes f h.unsaid; failures = h.failures })
-
-pub unread_given : {X : Type 0} (format : Format X) (disk : Disk) (most : ℕ) (path : Option (Bor (List ℕ))) (f : Fate) → LacksGiven (bytes_up_to most) disk path f → LacksGiven format disk path f
-unread_given format disk most None f h = h
-unread_given format disk most (Some path) f h = unread format disk path.now most f h
 
 -- ---- from the bytes that were read to those of the file
 

@@ -11,12 +11,12 @@ use Rattle.velo_bytes.proofs.OnDevices.{appends_then, appends_nothing, beginning
 use Rattle.velo_bytes.specs.Device.{with_failure}
 use Rattle.velo_world.specs.World.{WorldState}
 use Rattle.velo_check.specs.declared.verdict.Verdict.TheVariants as verdict
-use Rattle.velo_check.specs.Verdict.{IsOrderOrCycle, IsOutput, IsVerdict, WritesOutput, KnowsAlarm}
+use Rattle.velo_check.specs.Verdict.{IsOrderOrCycle, IsOutput, IsVerdict, WritesOutput}
 use Rattle.velo_check.specs.Writing.{BreaksOff, Writes, Writing}
 use Rattle.velo_report.specs.declared.names.Names.{Names}
 use Rattle.velo_report.specs.Lines.{numbers_line}
 use Rattle.velo_report.specs.Certificate.{Certifies, IsCertificate, AppendsCertificate, AppendsPartOfCertificate, serial_lines}
-use Rattle.velo_report.specs.Report.{IsReport, AppendsReport, AppendsPartOfReport, report_lines}
+use Rattle.velo_report.specs.Report.{IsReport, AppendsReport, AppendsPartOfReport}
 use Rattle.velo_report.proofs.OnCertificates.{IsCertificate-order, IsCertificate-cycle}
 
 no_alarm : verdict.Clean ≡ verdict.Alarm → ⊥
@@ -66,14 +66,6 @@ output_of names threads log None certifies report is =
 output_of names threads log (Some list) certifies report is =
     let lines = lines_exist log list.now certifies in
     (lines.0, record { report = report; is_report = is; lines = lines.0; certified = (list.now, certifies, lines.1); whole = refl })
-
--- a log whose alarm is known has an output
-pub output_exists : (names : Names) (threads : ℕ) (log : List Event) (list : Option (Bor (List ℕ))) → MayCertify log list → KnowsAlarm log
-    → (text : List ℕ) × IsOutput names (is_some list) threads log text
-output_exists names threads log list certifies alarm =
-    let report = report_lines names threads log alarm.0 in
-    let output = output_of names threads log list certifies report (record { alarm = alarm.0; exact = alarm.1; lines = refl }) in
-    (report ++ output.0, output.1)
 
 module _ (names : Names) (w : WorldState) where
   abbrev threads : ℕ

@@ -1,11 +1,10 @@
 -- An answer of a command that saves at most two texts, and what becomes of it on the way out.
 use Rattle.std.specs.Prelude.{◌≡◌, ◌⊎◌, ℕ, List, Option, Some, None}
 use Rattle.std.specs.Borrow.{Bor}
-use Rattle.velo_events.specs.Refusals.{GrowthRefused}
-use Rattle.velo_check.specs.Disk.{Store, IsWritten, behind, up_to}
+use Rattle.velo_check.specs.Disk.{Store, IsWritten}
 use Rattle.velo_check.specs.Writing.{Writing, Writes, BreaksOff, WritesNothing}
 use Rattle.velo_check.specs.declared.fate.Fate.{Fate}
-use Rattle.velo_check.specs.declared.fate.Fate.TheVariants.{CannotOpen, Memory, WriteFailed}
+use Rattle.velo_check.specs.declared.fate.Fate.TheVariants.{CannotOpen, WriteFailed}
 
 -- What a command has to say: a text to be saved at its target, if it has one; a text to be printed
 -- on standard output, if it has one; and its fate. `CannotOpen` and `WriteFailed` come on the way out:
@@ -22,10 +21,6 @@ silent fate = record { saved = None; printed = None; fate = fate }
 -- it prints this, has nothing to be saved, and its fate is this
 abbrev pub printing : List ℕ → Fate → CommandAnswer
 printing text fate = record { saved = None; printed = Some text; fate = fate }
-
--- an allocation failed, and nothing is saved or printed
-abbrev pub LacksMemory : CommandAnswer → Type 0
-LacksMemory answer = GrowthRefused × (answer ≡ silent Memory)
 
 -- ---- on one sink
 
@@ -89,20 +84,3 @@ abbrev pub FailsSaving : Store → Option (Bor (List ℕ)) → Option (List ℕ)
 FailsSaving store target saved CannotOpen = FailsToSave store target saved
 FailsSaving store target saved WriteFailed = SavesPart store target saved
 FailsSaving store target saved f = ⊥
-
--- What became of an answer with a text to save, if it has one, and after it a second text at its own
--- path, if there is one: names after a log, a drawing after a picture. If the first is not saved,
--- nothing else is done. Then it is as if the second were what is to be saved. Without a first text, or
--- a path for the second, the second is not saved. A first text without a target counts as saved.
-abbrev pub DeliversBy : Option (List ℕ) → Store → Option (Bor (List ℕ)) → Option (Bor (List ℕ))
-    → List ℕ → Writing → CommandAnswer → Fate → Type 0
-DeliversBy (Some first) store target (Some path) second stdout answer f =
-    (FailsSaving store target (Some first) f × WritesNothing stdout)
-    ⊎ ((between : store.State) × Saves (up_to store between) target (Some first)
-    × IsDelivered (behind store between) (Some path) stdout (record answer { saved = Some second }) f)
-DeliversBy first store target path second stdout answer f = IsDelivered store target stdout answer f
-
-abbrev pub IsDeliveredInTurn : Store → Option (Bor (List ℕ)) → Option (Bor (List ℕ)) → List ℕ
-    → Writing → CommandAnswer → Fate → Type 0
-IsDeliveredInTurn store target path second stdout answer f =
-    DeliversBy answer.saved store target path second stdout answer f

@@ -1,7 +1,6 @@
 -- A file that means a value, or has a fault: of names, of labels, of sites, of a report, of a schedule,
 -- a workload.
-use Rattle.std.specs.Prelude.{◌≡◌, ◌⊎◌, ⊤, ℕ, List, Option, Some, None}
-use Rattle.std.specs.Borrow.{Bor}
+use Rattle.std.specs.Prelude.{◌≡◌, ◌⊎◌, ⊤, ℕ, List, Option}
 use Rattle.velo_check.specs.Disk.{Disk, FailsToOpen}
 use Rattle.velo_check.specs.Reading.{IsReadOf, Reading}
 use Rattle.velo_events.specs.Refusals.{GrowthRefused}
@@ -46,18 +45,6 @@ pub record ReadsNone {X : Type 0} (format : Format X) (disk : Disk) (path : List
 abbrev pub LacksAt : {X : Type 0} → Format X → Disk → List ℕ → Fate → Type 0
 LacksAt format disk path f =
     ((f ≡ CannotOpen) × FailsToOpen disk path) ⊎ ReadsNone format disk path f
-
--- ---- by an option
-
--- the value of the file, or this one where no path was given
-abbrev pub ReadsOr : {X : Type 0} → X → Format X → Disk → Option (Bor (List ℕ)) → X → Type 0
-ReadsOr default format disk None x = x ≡ default
-ReadsOr default format disk (Some path) x = Reads format disk path.now x
-
--- why there is none
-abbrev pub LacksGiven : {X : Type 0} → Format X → Disk → Option (Bor (List ℕ)) → Fate → Type 0
-LacksGiven format disk None f = ⊥
-LacksGiven format disk (Some path) f = LacksAt format disk path.now f
 
 -- ---- the plainest
 

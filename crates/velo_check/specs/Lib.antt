@@ -1,7 +1,6 @@
 pub mod Answers
 pub mod Barred
 pub mod Carrying
-pub mod Causes
 pub mod Check
 pub mod Delivery
 pub mod Disk

@@ -23,9 +23,3 @@ abbrev pub IsSavedAt : {X : Type 0} → Store → Option (Bor (List ℕ)) → Li
     → Type 0
 IsSavedAt store target text (Ok x) = Saves store target (Some text)
 IsSavedAt store target text (Err f) = FailsSaving store target (Some text) f
-
--- writing the file failed
-abbrev pub IsUnsavedAt : {X : Type 0} → Store → Option (Bor (List ℕ)) → List ℕ → Result X Fate
-    → Type 0
-IsUnsavedAt store target text (Ok x) = ⊥
-IsUnsavedAt store target text (Err f) = FailsSaving store target (Some text) f

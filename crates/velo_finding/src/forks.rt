@@ -1,4 +1,7 @@
 //! Threads that no thread forks.
+ghost use Rattle.std.specs.Prelude.{◌≡◌, ◌<◌, IfOk, OnOk, not, ◌++◌, [], ◌∷◌, if◌then◌else◌};
+ghost use Rattle.std.specs.List.{list_any};
+ghost use Rattle.velo_finding.specs.Forks.{forks, is_forked, never_forked};
 
 use std::alloc::Global;
 use velo_events::growth::reserve;
@@ -6,7 +9,9 @@ use velo_events::{Memory, ThreadId};
 use velo_workload::{Statement, Workload};
 
 /// Whether the statement forks the thread.
-fn forks(thread: ThreadId, statement: Statement) -> bool {
+fn forks(thread: ThreadId, statement: Statement) -> bool
+    ensures { result ≡ forks thread statement }
+{
     match statement {
         Statement::Fork(forked) => forked.0 == thread.0,
         _ => false,
@@ -14,12 +19,17 @@ fn forks(thread: ThreadId, statement: Statement) -> bool {
 }
 
 /// Whether one of the statements forks the thread.
-fn has_fork(thread: ThreadId, body: &[Statement]) -> bool {
+fn has_fork(thread: ThreadId, body: &[Statement]) -> bool
+    ensures { result ≡ list_any (forks thread) body.now }
+{
     body.iter().any(|statement| forks(thread, *statement))
 }
 
 /// Whether some body forks the thread.
-fn is_forked(workload: &Workload, thread: ThreadId) -> bool {
+#[tactic(auto, unfolding(crate::specs::Forks::is_forked))]
+fn is_forked(workload: &Workload, thread: ThreadId) -> bool
+    ensures { result ≡ is_forked workload.now thread }
+{
     let mut forked = false;
     for other in 0..workload.bounds().threads {
         forked = forked || has_fork(thread, workload.body(ThreadId(other)));
@@ -32,7 +42,10 @@ fn add_unless_forked(
     threads: &mut Vec<ThreadId>,
     workload: &Workload,
     thread: ThreadId,
-) -> Result<(), Memory> {
+) -> Result<(), Memory>
+    ensures { OnOk result (threads.new.items ≡ threads.old.items
+        ++ (if not (is_forked workload.now thread) then thread ∷ [] else [])) }
+{
     if is_forked(workload, thread) {
         return Ok(());
     }
@@ -45,7 +58,10 @@ fn add_unless_forked(
 ///
 /// # Errors
 /// `Memory` if an allocation failed.
-pub fn never_forked(alloc: Global, workload: &Workload) -> Result<Vec<ThreadId>, Memory> {
+#[tactic(auto, unfolding(crate::specs::Forks::never_forked))]
+pub fn never_forked(alloc: Global, workload: &Workload) -> Result<Vec<ThreadId>, Memory>
+    ensures { IfOk result (λ threads. threads.items ≡ never_forked workload.now) }
+{
     let mut threads = Vec::new(alloc);
     for thread in 1..workload.bounds().threads {
         add_unless_forked(&mut threads, workload, ThreadId(thread))?;
