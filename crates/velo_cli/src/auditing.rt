@@ -7,7 +7,7 @@ ghost use Rattle.velo_events.specs.WellFormed.{IsWellFormed};
 ghost use Rattle.velo_filter.specs.Tables.{left_of};
 ghost use Rattle.velo_cli.specs.Auditing.{AreRoundsOf};
 
-use crate::command::Command;
+use crate::asked::Command;
 use crate::context::{ContextOptions, InContext, do_in_context};
 use crate::inquiry::Inquiry;
 use crate::leaving::{config_of_rounds, left_out};

@@ -1,6 +1,6 @@
 //! `velodrome check`.
 
-use crate::command::Command;
+use crate::asked::Command;
 use crate::naming::{ByNames, do_by_names, shown_by};
 use std::alloc::Global;
 use velo_bytes::Sink;

@@ -3,7 +3,7 @@ ghost use Rattle.std.specs.Prelude.{◌-◌};
 ghost use Rattle.velo_watch.specs.Endless.{CanGoOn};
 ghost use Rattle.velo_watch.specs.declared.long.TheConstants.{MAX_WATCHED};
 
-use crate::command::Command;
+use crate::asked::Command;
 use crate::given_names::{names_given, shown_of};
 use crate::naming::{ByNames, do_by_names};
 use crate::watching::{AskedWatch, watch_named};

@@ -3,7 +3,7 @@ ghost use Rattle.std.specs.Prelude.{◌≡◌, ◌≤◌, length};
 ghost use Rattle.velo_events.specs.declared.limits.TheConstants.{MAX_EVENTS};
 ghost use Rattle.velo_events.specs.WellFormed.{IsWellFormed};
 
-use crate::command::Command;
+use crate::asked::Command;
 use crate::context::{ContextOptions, InContext, do_in_context};
 use crate::inquiry::Inquiry;
 use crate::leaving::{config_of_rounds, left_out};

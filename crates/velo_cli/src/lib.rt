@@ -2,12 +2,12 @@
 #![tactic(auto)]
 
 mod arguments;
+mod asked;
 mod auditing;
 mod blaming;
 mod carrying;
 mod checking;
 mod clash;
-mod command;
 mod context;
 mod doing;
 mod endless;

@@ -7,8 +7,8 @@ ghost use Rattle.velo_delays.specs.Deadlock.{AreDeadlocksIn};
 ghost use Rattle.velo_delays.specs.Found.{AreFoundIn};
 ghost use Rattle.velo_cli.specs.Predicting.{ArePredictionsOf};
 
+use crate::asked::Command;
 use crate::auditing::{is_clean, rounds_of};
-use crate::command::Command;
 use crate::context::{ContextOptions, InContext, do_in_context, reads_of};
 use crate::inquiry::Inquiry;
 use crate::leaving::{config_of_rounds, left_out};

@@ -1,6 +1,6 @@
 //! `velodrome thin`: what is left out of the log goes first, and the rest is thinned.
 
-use crate::command::Command;
+use crate::asked::Command;
 use crate::context::{ContextOptions, InContext, do_in_context, reads_of};
 use crate::leaving::left_out;
 use std::alloc::Global;

@@ -1,7 +1,7 @@
 //! `velodrome watch`: a log that is checked as it comes.
 ghost use Rattle.std.specs.Prelude.{◌≡◌, ◌<◌, ◌-◌, ℕ, ⊤, true, length, IfOk, OnOk};
 
-use crate::command::Command;
+use crate::asked::Command;
 use crate::given_names::{names_given, shown_of};
 use crate::naming::{ByNames, do_by_names};
 use std::alloc::Global;

@@ -4,7 +4,7 @@ ghost use Rattle.std.specs.Prelude.{◌-◌, length};
 ghost use Rattle.velo_filter.specs.Tables.{left_of};
 ghost use Rattle.velo_watch.specs.RestUnderWay.{CanGoOn};
 
-use crate::command::Command;
+use crate::asked::Command;
 use crate::context::{ContextOptions, InContext, do_in_context};
 use crate::given_names::names_given;
 use crate::leaving::left_out;
