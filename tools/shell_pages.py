@@ -17,7 +17,7 @@ DOCS = os.path.join(os.path.dirname(os.path.dirname(os.path.abspath(__file__))),
 NAME = "velodrome"
 SUMMARY = "checks the atomic blocks of a multithreaded run"
 # what the value of an option is, by its placeholder: these are paths, all others are not
-PATHS = ("FILE", "FOLDER", "OUT", "NAMES", "LOG", "MAP", "LIST", "REPORT", "SVG")
+PATHS = ("FILE", "OUT", "NAMES", "LOG", "MAP", "LIST", "REPORT")
 
 Flag = collections.namedtuple("Flag", "short long value text")
 Command = collections.namedtuple("Command", "name summary usage arguments flags rest")

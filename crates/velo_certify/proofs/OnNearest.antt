@@ -1,15 +1,14 @@
 -- The edges out of a transaction, position by position.
 use Rattle.std.proofs.Common.{◌≡◌, ◌≢◌, ℕ, ◌+◌, ◌<◌, ◌≤◌, cond, not, List, Option, Some, None, sym, ap, ◌∙◌, subst, arith, ⊎_elim}
 use Rattle.std.specs.Prelude.{◌⊎◌, ◌↔◌, ◌==◌, nat_lt, slice_index, IsTrue, IfSome, MatchOption}
-use Rattle.std.proofs.lemmas.Bool.{cases_eq, cases_lt, eq-eqb, eqb-false, ne_eqb, le-ltb, lt-ltb, ltb-true, not_from_false, not-true}
+use Rattle.std.proofs.lemmas.Bool.{cases_eq, cases_lt, eq-eqb, eqb-false, ne_eqb, lt-ltb, ltb-true, not_from_false, not-true}
 use Rattle.std.proofs.lemmas.Option.{same_Some, none-some}
 use Rattle.velo_events.specs.declared.event.Event.{Event}
 use Rattle.velo_events.specs.Block.{owner}
 use Rattle.velo_events.specs.Graph.{Edge}
 use Rattle.velo_events.proofs.OnReorderings.{conflict_at-within}
-use Rattle.velo_conflicts.specs.Numbers.{HasNumbers, AreBlank}
-use Rattle.velo_certify.specs.Table.{IsGreatestBefore, numbers_before}
-use Rattle.velo_certify.specs.Nearest.{own_positions, LeadsInto, IsNearest, IsNearestBelow, IsNoneBelow, IsWithNext}
+use Rattle.velo_certify.specs.Table.{IsGreatestBefore}
+use Rattle.velo_certify.specs.Nearest.{own_positions, LeadsInto, IsNearestBelow, IsNoneBelow, IsWithNext}
 
 pub own_positions-yes : (trace : List Event) (a i : ℕ) → owner trace i ≡ a → own_positions trace a i ≡ 1
 unfolding own_positions

@@ -1,5 +1,5 @@
 -- The rounds in which a serial order is listed.
-use Rattle.std.proofs.Common.{◌≡◌, ◌≢◌, ℕ, zero, suc, ◌+◌, ◌-◌, ◌<◌, ◌≤◌, Bool, true, false, cond, not, List, [], ◌∷◌, ◌++◌, length, set, replicate, refl, sym, ap, ◌∙◌, subst, arith, ⊎_elim}
+use Rattle.std.proofs.Common.{◌≡◌, ◌≢◌, ℕ, zero, suc, ◌+◌, ◌-◌, ◌<◌, ◌≤◌, Bool, true, false, cond, List, [], ◌∷◌, ◌++◌, length, set, replicate, refl, sym, ap, ◌∙◌, subst, arith, ⊎_elim}
 use Rattle.std.specs.Prelude.{◌==◌, ◌||◌, filter, slice_index_or, IsTrue, Contains}
 use Rattle.std.specs.List.{range_with_len}
 use Rattle.std.proofs.lemmas.Bool.{cases_Bool, cases_eq, eq-eqb, ne_eqb, or_right, both_ways, false_from_ne_true}
@@ -15,7 +15,7 @@ use Rattle.velo_events.specs.Certificate.{positions_of, IsReady, IsSerialOrder}
 use Rattle.velo_events.proofs.OnBlocks.{owner-le}
 use Rattle.velo_events.proofs.OnReorderings.{conflict_at-within}
 use Rattle.velo_events.proofs.OnSerializing.{is_listed, in_turn, IsGreedy, IsGreedy-nil, IsGreedy-push, ready_or_cycle, IsSerialOrder-by}
-use Rattle.velo_certify.specs.Serial.{has, AreClosed, IsFree, IsCandidate, left}
+use Rattle.velo_certify.specs.Serial.{has, AreClosed, IsFree, IsCandidate}
 
 -- ---- the positions of a transaction
 

@@ -1,1 +1,2 @@
-mod OnRunning
+mod OnExplaining
+mod OnFindings

@@ -10,6 +10,7 @@ use Rattle.velo_events.specs.declared.config.Config.{Config}
 use Rattle.velo_events.specs.declared.event.Event.{Event}
 use Rattle.velo_events.specs.declared.event.ThreadId.{ThreadId}
 use Rattle.velo_events.specs.Graph.{HasCycle}
+use Rattle.velo_events.proofs.OnGraphs.{HasCycle-from_closing}
 use Rattle.velo_filter.specs.Left.{Omitted, rest_of}
 use Rattle.velo_workload.specs.Program.{Program}
 use Rattle.velo_world.specs.declared.analysis.Alarm.{Alarm as AlarmOf}
@@ -24,7 +25,7 @@ use Rattle.velo_explore.specs.declared.finding.Witness.{Witness}
 use Rattle.velo_explore.specs.declared.goal.Goal.{Goal}
 use Rattle.velo_explore.specs.declared.goal.Goal.TheVariants.{Alarm, Stuck, Refused}
 use Rattle.velo_explore.specs.declared.outcome.RunOutcome.{RunOutcome}
-use Rattle.velo_explore.specs.Goals.{KnowsAlarm, ReachedIn, ReachesIn, fault_of, finding_of, goal_in}
+use Rattle.velo_explore.specs.Goals.{KnowsAlarm, ReachedIn, ReachesIn, fault_of, finding_of, goal_in, lacks_memory}
 use Rattle.velo_explore.specs.Logs.{ends_refused, is_for_room}
 use Rattle.velo_explore.specs.Told.{AreAlarms, FollowsRun, IsMissed, HasOutcome, LacksFault, IfShown, turns_after}
 use Rattle.velo_explore.specs.Bodies.{all_scripts}
@@ -34,6 +35,11 @@ use Rattle.velo_search.specs.declared.fault.Fault.TheVariants.{Cycle, Refusing}
 use Rattle.velo_search.specs.declared.schedules.Schedules.{Schedules}
 use Rattle.velo_search.specs.Trail.{LeadToCycles, LeadsTo, alarms_of}
 use Rattle.velo_explore.proofs.OnFollowed.{follows-cycle, follows-stuck, follows-refused}
+
+-- an alarm is kept exactly where the log has a cycle
+pub cycle_by : (closed : WorldState) (alarm : Option (Bor AlarmOf)) → IfNone alarm (¬ HasCycle closed.log) → IfSome alarm (λ a. IsAlarm closed.log a.now) → IsTrue (is_some alarm) ↔ HasCycle closed.log
+cycle_by closed None none is = (λ some. absurd (false≢true some), λ cycle. absurd (none cycle))
+cycle_by closed (Some alarm) none is = (λ some. HasCycle-from_closing closed.log alarm.now.position is.closing, λ cycle. refl)
 
 -- and what it is is known
 pub known_by : (log : List Event) (alarm : Option (Bor AlarmOf)) → IfNone alarm (¬ HasCycle log) → IfSome alarm (λ a. IsAlarm log a.now) → KnowsAlarm log
@@ -62,6 +68,19 @@ goal-reaches rest Refusing alarm endings.Halted closed goal is h = absurd (none-
 goal-reaches rest Refusing alarm endings.Gated closed goal is h = absurd (none-some goal h)
 
 -- ---- a replay
+
+-- what a replay comes to, by the world that it left
+pub outcome-of : {E : Type 0} (rest : List Event → List Event) (program : Program) (config : Config) (schedule : List ThreadId) (closed : WorldState) (ending : Ending) → Replays program schedule config ending closed → lacks_memory ending ≡ false
+    → (result : Result RunOutcome E) → IfOk result (λ outcome. IsTrue outcome.alarm ↔ HasCycle (rest closed.log)) → IfOk result (λ outcome. KnowsAlarm closed.log) → IfOk result (λ outcome. outcome.ending ≡ ending)
+    → IfOk result (HasOutcome rest program config schedule)
+outcome-of rest program config schedule closed ending replays memory (Ok outcome) alarm known ended = record {
+  closed = closed;
+  replays = subst (λ e. Replays program schedule config e closed) (sym ended) replays;
+  memory = subst (λ e. lacks_memory e ≡ false) (sym ended) memory;
+  known = known;
+  cycle = alarm;
+}
+outcome-of rest program config schedule closed ending replays memory (Err e) alarm known ended = tt
 
 module _ (rest : List Event → List Event) (program : Program) (config : Config) (turns : List ThreadId) (outcome : RunOutcome) (h : HasOutcome rest program config turns outcome) where
   pub shows-goal : (fault : Fault) (goal : Goal) (schedule : List ThreadId) → turns ≡ schedule → goal_in fault outcome.alarm outcome.ending ≡ Some goal → ReachedIn rest program config goal schedule × (fault_of goal ≡ fault)

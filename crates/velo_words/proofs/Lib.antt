@@ -1,4 +1,3 @@
-mod OnEnded
-mod OnEvents
-mod OnIgnoring
-mod OnSaying
+mod OnExamples
+pub mod OnReplays
+mod OnWaits

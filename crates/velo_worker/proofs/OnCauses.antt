@@ -1,6 +1,6 @@
 -- Why a run ends for want of memory.
 use Rattle.std.proofs.Common.{◌≡◌, inl, inr, ⊎_elim}
-use Rattle.std.specs.Prelude.{List, [], ◌∷◌, Some, Result, Ok, Err, OnErr, true, false}
+use Rattle.std.specs.Prelude.{Bool, List, [], ◌∷◌, Option, Some, None, Result, Ok, Err, IfSome, OnErr, true, false, if◌then◌else◌, nat_le}
 use Rattle.std.proofs.lemmas.Bool.{false≢true}
 use Rattle.velo_events.specs.declared.event.ThreadId.{ThreadId}
 use Rattle.velo_events.specs.declared.refusal.Refusal.{Refusal}
@@ -9,9 +9,11 @@ use Rattle.velo_runtime.proofs.OnRefusals.{is_of_world, meaning-refusal}
 use Rattle.velo_world.specs.World.{WorldState}
 use Rattle.velo_worker.specs.declared.ending.Ending.{Ending}
 use Rattle.velo_worker.specs.declared.ending.Ending.TheVariants as run
+use Rattle.velo_worker.specs.declared.outcome.Outcome.{Outcome}
 use Rattle.velo_worker.specs.declared.outcome.Outcome.TheVariants.{Done, Gated, Refused}
 use Rattle.velo_worker.specs.declared.progress.Progress.{Progress}
-use Rattle.velo_worker.specs.Causes.{RefusedByGrowth, EndsByGrowth}
+use Rattle.velo_worker.specs.Causes.{HasCause, RefusedByGrowth, EndedWithCause, EndsByGrowth}
+use Rattle.velo_worker.specs.Live.{lesser, met}
 use Rattle.velo_worker.specs.Schedule.{ReplayState, ReplaysTo, Tries, TurnOf, TurnsOf, RoundsOf}
 
 -- ---- of one refusal
@@ -24,6 +26,22 @@ of_world : (r : Refusal) → is_of_world r ≡ true → RefusedByGrowth r
 of_world refusal.Memory is = absurd (false≢true is)
 of_world refusal.RuntimeMemory is = absurd (false≢true is)
 of_world _ is = tt
+
+-- ---- of the ends of workers
+
+pub of_met : (outcome : Outcome) (r : Refusal) → EndedWithCause outcome → met outcome ≡ Some r → HasCause r
+of_met Done r cause is = cc
+of_met Gated r cause is = cc
+of_met (Refused refusal.Halted) r cause is = cc
+of_met (Refused s) r cause is = let same : s ≡ r = cc in rw (← same) cause
+
+pub of_lesser : (least : Option (ThreadId × Refusal)) (t : ThreadId) (r : Refusal) → IfSome least (λ found. HasCause found.1) → HasCause r → HasCause (lesser least t r).1
+of_lesser None t r before now = now
+of_lesser (Some found) t r before now = go (nat_le found.0.0 t.0)
+  where
+    go : (b : Bool) → HasCause (if b then found else (t, r)).1
+    go true = before
+    go false = now
 
 -- ---- of a replay
 

@@ -7,11 +7,10 @@ use Rattle.velo_events.specs.declared.config.Bounds.{Bounds}
 use Rattle.velo_events.specs.declared.event.Event.{Event}
 use Rattle.velo_events.specs.Graph.{HasCycle}
 use Rattle.velo_events.proofs.OnGraphs.{IsClosing-unique, HasCycle-from_closing}
-use Rattle.velo_clocks.specs.Clocks.{AreClocksOf, AreClocksSince}
-use Rattle.velo_clocks.specs.Noted.{HasRoomToNote, IsOfThreads}
+use Rattle.velo_tables.specs.Clocks.{AreClocksOf, AreClocksSince, HasRoomToNote, IsOfThreads}
 use Rattle.velo_events.specs.Place.{Place}
 use Rattle.velo_tables.specs.LastAccesses.{entry, HasRoomFor}
-use Rattle.velo_clocks.proofs.OnThreads.{IsOfThreads-follows}
+use Rattle.velo_tables.proofs.OnThreads.{IsOfThreads-follows}
 use Rattle.velo_monitor.specs.Watched.{Watched, IsMonitorOf}
 use Rattle.velo_world.specs.declared.analysis.Alarm.{Alarm}
 use Rattle.velo_heap.specs.Contents.{Contents, bounds_of, IsHeapOf}

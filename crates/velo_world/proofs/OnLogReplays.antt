@@ -1,7 +1,7 @@
 -- A recorded log that comes about again, or does not.
-use Rattle.std.proofs.Common.{◌≡◌, ℕ, ◌+◌, ◌≤◌, Bool, true, false, List, [], ◌∷◌, ◌++◌, length, take, Option, Some, None, Result, Ok, Err, refl, sym, ap, ◌∙◌, subst, arith, inl, inr}
+use Rattle.std.proofs.Common.{◌≡◌, ℕ, ◌+◌, ◌<◌, ◌≤◌, Bool, true, false, List, [], ◌∷◌, ◌++◌, length, take, Option, Some, None, Result, Ok, Err, refl, sym, ap, ◌∙◌, subst, arith, inl, inr}
 use Rattle.std.specs.Prelude.{slice_get, IsTrue, IsFalse, is_err, OnOk, OnErr}
-use Rattle.std.proofs.lemmas.Bool.{eqb-true, false≢true}
+use Rattle.std.proofs.lemmas.Bool.{eqb-true, lt-leb, false≢true}
 use Rattle.std.proofs.lemmas.Option.{slice_get_within}
 use Rattle.velo_events.specs.declared.config.Bounds.{Bounds}
 use Rattle.velo_events.specs.declared.config.Config.{Config}
@@ -20,7 +20,8 @@ use Rattle.velo_traces.specs.Flaws.{flaw_by, flaw_of, IsFirstFlaw}
 use Rattle.velo_traces.proofs.OnFlaws.{flaw-not_MayFollow, MayFollow-from_no_flaw}
 use Rattle.velo_world.specs.declared.log_replay.LogReplayFault.{LogReplayFault}
 use Rattle.velo_world.specs.declared.log_replay.LogReplayFault.TheVariants.{Refused, WrongValue, Memory}
-use Rattle.velo_world.specs.Faults.{IsLimit, IsFaultAtEvent, IsRefusedAt, IsFaultOfLog}
+use Rattle.velo_world.specs.World.{meaning}
+use Rattle.velo_world.specs.Faults.{world_of, IsLimit, IsFaultAtEvent, IsRefusedAt, IsFaultOfLog}
 use Rattle.velo_world.proofs.OnAlarms.{length-before}
 
 -- ---- the event that is asked for
@@ -91,6 +92,13 @@ no_flaw : (o : Option Refusal) (right : Bool) → flaw_by o right ≡ None → (
 no_flaw None true is = (refl, refl)
 no_flaw None false is = cc
 no_flaw (Some r) right is = cc
+
+-- an event without a flaw is what its own action means
+pub meaning-flawless : (config : Config) (log : List Event) (e : Event) → flaw_of config.bounds log e ≡ None → length log < config.events → meaning (world_of config log) e.thread (action_of e.kind) ≡ Ok e
+meaning-flawless config log e flawless room =
+    let parts = no_flaw (refusal_of config.bounds log e.thread.0 e.kind) (has_its_value log e.kind) flawless in
+    let none : refusal_of config.bounds log e.thread.0 (kind_for log (action_of e.kind)) ≡ None = refusal_of-asked config.bounds log e.thread.0 e.kind ∙ parts.0 in
+    rw (none, lt-leb config.events (length log) room, own_event log e.thread e.kind parts.1) refl
 
 -- ---- the event that does not
 
