@@ -140,10 +140,13 @@ static int run(const Arguments &a) {
     writer.log(a.log);
     Notes notes(trace, shared, events, modules, survey, places, writer, stale);
     notes.all_variables = a.options.all;
-    for (size_t i = 0; i < events.variables.size(); i++)
-        if (const Variable *v = events.variables[i];
-            v->atomic && !plain.of(v - shared.variables.data()))
+    for (size_t i = 0; i < events.variables.size(); i++) {
+        const Variable *v = events.variables[i];
+        if (v->atomic && !plain.of(v - shared.variables.data()))
             notes.atomic.push_back(i);
+        if (v->racy)
+            notes.racing.push_back(i);
+    }
     set<u64> codes;
     writer.add_codes(codes), notes.add_codes(codes), places.add_codes(codes);
     modules.find_lines(codes);

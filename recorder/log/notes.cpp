@@ -293,6 +293,7 @@ void Notes::write(const string &log, const string &trace, const vector<string> &
         member("left_out", list_of(thinned)),
         member("all_variables", all_variables ? "true" : "false"),
         member("atomic", numbers(atomic)),
+        member("racing", numbers(racing)),
         member("dropped", count(events_.dropped)),
         member("odd", count(events_.odd)),
         member("late", count(shared_.late)),

@@ -14,6 +14,7 @@ public:
           places_(places), writer_(writer), stale_(std::move(stale)) {}
     bool all_variables = false; // whether the log leaves nothing out
     std::vector<u64> atomic;    // the variables in the log that atomic operations alone write
+    std::vector<u64> racing;    // those of which nothing orders two accesses
     void add_codes(std::set<u64> &codes) const;
     // `left_out`: what the log was thinned by. Throws std::runtime_error.
     void write(const std::string &log, const std::string &trace,

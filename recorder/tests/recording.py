@@ -446,6 +446,8 @@ def wrong_uses(room, cc):
         (("./text",), 5, "no right to be executed"),
         ((".",), 5, "is a folder"),
         (("./script.sh",), 4, "is a script"),
+        (("./script.sh", "-javaagent:a/velodrome.jar"), 4, "recorded: what it said above"),
+        (("./script.sh", "-javaagent:a/other.jar"), 4, "is a script"),
         (("./plain",), 4, "CXX=velodrome-c++"),
     ):
 

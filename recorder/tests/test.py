@@ -2,6 +2,7 @@
 
 With VELODROME the path of a checker, its commands judge the logs too. The last line is `N passed, N failed`."""
 import glob
+import json
 import os
 import re
 import subprocess
@@ -221,10 +222,13 @@ def number(said, word):
     return int(re.search(word + r" (\d+)", said)[1])
 
 
-def functions(room, trace, *options, ok=(0, 3)):
-    """The names that the list has, in its order."""
-    said = sh(f"{BIN}/velodrome-functions", trace, "--log", f"{room}/log", *options, ok=ok).stdout
-    return re.findall(r"^not atomic +\S+ +(.*?)  \(", said, re.M), said
+def functions(room, trace, *options):
+    """The names of the functions that are not atomic, in the order of the rounds; what was said."""
+    said = log_of(room, trace, *options)[2]
+    words = ["audit", f"{room}/log", "--names", f"{room}/log.names", "--format", "json"]
+    alarms = json.loads(sh(CHECKER, *words, ok=(0, 3)).stdout)["alarms"]
+    names = [block["label"]["name"] for alarm in alarms for block in alarm["blocks"]]
+    return list(dict.fromkeys(names)), f"{said}not atomic: {names}"
 
 
 def races(room, cc):
@@ -304,14 +308,11 @@ def check_then_act(room, cc):
     for mode in ("exact", "serial"):
 
         def body():
-            names, said = functions(
-                room,
-                run_with(made, mode, VELODROME_NOISE=0 if mode == "serial" else 20),
-                "--innermost",
-            )
+            noise = 0 if mode == "serial" else 20
+            names, said = functions(room, run_with(made, mode, VELODROME_NOISE=noise))
             if "look_up(int)" not in names:
                 return said
-            names, said = functions(room, run_with(made, mode, "whole"), "--innermost")
+            names, said = functions(room, run_with(made, mode, "whole"))
             return True if not names else said
 
         test(f"{cc} {mode} a check-then-act is found by name", body)

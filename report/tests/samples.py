@@ -26,6 +26,7 @@ from velodrome_report.model import (  # noqa: E402
     Target,
     TargetKind,
     Thread,
+    Touched,
     Transaction,
     Witness,
 )
@@ -89,6 +90,13 @@ def pool_event(thread: int, action: Action, position: int, line: int, interrupts
     )
 
 
+def pool_access(thread: int, action: Action, position: int, line: int) -> Event:
+    """What a thread does under the lock of the pool."""
+    what = target(TargetKind.VARIABLE, "pool.free_")
+    at = Place("people/pool.cpp", line)
+    return Event(Thread(thread), action, what, position, at, at=at)
+
+
 def pool_finding(many: int = 20) -> Finding:
     names = tuple(f"velodrome.runs/pool/{number}" for number in range(1, many + 1))
     events = (
@@ -112,7 +120,12 @@ def pool_finding(many: int = 20) -> Finding:
                 Transaction(Thread(3, "client(Pool&, int, int*)"), 100, 141, "Pool::acquire()"),
                 Transaction(Thread(1, "client(Pool&, int, int*)"), 118, 136, "Pool::acquire()"),
             ),
-            (Block("Pool::acquire()", 100, Place("people/pool.cpp", 32)),),
+            (Block("Pool::acquire()", 100, Place("people/pool.cpp", 32), events[1]),),
+            (
+                Touched(
+                    0, pool_access(3, Action.READS, 108, 18), pool_access(1, Action.WRITES, 130, 20)
+                ),
+            ),
         ),
         Counts(1204, 31),
         why="gives up pool.m_ and takes it again around a read and a write of the same data",
@@ -257,7 +270,10 @@ def stale() -> Finding:
             False,
             events,
             ((0, 1), (1, 2)),
-            (Transaction(Thread(1, "worker()"), 19, 23, "worker()"),),
+            (
+                Transaction(Thread(1, "worker()"), 19, 23, "worker()"),
+                Transaction(Thread(2, "worker()"), 21, 21),
+            ),
             (Block("worker()", 19, None),),
         ),
     )
@@ -267,6 +283,7 @@ def every_kind() -> Report:
     """Each kind and each section, a run that could not be looked at, warnings, a known function."""
     looked_at = runs(3, POOL_CALLS | {"table_move": 7, "table_add": 9})
     looked_at[1].warnings = ("worker() loops and was no block: give it one for each turn",)
+    looked_at[2].ended = "signal 6"
     moved = Run("r/4", reasons=("the program was moved", "no function is known"))
     folded = pool_finding(3)
     folded.id, folded.section, folded.under = "client_folded", Section.FOLDED, "pool_acquire"
@@ -315,7 +332,8 @@ def named(name: str) -> Report:
         events,
         ((0, 1), (1, 2)),
         (Transaction(thread, 4, 10, name), Transaction(other, 6, 7, name)),
-        (Block(name, 4, place),),
+        (Block(name, 4, place, events[1]),),
+        (Touched(1, events[1], events[2]),),
     )
 
     def finding(kind: Kind, section: Section) -> Finding:

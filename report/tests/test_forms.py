@@ -179,12 +179,22 @@ class Words(unittest.TestCase):
         self.assertIn("\nnothing was looked at: 1 finding\n", text)
 
 
+RUNS = """
+velodrome.runs/pool/1  seed 1  exit 0    not atomic: Pool::acquire() and
+                                         client(..)
+velodrome.runs/pool/2  seed 2  exit 0    atomic
+velodrome.runs/pool/3  seed 3  signal 6  atomic
+r/4                                      not looked at: the program was moved;
+                                         no function is known
+"""
+
+
 class Text(unittest.TestCase):
     # what is to be copied from the list stays on one line
     COMMANDS = ("      to repeat: ", "      in full: ")
 
     def printed(self, name: str, width: int, colours: bool = False) -> str:
-        settings = forms.Settings(width=width, colours=colours)
+        settings = forms.Settings(width=width, colours=colours, runs=True)
         return forms.FORMATS["text"](samples.REPORTS[name], settings)
 
     def test_it_keeps_to_its_width(self) -> None:
@@ -200,6 +210,19 @@ class Text(unittest.TestCase):
                 for line in golden.explained(report, finding).splitlines():
                     if not line.startswith(self.COMMANDS) and " " in line.strip():
                         self.assertLessEqual(characters.columns_of(line), 80, f"{name}: {line}")
+
+    def test_each_run_has_its_verdict(self) -> None:
+        text = self.printed("every_kind", 80)
+        self.assertTrue(text.endswith(RUNS), text)
+
+    def test_many_functions_of_a_run_are_counted(self) -> None:
+        report = samples.pool()
+        for number in range(5):
+            other = samples.pool_finding()
+            other.function = Function(f"f{number}", f"f{number}")
+            report.findings.append(other)
+        told = words.verdict(report.runs[0], report)
+        self.assertEqual(told, "not atomic: Pool::acquire(), f0, f1 and 3 more")
 
     def test_colours_change_no_word(self) -> None:
         for name in samples.REPORTS:

@@ -3,6 +3,7 @@
 import json
 import os
 import unittest
+from typing import Any, Optional
 
 import support
 from support import Log, hold
@@ -27,14 +28,23 @@ deadlock possible: thread 1 and thread 2 can wait for each other:
 
 2 calls of 1 function in 1 run: 1 likely mistake
 """
+NOTHING = """\
+4 calls of 1 function in 2 runs: no mistake found
+2 of 2 runs atomic
+"""
+RUNS = """\
+a.log  not atomic: deposit(..)
+b.log  atomic
+c.log  not looked at: it is empty
+"""
 BANK = ["long balance;"] * 4 + ["    long before = balance;", "    balance = before + n;"]
 
 
 @support.needs_checker
 class Lists(support.InFolder):
     def test_a_lost_update(self) -> None:
-        support.lost_update().write(self.path("run.log"))
         support.put(self.path("bank.cpp"), support.lines_of(BANK))
+        support.lost_update().write(self.path("run.log"))
         done = self.run_command("run.log")
         self.assertEqual((done.stdout, done.returncode), (LOST, 3))
 
@@ -74,7 +84,7 @@ class Lists(support.InFolder):
         for name in ("a.log", "b.log"):
             support.right().write(self.path(name))
         done = self.run_command("a.log", "b.log")
-        self.assertEqual(done.stdout, "4 calls of 1 function in 2 runs: no mistake found\n")
+        self.assertEqual(done.stdout, NOTHING)
         self.assertEqual(done.returncode, 0)
 
     def test_runs_are_summed_up(self) -> None:
@@ -87,6 +97,26 @@ class Lists(support.InFolder):
         self.assertEqual(found["counts"], {"calls": 4, "to_blame": 1})
         self.assertEqual(found["witness"]["run"], "a.log")
         self.assertFalse(found["witness"]["predicted"])
+
+    def test_each_run(self) -> None:
+        support.lost_update().write(self.path("a.log"))
+        support.right().write(self.path("b.log"))
+        support.put(self.path("c.log"), "")
+        done = self.run_command("a.log", "b.log", "c.log", "--runs")
+        self.assertTrue(done.stdout.endswith(f"1 of 3 runs atomic\n\n{RUNS}"), done.stdout)
+        self.assertNotIn(RUNS, self.run_command("a.log", "b.log", "c.log").stdout)
+
+    def test_how_each_run_ended(self) -> None:
+        for number, ending in ((1, {"exit": 0}), (2, {"exit": 0}), (3, {"signal": 6})):
+            support.right().write(self.path("r", str(number), "trace.7.log"))
+            run = json.dumps({"schema": 1, "seed": number, **ending})
+            support.put(self.path("r", str(number), "run.json"), run)
+        done = self.run_command("r", "--runs")
+        self.assertIn("3 of 3 runs atomic; ended with exit 0 (2) and signal 6 (1)\n", done.stdout)
+        self.assertIn("r/3  seed 3  signal 6  atomic\n", done.stdout)
+        alone = self.run_command("r/3").stdout
+        self.assertIn("1 of 1 run atomic; ended with signal 6\n", alone)
+        self.assertNotIn("atomic", self.run_command("r/1").stdout)
 
     def test_the_best_cycle_and_not_the_first(self) -> None:
         log = Log(variables=2, locks=2).named(label_0="get", label_1="find", variable_1="map")
@@ -227,6 +257,18 @@ class Lists(support.InFolder):
         self.assertIn("worker() (counter.cpp:5), the routine of a thread, loops", said)
         self.assertEqual(done.returncode, 3)
 
+    def test_a_checker_that_always_counts(self) -> None:
+        """It has no option for the counts, and answers with them."""
+        support.lost_update().write(self.path("run.log"))
+        asked = self.answer("run.log")["findings"]
+        script = 'case "$*" in *--counts*) exit 2;; esac\n'
+        script += f'[ "$1" = audit ] && set -- "$@" --counts\nexec {support.CHECKER} "$@"'
+        program = support.program(self.path("velodrome"), script)
+        done = self.run_command("run.log", "--format", "json", checker=program)
+        found = json.loads(done.stdout)["findings"]
+        self.assertEqual(found, asked)
+        self.assertEqual(found[0]["counts"], {"calls": 2, "to_blame": 1})
+
     def test_how_to_repeat_it(self) -> None:
         log = self.path("velodrome.runs", "0001", "01", "trace.7.log")
         support.lost_update().write(log)
@@ -235,6 +277,32 @@ class Lists(support.InFolder):
         done = self.run_command()
         words = "to repeat: velodrome-record --mode serial --noise 5 --seed 7 -- ./bank 'a b'"
         self.assertIn(words, done.stdout)
+
+    def repeated(self, log: Log, **run: Any) -> Optional[str]:
+        """How the first finding of a run is repeated."""
+        log.write(self.path("velodrome.runs", "0001", "01", "trace.7.log"))
+        described = {"command": ["./bank"], "seed": 7, "folder": self.folder, **run}
+        support.put(self.path("velodrome.runs", "0001", "01", "run.json"), json.dumps(described))
+        told = self.answer()["findings"][0]["repeat"]
+        return None if told is None else str(told)
+
+    def test_where_and_how_it_is_repeated(self) -> None:
+        self.assertEqual(
+            self.repeated(support.lost_update()), "velodrome-record --seed 7 -- ./bank"
+        )
+        environment = {"VELODROME_PERIOD": "3", "VELODROME_SEED": "7", "VELODROME_CC": "gcc"}
+        told = self.repeated(
+            support.lost_update(), mode="serial", folder="/a b", environment=environment
+        )
+        words = "VELODROME_PERIOD=3 velodrome-record --mode serial --seed 7 -- ./bank"
+        self.assertEqual(told, f"cd '/a b' && {words}")
+
+    def test_what_never_happened_is_not_repeated(self) -> None:
+        self.assertIsNone(self.repeated(support.lost_update(interrupted=False)))
+        self.assertIsNone(self.repeated(support.inverted_order()))
+
+    def test_a_run_without_a_command_is_not_repeated(self) -> None:
+        self.assertIsNone(self.repeated(support.lost_update(), command=None))
 
 
 if __name__ == "__main__":

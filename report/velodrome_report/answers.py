@@ -153,7 +153,7 @@ def audit(text: str) -> Audit:
     """The answer of `velodrome audit --format json`. Raises `NotAnAnswer`."""
     value = _parsed(text)
     try:
-        listed = (value["counts"] or {"labels": []})["labels"]
+        listed = (value.get("counts") or {"labels": []})["labels"]
         return Audit(
             log=value["log"],
             alarms=tuple(_alarm(alarm) for alarm in value["alarms"]),

@@ -2,11 +2,12 @@
 
 from __future__ import annotations
 
+import os
 import shlex
 from dataclasses import replace
 from typing import Dict, Iterable, List, Optional, Sequence
 
-from . import apart, finding, folding, judge, names, ranking
+from . import apart, finding, folding, judge, names, ranking, touched
 from .judge import Looked
 from .model import Counts, Event, Finding, Kind, Report, Run, Witness
 from .source import Sources
@@ -17,7 +18,8 @@ def report(every: Sequence[Looked], reasons: Iterable[str] = ()) -> Report:
     gathering = finding.Gathering()
     for looked in every:
         gathering.take(looked)
-    made = _arranged([looked.run for looked in every], gathering.findings(), reasons)
+    findings = touched.added(gathering.findings(), every)
+    made = _arranged([looked.run for looked in every], findings, reasons)
     made.known = tuple(dict.fromkeys(name for looked in every for name in judge.left_out(looked)))
     return made
 
@@ -107,36 +109,53 @@ def _renamed(one: Finding, short: Dict[str, str]) -> Finding:
 
 
 def repeat(one: Finding, runs: Dict[str, Run]) -> Optional[str]:
-    """The command that repeats the run of the witness, None where the run is not described."""
-    run = runs.get(one.witness.run)
-    if run is None or not run.command:
+    """The command that repeats a run in which it was seen; None where none is described."""
+    seen = [one.witness.run] if not one.witness.predicted else list(one.seen)
+    described = [runs[name] for name in seen if name in runs and runs[name].command]
+    if not described:
         return None
-    words = ["velodrome-record"]
+    run = described[0]
+    words = [f"{name}={shlex.quote(value)}" for name, value in sorted(run.settings.items())]
+    words.append("velodrome-record")
     if run.mode not in (None, "exact"):
-        words += ["--mode", str(run.mode)]
+        words += ["--mode", shlex.quote(str(run.mode))]
     if run.noise:
         words += ["--noise", str(run.noise)]
     if run.seed is not None:
         words += ["--seed", str(run.seed)]
-    return " ".join(words + ["--"] + [shlex.quote(word) for word in run.command])
+    words += ["--", *(shlex.quote(word) for word in run.command)]
+    if run.folder and os.path.realpath(run.folder) != os.path.realpath("."):
+        words[:0] = ["cd", shlex.quote(run.folder), "&&"]
+    return " ".join(words)
 
 
 # ---- lines of source
 
 
 def with_sources(made: Report, sources: Sources) -> Report:
-    """The report with the line of source of each event."""
+    """The report with the line of source of each event, and what changed since the runs."""
     findings = [replace(one, witness=_sourced(one.witness, sources)) for one in made.findings]
-    return replace(made, findings=findings)
+    told = [_changed(file, *since) for file, since in sources.changed.items()]
+    return replace(made, findings=findings, warnings=(*made.warnings, *told))
+
+
+def _changed(file: str, run: str, known: bool) -> str:
+    lines = "its lines are shown as they were" if known else "its lines are not shown"
+    return f"{file} was changed since {run}: {lines}"
 
 
 def _sourced(witness: Witness, sources: Sources) -> Witness:
-    return replace(witness, events=tuple(_line(event, sources) for event in witness.events))
+    def line(event: Event) -> Event:
+        return replace(
+            event,
+            source=event.source or sources.line(event.place, witness.run),
+            at_source=event.at_source or sources.line(event.at, witness.run),
+        )
 
-
-def _line(event: Event, sources: Sources) -> Event:
     return replace(
-        event,
-        source=event.source or sources.line(event.place),
-        at_source=event.at_source or sources.line(event.at),
+        witness,
+        events=tuple(map(line, witness.events)),
+        touched=tuple(
+            replace(one, before=line(one.before), after=line(one.after)) for one in witness.touched
+        ),
     )

@@ -79,6 +79,8 @@ class Notes:
     stale: Tuple[Stale, ...] = ()
     # None where it is not known which variables atomic operations alone write
     atomic: Optional[Tuple[int, ...]] = None
+    # the variables of which nothing orders two accesses, as far as they are known
+    racing: Tuple[int, ...] = ()
 
 
 COUNTS = ("dropped", "odd", "late", "lost", "hidden")
@@ -197,6 +199,7 @@ def _notes(value: Any, folder: str) -> Notes:
             for one in value.get("stale") or ()
         ),
         atomic=None if value.get("atomic") is None else tuple(int(x) for x in value["atomic"]),
+        racing=tuple(int(x) for x in value.get("racing") or ()),
     )
 
 

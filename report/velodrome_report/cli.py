@@ -79,6 +79,11 @@ def parser() -> argparse.ArgumentParser:
         "--explain", type=int, metavar="N", help="show finding N in full, with lanes and stacks"
     )
     made.add_argument(
+        "--runs",
+        action="store_true",
+        help="list each run, too: its seed, how it ended, what was seen in it",
+    )
+    made.add_argument(
         "--known", metavar="FILE", help="leave out the functions and locks listed in FILE"
     )
     made.add_argument(
@@ -164,7 +169,7 @@ def _run(words: List[str]) -> int:
     report = _merged(options) if options.merge else _looked(options)
     report = _chosen(report, options)
     explained = _numbered(report, options.explain)
-    sources = Sources(_folders(options, report))
+    sources = Sources(_folders(options, report), report.runs)
     report = assemble.with_sources(report, sources)
     terminal = sys.stdout.isatty()
     settings = Settings(
@@ -172,6 +177,7 @@ def _run(words: List[str]) -> int:
         colours=terminal and not os.environ.get("NO_COLOR") and os.environ.get("TERM") != "dumb",
         by_count=options.by_count,
         innermost=options.innermost,
+        runs=options.runs,
         explain=None if explained is None else report.findings[explained],
         finding=report.findings[explained or 0] if report.findings else None,
         sources=sources,

@@ -10,7 +10,7 @@ from __future__ import annotations
 import os
 import tempfile
 from dataclasses import dataclass, field, replace
-from typing import Dict, Iterable, List, Optional, Set, Tuple
+from typing import Dict, Iterable, List, Optional, Sequence, Set, Tuple
 
 from . import answers, checker
 from .answers import Alarm, Cycle, End, NotAnAnswer, OpenBlock, Step
@@ -143,7 +143,7 @@ class _Surroundings:
         if gap.is_lock:
             lines += self._holds(gap, thread)
         lines.sort(key=lambda line: line.position)
-        return self._written(lines)
+        return written(self._header, [(int(line.position), line.text) for line in lines])
 
     def _holds(self, gap: Gap, thread: str) -> List[_Line]:
         """The acquire of the first hold, and the release of the other thread's one."""
@@ -159,18 +159,22 @@ class _Surroundings:
         lines.append(_Line(at, f"{other[0]} {kind} {other[2]}\n"))
         return lines
 
-    def _written(self, lines: List[_Line]) -> SmallLog:
-        """The small log: all values are 0, and thread 0 starts the others."""
-        threads = sorted({int(line.text.split()[0]) for line in lines} - {0})
-        made = SmallLog(_version_2(self._header) + "".join(f"0 fork {t}\n" for t in threads))
-        made.positions += [-1] * len(threads)
-        for line in lines:
-            words = line.text.split()
-            if words[1] in ("rd", "wr"):
-                words[3] = "0"
-            made.text += " ".join(words) + "\n"
-            made.positions.append(int(line.position))
-        return made
+
+def written(header: str, lines: Sequence[Tuple[int, str]]) -> SmallLog:
+    """The small log of these events of the log with this header, each with its position there.
+
+    All values are 0, and thread 0 starts the others.
+    """
+    threads = sorted({int(text.split()[0]) for _, text in lines} - {0})
+    made = SmallLog(_version_2(header) + "".join(f"0 fork {t}\n" for t in threads))
+    made.positions += [-1] * len(threads)
+    for position, text in lines:
+        words = text.split()
+        if words[1] in ("rd", "wr"):
+            words[3] = "0"
+        made.text += " ".join(words) + "\n"
+        made.positions.append(position)
+    return made
 
 
 def _version_2(header: str) -> str:
@@ -182,30 +186,40 @@ def _version_2(header: str) -> str:
 
 def _asked(program: str, small: SmallLog, names: Optional[str], sites: Sites) -> List[Alarm]:
     """The alarms of a small log, at the positions of the whole one."""
-    with tempfile.NamedTemporaryFile("w", suffix=".log", delete=False) as written:
-        written.write(small.text)
+    return asked(program, small, names, Moved(small.positions, sites))
+
+
+def asked(program: str, small: SmallLog, names: Optional[str], moved: "Moved") -> List[Alarm]:
+    """The alarms of a small log; none where the checker does not answer."""
+    with tempfile.NamedTemporaryFile("w", suffix=".log", delete=False) as opened:
+        opened.write(small.text)
     try:
-        done = checker.asked(program, "audit", written.name, names, None)
+        done = checker.asked(program, "audit", opened.name, names, None)
         if done.why is not None:
             return []
-        moved = _Moved(small.positions, sites)
         return [moved.alarm(alarm) for alarm in answers.audit(done.out).alarms]
     except (NotAnAnswer, IndexError):
         return []
     finally:
-        os.unlink(written.name)
+        os.unlink(opened.name)
 
 
-class _Moved:
-    """Puts an alarm of a small log at the places of the whole one."""
+class Moved:
+    """Puts an alarm of a small log at the places of the whole one.
 
-    def __init__(self, positions: List[int], sites: Sites) -> None:
+    Where the small log has an order of its own its positions stay.
+    """
+
+    def __init__(self, positions: List[int], sites: Sites, in_order: bool = True) -> None:
         self._positions = positions
         self._sites = sites
+        self._in_order = in_order
 
     def step(self, step: Step) -> Step:
         position = self._positions[step.position]
         at, function = self._sites.at(position)
+        if not self._in_order:
+            return replace(step, at=at, function=function)
         return replace(step, position=position, line=position + 2, at=at, function=function)
 
     def block(self, block: OpenBlock) -> OpenBlock:

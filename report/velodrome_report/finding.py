@@ -6,7 +6,7 @@ import hashlib
 from dataclasses import dataclass, field, replace
 from typing import Dict, List, Optional, Sequence, Set, Tuple
 
-from . import choice, deadlocks
+from . import choice, deadlocks, racing
 from .answers import Alarm, End, OpenBlock, Step
 from .gap import Gap
 from .judge import Looked
@@ -61,7 +61,7 @@ def witness(run: str, alarm: Alarm, label: int, predicted: bool) -> Optional[Wit
             for first, second in alarm.cycle.edges
         ),
         transactions=tuple(_transaction(*ends) for ends in alarm.cycle.transactions),
-        blocks=tuple(_block(block) for block in alarm.blocks) if alarm.to_blame else (),
+        blocks=tuple(_block(block, alarm) for block in alarm.blocks) if alarm.to_blame else (),
     )
 
 
@@ -103,8 +103,19 @@ def _transaction(first: Step, last: Step) -> Transaction:
     )
 
 
-def _block(block: OpenBlock) -> Block:
-    return Block(block.label.word(), block.begin.position, block.begin.at)
+def _block(block: OpenBlock, alarm: Alarm) -> Block:
+    begin = block.begin
+    reasons = alarm.cycle.reasons if alarm.cycle is not None else ()
+    steps = [step for of, step in reasons if of.begin.position == begin.position]
+    by = _reason(steps[0]) if steps else None
+    return Block(block.label.word(), begin.position, begin.at, by)
+
+
+def _reason(step: Step) -> Event:
+    """The event that interrupts a block."""
+    return Event(
+        step.thread, step.action, step.target, step.position, step.at, at=step.at, interrupts=True
+    )
 
 
 # ---- functions over all runs
@@ -240,34 +251,49 @@ class Gathering:
 
     def _take_stale(self, looked: Looked) -> None:
         for one, audit in looked.stale:
-            alarm = audit.alarms[0]
-            label = alarm.blocks[0].label
-            made = witness(looked.run.name, alarm, label.number, False)
-            if made is None:
-                continue
-            name: str = one.function or label.word()
-            variables = [str(t) for t in made.targets() if t.kind is TargetKind.VARIABLE]
-            variable: str = one.variable or (variables[0] if variables else "a variable")
-            run = (looked.run.name,)
-            own = [event for event in made.events if not event.interrupts]
-            calls = [event.call for event in (*own[:1], *own[-1:])]
-            trait = GapTrait(
-                tier=0,
-                seen=True,
-                target=variable,
-                used_again=variable.startswith(HEAP) and None not in calls,
+            self._take_old_value(looked, audit.alarms[0], one.function, one.place, one.variable)
+        for gap, alarm in looked.racing:
+            function, place = _of_piece(looked, gap)
+            variable = looked.beside.variables.get(gap.variable)
+            self._take_old_value(looked, alarm, function, place, variable, could=True)
+
+    def _take_old_value(
+        self,
+        looked: Looked,
+        alarm: Alarm,
+        function: Optional[str],
+        place: Optional[Place],
+        variable: Optional[str],
+        could: bool = False,
+    ) -> None:
+        """A value that was written from an old one, or could be."""
+        label = alarm.blocks[0].label
+        made = witness(looked.run.name, alarm, label.number, could)
+        if made is None:
+            return
+        name = function or label.word()
+        told = [str(target) for target in made.targets() if target.kind is TargetKind.VARIABLE]
+        written = variable or (told[0] if told else "a variable")
+        run = (looked.run.name,)
+        own = [event for event in made.events if not event.interrupts]
+        calls = [event.call for event in (*own[:1], *own[-1:])]
+        trait = GapTrait(
+            tier=0,
+            seen=not could,
+            target=written,
+            used_again=written.startswith(HEAP) and None not in calls,
+        )
+        self._put(
+            Finding(
+                kind=Kind.STALE_WRITE,
+                id=identity(Kind.STALE_WRITE, name, written),
+                function=Function(name, name, place or alarm.blocks[0].begin.at),
+                seen=() if could else run,
+                possible=run,
+                witness=made,
+                traits=Traits(gap=trait, data=True),
             )
-            self._put(
-                Finding(
-                    kind=Kind.STALE_WRITE,
-                    id=identity(Kind.STALE_WRITE, name, variable),
-                    function=Function(name, name, one.place or alarm.blocks[0].begin.at),
-                    seen=run,
-                    possible=run,
-                    witness=made,
-                    traits=Traits(gap=trait, data=True),
-                )
-            )
+        )
 
     def _put(self, finding: Finding) -> None:
         known = self.others.get(finding.id)
@@ -313,6 +339,20 @@ def _finding(entry: Entry) -> Finding:
         counts=Counts(0, entry.to_blame),
         traits=Traits(entry.gap, entry.data, entry.all_variables),
     )
+
+
+def _of_piece(looked: Looked, gap: racing.Gap) -> Tuple[Optional[str], Optional[Place]]:
+    """The function that has both ends of a gap: its innermost block, or that of its lines."""
+    block = gap.block()
+    if block is None:
+        name = looked.sites.at(gap.before.position)[1]
+        loops = {function: place for function, place in looked.beside.notes.loops}
+        return name, loops.get(name or "")
+    label = racing.label_of(block)
+    described = looked.beside.functions.get(label)
+    if described is not None:
+        return described.name, described.place
+    return looked.beside.labels.get(label), None
 
 
 def _trait(gap: Gap, seen: bool, looked: Looked, counters: "frozenset[int]") -> GapTrait:

@@ -7,7 +7,7 @@ import tempfile
 from dataclasses import dataclass, field
 from typing import Any, Dict, List, Optional, Sequence, Set, Tuple
 
-from . import answers, beside, checker, closer, deadlocks, gaps, making
+from . import answers, beside, checker, closer, deadlocks, gaps, making, racing
 from .answers import Alarm, Audit, NotAnAnswer, Predictions
 from .beside import Beside, Stale, Wait
 from .gap import Scanned
@@ -24,6 +24,10 @@ STATES = {
     "unhooked": "has code that was not compiled by velodrome-cc",
 }
 MOST_OBJECTS = 4
+SETTINGS = (
+    *("STRATEGY", "PERIOD", "DEPTH", "STEPS", "SEIZE_MS"),
+    *("SITES", "VALUES", "MOST", "FORKS"),
+)
 WEAKENS = {
     "dropped": "variables or locks were too many to be looked at",
     "odd": "events do not fit together, and were left out",
@@ -61,6 +65,8 @@ class Looked:
     sites: Sites = field(default_factory=lambda: Sites(None, 0))
     waits: Tuple[Wait, ...] = ()
     stale: List[Tuple[Stale, Audit]] = field(default_factory=list)
+    # values that can be written from an old one, with the alarm of a run in which they are
+    racing: List[Tuple[racing.Gap, Alarm]] = field(default_factory=list)
     # the options of the checker that leave known things out
     leaving: Tuple[str, ...] = ()
     all_variables: bool = True
@@ -101,12 +107,20 @@ def _described(source: Source) -> Run:
         seed=_number(description.get("seed")),
         mode=description.get("mode") if isinstance(description.get("mode"), str) else None,
         noise=_number(description.get("noise")),
+        settings=_settings(description.get("environment")),
         ended=_ended(description),
     )
 
 
 def _number(value: Any) -> Optional[int]:
     return value if isinstance(value, int) and not isinstance(value, bool) else None
+
+
+def _settings(environment: Any) -> Dict[str, str]:
+    """The settings of the recorder that no option of velodrome-record has."""
+    given = environment if isinstance(environment, dict) else {}
+    names = [f"VELODROME_{name}" for name in SETTINGS]
+    return {name: str(given[name]) for name in names if given.get(name)}
 
 
 def _ended(description: Dict[str, Any]) -> Optional[str]:
@@ -229,7 +243,7 @@ def _ask(looked: Looked, asked: Asked) -> None:
     if asked.known is not None:
         looked.leaving = ("--ignore", asked.known.for_log(looked.beside.labels))
     leaving = looked.leaving
-    done = checker.asked(program, "audit", log, names, sites, leaving)
+    done = checker.audited(program, log, names, sites, leaving)
     if done.why is not None:
         looked.run.reasons += (f"the checker refused the log: {done.why}",)
         _scan(looked, set())
@@ -248,6 +262,10 @@ def _ask(looked: Looked, asked: Asked) -> None:
     closer.look(looked.closer, looked.scanned, program, log, names, looked.sites, _left_out(looked))
     for one in looked.beside.notes.stale:
         _ask_about_stale(looked, program, one)
+    for gap in racing.scan(log, looked.beside.notes.racing, looked.sites):
+        alarm = racing.alarm(gap, program, log, names, looked.sites, _left_out(looked))
+        if alarm is not None:
+            looked.racing.append((gap, alarm))
 
 
 def _ask_about_stale(looked: Looked, program: str, one: Stale) -> None:
@@ -327,7 +345,7 @@ def _judge_what_was_seen(looked: Looked) -> None:
     unnamed = [label for label in scanned.calls if label not in labels]
     if labels and unnamed:
         run.reasons += (f"{looked.beside.names} is of another log: it lacks a name",)
-    elif not run.calls and not looked.stale:
+    elif not run.calls and not looked.stale and not looked.racing:
         run.reasons += (_no_function(looked),)
     elif run.threads == 1 and not looked.stale:
         run.reasons += ("only one thread ran, so nothing could be interrupted",)

@@ -157,11 +157,27 @@ class Transaction:
 
 @dataclass(frozen=True)
 class Block:
-    """A block to blame: its function, where it was called, the position of its begin."""
+    """A block to blame: its function, where it was called, the position of its begin.
+
+    `interrupted_by` is an event that is between its begin and its end in every order.
+    """
 
     function: str
     begin: int
     called_at: Optional[Place] = None
+    interrupted_by: Optional[Event] = None
+
+
+@dataclass(frozen=True)
+class Touched:
+    """A variable that both sides of an edge by a lock touch under this lock, one of them writing.
+
+    `edge` is the place of the edge in its witness, from 0 on; `before` comes before `after`.
+    """
+
+    edge: int
+    before: Event
+    after: Event
 
 
 @dataclass(frozen=True)
@@ -170,7 +186,8 @@ class Witness:
 
     `edges` are pairs of places in `events`, from 0 on: the first one collides with the second
     one and comes before it. Of a deadlock each thread has what it holds and what it waits for,
-    and an edge leads from a wait to the hold that it waits for.
+    and an edge leads from a wait to the hold that it waits for. Else edge N leads from
+    transaction N to the next one, and the last edge to the first transaction.
     """
 
     run: str
@@ -179,6 +196,7 @@ class Witness:
     edges: Tuple[Tuple[int, int], ...] = ()
     transactions: Tuple[Transaction, ...] = ()
     blocks: Tuple[Block, ...] = ()
+    touched: Tuple[Touched, ...] = ()
 
     def threads(self) -> Tuple[Thread, ...]:
         """The threads of the events, by number."""
@@ -290,6 +308,8 @@ class Run:
     seed: Optional[int] = None
     mode: Optional[str] = None
     noise: Optional[int] = None
+    # what else of the environment changes what the recorder does with a program
+    settings: Dict[str, str] = field(default_factory=dict)
     # how it ended, as `exit 0` or `signal 11`; None where nothing says so
     ended: Optional[str] = None
     looked_at: bool = False
@@ -340,6 +360,14 @@ class Report:
     def calls(self) -> int:
         """How many calls of these functions were looked at."""
         return sum(sum(run.calls.values()) for run in self.looked_at())
+
+    def seen_in(self, run: Run) -> List[Finding]:
+        """The findings that were seen in a run, in their order."""
+        return [finding for finding in self.findings if run.name in finding.seen]
+
+    def atomic(self) -> int:
+        """How many runs were looked at, and nothing was seen in them."""
+        return sum(not self.seen_in(run) for run in self.looked_at())
 
     def in_section(self, section: Section) -> List[Finding]:
         """The findings of one section, in their order."""

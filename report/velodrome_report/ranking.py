@@ -13,6 +13,8 @@ SAID = {
     LOOKED_AT_AGAIN: "is read, and later read again and written",
 }
 
+UNORDERED = "no lock is held, and nothing orders the other thread's write: it can come in between"
+
 
 def by_design(finding: Finding) -> Optional[str]:
     """Why a finding is probably no mistake, None if it may be one."""
@@ -39,6 +41,8 @@ def by_design(finding: Finding) -> Optional[str]:
 def why(finding: Finding) -> str:
     """What is wrong, in a few words; empty where the events say it."""
     gap = finding.traits.gap
+    if finding.kind is Kind.STALE_WRITE and not finding.seen:
+        return UNORDERED
     if finding.kind is not Kind.NOT_ATOMIC or gap is None or gap.tier not in SAID:
         return ""
     targets = finding.witness.targets()

@@ -27,6 +27,8 @@ class Settings:
     colours: bool = False
     by_count: bool = False
     innermost: bool = False
+    # each run on a line of its own, behind the list
+    runs: bool = False
     explain: Optional[Finding] = None
     finding: Optional[Finding] = None
     sources: Sources = Sources()
@@ -68,7 +70,7 @@ def _dot(report: Report, settings: Settings) -> str:
 
 
 def _text(report: Report, settings: Settings) -> str:
-    return text.write(report, settings.width, settings.colours, settings.explain)
+    return text.write(report, settings.width, settings.colours, settings.explain, settings.runs)
 
 
 # what --format takes

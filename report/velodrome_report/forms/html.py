@@ -7,7 +7,7 @@ from typing import List, Sequence
 
 from ..model import Event, Finding, Place, Report, Section
 from ..source import Sources
-from . import lanes, svg, words
+from . import lanes, story, svg, words
 from .characters import xml
 
 HERE = pathlib.Path(__file__).parent
@@ -58,7 +58,19 @@ def _header(report: Report) -> str:
     if report.known:
         names = ", ".join(_isolated(words.name(name)) for name in report.known)
         out += f'<p class="muted">Known, and left out: {names}</p>\n'
-    return out + "</header>\n"
+    return out + _every_run(report) + "</header>\n"
+
+
+def _every_run(report: Report) -> str:
+    """Each run: its seed, how it ended, what was seen in it."""
+    if not report.runs:
+        return ""
+    rows = "".join(
+        f"<tr>{''.join(f'<td>{_isolated(cell)}</td>' for cell in row)}</tr>\n"
+        for row in words.runs(report)
+    )
+    told = words.of_runs(report) or words.plural(len(report.runs), "run")
+    return f"<details>\n<summary>{xml(told)}</summary>\n<table>\n{rows}</table>\n</details>\n"
 
 
 def _navigation(report: Report) -> str:
@@ -112,8 +124,17 @@ def _article(number: int, finding: Finding, report: Report, sources: Sources) ->
     if finding.repeat:
         out += f"<h3>To repeat</h3>\n<pre>{xml(finding.repeat)}</pre>\n"
     out += f"<h3>Thread by thread</h3>\n<figure>\n{svg.within_page(lanes.of(finding, report))}</figure>\n"
-    out += _excerpts(finding, sources) + _stacks(finding.witness.events, report)
+    out += _story(finding) + _excerpts(finding, sources) + _stacks(finding.witness.events, report)
     return out + f"{_runs(finding)}</article>\n"
+
+
+def _story(finding: Finding) -> str:
+    """The cycle in words."""
+    lines = story.told(finding)
+    if not lines:
+        return ""
+    text = "\n".join(xml(line) for line in lines)
+    return f"<details>\n<summary>In words</summary>\n<pre>{text}</pre>\n</details>\n"
 
 
 def _events(finding: Finding) -> str:
@@ -161,7 +182,8 @@ def _excerpts(finding: Finding, sources: Sources) -> str:
     for place in [finding.place, *(event.place for event in finding.witness.events)]:
         if isinstance(place, Place) and place.line:
             wanted.setdefault(place.file, set()).add(place.line)
-    out = "".join(_excerpt(file, lines, sources.lines(file)) for file, lines in wanted.items())
+    run = finding.witness.run
+    out = "".join(_excerpt(file, lines, sources.lines(file, run)) for file, lines in wanted.items())
     return f"<h3>Source</h3>\n{out}" if out else ""
 
 

@@ -17,6 +17,7 @@ LEAST_FENCE = 3
 def write(report: Report) -> str:
     """Returns a heading for each section, one for each finding, and its events as they are."""
     out = f"# velodrome-report\n\n{_plain(words.outcome(report))}\n"
+    out += f"\n{_plain(words.of_runs(report))}\n" if words.of_runs(report) else ""
     out += "".join(f"\n**Warning:** {_plain(text)}\n" for text in words.warned(report))
     out += "".join(f"\n**Not looked at:** {_plain(text)}\n" for text in words.unsaid(report))
     for section in Section:

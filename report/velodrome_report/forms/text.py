@@ -3,11 +3,11 @@
 from __future__ import annotations
 
 import textwrap
-from typing import Dict, List, Optional, Sequence, Set
+from typing import Dict, List, Optional, Sequence, Set, Tuple
 
 from ..model import Event, Finding, Kind, Place, Report, Section
-from . import words
-from .characters import columns_of, shortened, shortened_at_end, visible
+from . import story, words
+from .characters import columns_of, shortened, shortened_at_end, visible, wrapped
 from .colours import Colours
 
 NARROWEST = 40
@@ -42,8 +42,30 @@ class Text:
         notes += self._hints("not looked at", words.unsaid(self.report))
         if notes:
             parts.append("\n".join(notes))
-        parts.append(self._wrapped(self.outcome(), ""))
+        ending = [self._wrapped(self.outcome(), "")]
+        if words.of_runs(self.report):
+            ending.append(self._wrapped(words.of_runs(self.report), ""))
+        parts.append("\n".join(ending))
         return "\n\n".join(parts) + "\n"
+
+    def runs(self) -> str:
+        """Each run on a line: how it ended, and what was seen in it."""
+        table = words.runs(self.report)
+        most = max(self.width // 2, NARROWEST // 2)
+        heads = [[shortened(cell, most) for cell in row[:-1]] for row in table]
+        widths = [max(map(columns_of, column)) for column in zip(*heads)]
+        before = sum(width + GAP for width in widths if width)
+        lines: List[str] = []
+        for head, row in zip(heads, table):
+            padded = [
+                cell + " " * (width - columns_of(cell) + GAP)
+                for cell, width in zip(head, widths)
+                if width
+            ]
+            told = wrapped(row[-1], max(self.width - before, LEAST_SOURCE))
+            lines.append("".join(padded) + told[0])
+            lines += [" " * before + line for line in told[1:]]
+        return "".join(f"{line}\n" for line in lines)
 
     def outcome(self) -> str:
         """What was looked at, and how much was found."""
@@ -153,7 +175,10 @@ class Text:
             lines += self._indented(one.why)
         if words.counted(one):
             lines += self._indented(words.counted(one))
-        lines += ["", *self.rows(one), "", *self.lanes(one), "", *self.stacks(one)]
+        lines += ["", *self.rows(one), "", *self.lanes(one), ""]
+        story = self.story(one)
+        lines += [*story, ""] if story else []
+        lines += self.stacks(one)
         lines += ["", *self._runs("seen in", one.seen)]
         rest = [run for run in one.possible if run not in one.seen]
         lines += self._runs("possible in", rest)
@@ -179,10 +204,36 @@ class Text:
             padded = text + " " * (room - columns_of(text))
             heads.append(self.colours.thread(thread.number, padded))
         lines = ["    " + "  ".join(heads).rstrip()]
-        for event in one.witness.events:
-            before = " " * (MARGIN + lane[event.thread.number] * (room + GAP))
-            text = self.does(event, room)
-            lines.append(before + self.colours.thread(event.thread.number, text))
+        for number, text in self._in_time(one, room):
+            before = " " * (MARGIN + lane[number] * (room + GAP))
+            lines.append(before + self.colours.thread(number, text))
+        return lines
+
+    def _in_time(self, one: Finding, room: int) -> List[Tuple[int, str]]:
+        """What each thread does, in the order of time: transactions begin, events happen."""
+        witness = one.witness
+        placed: List[Tuple[int, int, int, str]] = []
+        alone: Dict[int, str] = {}
+        for transaction in witness.transactions:
+            number = story.number_of(witness, transaction)
+            if transaction.function is None:
+                alone[transaction.first] = f"{number} "
+            else:
+                text = shortened(visible(f"{number} {transaction.function}"), room)
+                placed.append((transaction.first, 0, transaction.thread.number, text))
+        for event in witness.events:
+            number = alone.get(event.position, "")
+            text = number + self.does(event, room - len(number))
+            placed.append((event.position, 1, event.thread.number, text))
+        return [(thread, text) for _, _, thread, text in sorted(placed, key=lambda row: row[:2])]
+
+    def story(self, one: Finding) -> List[str]:
+        """The cycle in words."""
+        lines: List[str] = []
+        for line in story.told(one, self.place):
+            indent = MARGIN + len(line) - len(line.lstrip())
+            first, *rest = wrapped(line, self.width - indent - GAP)
+            lines += [" " * indent + first, *(" " * (indent + GAP) + more for more in rest)]
         return lines
 
     def stacks(self, one: Finding) -> List[str]:
@@ -246,10 +297,14 @@ class Text:
         return shortened_at_end(line, self.width)
 
 
-def write(report: Report, width: int, colours: bool, explain: Optional[Finding]) -> str:
-    """The list, or one finding in full."""
+def write(
+    report: Report, width: int, colours: bool, explain: Optional[Finding], runs: bool = False
+) -> str:
+    """The list, with each run where `runs` says so, or one finding in full."""
     text = Text(report, width, colours)
-    return text.whole() if explain is None else text.explained(explain)
+    if explain is not None:
+        return text.explained(explain)
+    return text.whole() + (f"\n{text.runs()}" if runs and report.runs else "")
 
 
 def _short_files(report: Report) -> Dict[str, str]:

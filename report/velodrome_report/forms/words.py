@@ -61,7 +61,8 @@ def claim(finding: Finding, room: int = NAME_ROOM) -> str:
         return f"{function} is not atomic"
     if finding.kind is Kind.STALE_WRITE:
         function = name(finding.function.short, room // 2)
-        return f"{function}: {name(_written(finding), room // 2)} is written from an old value"
+        can = "is" if finding.seen else "can be"
+        return f"{function}: {name(_written(finding), room // 2)} {can} written from an old value"
     if finding.kind is Kind.DEADLOCK:
         return f"deadlock: {_threads(finding)} wait for each other"
     return f"deadlock possible: {_threads(finding)} can wait for each other"
@@ -140,6 +141,51 @@ def outcome(report: Report) -> str:
     if report.findings:
         return f"{looked}: {plural(len(report.findings), 'finding')}"
     return f"{looked}: no mistake found" if report.looked_at() else looked
+
+
+def of_runs(report: Report) -> str:
+    """Returns of how many runs nothing was seen in, and how they ended; nothing where the list says it all."""
+    if len(report.runs) < 2 and all(run.ended in (None, "exit 0") for run in report.runs):
+        return ""
+    many = f"{report.atomic():,} of {plural(len(report.runs), 'run')} atomic"
+    endings = [run.ended for run in report.runs if run.ended is not None]
+    if not endings:
+        return many
+    times = [(endings.count(one), one) for one in dict.fromkeys(endings)]
+    told = [f"{one} ({count:,})" if len(times) > 1 else one for count, one in times]
+    return f"{many}; ended with {listed(told)}"
+
+
+# so many functions are named of a run
+MOST_NAMED = 3
+
+
+def verdict(run: Run, report: Report) -> str:
+    """Returns what was seen in a run, or why nothing can be said of it."""
+    seen = report.seen_in(run)
+    told = [KIND_IN_WORDS[kind] for kind in dict.fromkeys(one.kind for one in seen)]
+    if Kind.NOT_ATOMIC in [one.kind for one in seen]:
+        names = [name(one.function.short) for one in seen if one.kind is Kind.NOT_ATOMIC]
+        more = len(names) - MOST_NAMED
+        shown = names[:MOST_NAMED] + ([f"{more:,} more"] if more > 0 else [])
+        place = told.index(KIND_IN_WORDS[Kind.NOT_ATOMIC])
+        told[place] = f"{told[place]}: {listed(shown)}"
+    if not run.looked_at:
+        told.append(f"not looked at: {visible('; '.join(run.reasons) or UNSAID)}")
+    return "; ".join(told) or "atomic"
+
+
+def runs(report: Report) -> List[List[str]]:
+    """Returns of each run its name, its seed, how it ended, and what was seen in it."""
+    return [
+        [
+            name(run.name),
+            "" if run.seed is None else f"seed {run.seed}",
+            visible(run.ended or ""),
+            verdict(run, report),
+        ]
+        for run in report.runs
+    ]
 
 
 def unsaid(report: Report) -> List[str]:
