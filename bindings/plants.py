@@ -59,15 +59,84 @@ PLANTS = [
         {"session": ["tasks_are_themselves"], "python": ["test_lost_update_between_tasks"]},
     ),
     Plant(
-        "a block within a block of a task is another thread",
-        PYTHON,
+        "a block of a generator is of its runner",
+        EXTENSION,
         [
             (
-                "return await (body if _is_watched() else _Itself(body))",
-                "return await _Itself(body)",
+                "suspends = c && c->suspends && !through;",
+                "suspends = false;",
             ),
         ],
-        {"python": ["test_blocks_of_a_task_nest"]},
+        {"python": ["test_a_block_of_a_suspended_generator_is_no_block_of_its_consumer"]},
+    ),
+    Plant(
+        "a block of a context manager is of its generator",
+        EXTENSION,
+        [
+            (
+                "through = o && o->enters;",
+                "(void)o;",
+            ),
+        ],
+        {"python": ["test_a_context_managers_block_is_of_its_with_statement"]},
+    ),
+    Plant(
+        "tasks are one thread",
+        EXTENSION,
+        [
+            (
+                "PyObject *object = task_here();",
+                "PyObject *object = NULL;",
+            ),
+        ],
+        {"python": ["test_lost_update_between_tasks", "test_a_task_that_is_collected"]},
+    ),
+    Plant(
+        "futures are one thread",
+        "rust/velodrome/src/session.rs",
+        [
+            (
+                "let _before = Before(unsafe { sys::vs_switch(self.0) });",
+                "let _before = Before(null_mut());",
+            ),
+        ],
+        {"rust": ["futures_of_one_thread"]},
+    ),
+    Plant(
+        "instances that share their dict are two",
+        EXTENSION,
+        [
+            (
+                "bool shared = Py_REFCNT(dict) > 2;",
+                "bool shared = false;",
+            ),
+        ],
+        {"python": ["test_instances_that_share_their_dict"]},
+    ),
+    Plant(
+        "the locks of the standard library are the program's",
+        EXTENSION,
+        [
+            (
+                "bool is = c && c->library;",
+                "bool is = false;",
+            ),
+        ],
+        {"python": ["test_locks_of_the_library"]},
+    ),
+    Plant(
+        "nothing was recorded, and it is clean",
+        SESSION,
+        [
+            (
+                "else if (over && !s->earlier && !s->events)",
+                "else if (false)",
+            ),
+        ],
+        {
+            "rust": ["a_run_of_which_nothing_is_recorded"],
+            "python": ["test_nothing_was_recorded"],
+        },
     ),
     Plant(
         "two objects of a name are one",
@@ -134,9 +203,8 @@ PLANTS = [
         EXTENSION,
         [
             (
-                'if (!number_of(events, "events", 16777216, &e) || !number_of(noise, "noise", UINT32_MAX, &n)) return NULL;',
-                "e = PyLong_Check(events) ? PyLong_AsUnsignedLongLongMask(events) : e;\n"
-                '    if (!number_of(noise, "noise", UINT32_MAX, &n)) return NULL;',
+                'if (!number_of(events, "events", 16777216, &e) ||',
+                "e = PyLong_AsUnsignedLongLongMask(events);\n    if (PyErr_Occurred() ||",
             ),
         ],
         {"python": ["test_numbers_are_not_cut"]},
@@ -414,8 +482,8 @@ PLANTS = [
         EXTENSION,
         [
             (
-                "    if (self->label) vs_end();\n    Py_RETURN_NONE;",
-                "    if (self->label) vs_end();\n"
+                "        self->unseen--;\n    Py_RETURN_NONE;",
+                "        self->unseen--;\n"
                 '    if (vs_so_far(vs_current()) == VS_INCOMPLETE) return PyErr_SetString(PyExc_RuntimeError, "refused"), '
                 "NULL;\n"
                 "    Py_RETURN_NONE;",

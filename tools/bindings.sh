@@ -263,8 +263,8 @@ if wants examples && have cmake; then
         step "examples: $language, careless: repeated until it fails" says 'not atomic: deposit_carelessly' in_time "${repeated[@]}" -R '[Cc]areless'
         step "examples: $language, its log is kept" kept "$build_folder"/*[Cc]areless.vlog
         incomplete=(env VELODROME_EVENTS=2 ctest --test-dir "$build_folder" --verbose -R '[Cc]areful')
-        step "examples: $language, incomplete: a warning" warns 'too many events while a block was open' "${incomplete[@]}"
-        step "examples: $language, incomplete, with VELODROME_INCOMPLETE=fail" says 'too many events while a block was open' env VELODROME_INCOMPLETE=fail "${incomplete[@]}"
+        step "examples: $language, incomplete: it fails" says 'too many events while a block was open' "${incomplete[@]}"
+        step "examples: $language, incomplete, with VELODROME_INCOMPLETE=warn" warns 'too many events while a block was open' env VELODROME_INCOMPLETE=warn "${incomplete[@]}"
     done
     if [ -x "$out/build_cpp/bank_test" ]; then
         rm -rf "$out/embedding"

@@ -3,23 +3,36 @@
 #define _GNU_SOURCE
 #include "velodrome_session.h"
 #include "velodrome.h"
+#include <elf.h>
 #include <errno.h>
+#include <link.h>
 #include <pthread.h>
 #include <stdarg.h>
 #include <stdatomic.h>
 #include <stdio.h>
 #include <stdlib.h>
 #include <string.h>
+#include <sys/stat.h>
 #include <time.h>
 #include <unistd.h>
 #define SLOTS 256 /* sessions at a time */
 #define SEATS 4   /* sessions that one thread acts in at a time */
 #define DEPTH 32  /* blocks that are told; the outermost decide */
 #define THREADS VELODROME_MAX_THREADS
+#define VARIABLES (VELODROME_MAX_VARIABLES - THREADS) /* the rest are starts and ends of threads   \
+                                                       */
+#define PATH_BYTES 900
+#define NAME_ROOM 256
 #define NAME_BYTES 150 /* with a kind, a line and an ordinal it fits a names file */
 #define NUMBER_BITS 20 /* of a tag; the rest is the epoch */
 #define NOT_TOLD UINT32_MAX
-#define SPINS 20 /* looks at a lock that another thread has, before sleeping */
+#define IGNORED ((1u << NUMBER_BITS) - 1) /* the number of all that is left out */
+#define REUSED_FROM (THREADS * 3 / 4)     /* so many numbers are given before one is given again */
+#define ENDS 256         /* ends of blocks by others that are kept for their owners */
+#define PENDING 8        /* locks that std::lock takes at a time */
+#define WAITED 100000    /* nanoseconds between two looks of who waits for room */
+#define MOST_WAITS 10000 /* looks: a second */
+#define SPINS 20         /* looks at a lock that another thread has, before sleeping */
 #define FIRST_SLEEP                                                                                \
     50000 /* nanoseconds; each is twice as long as the one before, up to the longest */
 #define LONGEST_SLEEP 400000
@@ -61,10 +74,30 @@ typedef struct hold {
                      since; else 0 */
 } hold;
 
+/* A number of this piece of the run. A thread that was joined is no longer there, and its number
+ * may be that of another one which the same thread starts. */
 typedef struct thread {
-    uint64_t who;
-    bool joined;
+    uint64_t who;     /* 0: nobody */
+    uint64_t actor;   /* whose blocks these are */
+    uint64_t system;  /* the thread of the system that began its outermost block */
+    uint64_t deepest; /* the innermost of its blocks that were told; 0: none is open */
+    uint32_t locks;   /* that it holds */
+    uint8_t joiner;   /* who joined it */
+    bool ended, joined;
+    bool lived; /* its start or its end was told by its variable */
 } thread;
+
+typedef struct ignored {
+    vs_named kind;
+    char *pattern;
+} ignored;
+
+/* A place in the source, by a copy: what it came from may be unloaded. */
+typedef struct placed {
+    const char *file; /* to find it again, and never read */
+    uint32_t line;
+    char *path;
+} placed;
 
 /* What is said of an alarm. */
 typedef struct finding {
@@ -85,7 +118,8 @@ typedef struct slot {
     _Atomic bool slow;    /* noise is wanted, or it is crowded: events may have to wait */
     _Atomic bool crowded; /* it can only be cut once the open blocks have ended */
     _Atomic bool in_hook;
-    _Atomic bool missed; /* an event, since its lock could not be had */
+    _Atomic bool missed;       /* an event, since its lock could not be had */
+    _Atomic uint64_t left_out; /* calls of signal handlers */
     _Atomic uint32_t noise;
     void (*_Atomic wait)(uint32_t nanoseconds);
     bool abandoned; /* it was in use when this process was forked */
@@ -95,7 +129,8 @@ typedef struct slot {
     uint64_t earlier;            /* events of the pieces before */
     uint16_t variables, locks;
     uint64_t born, seed;
-    uint32_t open; /* blocks: a cut is made where it is 0 */
+    uint32_t open;  /* threads in a block: a cut is made where it is 0 */
+    uint64_t since; /* the blocks that began from there on are its own */
     vs_session outer, outer_everywhere;
 
     thread thread[THREADS];
@@ -105,12 +140,16 @@ typedef struct slot {
     uint32_t holds_room;
     word *words;
     uint32_t word_count, word_room, *word_table, table_room;
-    vs_place *places; /* each place once; the first is none */
+    placed *places; /* each place once; the first is none */
     uint32_t place_count, place_room, *place_table, place_table_room;
     uint32_t *event_place; /* by position; nothing from event_places on */
     uint32_t event_places, event_room;
 
-    char why[160]; /* it stopped; empty: it did not */
+    ignored *ignored; /* what is left out by its name */
+    uint32_t ignored_count, ignored_room;
+
+    char why[200];   /* it stopped; empty: it did not */
+    char doubt[200]; /* why the alarm may be none; empty: it is one */
     bool alarmed;
     char *report;
     finding *found; /* not yet handed to the hook */
@@ -127,27 +166,64 @@ uint32_t vs_recording;
 
 typedef struct seat {
     slot *in;
-    uint64_t id, who, epoch, random, waited;
+    uint64_t id, since, who, epoch, random, waited;
+    uint32_t told; /* a bit for each of its blocks: it is in the log */
     uint8_t number;
-    int told; /* how many of its blocks */
+    int done; /* how many of its blocks were looked at */
 } seat;
 
+/* A block that is open. */
+typedef struct open_block {
+    vs_object *label;
+    uint64_t nth;   /* of all that its owner began */
+    uint64_t since; /* how many sessions had been opened */
+} open_block;
+
 struct vs_self {
+    uint64_t id; /* a number that is never used again; 0: it had no block yet */
     uint64_t current;
     seat seat[SEATS];
     int recent, depth;
-    vs_object *label[DEPTH];
+    uint64_t nth;    /* of the block that began last */
+    uint64_t seen;   /* ends by others */
+    uint64_t looked; /* how many sessions there were at its last look */
+    uint64_t left_from, left_to,
+        left_since; /* blocks that were still open when an outer one ended */
+    open_block block[DEPTH];
+    struct {
+        vs_object *lock;
+        vs_place place;
+    } pending[PENDING]; /* locks that it took, and has not told of */
+    int pendings;
+    bool tried; /* since then a try failed */
 };
 
 static _Thread_local struct {
     struct vs_self itself;
     struct vs_self *acting; /* NULL: the thread itself */
     uint64_t hooking;       /* the session whose hook this thread is in */
+    uint64_t system;        /* a number of this thread that is never used again */
     int slots;              /* that it keeps */
+    volatile bool inside;   /* a call */
 } mine;
 HOT struct vs_self *self(void) {
     return mine.acting ? mine.acting : &mine.itself;
 }
+
+static uint64_t new_identity(void) {
+    static _Atomic uint64_t last;
+    return atomic_fetch_add_explicit(&last, 1, memory_order_relaxed) + 1;
+}
+
+static uint64_t this_system_thread(void) {
+    if (!mine.system)
+        mine.system = new_identity();
+    return mine.system;
+}
+
+static _Atomic uint64_t openings;            /* how many sessions were opened */
+static _Atomic uint64_t opened_since[SLOTS]; /* that number, of each that is open; else 0 */
+static _Atomic uint32_t crowds;              /* how many of them are crowded */
 
 /* ---- slots and tags */
 
@@ -183,6 +259,53 @@ HOT uint64_t epoch(slot *s) {
 static bool is_of(slot *s, uint64_t tag) {
     uint64_t id = atomic_load_explicit(&s->id, memory_order_relaxed);
     return tag && id && slot_of(epoch_of(tag)) == s && epoch_of(tag) >= id;
+}
+
+/* ---- calls: a signal handler that comes while its thread is in one is left out, and counted */
+
+COLD void leave_out(void) {
+    uint64_t id = self()->current, all = atomic_load_explicit(&everywhere, memory_order_relaxed);
+    if (!is_open(id))
+        id = all;
+    if (is_open(id))
+        atomic_fetch_add_explicit(&slot_of(id)->left_out, 1, memory_order_relaxed);
+}
+
+HOT bool come_in(void) {
+    if (mine.inside) {
+        leave_out();
+        return false;
+    }
+    mine.inside = true;
+    atomic_signal_fence(memory_order_seq_cst);
+    return true;
+}
+
+HOT void go_out(void) {
+    atomic_signal_fence(memory_order_seq_cst);
+    mine.inside = false;
+}
+
+/* The program's own code runs from here on; returns what comes back. */
+static bool step_out(void) {
+    bool inside = mine.inside;
+    atomic_signal_fence(memory_order_seq_cst);
+    mine.inside = false;
+    return inside;
+}
+
+static void step_in(bool inside) {
+    mine.inside = inside;
+    atomic_signal_fence(memory_order_seq_cst);
+}
+
+/* Nobody is cancelled in a wait of ours. */
+static void sleep_for(uint32_t nanoseconds) {
+    int state;
+    struct timespec time = {nanoseconds / 1000000000, nanoseconds % 1000000000};
+    pthread_setcancelstate(PTHREAD_CANCEL_DISABLE, &state);
+    nanosleep(&time, NULL);
+    pthread_setcancelstate(state, &state);
 }
 
 static void end_recording(slot *s) {
@@ -221,15 +344,15 @@ static bool lock_soon(slot *s) {
 
 /* False where it was not to be had in so many nanoseconds; 0: it waits for it. */
 COLD bool lock_slowly(slot *s, uint64_t most) {
-    struct timespec sleep = {0, FIRST_SLEEP};
+    uint32_t sleep = FIRST_SLEEP;
     uint64_t slept = 0;
     int errno_before = errno;
     bool had;
     while (!(had = lock_soon(s)) && (!most || slept < most)) {
-        if (nanosleep(&sleep, NULL) == 0)
-            slept += (uint64_t)sleep.tv_nsec;
-        if (sleep.tv_nsec < LONGEST_SLEEP)
-            sleep.tv_nsec *= 2;
+        sleep_for(sleep);
+        slept += sleep;
+        if (sleep < LONGEST_SLEEP)
+            sleep *= 2;
     }
     errno = errno_before;
     return had;
@@ -250,9 +373,11 @@ HOT bool keep(slot *s) {
 }
 
 COLD void call_hook(slot *s, finding *found) {
+    bool inside = step_out();
     mine.hooking = found->alarm.session;
     found->hook(found->data, &found->alarm);
     mine.hooking = 0;
+    step_in(inside);
     s->in_hook = false;
     for (int i = 0; i < 2; i++)
         for (int k = 0; k < 3; k++)
@@ -317,27 +442,80 @@ static bool has_room(void *list, uint32_t *room, uint32_t count, size_t each) {
 
 /* ---- names */
 
-/* One line of a names file: no control characters, no character cut in two. */
+/* How many bytes the character at the front of the text has; 0: it is none of UTF-8. */
+static size_t character(const unsigned char *text) {
+    size_t bytes = *text < 0x80                    ? 1
+                   : *text >= 0xc2 && *text < 0xe0 ? 2
+                   : *text >= 0xe0 && *text < 0xf0 ? 3
+                   : *text >= 0xf0 && *text < 0xf5 ? 4
+                                                   : 0;
+    for (size_t i = 1; i < bytes; i++)
+        if ((text[i] & 0xc0) != 0x80)
+            return 0;
+    if ((*text == 0xe0 && text[1] < 0xa0) || (*text == 0xed && text[1] > 0x9f) ||
+        (*text == 0xf0 && text[1] < 0x90) || (*text == 0xf4 && text[1] > 0x8f))
+        return 0; /* longer than it need be, half of a pair, or beyond the last one */
+    return bytes;
+}
+
+/* One line of a names file: a space for a control character of ASCII, and what else it may not have
+ * escaped; no character is cut in two. */
 static size_t cleaned(const char *name, char *text) {
     size_t n = 0;
-    for (; name[n] && n < NAME_BYTES; n++)
-        text[n] = (unsigned char)name[n] < 32 || name[n] == 127 ? ' ' : name[n];
-    while (n && name[n] && ((unsigned char)name[n] & 0xc0) == 0x80)
-        n--;
+    for (const unsigned char *c = (const unsigned char *)name; *c;) {
+        char part[8];
+        size_t bytes = character(c), length = bytes;
+        if (*c < 32 || *c == 127)
+            length = (size_t)sprintf(part, " ");
+        else if (!bytes)
+            length = (size_t)sprintf(part, "\\x%02x", *c);
+        else if (*c == 0xc2 && c[1] < 0xa0)
+            length = (size_t)sprintf(part, "\\u00%02x", c[1]);
+        else
+            memcpy(part, c, bytes);
+        if (n + length > NAME_BYTES)
+            break;
+        memcpy(text + n, part, length);
+        n += length;
+        c += bytes ? bytes : 1;
+    }
     text[n] = 0;
     return n;
 }
 
-/* The name of an object, or where it was declared. */
-static size_t name_of(const vs_object *o, const char *kind, char *text) {
+/* A name that ends as that of a second object would, such as "x #2", is told apart from it. */
+static size_t with_ordinal_escaped(char *text, size_t n) {
+    size_t digits = n;
+    while (digits && text[digits - 1] >= '0' && text[digits - 1] <= '9')
+        digits--;
+    if (digits == n || digits < 2 || text[digits - 1] != '#' || text[digits - 2] != ' ')
+        return n;
+    memmove(text + digits, text + digits - 1, n - digits + 2);
+    text[digits - 1] = '\\';
+    return n + 1;
+}
+
+static const char *after_last_slash(const char *path) {
+    const char *slash = strrchr(path, '/');
+    return slash ? slash + 1 : path;
+}
+
+/* Whether it is a file of the language's library: so an element of a container was made there. */
+static bool is_of_library(const char *path) {
+    return strstr(path, "/include/c++/") || strstr(path, "/c++/v1/");
+}
+
+/* The name of an object; else where it was declared, or, of an element, where it was first used. */
+static size_t name_of(const vs_object *o, const char *kind, const vs_place *place, char *text) {
+    char file[NAME_ROOM];
     if (!o->name || !*o->name)
         return (size_t)sprintf(text, "unnamed %s", kind);
     if (!o->line)
-        return cleaned(o->name, text);
-    const char *slash = strrchr(o->name, '/');
-    size_t n = (size_t)sprintf(text, "%s at ", kind);
-    n += cleaned(slash ? slash + 1 : o->name, text + n);
-    return n + (size_t)sprintf(text + n, ":%llu", (unsigned long long)o->line);
+        return with_ordinal_escaped(text, cleaned(o->name, text));
+    bool is_element = place && place->file && !place->file_bytes && is_of_library(o->name);
+    cleaned(after_last_slash(is_element ? place->file : o->name), file);
+    return (size_t)sprintf(text, is_element ? "%s used at %s:%llu" : "%s at %s:%llu", kind, file,
+                           (unsigned long long)(is_element ? place->line : o->line));
 }
 
 static uint32_t hash_of(const char *text) {
@@ -387,12 +565,6 @@ static word *word_with(slot *s, const char *text, size_t bytes) {
     return &s->words[*place - 1];
 }
 
-static word *word_of(slot *s, const vs_object *o, const char *kind) {
-    char text[256];
-    size_t bytes = name_of(o, kind, text);
-    return word_with(s, text, bytes);
-}
-
 static bool add_name(slot *s, names *list, word *w, uint32_t nth) {
     if (!has_room(&list->at, &list->room, list->count, sizeof *list->at))
         return false;
@@ -420,14 +592,120 @@ static void put_names(FILE *f, slot *s, const char *kind, names *list) {
     }
 }
 
+/* ---- what is left out by its name */
+
+/* Whether the text is the pattern, in which a star stands for any characters. */
+static bool fits(const char *pattern, const char *text) {
+    const char *star = NULL, *behind = NULL;
+    while (*text) {
+        if (*pattern == '*') {
+            star = ++pattern;
+            behind = text;
+        } else if (*pattern == *text) {
+            pattern++;
+            text++;
+        } else if (star) {
+            pattern = star;
+            text = ++behind;
+        } else {
+            return false;
+        }
+    }
+    while (*pattern == '*')
+        pattern++;
+    return !*pattern;
+}
+
+static bool is_ignored(const slot *s, vs_named kind, const char *name) {
+    for (uint32_t i = 0; i < s->ignored_count; i++)
+        if (s->ignored[i].kind == kind && fits(s->ignored[i].pattern, name))
+            return true;
+    return false;
+}
+
+static bool ignore_bytes(slot *s, vs_named kind, const char *pattern, size_t bytes) {
+    if (!has_room(&s->ignored, &s->ignored_room, s->ignored_count, sizeof *s->ignored))
+        return false;
+    char *copy = strndup(pattern, bytes);
+    if (!copy)
+        return false;
+    s->ignored[s->ignored_count++] = (ignored){kind, copy};
+    return true;
+}
+
+/* Words between commas. */
+static bool ignore_by_environment(slot *s) {
+    static const char *const keys[] = {"VELODROME_IGNORE_VARIABLE", "VELODROME_IGNORE_LOCK",
+                                       "VELODROME_IGNORE_LABEL"};
+    for (int kind = VS_NAMED_VARIABLE; kind <= VS_NAMED_LABEL; kind++)
+        for (const char *at = getenv(keys[kind]); at && *at;) {
+            size_t bytes = strcspn(at, ",");
+            if (bytes && !ignore_bytes(s, (vs_named)kind, at, bytes))
+                return false;
+            at += bytes + (at[bytes] == ',');
+        }
+    return true;
+}
+
+static void free_ignored(slot *s) {
+    while (s->ignored_count)
+        free(s->ignored[--s->ignored_count].pattern);
+    free(s->ignored);
+    s->ignored = NULL;
+    s->ignored_room = 0;
+}
+
+/* ---- names that are kept for good, each once */
+
+static struct {
+    pthread_mutex_t lock;
+    char **table;
+    uint32_t count, room;
+} kept_names = {.lock = PTHREAD_MUTEX_INITIALIZER};
+
+static char **find_kept(char **table, uint32_t room, const char *name) {
+    uint32_t i = hash_of(name) & (room - 1);
+    while (table[i] && strcmp(table[i], name) != 0)
+        i = (i + 1) & (room - 1);
+    return &table[i];
+}
+
+static bool grow_kept(void) {
+    if (2 * (kept_names.count + 1) <= kept_names.room)
+        return true;
+    uint32_t room = kept_names.room ? 2 * kept_names.room : 64;
+    char **table = calloc(room, sizeof *table);
+    if (!table)
+        return false;
+    for (uint32_t i = 0; i < kept_names.room; i++)
+        if (kept_names.table[i])
+            *find_kept(table, room, kept_names.table[i]) = kept_names.table[i];
+    free(kept_names.table);
+    kept_names.table = table;
+    kept_names.room = room;
+    return true;
+}
+
+const char *vs_keep_name(const char *name) {
+    if (!name)
+        return NULL;
+    pthread_mutex_lock(&kept_names.lock);
+    char **at = grow_kept() ? find_kept(kept_names.table, kept_names.room, name) : NULL;
+    if (at && !*at && (*at = strdup(name)))
+        kept_names.count++;
+    const char *kept = at ? *at : NULL;
+    pthread_mutex_unlock(&kept_names.lock);
+    return kept;
+}
+
 /* ---- places: they are left out where there is no memory */
 
-static uint32_t *find_place(slot *s, const vs_place *p) {
-    uint64_t h = ((uintptr_t)p->file ^ (uint64_t)p->line << 40) * 0x9e3779b97f4a7c15ull;
+static uint32_t *find_place(slot *s, const char *file, uint32_t line) {
+    uint64_t h = ((uintptr_t)file ^ (uint64_t)line << 40) * 0x9e3779b97f4a7c15ull;
     uint32_t i = (uint32_t)(h >> 32) & (s->place_table_room - 1);
     for (;; i = (i + 1) & (s->place_table_room - 1)) {
-        const vs_place *q = &s->places[s->place_table[i]];
-        if (!s->place_table[i] || (q->file == p->file && q->line == p->line))
+        const placed *q = &s->places[s->place_table[i]];
+        if (!s->place_table[i] || (q->file == file && q->line == line))
             return &s->place_table[i];
     }
 }
@@ -439,7 +717,7 @@ static bool grow_places(slot *s) {
     if (!has_room(&s->places, &s->place_room, s->place_count + 1, sizeof *s->places))
         return false;
     if (!s->place_count)
-        s->places[s->place_count++] = (vs_place){0};
+        s->places[s->place_count++] = (placed){0};
     if (2 * (s->place_count + 1) <= s->place_table_room)
         return true;
     uint32_t room = s->place_table_room ? 2 * s->place_table_room : 256,
@@ -450,8 +728,18 @@ static bool grow_places(slot *s) {
     s->place_table = table;
     s->place_table_room = room;
     for (uint32_t i = 1; i < s->place_count; i++)
-        *find_place(s, &s->places[i]) = i;
+        *find_place(s, s->places[i].file, s->places[i].line) = i;
     return true;
+}
+
+/* A copy without control characters. */
+static char *path_of(const vs_place *p) {
+    size_t bytes = p->file_bytes ? p->file_bytes : strlen(p->file);
+    char *path = strndup(p->file, bytes < PATH_BYTES ? bytes : PATH_BYTES);
+    for (char *c = path; c && *c; c++)
+        if ((unsigned char)*c < 32 || *c == 127)
+            *c = ' ';
+    return path;
 }
 
 COLD void note_place(slot *s, uint32_t position, const vs_place *p) {
@@ -460,10 +748,13 @@ COLD void note_place(slot *s, uint32_t position, const vs_place *p) {
     while (position >= s->event_room)
         if (!has_room(&s->event_place, &s->event_room, s->event_room, sizeof *s->event_place))
             return;
-    uint32_t *place = find_place(s, p);
+    uint32_t *place = find_place(s, p->file, p->line);
     if (!*place) {
+        char *path = path_of(p);
+        if (!path)
+            return;
         *place = s->place_count;
-        s->places[s->place_count++] = *p;
+        s->places[s->place_count++] = (placed){p->file, p->line, path};
     }
     while (s->event_places < position)
         s->event_place[s->event_places++] = 0;
@@ -475,10 +766,8 @@ COLD void note_place(slot *s, uint32_t position, const vs_place *p) {
 static bool put_place(FILE *f, slot *s, uint64_t position) {
     if (position >= s->event_places || !s->event_place[position])
         return false;
-    const vs_place *p = &s->places[s->event_place[position]];
-    size_t bytes = p->file_bytes ? p->file_bytes : strlen(p->file);
-    const char *slash = memrchr(p->file, '/', bytes), *from = slash ? slash + 1 : p->file;
-    fprintf(f, "%.*s:%u", (int)(bytes - (size_t)(from - p->file)), from, p->line);
+    const placed *p = &s->places[s->event_place[position]];
+    fprintf(f, "%s:%u", after_last_slash(p->path), p->line);
     return true;
 }
 
@@ -492,6 +781,15 @@ typedef struct logged {
 static bool read_logged(const char *text, logged *e) {
     e->operand = 0;
     return sscanf(text, "%u %7[a-z] %u", &e->thread, e->kind, &e->operand) >= 2;
+}
+
+/* Of a variable that stands for the start and the end of a thread. */
+static void put_life(FILE *f, const logged *e, unsigned of) {
+    bool writes = e->kind[0] == 'w';
+    if (e->thread == of)
+        fputs(writes ? "ends" : "begins", f);
+    else
+        fprintf(f, "%s thread %u", writes ? "starts" : "joins", of);
 }
 
 /* What it does, such as "writes balance". */
@@ -514,6 +812,10 @@ static void put_action(FILE *f, slot *s, const logged *e) {
     for (size_t i = 0; i < sizeof actions / sizeof *actions; i++) {
         if (strcmp(actions[i].kind, e->kind) != 0)
             continue;
+        if (actions[i].list == 1 && e->operand >= s->variables) {
+            put_life(f, e, e->operand - s->variables);
+            return;
+        }
         fputs(actions[i].words, f);
         if (actions[i].list)
             fputc(' ', f);
@@ -741,6 +1043,14 @@ static uint32_t number_of_who(slot *s, uint64_t who) {
     return 0;
 }
 
+/* The start and the end of a number's thread are accesses of a variable beyond those of the
+ * program: who starts it writes it and the thread reads it, the thread writes it at its end and who
+ * joins it reads it. So a thread may act after it was joined, as what is local to it goes, and a
+ * number may be used again. */
+static uint32_t life_of(const slot *s, uint32_t number) {
+    return s->variables + number;
+}
+
 /* A new thread, forked by `parent`; thread 0 is nobody, has no blocks, and forks those that come
  * from outside. */
 static uint32_t enrol(slot *s, uint32_t parent, uint64_t who, const vs_place *place) {
@@ -760,6 +1070,8 @@ static uint32_t enrol(slot *s, uint32_t parent, uint64_t who, const vs_place *pl
 static void clear_names(slot *s) {
     for (uint32_t i = 0; i < s->word_count; i++)
         free(s->words[i].text);
+    for (uint32_t i = 0; i < s->place_count; i++)
+        free(s->places[i].path);
     s->word_count = s->variable.count = s->lock.count = s->label.count = 0;
     s->place_count = s->event_places = 0;
     if (s->word_table)
@@ -768,19 +1080,26 @@ static void clear_names(slot *s) {
         memset(s->place_table, 0, s->place_table_room * sizeof *s->place_table);
 }
 
+/* Who is in no block waits for those that are. */
+static void set_crowded(slot *s, bool crowded) {
+    if (s->crowded != crowded)
+        atomic_fetch_add(&crowds, crowded ? 1 : UINT32_MAX);
+    s->crowded = crowded;
+    s->slow = crowded || s->noise;
+}
+
 static void next_piece(slot *s) {
     atomic_store(&s->last, epoch(s) + SLOTS);
     s->threads = 1;
     s->open = s->events = 0;
-    s->crowded = false;
-    s->slow = s->noise != 0;
+    set_crowded(s, false);
 }
 
 static velodrome_status open_handle(slot *s) {
     uint32_t nodes = s->most < VELODROME_MAX_NODES
                          ? s->most
                          : VELODROME_MAX_NODES; /* no more transactions than events */
-    velodrome_limits limits = {THREADS, s->variables, s->locks, s->most, nodes};
+    velodrome_limits limits = {THREADS, s->variables + (uint32_t)THREADS, s->locks, s->most, nodes};
     return velodrome_open(&s->handle, &limits);
 }
 
@@ -834,11 +1153,13 @@ static uint32_t number_again(slot *s, uint64_t who) {
 static void hold_again(slot *s, const hold *h, uint16_t lock) {
     velodrome_answer a;
     uint32_t t;
-    if (h->owner && (t = number_again(s, h->owner)))
-        told(s, velodrome_acquire(s->handle, t, lock, &a), &a, NULL);
+    if (h->owner && (t = number_again(s, h->owner)) &&
+        told(s, velodrome_acquire(s->handle, t, lock, &a), &a, NULL))
+        s->thread[t].locks++;
     for (uint32_t i = 0; i < h->shares; i++)
-        if ((t = number_again(s, h->share[i].who)))
-            told(s, velodrome_acquire_shared(s->handle, t, lock, &a), &a, NULL);
+        if ((t = number_again(s, h->share[i].who)) &&
+            told(s, velodrome_acquire_shared(s->handle, t, lock, &a), &a, NULL))
+            s->thread[t].locks++;
 }
 
 static bool grow_holds(slot *s) {
@@ -896,8 +1217,12 @@ static bool is_nearly_full(slot *s, uint32_t used, uint32_t limit) {
 
 /* Cuts the run where no block is open, so that there is room for one more. */
 static void make_room(slot *s, uint32_t used, uint32_t limit) {
-    if (!s->open && s->recording && is_nearly_full(s, used, limit))
+    if (!s->recording || !is_nearly_full(s, used, limit))
+        return;
+    if (!s->open)
         renew(s);
+    else
+        set_crowded(s, true);
 }
 
 static void make_room_for_events(slot *s) {
@@ -906,7 +1231,7 @@ static void make_room_for_events(slot *s) {
     if (!s->open)
         renew(s);
     else if (s->events >= s->most - s->most / 8)
-        s->crowded = s->slow = true;
+        set_crowded(s, true);
 }
 
 /* ---- who acts */
@@ -930,8 +1255,11 @@ static seat *new_seat(struct vs_self *me, slot *s, uint64_t who) {
     for (int i = 0; i < SEATS; i++) {
         if (is_open(me->seat[i].id))
             continue;
-        me->seat[i] =
-            (seat){.in = s, .id = s->id, .who = who, .random = mixed(s->seed ^ mixed(who)) | 1};
+        me->seat[i] = (seat){.in = s,
+                             .id = s->id,
+                             .since = s->since,
+                             .who = who,
+                             .random = mixed(s->seed ^ mixed(who)) | 1};
         return &me->seat[i];
     }
     return NULL;
@@ -956,9 +1284,11 @@ static seat *seat_of(slot *s, struct vs_self *me) {
     }
     if (!s->recording)
         return NULL;
+    s->thread[number].ended = false; /* it acts after its end */
     t->epoch = epoch(s);
     t->number = (uint8_t)number;
     t->told = 0;
+    t->done = 0;
     return t;
 }
 
@@ -969,8 +1299,14 @@ static uint32_t label_number(slot *s, vs_object *label) {
     uint64_t tag = tag_of(label);
     if (epoch_of(tag) == epoch(s))
         return number_in(tag);
-    word *w = word_of(s, label, "block");
-    if (!w || (!w->label && (s->label.count >> NUMBER_BITS || !add_name(s, &s->label, w, 1)))) {
+    char text[NAME_ROOM];
+    size_t bytes = name_of(label, "block", NULL, text);
+    if (is_ignored(s, VS_NAMED_LABEL, text)) {
+        __atomic_store_n(&label->tag, tag_with(epoch(s), IGNORED), __ATOMIC_RELAXED);
+        return IGNORED;
+    }
+    word *w = word_with(s, text, bytes);
+    if (!w || (!w->label && (s->label.count >= IGNORED || !add_name(s, &s->label, w, 1)))) {
         stop(s, "out of memory");
         return NOT_TOLD;
     }
@@ -980,57 +1316,241 @@ static uint32_t label_number(slot *s, vs_object *label) {
     return w->label - 1;
 }
 
+/* Those whose label is known; the rest are only counted. */
+static int stored(const struct vs_self *me) {
+    return me->depth < DEPTH ? me->depth : DEPTH;
+}
+
 COLD bool begin_blocks(slot *s, struct vs_self *me, seat *t) {
     velodrome_answer a;
-    int deep = me->depth < DEPTH ? me->depth : DEPTH;
-    while (t->told < deep && s->recording) {
-        uint32_t label = label_number(s, me->label[t->told]);
+    thread *it = &s->thread[t->number];
+    for (int deep = stored(me); t->done < deep && s->recording; t->done++) {
+        const open_block *b = &me->block[t->done];
+        uint32_t label = b->since < t->since ? IGNORED : label_number(s, b->label);
+        if (label == IGNORED)
+            continue; /* it is older than the session, or is left out */
         if (label == NOT_TOLD ||
             !told(s, velodrome_begin(s->handle, t->number, label, &a), &a, NULL))
             return false;
-        if (!t->told++)
+        if (!t->told)
             s->open++;
+        t->told |= 1u << t->done;
+        it->actor = me->id;
+        it->system = this_system_thread();
+        it->deepest = b->nth;
     }
     return s->recording;
 }
 
-/* Tells the begins of the blocks that an event stands in. */
-HOT bool in_blocks(slot *s, struct vs_self *me, seat *t) {
-    return t->told >= me->depth || begin_blocks(s, me, t);
-}
-
-void vs_begin(vs_object *label) {
-    struct vs_self *me = self();
-    if (me->depth < DEPTH)
-        me->label[me->depth] = label;
-    me->depth++;
-}
-
-static void end_in(seat *t) {
+/* Tells the ends of the blocks from the one at `from` on. */
+static void end_in(struct vs_self *me, seat *t, int from) {
     velodrome_answer a;
-    slot *s = kept(t->id);
-    t->told--;
+    uint32_t ending = t->told >> from;
+    t->told &= (1u << from) - 1;
+    t->done = from;
+    slot *s = ending ? kept(t->id) : NULL;
     if (!s)
         return;
     if (t->epoch == epoch(s)) {
+        for (; ending && s->recording; ending &= ending - 1)
+            told(s, velodrome_end(s->handle, t->number, &a), &a, NULL);
+        s->thread[t->number].deepest = t->told ? me->block[31 - __builtin_clz(t->told)].nth : 0;
         if (!t->told)
             s->open--;
-        if (s->recording)
-            told(s, velodrome_end(s->handle, t->number, &a), &a, NULL);
+        if (s->recording && s->crowded && !s->open)
+            renew(s);
         if (s->recording)
             make_room_for_events(s);
     }
     let_go(s);
 }
 
+static void end_from(struct vs_self *me, int from) {
+    me->depth = from;
+    for (int i = 0; i < SEATS && from < DEPTH; i++)
+        if (me->seat[i].id && me->seat[i].done > from)
+            end_in(me, &me->seat[i], from);
+}
+
+/* Takes a block out that nobody counts any more. */
+static void forget_block(struct vs_self *me, int at) {
+    uint32_t before = (1u << at) - 1;
+    int deep = stored(me) - 1;
+    memmove(&me->block[at], &me->block[at + 1], (size_t)(deep - at) * sizeof *me->block);
+    me->depth = deep;
+    for (int i = 0; i < SEATS; i++) {
+        seat *t = &me->seat[i];
+        t->told = (t->told & before) | (t->told >> 1 & ~before);
+        t->done -= t->done > at;
+    }
+}
+
+/* Blocks that began before the oldest session that is open were left by a jump, or outlived theirs.
+ */
+static void forget_old(struct vs_self *me, uint64_t now) {
+    uint64_t oldest = UINT64_MAX;
+    me->looked = now;
+    for (int i = 0; i < SLOTS; i++) {
+        uint64_t since = atomic_load_explicit(&opened_since[i], memory_order_relaxed);
+        if (since && since < oldest)
+            oldest = since;
+    }
+    while (me->depth && me->block[0].since < oldest)
+        forget_block(me, 0);
+}
+
+/* Ends of blocks by others than who began them, as a coroutine's that goes on in another thread. */
+static struct {
+    pthread_mutex_t lock;
+    vs_block at[ENDS];
+    _Atomic uint64_t count;
+} ends = {.lock = PTHREAD_MUTEX_INITIALIZER};
+
+static const char of_another[] =
+    "a block was ended by another thread than began it, as one of a coroutine that goes from "
+    "thread to thread; let its threads act as it (vs_switch)";
+
+/* Takes out those of its blocks that others have ended. Where one has events in a session, so had
+ * the block, and the session was told of it. */
+COLD void take_ends(struct vs_self *me) {
+    pthread_mutex_lock(&ends.lock);
+    uint64_t last = ends.count;
+    for (uint64_t i = last - me->seen > ENDS ? last - ENDS : me->seen; i < last; i++)
+        for (int k = stored(me) - 1; k >= 0 && ends.at[i % ENDS].who == me->id; k--)
+            if (me->block[k].nth == ends.at[i % ENDS].nth)
+                forget_block(me, k);
+    me->seen = last;
+    pthread_mutex_unlock(&ends.lock);
+}
+
+HOT void look_for_ends(struct vs_self *me) {
+    if (me->depth && me->seen != atomic_load_explicit(&ends.count, memory_order_relaxed))
+        take_ends(me);
+}
+
+/* What the thread that began it did meanwhile was told as in the block, and what others did for it
+ * was not: where it has events, nothing is known any more. */
+static void doubt_block(slot *s, vs_block block) {
+    for (uint32_t i = 1; i < s->threads; i++) {
+        if (s->thread[i].actor != block.who || s->thread[i].deepest < block.nth)
+            continue;
+        if (s->alarmed)
+            snprintf(s->doubt, sizeof s->doubt, "%s", of_another);
+        else
+            stop(s, "%s", of_another);
+    }
+}
+
+COLD void end_for_another(vs_block block) {
+    pthread_mutex_lock(&ends.lock);
+    ends.at[ends.count % ENDS] = block;
+    ends.count++;
+    pthread_mutex_unlock(&ends.lock);
+    for (slot *s = slots; s < slots + SLOTS; s++) {
+        uint64_t id = atomic_load_explicit(&s->id, memory_order_relaxed);
+        if (!id || !kept(id))
+            continue;
+        doubt_block(s, block);
+        let_go(s);
+    }
+}
+
+/* Tells the begins of the blocks that an event stands in. */
+HOT bool in_blocks(slot *s, struct vs_self *me, seat *t) {
+    look_for_ends(me);
+    return t->done >= me->depth || begin_blocks(s, me, t);
+}
+
+/* A block ends that was still open as an outer one ended: they do not nest, so what was told as in
+ * one may be of the other. */
+COLD void end_too_late(struct vs_self *me, uint64_t nth) {
+    if (nth < me->left_from || nth > me->left_to)
+        return;
+    for (int i = 0; i < SEATS; i++) {
+        slot *s = kept(me->seat[i].id);
+        if (!s)
+            continue;
+        if (s->since <= me->left_since)
+            stop(s, "blocks of one thread do not nest, as those of fibers or of generators; let it "
+                    "act as each of them (vs_switch)");
+        let_go(s);
+    }
+}
+
+/* Blocks within it that are still open were left by a jump, and end with it. */
+static void end_own(struct vs_self *me, uint64_t nth) {
+    look_for_ends(me);
+    int at = stored(me) - 1;
+    if (me->depth > DEPTH && nth > me->block[at].nth) {
+        me->depth--;
+        return;
+    }
+    while (at >= 0 && me->block[at].nth > nth)
+        at--;
+    if (at < 0 || me->block[at].nth != nth) {
+        end_too_late(me, nth);
+        return;
+    }
+    if (at < me->depth - 1) {
+        me->left_from = nth + 1;
+        me->left_to = me->nth;
+        me->left_since = atomic_load_explicit(&openings, memory_order_relaxed);
+    }
+    end_from(me, at);
+}
+
+COLD void wait_at_begin(struct vs_self *me);
+HOT void tell_pending(struct vs_self *me);
+
+vs_block vs_begin_block(vs_object *label) {
+    vs_block block = {0, 0};
+    if (vs_idle() || !come_in())
+        return block; /* a session begins with no block of any thread */
+    struct vs_self *me = self();
+    uint64_t since = atomic_load_explicit(&openings, memory_order_relaxed);
+    tell_pending(me);
+    if (me->depth && me->looked != since)
+        forget_old(me, since);
+    if (!me->depth) {
+        if (!me->id)
+            me->id = new_identity();
+        me->seen = atomic_load_explicit(&ends.count, memory_order_relaxed);
+        if (atomic_load_explicit(&crowds, memory_order_relaxed))
+            wait_at_begin(me);
+    }
+    block = (vs_block){me->id, ++me->nth};
+    if (me->depth < DEPTH)
+        me->block[me->depth] = (open_block){label, block.nth, since};
+    me->depth++;
+    go_out();
+    return block;
+}
+
+void vs_end_block(vs_block block) {
+    if (!block.who || !come_in())
+        return;
+    struct vs_self *me = self();
+    tell_pending(me);
+    if (block.who == me->id)
+        end_own(me, block.nth);
+    else
+        end_for_another(block);
+    go_out();
+}
+
+void vs_begin(vs_object *label) {
+    vs_begin_block(label);
+}
+
 void vs_end(void) {
     struct vs_self *me = self();
-    if (me->depth <= 0)
+    if (me->depth <= 0 || !come_in())
         return;
-    me->depth--;
-    for (int i = 0; i < SEATS; i++)
-        if (me->seat[i].id && me->seat[i].told > me->depth)
-            end_in(&me->seat[i]);
+    tell_pending(me);
+    look_for_ends(me);
+    if (me->depth > 0)
+        end_from(me, me->depth - 1);
+    go_out();
 }
 
 /* ---- variables and locks */
@@ -1044,12 +1564,16 @@ static bool claim(slot *s, vs_object *o, uint64_t old, uint32_t number) {
     return false;
 }
 
-COLD uint32_t new_variable(slot *s, vs_object *o, uint64_t tag) {
+COLD uint32_t new_variable(slot *s, vs_object *o, uint64_t tag, const vs_place *place) {
+    char text[NAME_ROOM];
+    size_t bytes = name_of(o, "variable", place, text);
+    if (is_ignored(s, VS_NAMED_VARIABLE, text))
+        return claim(s, o, tag, IGNORED) ? IGNORED : NOT_TOLD;
     if (s->variable.count >= s->variables) {
         stop(s, "more than %u variables while a block was open", s->variables);
         return NOT_TOLD;
     }
-    word *w = word_of(s, o, "variable");
+    word *w = word_with(s, text, bytes);
     if (!w || !add_name(s, &s->variable, w, ++w->met[0])) {
         stop(s, "out of memory");
         return NOT_TOLD;
@@ -1057,9 +1581,9 @@ COLD uint32_t new_variable(slot *s, vs_object *o, uint64_t tag) {
     return claim(s, o, tag, s->variable.count - 1) ? s->variable.count - 1 : NOT_TOLD;
 }
 
-HOT uint32_t variable_number(slot *s, vs_object *o) {
+HOT uint32_t variable_number(slot *s, vs_object *o, const vs_place *place) {
     uint64_t tag = tag_of(o);
-    return epoch_of(tag) == epoch(s) ? number_in(tag) : new_variable(s, o, tag);
+    return epoch_of(tag) == epoch(s) ? number_in(tag) : new_variable(s, o, tag, place);
 }
 
 /* The number of a lock that is held since an earlier piece. */
@@ -1082,22 +1606,31 @@ HOT uint32_t known_lock(slot *s, vs_object *o) {
     return epoch_of(tag) == epoch(s) ? number_in(tag) : carried_lock(s, o, tag);
 }
 
-COLD uint32_t new_lock(slot *s, vs_object *o) {
+COLD uint32_t new_lock(slot *s, vs_object *o, const vs_place *place) {
     if (!s->recording)
         return NOT_TOLD;
+    uint64_t tag = tag_of(o);
+    char text[NAME_ROOM];
+    size_t bytes = name_of(o, "lock", place, text);
+    if (is_ignored(s, VS_NAMED_LOCK, text))
+        return claim(s, o, tag, IGNORED) ? IGNORED : NOT_TOLD;
     if (s->lock.count >= s->locks) {
         stop(s, "more than %u locks while a block was open", s->locks);
         return NOT_TOLD;
     }
-    uint64_t tag = tag_of(o);
-    word *w = word_of(s, o, "lock");
+    word *w = word_with(s, text, bytes);
     uint32_t number = add_lock(s, w, w ? ++w->met[1] : 0);
     return number != NOT_TOLD && claim(s, o, tag, number) ? number : NOT_TOLD;
 }
 
-HOT uint32_t lock_number(slot *s, vs_object *o) {
+HOT uint32_t lock_number(slot *s, vs_object *o, const vs_place *place) {
     uint32_t known = known_lock(s, o);
-    return known != NOT_TOLD ? known : new_lock(s, o);
+    return known != NOT_TOLD ? known : new_lock(s, o, place);
+}
+
+/* A lock that is left out, or one that is not known. */
+HOT bool is_no_number(uint32_t n) {
+    return n >= IGNORED;
 }
 
 static share *share_of(hold *h, uint64_t who) {
@@ -1109,8 +1642,8 @@ static share *share_of(hold *h, uint64_t who) {
 
 static void take(slot *s, struct vs_self *me, seat *t, vs_object *o, const vs_place *place) {
     velodrome_answer a;
-    uint32_t n = lock_number(s, o);
-    if (n == NOT_TOLD)
+    uint32_t n = lock_number(s, o, place);
+    if (is_no_number(n))
         return;
     if (s->holds[n].owner == t->who) {
         s->holds[n].times++;
@@ -1118,24 +1651,27 @@ static void take(slot *s, struct vs_self *me, seat *t, vs_object *o, const vs_pl
                told(s, velodrome_acquire(s->handle, t->number, n, &a), &a, place)) {
         s->holds[n].owner = t->who;
         s->holds[n].times = 1;
+        s->thread[t->number].locks++;
     }
 }
 
 static void give_back(slot *s, struct vs_self *me, seat *t, vs_object *o, const vs_place *place) {
     velodrome_answer a;
     uint32_t n = known_lock(s, o);
-    if (n == NOT_TOLD || !s->holds[n].owner)
+    if (is_no_number(n) || !s->holds[n].owner)
         return; /* it was taken before the session */
     if (s->holds[n].owner == t->who && --s->holds[n].times)
         return;
-    if (in_blocks(s, me, t) && told(s, velodrome_release(s->handle, t->number, n, &a), &a, place))
+    if (in_blocks(s, me, t) && told(s, velodrome_release(s->handle, t->number, n, &a), &a, place)) {
         s->holds[n].owner = 0;
+        s->thread[t->number].locks--;
+    }
 }
 
 static void take_share(slot *s, struct vs_self *me, seat *t, vs_object *o, const vs_place *place) {
     velodrome_answer a;
-    uint32_t n = lock_number(s, o);
-    if (n == NOT_TOLD)
+    uint32_t n = lock_number(s, o, place);
+    if (is_no_number(n))
         return;
     hold *h = &s->holds[n];
     share *own = share_of(h, t->who);
@@ -1146,6 +1682,7 @@ static void take_share(slot *s, struct vs_self *me, seat *t, vs_object *o, const
     } else if (in_blocks(s, me, t) &&
                told(s, velodrome_acquire_shared(s->handle, t->number, n, &a), &a, place)) {
         h->share[h->shares++] = (share){t->who, 1};
+        s->thread[t->number].locks++;
     }
 }
 
@@ -1153,19 +1690,20 @@ static void give_share_back(slot *s, struct vs_self *me, seat *t, vs_object *o,
                             const vs_place *place) {
     velodrome_answer a;
     uint32_t n = known_lock(s, o);
-    share *own = n == NOT_TOLD ? NULL : share_of(&s->holds[n], t->who);
+    share *own = is_no_number(n) ? NULL : share_of(&s->holds[n], t->who);
     if (!own || --own->times)
         return;
-    if (in_blocks(s, me, t))
-        told(s, velodrome_release_shared(s->handle, t->number, n, &a), &a, place);
+    if (in_blocks(s, me, t) &&
+        told(s, velodrome_release_shared(s->handle, t->number, n, &a), &a, place))
+        s->thread[t->number].locks--;
     *own = s->holds[n].share[--s->holds[n].shares];
 }
 
 HOT void access_variable(slot *s, struct vs_self *me, seat *t, vs_object *o, vs_kind kind,
                          const vs_place *place) {
     velodrome_answer a;
-    uint32_t n = variable_number(s, o);
-    if (n == NOT_TOLD || !in_blocks(s, me, t))
+    uint32_t n = variable_number(s, o, place);
+    if (is_no_number(n) || !in_blocks(s, me, t))
         return;
     if (kind == VS_READ)
         told(s, velodrome_read(s->handle, t->number, n, &a), &a, place);
@@ -1242,12 +1780,13 @@ void vs_enter(vs_session session) {
 
 /* The session does not see an event of its own thread, since the object is another's. */
 static void miss(uint64_t id, const vs_object *o) {
-    char name[256];
+    char name[NAME_ROOM];
     slot *s = kept(id);
     if (!s)
         return;
-    name_of(o, "object", name);
-    stop(s, "another session uses %.90s at the same time", name);
+    name_of(o, "object", NULL, name);
+    stop(s, "another session uses %.90s at the same time; of two that are open an object is of one",
+         name);
     let_go(s);
 }
 
@@ -1265,11 +1804,14 @@ COLD uint64_t session_for(vs_object *o) {
 
 static void pause_for(slot *s, uint32_t nanoseconds) {
     void (*wait)(uint32_t) = s->wait;
-    struct timespec time = {0, (long)nanoseconds};
+    int errno_before = errno;
+    bool inside = step_out();
     if (wait)
         wait(nanoseconds);
     else
-        nanosleep(&time, NULL);
+        sleep_for(nanoseconds);
+    step_in(inside);
+    errno = errno_before;
 }
 
 /* One event in so many waits, before the lock is taken, so that more schedules come about. */
@@ -1286,22 +1828,50 @@ static void disturb(slot *s, struct vs_self *me, uint64_t id) {
         pause_for(s, (uint32_t)((drawn >> 16) % 200000));
 }
 
-/* A thread without an open block waits for those of others, up to 5 ms once in each piece of the
- * run. */
-static void wait_for_blocks(slot *s, struct vs_self *me, uint64_t id) {
-    seat *t = seat_in(me, id);
-    if (!t || t->told || t->waited == epoch(s))
-        return;
-    t->waited = epoch(s);
-    for (int i = 0; i < 50 && s->crowded && s->recording; i++)
-        pause_for(s, 100000);
+/* Whether it helps that this thread waits: another thread of the system has a block open. One that
+ * holds a lock may be what that waits for, so it goes on, unless there is no number for it. */
+static bool helps_to_wait(slot *s, const seat *t, bool wants_number, bool has_lock) {
+    bool others = false;
+    if (!keep(s))
+        return false;
+    bool is_known = t && t->epoch == epoch(s);
+    has_lock |= is_known && s->thread[t->number].locks;
+    wants_number |= !is_known;
+    for (uint32_t i = 1; i < s->threads; i++)
+        others |= s->thread[i].deepest && s->thread[i].system != mine.system;
+    bool helps = s->crowded && others && (!has_lock || (wants_number && s->threads == THREADS));
+    let_go(s);
+    return helps;
 }
 
-COLD void wait_before(slot *s, struct vs_self *me, uint64_t id) {
+/* A thread without an open block waits for those of others, once in each piece of the run. */
+static void wait_for_blocks(slot *s, struct vs_self *me, uint64_t id, bool wants_number,
+                            bool has_lock) {
+    seat *t = seat_in(me, id);
+    uint64_t piece = epoch(s);
+    if (!s->crowded || (t && (t->told || t->waited == piece)) ||
+        !helps_to_wait(s, t, wants_number, has_lock))
+        return;
+    if (t)
+        t->waited = piece;
+    for (int i = 0; i < MOST_WAITS && s->recording && epoch(s) == piece &&
+                    helps_to_wait(s, t, wants_number, has_lock);
+         i++)
+        pause_for(s, WAITED);
+}
+
+COLD void wait_before(slot *s, struct vs_self *me, uint64_t id, bool wants_number, bool has_lock) {
     if (is_keeper(s))
         return;
     disturb(s, me, id);
-    wait_for_blocks(s, me, id);
+    wait_for_blocks(s, me, id, wants_number, has_lock);
+}
+
+COLD void wait_at_begin(struct vs_self *me) {
+    uint64_t id = vs_current();
+    slot *s = slot_of(id);
+    if (id && s->recording && !is_keeper(s))
+        wait_for_blocks(s, me, id, false, me->pendings > 0);
 }
 
 /* The session of nearly all events: that of this thread's last one, where the object has a number
@@ -1314,7 +1884,7 @@ HOT bool is_usual(const struct vs_self *me, const seat *t, const vs_object *o) {
 
 /* The slot of the session that an event about the object is of, kept; NULL where nothing is to be
  * told. */
-HOT slot *slot_for(struct vs_self *me, vs_object *o) {
+HOT slot *slot_for(struct vs_self *me, vs_object *o, bool is_of_lock) {
     const seat *t = &me->seat[me->recent];
     bool usual = is_usual(me, t, o);
     uint64_t id = usual ? t->id : session_for(o);
@@ -1322,25 +1892,84 @@ HOT slot *slot_for(struct vs_self *me, vs_object *o) {
     if (!id || !atomic_load_explicit(&s->recording, memory_order_relaxed))
         return NULL;
     if (atomic_load_explicit(&s->slow, memory_order_relaxed))
-        wait_before(s, me, id);
+        wait_before(s, me, id, false, is_of_lock || me->pendings);
     return kept_in(s, id);
 }
 
-unsigned vs_hold(vs_object *o) {
-    slot *s = vs_idle() ? NULL : slot_for(self(), o);
+/* Tells of the locks that it took since its last event; those of the session in the slot, which is
+ * kept, in the same hold. */
+COLD void tell_all_pending(slot *kept_slot, struct vs_self *me) {
+    int count = me->pendings;
+    me->pendings = 0;
+    me->tried = false;
+    for (int i = 0; i < count; i++) {
+        uint64_t id = session_for(me->pending[i].lock);
+        slot *s = !id ? NULL : kept_slot == slot_of(id) ? kept_slot : kept(id);
+        if (s && s->recording)
+            event(s, me, me->pending[i].lock, VS_ACQUIRE,
+                  me->pending[i].place.file ? &me->pending[i].place : NULL);
+        if (s && s != kept_slot)
+            let_go(s);
+    }
+}
+
+HOT void tell_pending_in(slot *s, struct vs_self *me) {
+    if (me->pendings)
+        tell_all_pending(s, me);
+}
+
+HOT void tell_pending(struct vs_self *me) {
+    tell_pending_in(NULL, me);
+}
+
+/* Whether this gives back a lock that std::lock took before a try that failed, so that neither is
+ * told. */
+COLD bool backs_off(struct vs_self *me, const vs_object *o) {
+    for (int i = me->pendings - 1; i >= 0 && me->tried; i--) {
+        if (me->pending[i].lock != o)
+            continue;
+        me->pendings--;
+        memmove(&me->pending[i], &me->pending[i + 1],
+                (size_t)(me->pendings - i) * sizeof *me->pending);
+        me->tried = me->pendings > 0;
+        return true;
+    }
+    return false;
+}
+
+static unsigned token_of(slot *s) {
     return s ? (unsigned)(s - slots) + 1 : 0;
 }
 
-unsigned vs_before_at(vs_object *o, vs_kind kind, const vs_place *place) {
-    if (vs_idle())
+unsigned vs_hold(vs_object *o) {
+    if (vs_idle() || !come_in())
         return 0;
     struct vs_self *me = self();
-    slot *s = slot_for(me, o);
-    if (!s)
-        return 0;
-    if (atomic_load_explicit(&s->recording, memory_order_relaxed))
+    slot *s = slot_for(me, o, false);
+    tell_pending_in(s, me);
+    go_out();
+    return token_of(s);
+}
+
+HOT bool is_of_lock(vs_kind kind) {
+    return kind != VS_READ && kind != VS_WRITE;
+}
+
+/* The slot, kept, with the event told in it. */
+HOT slot *told_of(struct vs_self *me, vs_object *o, vs_kind kind, const vs_place *place) {
+    slot *s = slot_for(me, o, is_of_lock(kind));
+    tell_pending_in(s, me);
+    if (s && atomic_load_explicit(&s->recording, memory_order_relaxed))
         event(s, me, o, kind, place);
-    return (unsigned)(s - slots) + 1;
+    return s;
+}
+
+unsigned vs_before_at(vs_object *o, vs_kind kind, const vs_place *place) {
+    if (vs_idle() || !come_in())
+        return 0;
+    slot *s = told_of(self(), o, kind, place);
+    go_out();
+    return token_of(s);
 }
 
 unsigned vs_before(vs_object *o, vs_kind kind) {
@@ -1348,31 +1977,81 @@ unsigned vs_before(vs_object *o, vs_kind kind) {
 }
 
 void vs_after(unsigned token) {
-    if (token)
-        let_go(&slots[token - 1]);
+    if (!token || !come_in())
+        return;
+    let_go(&slots[token - 1]);
+    go_out();
 }
 
 void vs_tell_at(vs_object *o, vs_kind kind, const vs_place *place) {
-    if (vs_idle())
+    if (vs_idle() || !come_in())
         return;
     struct vs_self *me = self();
-    slot *s = slot_for(me, o);
-    if (!s)
-        return;
-    if (atomic_load_explicit(&s->recording, memory_order_relaxed))
-        event(s, me, o, kind, place);
-    let_go(s);
+    slot *s =
+        me->pendings && kind == VS_RELEASE && backs_off(me, o) ? NULL : told_of(me, o, kind, place);
+    if (s)
+        let_go(s);
+    go_out();
 }
 
 void vs_tell(vs_object *o, vs_kind kind) {
     vs_tell_at(o, kind, NULL);
 }
 
+void vs_acquired_at(vs_object *lock, const vs_place *place) {
+    if (vs_idle() || !come_in())
+        return;
+    struct vs_self *me = self();
+    if (me->pendings == PENDING)
+        tell_pending(me);
+    me->pending[me->pendings].lock = lock;
+    me->pending[me->pendings].place = place ? *place : (vs_place){0};
+    me->pendings++;
+    go_out();
+}
+
+void vs_acquired(vs_object *lock) {
+    vs_acquired_at(lock, NULL);
+}
+
+void vs_try_failed(void) {
+    struct vs_self *me = self();
+    me->tried = me->pendings > 0;
+}
+
 /* ---- threads that the program starts */
 
-vs_child vs_fork_at(const vs_place *place) {
+/* That of a thread which `parent` has joined: so whatever it did leads to what the new one does,
+ * also where they are two. */
+static uint32_t number_to_use_again(const slot *s, uint32_t parent) {
+    for (uint32_t i = 1; i < s->threads && s->threads >= REUSED_FROM; i++) {
+        const thread *t = &s->thread[i];
+        if (t->joined && t->ended && t->joiner == parent && !t->deepest && !t->locks)
+            return i;
+    }
+    return 0;
+}
+
+static void start_thread(slot *s, uint32_t parent, uint64_t who, const vs_place *place) {
+    velodrome_answer a;
+    uint32_t n = number_to_use_again(s, parent);
+    if (!n) {
+        enrol(s, parent, who, place);
+        return;
+    }
+    if (told(s, velodrome_write(s->handle, parent, life_of(s, n), 0, &a), &a, place) &&
+        s->recording && told(s, velodrome_read(s->handle, n, life_of(s, n), &a), &a, NULL))
+        s->thread[n] = (thread){.who = who, .lived = true};
+}
+
+static vs_child forked(const vs_place *place) {
     vs_child child = {0, 0};
-    slot *s = kept(vs_current());
+    uint64_t id = vs_current();
+    struct vs_self *me = self();
+    if (id && slot_of(id)->slow)
+        wait_before(slot_of(id), me, id, true, me->pendings);
+    slot *s = kept(id);
+    tell_pending_in(s, me);
     if (!s)
         return child;
     child.session = s->id;
@@ -1380,12 +2059,20 @@ vs_child vs_fork_at(const vs_place *place) {
     if (s->recording) {
         make_room_for_events(s);
         make_room(s, s->threads + 1, THREADS);
-        struct vs_self *me = self();
         seat *t = s->recording ? seat_of(s, me) : NULL;
         if (t && in_blocks(s, me, t))
-            enrol(s, t->number, child.who, place);
+            start_thread(s, t->number, child.who, place);
     }
     let_go(s);
+    return child;
+}
+
+vs_child vs_fork_at(const vs_place *place) {
+    vs_child child = {0, 0};
+    if (come_in()) {
+        child = forked(place);
+        go_out();
+    }
     return child;
 }
 
@@ -1393,7 +2080,7 @@ vs_child vs_fork(void) {
     return vs_fork_at(NULL);
 }
 
-void vs_born(vs_child child) {
+static void be_born(vs_child child) {
     struct vs_self *me = self();
     me->current = child.session;
     slot *s = kept(child.session);
@@ -1407,32 +2094,81 @@ void vs_born(vs_child child) {
     let_go(s);
 }
 
-/* Its exit is told with its join, when nothing of it can come any more. */
-void vs_exit(vs_child child) {
+void vs_born(vs_child child) {
+    if (!come_in())
+        return;
+    be_born(child);
+    go_out();
+}
+
+/* Its end is told with its join. */
+static void end_thread(vs_child child) {
     struct vs_self *me = self();
     seat *t = child.session ? seat_in(me, child.session) : NULL;
-    if (t && t->who == child.who)
-        while (me->depth > 0)
-            vs_end();
+    if (!t || t->who != child.who)
+        return;
+    tell_pending(me);
+    end_from(me, 0);
+    slot *s = kept(child.session);
+    uint32_t n = s ? number_of_who(s, child.who) : 0;
+    if (n)
+        s->thread[n].ended = true;
+    t->epoch = 0; /* a look at who it is, if it acts once more */
+    if (s)
+        let_go(s);
+}
+
+void vs_exit(vs_child child) {
+    if (!come_in())
+        return;
+    end_thread(child);
+    go_out();
+}
+
+static void join_number(slot *s, struct vs_self *me, seat *t, uint32_t n, const vs_place *place) {
+    velodrome_answer a;
+    thread *gone = &s->thread[n];
+    if (gone->deepest || gone->locks) {
+        stop(s, "%s", reason(gone->deepest ? VELODROME_BLOCK_OPEN : VELODROME_LOCK_HELD));
+        return;
+    }
+    if (gone->joined && gone->joiner == t->number)
+        return;
+    if (gone->joined) {
+        gone->ended = false; /* another one joins it, too: no later thread has its number */
+    } else if (!told(s, velodrome_write(s->handle, n, life_of(s, n), 0, &a), &a, NULL) ||
+               !s->recording) {
+        return;
+    } else {
+        gone->joined = gone->lived = true;
+        gone->joiner = t->number;
+    }
+    if (in_blocks(s, me, t))
+        told(s, velodrome_read(s->handle, t->number, life_of(s, n), &a), &a, place);
 }
 
 /* Of a thread that this piece of the run has not met nothing need be told: its end leads forward
  * alone. */
-void vs_join_at(vs_child child, const vs_place *place) {
-    velodrome_answer a;
+static void join(vs_child child, const vs_place *place) {
     slot *s = kept(child.session);
+    struct vs_self *me = self();
+    tell_pending_in(s, me);
     if (!s)
         return;
-    struct vs_self *me = self();
+    if (s->recording)
+        make_room_for_events(s);
     seat *t = s->recording ? seat_of(s, me) : NULL;
     uint32_t n = t ? number_of_who(s, child.who) : 0;
-    if (n && n != t->number && !s->thread[n].joined &&
-        told(s, velodrome_exit(s->handle, n, &a), &a, NULL)) {
-        s->thread[n].joined = true;
-        if (in_blocks(s, me, t))
-            told(s, velodrome_join(s->handle, t->number, n, &a), &a, place);
-    }
+    if (n && n != t->number)
+        join_number(s, me, t, n, place);
     let_go(s);
+}
+
+void vs_join_at(vs_child child, const vs_place *place) {
+    if (!come_in())
+        return;
+    join(child, place);
+    go_out();
 }
 
 void vs_join(vs_child child) {
@@ -1453,9 +2189,64 @@ vs_self *vs_switch(vs_self *next) {
 }
 
 void vs_self_free(vs_self *old) {
+    if (!old)
+        return;
     if (mine.acting == old)
         mine.acting = NULL;
+    if (come_in()) {
+        tell_pending(old);
+        end_from(old, 0);
+        go_out();
+    }
     free(old);
+}
+
+/* ---- other copies of this layer in the process, such as that of a plugin which is linked
+ * statically */
+
+#define MARK "velodrome" /* the name of a note in each part of the process that has a copy */
+__asm__(".pushsection .note.velodrome, \"a\", @note\n"
+        ".balign 4\n"
+        ".long 10, 4, 1\n"
+        ".asciz \"" MARK "\"\n"
+        ".balign 4\n"
+        ".long 1\n"
+        ".popsection\n");
+
+/* Whether the notes from `at` on have the mark. */
+static bool has_mark(const char *at, size_t bytes) {
+    uint32_t head[3]; /* bytes of the name, bytes of the rest, kind */
+    while (bytes >= sizeof head) {
+        memcpy(head, at, sizeof head);
+        size_t name = ((size_t)head[0] + 3) & ~(size_t)3,
+               whole = sizeof head + name + (((size_t)head[1] + 3) & ~(size_t)3);
+        if (whole > bytes)
+            return false;
+        if (head[0] == sizeof MARK && memcmp(at + sizeof head, MARK, sizeof MARK) == 0)
+            return true;
+        at += whole;
+        bytes -= whole;
+    }
+    return false;
+}
+
+static int count_mark(struct dl_phdr_info *part, size_t size, void *count) {
+    (void)size;
+    for (int i = 0; i < part->dlpi_phnum; i++) {
+        const ElfW(Phdr) *p = &part->dlpi_phdr[i];
+        if (p->p_type == PT_NOTE && p->p_align <= 4 &&
+            has_mark((const char *)(part->dlpi_addr + p->p_vaddr), p->p_memsz)) {
+            ++*(int *)count;
+            break;
+        }
+    }
+    return 0;
+}
+
+static bool other_copies(void) {
+    int count = 0;
+    dl_iterate_phdr(count_mark, &count);
+    return count > 1;
 }
 
 /* ---- open, close */
@@ -1463,16 +2254,19 @@ void vs_self_free(vs_self *old) {
 /* Slots may be half changed, and their locks held, by threads that are not there: those in use are
  * left as they are, for good. */
 static void child_of_fork(void) {
-    opening = (pthread_mutex_t)PTHREAD_MUTEX_INITIALIZER;
+    opening = ends.lock = kept_names.lock = (pthread_mutex_t)PTHREAD_MUTEX_INITIALIZER;
     for (slot *s = slots; s < slots + SLOTS; s++) {
         s->abandoned |= s->id || s->keeper;
         s->id = 0;
         s->keeper = 0;
         s->recording = false;
+        opened_since[s - slots] = 0;
     }
     everywhere = 0;
     vs_recording = 0;
+    crowds = 0;
     mine.slots = 0;
+    mine.inside = false;
 }
 
 static void set_options(slot *s, const vs_options *o) {
@@ -1482,7 +2276,7 @@ static void set_options(slot *s, const vs_options *o) {
               : o->events > VELODROME_MAX_EVENTS ? VELODROME_MAX_EVENTS
                                                  : o->events;
     s->near = s->most - s->most / 4;
-    s->variables = o->variables ? o->variables : VELODROME_MAX_VARIABLES;
+    s->variables = !o->variables || o->variables > VARIABLES ? VARIABLES : o->variables;
     s->locks = !o->locks                        ? VELODROME_MAX_LOCKS
                : o->locks > VELODROME_MAX_LOCKS ? VELODROME_MAX_LOCKS
                                                 : o->locks;
@@ -1499,15 +2293,21 @@ static uint64_t open_in(slot *s, const vs_options *o, bool all) {
         s->last = (uint64_t)(s - slots);
     set_options(s, o);
     s->earlier = s->born = 0;
-    s->why[0] = 0;
+    s->left_out = 0;
+    s->why[0] = s->doubt[0] = 0;
     s->alarmed = false;
     s->missed = false;
     s->in_hook = false;
+    s->crowded = false;
     next_piece(s);
-    if (open_handle(s))
+    if (!ignore_by_environment(s) || open_handle(s)) {
+        free_ignored(s);
         return 0;
+    }
     s->outer = entered();
     s->outer_everywhere = everywhere;
+    s->since = atomic_fetch_add(&openings, 1) + 1;
+    opened_since[s - slots] = s->since;
     s->recording = true;
     __atomic_fetch_add(&vs_recording, 1, __ATOMIC_RELAXED);
     s->id = epoch(s);
@@ -1552,6 +2352,7 @@ vs_session vs_open(const vs_options *options, bool all) {
 
 static void free_all(slot *s) {
     clear_names(s);
+    free_ignored(s);
     for (uint32_t i = 0; i < s->holds_room; i++)
         free(s->holds[i].share);
     free(s->words);
@@ -1574,63 +2375,124 @@ static void free_all(slot *s) {
         s->event_room = 0;
 }
 
-static vs_verdict verdict_of(slot *s) {
-    if (s->missed && !s->why[0])
-        snprintf(s->why, sizeof s->why, "two sessions were used inside one another");
-    return s->alarmed ? VS_ALARM : s->why[0] ? VS_INCOMPLETE : VS_CLEAN;
+/* Why a session that stopped for nothing cannot be called clean; false where it can. `over`: it has
+ * ended, so nothing comes any more. */
+static bool why_incomplete(slot *s, bool over, char *why, size_t room) {
+    unsigned long long left_out = s->left_out;
+    if (s->missed)
+        snprintf(why, room, "two sessions were used inside one another");
+    else if (left_out)
+        snprintf(why, room,
+                 "%llu calls came from signal handlers while their thread was in a call of this "
+                 "library, and were left out",
+                 left_out);
+    else if (over && other_copies())
+        snprintf(why, room,
+                 "this process has two copies of the session layer, and each sees its own part of "
+                 "the program; link all parts with velodrome::shared");
+    else if (over && !s->earlier && !s->events)
+        snprintf(why, room, "nothing was recorded: no variable, lock or thread that is watched");
+    else
+        return false;
+    return true;
+}
+
+static vs_verdict verdict_of(slot *s, bool over) {
+    char why[sizeof s->why];
+    if (s->alarmed)
+        return s->doubt[0] ? VS_INCOMPLETE : VS_ALARM;
+    if (s->why[0])
+        return VS_INCOMPLETE;
+    if (!why_incomplete(s, over, why, sizeof why))
+        return VS_CLEAN;
+    if (over)
+        memcpy(s->why, why, sizeof why);
+    return VS_INCOMPLETE;
 }
 
 static char *report_of(slot *s) {
     char *text = NULL;
-    if (s->alarmed)
+    unsigned long long events = s->earlier + s->events;
+    int n = 0;
+    if (s->alarmed && s->doubt[0])
+        n = asprintf(&text, "there was an alarm that may be none: %s\n%s", s->doubt,
+                     s->report ? s->report : "");
+    else if (s->alarmed)
         return s->report ? strdup(s->report)
                          : strdup("not atomic; there was no memory for an explanation\n");
-    if (!s->why[0])
-        return NULL;
-    return asprintf(&text,
-                    "recording stopped after %llu events: %s. Nothing is said of what came then\n",
-                    (unsigned long long)(s->earlier + s->events), s->why) < 0
-               ? NULL
-               : text;
+    else if (!events && s->why[0])
+        n = asprintf(&text, "recording stopped after 0 events: %s\n", s->why);
+    else if (s->why[0])
+        n = asprintf(&text,
+                     "recording stopped after %llu events: %s. Nothing is said of what came then\n",
+                     events, s->why);
+    return n < 0 ? NULL : text;
 }
 
-static void wait_for_hook(vs_session session) {
-    struct timespec wait = {0, 1000000};
-    if (mine.hooking == session || is_keeper(slot_of(session)))
-        return;
-    while (is_open(session) && slot_of(session)->in_hook)
-        nanosleep(&wait, NULL);
+/* The slot of the session, kept, while no hook of it runs in another thread; NULL where it is not
+ * open. */
+static slot *kept_to_end(vs_session session) {
+    for (;;) {
+        slot *s = kept(session);
+        if (!s || !s->in_hook || s->found || mine.hooking == session || s->held > 1)
+            return s;
+        let_go(s);
+        sleep_for(1000000);
+    }
 }
 
-vs_verdict vs_close(vs_session session, char **report) {
-    wait_for_hook(session);
-    slot *s = kept(session);
-    if (report)
-        *report =
-            s || session ? NULL : strdup("no session was opened: out of memory, or 256 are open\n");
-    if (!s)
-        return VS_INCOMPLETE;
-    vs_verdict verdict = verdict_of(s);
-    if (report)
-        *report = report_of(s);
+static void close_kept(slot *s) {
+    uint64_t session = s->id, all = session;
+    set_crowded(s, false);
     end_recording(s);
     velodrome_close(s->handle);
     free_all(s);
-    uint64_t all = session;
     atomic_compare_exchange_strong(&everywhere, &all, s->outer_everywhere);
     if (self()->current == session)
         self()->current = s->outer;
+    opened_since[s - slots] = 0;
     s->id = 0;
     let_go(s);
+}
+
+static const char no_session[] = "no session was opened: out of memory, or 256 are open\n";
+
+static vs_verdict end_session(vs_session session, char **report) {
+    tell_pending(self());
+    slot *s = kept_to_end(session);
+    if (report)
+        *report = s || session ? NULL : strdup(no_session);
+    if (!s)
+        return VS_INCOMPLETE;
+    vs_verdict verdict = verdict_of(s, true);
+    if (report)
+        *report = report_of(s);
+    close_kept(s);
+    return verdict;
+}
+
+vs_verdict vs_close(vs_session session, char **report) {
+    if (!come_in()) {
+        if (report)
+            *report = NULL;
+        return VS_INCOMPLETE;
+    }
+    vs_verdict verdict = end_session(session, report);
+    go_out();
     return verdict;
 }
 
 vs_verdict vs_so_far(vs_session session) {
+    vs_verdict verdict = VS_INCOMPLETE;
+    if (!come_in())
+        return verdict;
+    tell_pending(self());
     slot *s = kept(session);
-    if (!s)
-        return VS_INCOMPLETE;
-    vs_verdict verdict = verdict_of(s);
-    let_go(s);
+    if (s) {
+        verdict = verdict_of(s, false);
+        let_go(s);
+    }
+    go_out();
     return verdict;
 }
 
@@ -1654,40 +2516,165 @@ static bool put_log(FILE *f, slot *s) {
     return true;
 }
 
-static bool save_in(slot *s, const char *path, const char *names_path) {
+static void put_all_names(FILE *f, slot *s) {
+    put_names(f, s, "variable", &s->variable);
+    for (uint32_t i = 1; i < s->threads; i++)
+        if (s->thread[i].lived)
+            fprintf(f, "variable %u start and end of thread %u\n", life_of(s, i), i);
+    put_names(f, s, "lock", &s->lock);
+    put_names(f, s, "label", &s->label);
+}
+
+/* A file of sites: places, and that of each event. The function of a place is not known here. */
+static void put_sites(FILE *f, slot *s) {
+    uint32_t sites = s->place_count ? s->place_count - 1 : 0;
+    fprintf(f, "vsites 1 %u %u\n", sites, s->events);
+    for (uint32_t i = 1; i <= sites; i++)
+        fprintf(f, "%s:%u -\n", s->places[i].path, s->places[i].line);
+    for (uint32_t i = 0; i < s->events; i++)
+        fprintf(f, "%u\n", i < s->event_places ? s->event_place[i] : 0);
+}
+
+/* Writes the file PATH SUFFIX. */
+static bool put_file(slot *s, const char *path, const char *suffix,
+                     void (*put_all)(FILE *, slot *)) {
+    char *whole = NULL;
+    if (asprintf(&whole, "%s%s", path, suffix) < 0)
+        return false;
+    FILE *f = fopen(whole, "w");
+    free(whole);
+    if (!f)
+        return false;
+    put_all(f, s);
+    bool fine = !ferror(f);
+    return fclose(f) == 0 && fine;
+}
+
+static bool save_in(slot *s, const char *path) {
     FILE *f = fopen(path, "w");
     bool fine = f && put_log(f, s);
     if (f)
         fine = fclose(f) == 0 && fine;
-    if (!fine || !(f = fopen(names_path, "w")))
-        return false;
-    put_names(f, s, "variable", &s->variable);
-    put_names(f, s, "lock", &s->lock);
-    put_names(f, s, "label", &s->label);
-    return fclose(f) == 0;
+    return fine && put_file(s, path, ".names", put_all_names) &&
+           put_file(s, path, ".sites", put_sites);
 }
 
 bool vs_save(vs_session session, const char *path) {
-    char *names_path = NULL;
-    if (asprintf(&names_path, "%s.names", path) < 0)
+    if (!come_in())
         return false;
+    tell_pending(self());
     slot *s = kept(session);
-    bool fine = s && save_in(s, path, names_path);
+    bool fine = s && save_in(s, path);
     if (s)
         let_go(s);
-    free(names_path);
+    go_out();
     return fine;
 }
+
+bool vs_ignore(vs_session session, vs_named kind, const char *pattern) {
+    if (!come_in())
+        return false;
+    slot *s = kept(session);
+    bool fine = s && ignore_bytes(s, kind, pattern, strlen(pattern));
+    if (s)
+        let_go(s);
+    go_out();
+    return fine;
+}
+
+/* ---- settings of the environment */
 
 static const char *setting(const char *key, const char *otherwise) {
     const char *value = getenv(key);
     return value && *value ? value : otherwise;
 }
 
+/* Whether the text is a whole number up to `most`. */
+static bool is_number(const char *text, uint64_t most, uint64_t *number) {
+    *number = 0;
+    for (; *text >= '0' && *text <= '9'; text++) {
+        unsigned digit = (unsigned)(*text - '0');
+        if (*number > (most - digit) / 10)
+            return false;
+        *number = *number * 10 + digit;
+    }
+    return !*text;
+}
+
+static const struct {
+    const char *key;
+    uint64_t most; /* 0: it is one of two words */
+    const char *words[2];
+} settings[] = {{"VELODROME_NOISE", UINT32_MAX, {0}},
+                {"VELODROME_SEED", UINT64_MAX, {0}},
+                {"VELODROME_EVENTS", VELODROME_MAX_EVENTS, {0}},
+                {"VELODROME_INCOMPLETE", 0, {"fail", "warn"}},
+                {"VELODROME_REPORT", 0, {"yes", "no"}}};
+enum { NOISE, SEED, EVENTS, INCOMPLETE, REPORT, SETTINGS };
+
+/* The number, or which of the two words it is; 0 where it is not set, or wrong. */
+static uint64_t value_of(int i) {
+    uint64_t number;
+    const char *text = setting(settings[i].key, "");
+    if (settings[i].most)
+        return is_number(text, settings[i].most, &number) ? number : 0;
+    return strcmp(text, settings[i].words[1]) == 0;
+}
+
+static bool is_wrong(int i) {
+    uint64_t number;
+    const char *text = setting(settings[i].key, NULL);
+    if (!text)
+        return false;
+    if (settings[i].most)
+        return !is_number(text, settings[i].most, &number);
+    return strcmp(text, settings[i].words[0]) != 0 && strcmp(text, settings[i].words[1]) != 0;
+}
+
+static void put_wrong_settings(FILE *f) {
+    for (int i = 0; i < SETTINGS; i++) {
+        if (!is_wrong(i))
+            continue;
+        fprintf(f, "%s=%s: ", settings[i].key, setting(settings[i].key, ""));
+        if (settings[i].most)
+            fprintf(f, "it has to be a whole number up to %llu",
+                    (unsigned long long)settings[i].most);
+        else
+            fprintf(f, "it has to be %s or %s", settings[i].words[0], settings[i].words[1]);
+        fputs("; it was not heeded\n", f);
+    }
+}
+
+char *vs_wrong_settings(void) {
+    bool any = false;
+    char *text = NULL;
+    size_t bytes;
+    for (int i = 0; i < SETTINGS; i++)
+        any |= is_wrong(i);
+    FILE *f = any ? open_memstream(&text, &bytes) : NULL;
+    if (!f)
+        return NULL;
+    put_wrong_settings(f);
+    return fclose(f) ? (free(text), NULL) : text;
+}
+
 void vs_environment(vs_options *options) {
-    options->noise = (uint32_t)strtoul(setting("VELODROME_NOISE", "0"), NULL, 10);
-    options->seed = strtoull(setting("VELODROME_SEED", "0"), NULL, 10);
-    options->events = (uint32_t)strtoul(setting("VELODROME_EVENTS", "0"), NULL, 10);
+    options->noise = (uint32_t)value_of(NOISE);
+    options->seed = value_of(SEED);
+    options->events = (uint32_t)value_of(EVENTS);
+}
+
+/* ---- the end of a test */
+
+/* Makes the folders on the way to the file. */
+static void make_folders(char *path) {
+    for (char *c = path + 1; *c; c++) {
+        if (*c != '/')
+            continue;
+        *c = 0;
+        mkdir(path, 0777);
+        *c = '/';
+    }
 }
 
 /* FOLDER/NAME.vlog, the name without what is not for a file. */
@@ -1699,32 +2686,66 @@ static char *log_path(const char *name) {
     for (char *c = path + strlen(folder) + 1; *c; c++)
         if (strchr("/\\:*?\"<>| \t\n", *c))
             *c = '.';
+    make_folders(path);
     return path;
 }
 
-static char *with_path(char *report, const char *path, bool saved) {
-    char *text = NULL;
-    int n = saved ? asprintf(&text, "%svelodrome explain %s --names %s.names\n",
-                             report ? report : "", path, path)
-                  : asprintf(&text, "%sthe log could not be written to %s\n", report ? report : "",
-                             path);
+/* The text and what comes behind it, in its place. */
+__attribute__((format(printf, 2, 3))) static void append(char **text, const char *format, ...) {
+    char *more = NULL, *whole = NULL;
+    va_list operands;
+    va_start(operands, format);
+    int n = vasprintf(&more, format, operands);
+    va_end(operands);
     if (n < 0)
-        return report;
-    free(report);
-    return text;
+        return;
+    if (asprintf(&whole, "%s%s", *text ? *text : "", more) >= 0) {
+        free(*text);
+        *text = whole;
+    }
+    free(more);
+}
+
+/* Keeps the log of a test that fails, and says how to read it. */
+static void keep_log(slot *s, const char *name, char **text) {
+    char *path = log_path(name);
+    if (!path)
+        return;
+    if (save_in(s, path))
+        append(text, "velodrome explain %s --names %s.names\n", path, path);
+    else
+        append(text, "the log could not be written to %s\n", path);
+    free(path);
+}
+
+static vs_verdict finish(vs_session session, const char *name, char **text, bool *fails) {
+    char *wrong = vs_wrong_settings();
+    tell_pending(self());
+    slot *s = kept_to_end(session);
+    vs_verdict verdict = s ? verdict_of(s, true) : VS_INCOMPLETE;
+    bool lenient = value_of(INCOMPLETE);
+    *fails = verdict == VS_ALARM || (verdict == VS_INCOMPLETE && !lenient) || wrong;
+    *text = s ? report_of(s) : session ? NULL : strdup(no_session);
+    if (s && *fails && verdict != VS_CLEAN && s->events)
+        keep_log(s, name, text);
+    if (verdict == VS_INCOMPLETE && *fails && !lenient)
+        append(text, "with VELODROME_INCOMPLETE=warn such a test passes\n");
+    if (wrong)
+        append(text, "%s", wrong);
+    free(wrong);
+    if (s)
+        close_kept(s);
+    return verdict;
 }
 
 vs_verdict vs_finish(vs_session session, const char *name, char **report, bool *fails) {
-    char *path = NULL, *text = NULL;
-    bool saved = false, strict = strcmp(setting("VELODROME_INCOMPLETE", "warn"), "fail") == 0;
-    vs_verdict so_far = vs_so_far(session);
-    bool failed = so_far == VS_ALARM || (so_far == VS_INCOMPLETE && strict);
-    if (failed && (path = log_path(name)))
-        saved = vs_save(session, path);
-    vs_verdict verdict = vs_close(session, &text);
-    if (path)
-        text = with_path(text, path, saved);
-    free(path);
+    char *text = NULL;
+    bool failed = true;
+    vs_verdict verdict = VS_INCOMPLETE;
+    if (come_in()) {
+        verdict = finish(session, name, &text, &failed);
+        go_out();
+    }
     if (fails)
         *fails = failed;
     if (report)

@@ -11,6 +11,8 @@
  * between moments at which no block is open, so a program may be as long as it likes.
  *  - Any call may come from any thread, also with a session that was closed. In the child of a
  * fork(2) there is no session.
+ *  - A call from a signal handler that interrupts another one is left out; the session is
+ * incomplete then. Any other is recorded, and may allocate.
  *
  * The calls are proved. This layer is tested.
  */
@@ -52,7 +54,7 @@ typedef enum vs_kind {
 typedef enum vs_verdict { VS_CLEAN = 0, VS_ALARM = 3, VS_INCOMPLETE = 4 } vs_verdict;
 
 /* Where an event stands in the source. The file need not end in a zero byte where file_bytes is not
- * 0, and has to stay until the session is closed: a literal, as a rule. */
+ * 0. It is copied. */
 typedef struct vs_place {
     const char *file;
     uint32_t file_bytes;
@@ -79,7 +81,7 @@ typedef struct vs_alarm {
 /* All zero: the defaults. */
 typedef struct vs_options {
     uint32_t events;    /* most events between two cuts; 0: 1,048,576 */
-    uint16_t variables; /* 0: 65,535 */
+    uint16_t variables; /* 0: 65,471 */
     uint16_t locks;     /* 0: 4,096 */
     uint32_t noise;     /* one event in `noise` waits up to 200 us before it happens; 0: none */
     uint64_t seed;      /* which ones; 0: by the clock */
@@ -96,6 +98,10 @@ typedef struct vs_options {
 /* Sets what the environment asks for: VELODROME_NOISE, VELODROME_SEED, VELODROME_EVENTS. */
 void vs_environment(vs_options *options);
 
+/* What is wrong with the settings of the environment, a line for each; to be freed by vs_free.
+ * NULL: nothing is. vs_finish tells it. */
+char *vs_wrong_settings(void);
+
 /* A session for this thread and those that it starts; `everywhere`: also for threads that never
  * entered one. 0 where there is no memory, or 256 are open; all goes on without it. `options` may
  * be null. */
@@ -106,19 +112,31 @@ vs_session vs_open(const vs_options *options, bool everywhere);
  * VS_INCOMPLETE for a session that is not there. */
 vs_verdict vs_close(vs_session session, char **report);
 
-/* The same at the end of a test. The log of an alarm is kept as NAME.vlog and NAME.vlog.names in
- * the folder VELODROME_LOGS (or here), and the report says how to read it. *fails: whether the test
- * fails, by an alarm or, with VELODROME_INCOMPLETE=fail, since it could not be watched to its end.
- */
+/* The same at the end of a test, in one look. *fails: whether the test fails: by an alarm; since it
+ * could not be watched to its end, or nothing was recorded, unless VELODROME_INCOMPLETE is `warn`;
+ * or by a setting of the environment that is wrong. The log of a test that fails is kept as
+ * NAME.vlog, NAME.vlog.names and NAME.vlog.sites in the folder VELODROME_LOGS (or here), which is
+ * made if need be, and the report says how to read it. */
 vs_verdict vs_finish(vs_session session, const char *name, char **report, bool *fails);
 
 /* The verdict so far, while the session goes on. */
 vs_verdict vs_so_far(vs_session session);
 
-/* PATH gets the log since the last cut, and PATH.names the names: for `velodrome explain PATH
- * --names PATH.names`. */
+/* Leaves out, from here on, the events of the variables or locks with this name, or the begins and
+ * ends of the blocks with this label; a star in it stands for any characters. So it makes no alarm,
+ * and recording goes on. VELODROME_IGNORE_VARIABLE, VELODROME_IGNORE_LOCK and
+ * VELODROME_IGNORE_LABEL do the same for all sessions: names with commas between. */
+typedef enum vs_named { VS_NAMED_VARIABLE = 0, VS_NAMED_LOCK = 1, VS_NAMED_LABEL = 2 } vs_named;
+bool vs_ignore(vs_session session, vs_named kind, const char *name);
+
+/* PATH gets the log since the last cut, PATH.names the names and PATH.sites the places: for
+ * `velodrome explain PATH --names PATH.names --sites PATH.sites`. */
 bool vs_save(vs_session session, const char *path);
 void vs_free(char *text);
+
+/* A copy of the name that stays for good, one for each text: for an object whose name may go. NULL
+ * where there is no memory. */
+const char *vs_keep_name(const char *name);
 
 /* This thread, and those that it starts, are of this session; 0: of none. */
 void vs_enter(vs_session session);
@@ -153,9 +171,31 @@ unsigned vs_hold(vs_object *object);
 void vs_tell(vs_object *object, vs_kind kind);
 void vs_tell_at(vs_object *object, vs_kind kind, const vs_place *place);
 
-/* A block of this thread that is meant to be atomic. It is recorded once an event is in it. The
- * label is a static object for each place in the program; labels of one name are one label. vs_end
- * ends the innermost; without one it does nothing. */
+/* The same of an acquire alone by VS_ACQUIRE, told with the next event of its thread. Where a try
+ * for another lock fails before that, which vs_try_failed reports, and the lock is released then,
+ * neither is an event: so whatever std::lock tries is one acquire. */
+void vs_acquired(vs_object *lock);
+void vs_acquired_at(vs_object *lock, const vs_place *place);
+void vs_try_failed(void);
+
+/* A block of who acts that is meant to be atomic. It is recorded once an event is in it. The label
+ * stays until the block has ended, or the sessions that are open when it begins; labels of one name
+ * are one label. Each block has an identity, by which it ends:
+ *
+ *  - Blocks that began within it and are still open, as after a longjmp, end with it.
+ *  - Another thread may end it. Where events were in it, the session is incomplete then, as what
+ * its own thread did since cannot be told apart. vs_switch tells who acts.
+ *  - An end of a block that is no longer open does nothing, but that of one which outlived the
+ * block that it stood in: the session is incomplete then.
+ *  - A session begins with no block of any thread: a block that is older is none of its own. */
+typedef struct vs_block {
+    uint64_t who; /* 0: none. It began while no session recorded, or in a signal handler */
+    uint64_t nth;
+} vs_block;
+vs_block vs_begin_block(vs_object *label);
+void vs_end_block(vs_block block);
+
+/* The same by nesting alone: vs_end ends the innermost; without one it does nothing. */
 void vs_begin(vs_object *label);
 void vs_end(void);
 
@@ -179,7 +219,7 @@ typedef struct vs_self vs_self;
 vs_self *vs_self_new(void);
 vs_self *vs_switch(vs_self *self); /* this thread acts as self from here on, and returns who it was;
                                       NULL: as the thread itself */
-void vs_self_free(vs_self *self);  /* no thread acts as it */
+void vs_self_free(vs_self *self);  /* no thread acts as it; its blocks end */
 
 /* VELODROME_ATOMIC("name"): a block from here to the end of this scope, however it is left. For C;
  * C++ has its own. */
@@ -194,9 +234,8 @@ void vs_self_free(vs_self *self);  /* no thread acts as it */
 #define VS_FILE_ __FILE__
 #endif
 #define VS_HERE (&(const vs_place){VS_FILE_, sizeof VS_FILE_ - 1, __LINE__})
-static inline void vs_end_of_scope_(vs_object **label) {
-    (void)label;
-    vs_end();
+static inline void vs_end_of_scope_(const vs_block *block) {
+    vs_end_block(*block);
 }
 #ifdef VELODROME_OFF
 #define VELODROME_ATOMIC(name) ((void)0)
@@ -205,7 +244,7 @@ static inline void vs_end_of_scope_(vs_object **label) {
     VS_ATOMIC_(name, VS_NAME_(vs_label_, __LINE__), VS_NAME_(vs_block_, __LINE__))
 #define VS_ATOMIC_(name, label, block)                                                             \
     static vs_object label = VS_OBJECT(name " (" VS_FILE_ ":" VS_LINE_(__LINE__) ")");             \
-    __attribute__((cleanup(vs_end_of_scope_), unused)) vs_object *block = (vs_begin(&label), &label)
+    __attribute__((cleanup(vs_end_of_scope_), unused)) const vs_block block = vs_begin_block(&label)
 #endif
 #endif
 

@@ -28,8 +28,8 @@ LOST = """
 
 @pytest.fixture(autouse=True)
 def environment(monkeypatch):
-    for name in ("VELODROME_LOGS", "VELODROME_INCOMPLETE", "VELODROME_NOISE"):
-        monkeypatch.delenv(name, raising=False)
+    for name in ("LOGS", "INCOMPLETE", "NOISE", "EVENTS", "SEED"):
+        monkeypatch.delenv(f"VELODROME_{name}", raising=False)
 
 
 @pytest.fixture
@@ -71,13 +71,13 @@ def test_an_alarm_fails_its_test(run, pytester):
     result.stdout.fnmatch_lines(
         [
             "*not atomic: Account.deposit (test_an_alarm_fails_its_test.py:*)",
-            "*velodrome explain */.velodrome/*test_lost.vlog --names *",
+            "*velodrome explain */.velodrome/*test_lost.vlog --names *.names --sites *.sites",
         ]
     )
     result.stdout.no_fnmatch_line("*pytest_plugin.py*")
     kept = sorted(path.name for path in pathlib.Path(pytester.path, ".velodrome").iterdir())
     assert kept == [
-        f"test_an_alarm_fails_its_test.py..test_lost.vlog{end}" for end in ("", ".names")
+        f"test_an_alarm_fails_its_test.py..test_lost.vlog{end}" for end in ("", ".names", ".sites")
     ]
     names = pathlib.Path(pytester.path, ".velodrome", kept[1]).read_text()
     assert "variable 0 Account.balance\n" in names
@@ -94,7 +94,8 @@ def test_only_what_is_asked_for_is_watched(run):
     run(source).assert_outcomes(passed=1)
     run(
         source.replace(
-            "    def test_lost", "    import pytest\n    @pytest.mark.velodrome\n    def test_lost"
+            "    def test_lost",
+            "    import pytest\n    @pytest.mark.velodrome\n    def test_lost",
         )
     ).assert_outcomes(failed=1)
 
@@ -107,12 +108,85 @@ def test_incomplete(run):
         with velodrome.atomic('long'):
             for _ in range(100): x.get()
     """.replace(
-        "def test_long", "import pytest\n    @pytest.mark.velodrome(events=20)\n    def test_long"
+        "def test_long",
+        "import pytest\n    @pytest.mark.velodrome(events=20)\n    def test_long",
     )
     result = run(source)
+    result.assert_outcomes(failed=1)
+    result.stdout.fnmatch_lines(
+        [
+            "*too many events while a block was open*",
+            "set --velodrome-incomplete warn, *",
+        ]
+    )
+    result.stdout.no_fnmatch_line("*pytest_plugin.py*")
+    result = run(source, "--velodrome-incomplete", "warn")
     result.assert_outcomes(passed=1, warnings=1)
-    result.stdout.fnmatch_lines(["*Incomplete: *too many events while a block was open*"])
-    run(source, "--velodrome-incomplete", "fail").assert_outcomes(failed=1)
+    result.stdout.fnmatch_lines(["*IncompleteWarning: *too many events while a block was open*"])
+
+
+def test_nothing_was_recorded(run):
+    nothing = """
+    import pytest, velodrome
+    def test_plain():
+        assert True
+    """
+    used = """
+    @velodrome.atomic
+    def nothing(): pass
+    def test_used():
+        nothing()
+    """
+    marked = """
+    @pytest.mark.velodrome
+    def test_marked():
+        assert True
+    """
+    recorded = """
+    def test_recorded():
+        velodrome.Var(0).get()
+    """
+    result = run(nothing + recorded, "--velodrome")
+    result.assert_outcomes(passed=2)
+    result.stdout.fnmatch_lines(["velodrome: 1 of 2 watched tests used nothing of velodrome, *"])
+    assert result.ret == 0
+    result = run(nothing, "--velodrome")
+    result.assert_outcomes(passed=1)
+    assert result.ret == 1
+    for source, arguments in (
+        (nothing + used, ["--velodrome"]),
+        (nothing + marked, []),
+    ):
+        result = run(source, *arguments)
+        result.assert_outcomes(failed=1, passed=1)
+        result.stdout.fnmatch_lines(["nothing was recorded: *"])
+        run(source, *arguments, "--velodrome-incomplete", "warn").assert_outcomes(
+            passed=2, warnings=1
+        )
+
+
+def test_settings_that_mean_nothing_are_told(run, monkeypatch):
+    source = """
+    def test_plain():
+        assert True
+    """
+    for name, value in (("EVENTS", "1e6"), ("NOISE", "yes"), ("INCOMPLETE", "Fail")):
+        monkeypatch.setenv(f"VELODROME_{name}", value)
+        result = run(source, "--velodrome")
+        assert result.ret == pytest.ExitCode.USAGE_ERROR
+        result.stderr.fnmatch_lines([f"ERROR: VELODROME_{name} is '{value}': it is *"])
+        run(source).assert_outcomes(passed=1)
+        monkeypatch.delenv(f"VELODROME_{name}")
+
+
+def test_the_environment_stays(run):
+    run(
+        """
+    import os
+    def test_environment():
+        assert not [name for name in os.environ if name.startswith('VELODROME')]
+    """
+    ).assert_outcomes(passed=1)
 
 
 def test_a_failing_test_keeps_its_own_failure(run):
@@ -159,10 +233,47 @@ def test_repeat_until_it_shows(run):
     """,
         "--velodrome",
         "--velodrome-repeat",
-        "1000",
+        "20",
     )
     result.assert_outcomes(failed=1, passed=1)
     result.stdout.fnmatch_lines(["FAILED *::test_lost*"])
+
+
+def test_fixtures_are_made_anew_for_each_repetition(run):
+    result = run(
+        LOST.replace("other.wait(30)", "pass")
+        + """
+    import pytest
+    made = {'module': 0, 'function': 0}
+
+    @pytest.fixture(scope='module')
+    def bank():
+        made['module'] += 1
+        yield
+        assert made == {'module': 1, 'function': 4}
+        print('the bank goes')
+
+    @pytest.fixture
+    def account(bank):
+        made['function'] += 1
+        yield Account()
+
+    @pytest.mark.velodrome(repeat=3)
+    def test_deposit(account):
+        account.deposit(5)
+        assert account.balance == 5
+
+    @pytest.mark.velodrome(repeat=3)
+    def test_that_fails(account):
+        account.deposit(5)
+        assert account.balance == 6
+    """.replace(
+            "other.wait(30)", "pass"
+        ),
+        "-s",
+    )
+    result.assert_outcomes(passed=1, failed=1)
+    result.stdout.fnmatch_lines(["*the bank goes*"])
 
 
 def test_unpatched(run):

@@ -2,9 +2,14 @@
 import asyncio
 import collections
 import concurrent.futures
+import contextlib
 import copy
 import dataclasses
 import gc
+import importlib.util
+import io
+import json
+import logging
 import os
 import pathlib
 import pickle
@@ -16,6 +21,7 @@ import sys
 import tempfile
 import threading
 import time
+import types
 import unittest
 import warnings
 import weakref
@@ -32,9 +38,12 @@ class Account:
         self.balance = self.balance + amount
 
 
+_Thread = threading.Thread  # also where it is patched
+
+
 def elsewhere(body):
     """Done by a thread that the session has not met."""
-    thread = threading.Thread(target=body)
+    thread = _Thread(target=body)
     thread.start()
     thread.join()
 
@@ -43,6 +52,7 @@ class Case(unittest.TestCase):
     def watch(self, verdict, body, words="", **options):
         """The body's value, of a run with this verdict and words in its text."""
         with velodrome.session(**options) as run:
+            Var(0, "met").get()  # a run of which nothing is recorded is incomplete
             value = body()
         self.assertEqual(run.outcome.verdict, verdict, run.outcome.text)
         self.assertIn(words, run.outcome.text)
@@ -203,10 +213,9 @@ class Verdicts(Case):
 
 
 class Tasks(Case):
-    def both(self, increment, watch):
+    def both(self, increment, factory=None):
         async def main():
-            if watch:
-                velodrome.watch_tasks(asyncio.get_running_loop())
+            asyncio.get_running_loop().set_task_factory(factory)
             await asyncio.gather(*(asyncio.ensure_future(increment()) for _ in range(2)))
 
         asyncio.run(main())
@@ -222,13 +231,15 @@ class Tasks(Case):
                     x.set(before + 1)
 
             async def safely():
+                nonlocal gate
+                gate = gate or asyncio.Lock()  # in a loop, as Python 3.9 wants it
                 async with gate:
                     await increment()
 
             def body():
                 nonlocal gate
-                gate = asyncio.Lock()
-                self.both(safely if locked else increment, True)
+                gate = None
+                self.both(safely if locked else increment)
                 return x.get()
 
             gate = None
@@ -237,31 +248,17 @@ class Tasks(Case):
             else:
                 self.assertEqual(self.watch("alarm", body, "not atomic: increment"), 1)
 
-    def test_a_block_of_an_unwatched_task_is_not_silently_clean(self):
-        x = Var(0)
-
-        async def increment():
-            with atomic("increment"):
-                before = x.get()
-                await asyncio.sleep(0)
-                x.set(before + 1)
-
-        self.watch("incomplete", lambda: self.both(increment, False), "watch_tasks")
-
     def test_a_decorated_coroutine_is_a_block_of_its_task(self):
-        for watch in (False, True):
-            x = Var(0, "x")
+        x = Var(0, "x")
 
-            @atomic
-            async def increment():
-                before = x.get()
-                await asyncio.sleep(0)
-                x.set(before + 1)
-                return x
+        @atomic
+        async def increment():
+            before = x.get()
+            await asyncio.sleep(0)
+            x.set(before + 1)
+            return x
 
-            self.watch(
-                "alarm", lambda: self.both(increment, watch), "increment (test_velodrome.py:"
-            )
+        self.watch("alarm", lambda: self.both(increment), "increment (test_velodrome.py:")
 
     def test_blocks_of_a_task_nest(self):
         x = Var(0, "x")
@@ -276,15 +273,11 @@ class Tasks(Case):
             await inner()
             x.set(x.get() + 1)
 
-        async def main(watch):
-            if watch:
-                velodrome.watch_tasks(asyncio.get_running_loop())
+        async def main():
             await asyncio.ensure_future(outer())
             return x.get()
 
-        for watch in (False, True):
-            x.set(0)
-            self.assertEqual(self.watch("clean", lambda: asyncio.run(main(watch))), 3)
+        self.assertEqual(self.watch("clean", lambda: asyncio.run(main())), 3)
 
     def test_a_coroutine_is_as_it_was(self):
         @atomic
@@ -296,7 +289,6 @@ class Tasks(Case):
             raise KeyError(how)
 
         async def main():
-            velodrome.watch_tasks(asyncio.get_running_loop())
             with self.assertRaises(KeyError):
                 await fails("mine")
             task = asyncio.ensure_future(fails("cancelled"))
@@ -314,7 +306,6 @@ class Tasks(Case):
             return n
 
         async def main():
-            velodrome.watch_tasks(asyncio.get_running_loop())
             task = asyncio.ensure_future(named(1))
             self.assertIn("named", repr(task))
             self.assertEqual(len(task.get_stack()), 1)
@@ -330,21 +321,6 @@ class Tasks(Case):
             self.assertEqual(self.watch("clean", lambda: asyncio.run(main())), [0, 0.001])
             gc.collect()
 
-    def test_patched_watches_tasks(self):
-        x = Var(0, "x")
-
-        async def increment():
-            with atomic("increment"):
-                before = x.get()
-                await asyncio.sleep(0)
-                x.set(before + 1)
-
-        def body():
-            with velodrome.patched():
-                self.both(increment, False)
-
-        self.watch("alarm", body, "not atomic: increment")
-
     def test_generators_are_refused(self):
         def generator():
             yield
@@ -358,6 +334,332 @@ class Tasks(Case):
         for other in (Account, 7):
             with self.assertRaises(TypeError):
                 atomic(other)
+
+
+class Suspended(Case):
+    """Blocks of what is suspended and goes on elsewhere: each is of who runs it, and of no other."""
+
+    def lose(self, x):
+        """An update of this thread between whose two accesses another thread writes."""
+        before = x.get()
+        elsewhere(lambda: x.set(5))
+        x.set(before + 1)
+
+    def test_a_block_of_a_suspended_generator_is_no_block_of_its_consumer(self):
+        x, y = Var(0, "x"), Var(0, "y")
+
+        def rows():
+            with atomic("rows"):
+                yield y.get()
+                yield y.get()
+
+        kept = rows()
+        self.watch("clean", lambda: next(kept))
+        self.watch("clean", lambda: self.lose(x))  # in a later session
+
+        def consume():
+            other = rows()
+            next(other)
+            self.lose(x)
+            next(other)
+
+        self.watch("clean", consume)
+
+    def test_a_block_of_a_generator_is_seen(self):
+        x = Var(0, "x")
+
+        def rows():
+            with atomic("rows"):
+                before = x.get()
+                yield
+                x.set(before + 1)
+
+        def consume():
+            for _ in rows():
+                x.set(5)
+
+        self.watch("alarm", consume, "not atomic: rows")
+
+    def test_a_generator_that_is_closed_in_another_block(self):
+        x = Var(0, "x")
+
+        def rows():
+            with atomic("rows"):
+                yield 1
+
+        def close_at_once(cursor):
+            cursor.close()
+
+        def let_it_go(cursor):
+            cursor.clear()
+            gc.collect()
+
+        for by_whom in ("this thread", "another"):
+            for how in (close_at_once, let_it_go):
+
+                def update(cursor):
+                    with atomic("update"):
+                        before = x.get()
+                        how(cursor)
+                        elsewhere(lambda: x.set(5))
+                        x.set(before + 1)
+
+                def body():
+                    cursor = rows()
+                    next(cursor)
+                    mine = [cursor] if how is let_it_go else cursor
+                    del cursor
+                    if by_whom == "another":
+                        elsewhere(lambda: update(mine))
+                    else:
+                        update(mine)
+
+                self.watch("alarm", body, "not atomic: update")
+
+    def test_a_generator_that_outlives_the_block_it_began_in(self):
+        x = Var(0, "x")
+
+        def rows():
+            with atomic("rows"):
+                yield x.get()
+
+        def body():
+            cursor = rows()
+            with atomic("outer"):
+                next(cursor)
+            self.lose(x)
+            cursor.close()
+
+        self.watch("incomplete", body, "a block ended in which another one was open")
+
+        def resumed():
+            cursor = rows()
+            next(cursor)
+            with atomic("outer"):
+                x.get()
+                collections.deque(cursor, 0)
+
+        self.watch("clean", resumed)
+
+    def test_a_generator_that_is_resumed_in_another_block(self):
+        x = Var(0, "x")
+
+        def rows():
+            with atomic("rows"):
+                yield x.get()
+                yield x.get()
+
+        def body():
+            cursor = rows()
+            next(cursor)
+            with atomic("outer"):
+                x.get()
+                next(cursor)
+
+        self.watch("incomplete", body, "resumed in another block")
+
+    def test_a_context_managers_block_is_of_its_with_statement(self):
+        x = Var(0, "x")
+
+        @contextlib.contextmanager
+        def transaction():
+            with atomic("transaction"):
+                yield
+
+        class Transaction:
+            def __enter__(self):
+                self.block = atomic("transaction")
+                self.block.__enter__()
+
+            def __exit__(self, *failure):
+                self.block.__exit__(*failure)
+
+        @transaction()
+        def decorated():
+            self.lose(x)
+
+        def by_stack():
+            with contextlib.ExitStack() as stack:
+                stack.enter_context(transaction())
+                stack.enter_context(atomic("inner"))
+                self.lose(x)
+
+        for make in (transaction, Transaction):
+
+            def body():
+                with make():
+                    self.lose(x)
+                x.get()
+
+            self.watch("alarm", body, "not atomic: transaction")
+
+            def generator():
+                with make():
+                    x.get()
+                    yield
+
+            def consume():
+                for _ in generator():
+                    self.lose(x)
+
+            self.watch("clean", consume)
+        for body in (decorated, by_stack):
+            self.watch("alarm", body, "not atomic: transaction")
+
+    def test_asynchronous_generators_and_context_managers(self):
+        x, y = Var(0, "x"), Var(0, "y")
+
+        async def rows():
+            for n in range(3):
+                with atomic("row"):
+                    y.get()
+                    yield n
+
+        @contextlib.asynccontextmanager
+        async def transaction():
+            with atomic("transaction"):
+                yield
+
+        async def read():
+            async for _ in rows():
+                self.lose(x)
+
+        async def update():
+            async with transaction():
+                before = x.get()
+                await asyncio.sleep(0)
+                x.set(before + 1)
+
+        self.watch("clean", lambda: asyncio.run(read()))
+
+        async def both():
+            await asyncio.gather(update(), update())
+
+        self.watch("alarm", lambda: asyncio.run(both()), "not atomic: transaction")
+
+    def test_a_task_that_is_collected(self):
+        x, y = Var(0, "x"), Var(0, "y")
+
+        async def stuck():
+            with atomic("stuck"):
+                y.get()
+                await asyncio.get_running_loop().create_future()
+
+        async def main():
+            asyncio.get_running_loop().set_exception_handler(lambda *_: None)
+            task = asyncio.ensure_future(stuck())
+            await asyncio.sleep(0)
+            with atomic("update"):
+                before = x.get()
+                del task
+                gc.collect()
+                elsewhere(lambda: x.set(5))
+                x.set(before + 1)
+
+        self.watch("alarm", lambda: asyncio.run(main()), "not atomic: update")
+
+    def test_tasks_by_any_factory(self):
+        x = Var(0, "x")
+
+        async def increment():
+            with atomic("increment"):
+                before = x.get()
+                await asyncio.sleep(0)
+                x.set(before + 1)
+
+        async def main(factory):
+            asyncio.get_running_loop().set_task_factory(factory)
+            await asyncio.gather(*(asyncio.ensure_future(increment()) for _ in range(2)))
+
+        own = lambda loop, coroutine, **keywords: asyncio.Task(coroutine, loop=loop, **keywords)
+        for factory in (None, own, getattr(asyncio, "eager_task_factory", None)):
+            self.watch("alarm", lambda: asyncio.run(main(factory)), "not atomic: increment")
+
+    def test_coroutines_that_no_loop_runs(self):
+        x = Var(0, "x")
+
+        @types.coroutine
+        def turn():
+            yield
+
+        async def increment():
+            with atomic("increment"):
+                before = x.get()
+                await turn()
+                x.set(before + 1)
+
+        def body():
+            both = [increment(), increment()]
+            for _ in range(2):
+                for coroutine in both:
+                    with contextlib.suppress(StopIteration):
+                        coroutine.send(None)
+
+        self.watch("alarm", body, "not atomic: increment")
+
+    def test_actors(self):
+        x = Var(0, "x")
+        one, two = velodrome.Actor(), velodrome.Actor()
+
+        def body():
+            self.assertIsNone(velodrome.switch(one))
+            first = atomic("increment")
+            first.__enter__()
+            before = x.get()
+            self.assertIs(velodrome.switch(two), one)
+            x.set(5)
+            self.assertIs(velodrome.switch(one), two)
+            x.set(before + 1)
+            first.__exit__(None, None, None)
+            self.assertIs(velodrome.switch(None), one)
+            with velodrome.acting_as(two):
+                x.get()
+            self.assertIsNone(velodrome.switch(None))
+
+        self.watch("alarm", body, "not atomic: increment")
+        for wrong in (7, one.__class__):
+            with self.assertRaises(TypeError):
+                velodrome.switch(wrong)
+
+    @unittest.skipUnless(importlib.util.find_spec("greenlet"), "no greenlet")
+    def test_greenlets(self):
+        import greenlet
+
+        x = Var(0, "x")
+
+        @atomic
+        def increment():
+            before = x.get()
+            main.switch()
+            x.set(before + 1)
+
+        def body():
+            both = [greenlet.greenlet(increment) for _ in range(2)]
+            for _ in range(2):
+                for one in both:
+                    one.switch()
+
+        main = greenlet.getcurrent()
+        self.watch("alarm", body, "not atomic: Suspended.test_greenlets")
+
+    @unittest.skipUnless(importlib.util.find_spec("gevent"), "no gevent")
+    def test_gevent_after_the_import(self):
+        program = """
+import velodrome
+import gevent.monkey
+gevent.monkey.patch_all()
+import gevent, threading
+with velodrome.session() as run, velodrome.patched():
+    lock, order = threading.Lock(), []
+    def use(n):
+        with lock, velodrome.atomic('use'):
+            order.append(n)
+            gevent.sleep(0.01)
+            order.append(n)
+    gevent.joinall([gevent.spawn(use, n) for n in range(3)])
+assert order == [0, 0, 1, 1, 2, 2] and run.outcome.clean, (order, run.outcome)
+"""
+        subprocess.run([sys.executable, "-c", program], timeout=300, check=True)
 
 
 class Host(Case):
@@ -416,7 +718,8 @@ class Host(Case):
         def body():
             with concurrent.futures.ThreadPoolExecutor(8) as pool:
                 collections.deque(
-                    (f.result() for f in [pool.submit(increment) for _ in range(200)]), 0
+                    (f.result() for f in [pool.submit(increment) for _ in range(200)]),
+                    0,
                 )
 
         self.watch("clean", body)
@@ -774,7 +1077,8 @@ class Types(Case):
             p = Point(5)
             p.y += 1
             self.assertEqual(
-                (p, p.x, p.y, dataclasses.asdict(p)), (Point(5, 3), 5, 3, {"x": 5, "y": 3})
+                (p, p.x, p.y, dataclasses.asdict(p)),
+                (Point(5, 3), 5, 3, {"x": 5, "y": 3}),
             )
             del p.x
             self.assertEqual(p.x, 1)
@@ -791,10 +1095,221 @@ class Types(Case):
         self.watch("clean", body)
         body()
 
+    def test_a_field_leaves_the_instance_as_it_was(self):
+        class Owner:
+            balance = velodrome.field(0)
+
+            def __init__(self):
+                self.name, self.balance = "me", 3
+
+            def __repr__(self):
+                return ", ".join(f"{key}={getattr(self, key)}" for key in self.__dict__)
+
+        owner, other = Owner(), Owner()
+
+        def body():
+            self.assertEqual(repr(owner), "name=me, balance=3")
+            self.assertEqual(json.dumps(vars(other)), '{"name": "me", "balance": 3}')
+            self.assertEqual(vars(owner), vars(other))
+
+        body()
+        self.watch("clean", body)
+        body()
+
+    def test_instances_that_share_their_dict(self):
+        class Config:
+            shared = {}
+            level = velodrome.field(0)
+
+            def __init__(self):
+                self.__dict__ = self.shared
+
+        def update():
+            mine = Config()
+            with atomic("update"):
+                before = mine.level
+                del mine
+                elsewhere(lambda: setattr(Config(), "level", 5))
+                Config().level = before + 1
+
+        self.watch("alarm", update, "not atomic: update")
+
+    def test_instances_go(self):
+        class Owner:
+            balance = velodrome.field(0)
+
+        class Slotted:
+            __slots__ = ("__dict__",)
+            balance = velodrome.field(0)
+
+        def grown():
+            before = resource.getrusage(resource.RUSAGE_SELF).ru_maxrss
+            for _ in range(20_000):
+                owner = Owner()
+                owner.balance += 1
+                self.assertEqual(owner.balance, 1)
+            return resource.getrusage(resource.RUSAGE_SELF).ru_maxrss - before
+
+        def body():
+            owner = Owner()
+            owner.balance = owner
+            gone = weakref.ref(owner)
+            del owner
+            gc.collect()
+            self.assertIsNone(gone())
+            Slotted().balance += 1
+            grown()
+            self.assertLess(grown(), 1 << 10)
+
+        self.watch("clean", body, places=False, events=4096)  # its log stays small
+
+    def test_weak_references(self):
+        with velodrome.patched():
+            for make in (threading.Lock, threading.RLock, Var):
+                made = make()
+                gone = weakref.ref(made)
+                self.assertIs(gone(), made)
+                weakref.WeakKeyDictionary()[made] = 1
+                del made
+                self.assertIsNone(gone())
+
+    def test_labels_and_code_go(self):
+        x = Var(0)
+
+        def grown(body):
+            before = resource.getrusage(resource.RUSAGE_SELF).ru_maxrss
+            for n in range(20_000):
+                body(n)
+            return resource.getrusage(resource.RUSAGE_SELF).ru_maxrss - before
+
+        def label(n):
+            with atomic(f"{'request ' * 100}{n}"):
+                pass
+
+        def code(n):
+            exec(compile(f"s = {'y' * 2000!r}\nx.get()", f"f{n}.py", "exec"), {"x": x})
+
+        grown(label)
+        self.assertLess(grown(label), 4 << 10)
+        with velodrome.session(places=True):
+            grown(code)
+            self.assertLess(grown(code), 20 << 10)
+
+    def test_names_that_are_no_utf8(self):
+        x = Var(0, "cut \udce9 and zero \0")
+
+        def body():
+            with atomic("block \udce9"):
+                self.assertEqual(x.get(), 0)
+
+        folder = pathlib.Path(tempfile.mkdtemp())
+        with velodrome.session() as run:
+            body()
+            run.save(folder / "x")
+        self.assertEqual(
+            (folder / "x.names").read_text().splitlines(),
+            ["variable 0 cut \\udce9 and zero \\x00", "label 0 block \\udce9"],
+        )
+
+    def test_locks_of_the_library(self):
+        def logger():
+            log = logging.Logger("x")
+            log.addHandler(logging.StreamHandler(io.StringIO()))
+            return lambda: log.warning("deposit")
+
+        def put():
+            box = queue.Queue()
+            return lambda: box.put(1)
+
+        def submit():
+            pool = concurrent.futures.ThreadPoolExecutor(1)
+            return lambda: pool.submit(int).result()
+
+        def event():
+            done = threading.Event()
+            return lambda: (done.set(), done.is_set())
+
+        for make in (logger, put, submit, event):
+            for told in (False, True):
+
+                def body():
+                    with velodrome.patched(library_locks=told):
+                        use = make()
+                        with atomic("twice"):
+                            x = Var(0)
+                            x.set(1)
+                            use()
+                            elsewhere(use)
+                            use()
+
+                if not told:
+                    self.watch("clean", body)
+                elif make is not submit:
+                    self.watch("alarm", body, "not atomic: twice")
+
+    def test_a_condition_is_the_programs(self):
+        def body():
+            with velodrome.patched():
+                ready = threading.Condition()
+
+                def take():
+                    with ready:
+                        pass
+
+                with atomic("twice"):
+                    take()
+                    elsewhere(take)
+                    take()
+
+        line = body.__code__.co_firstlineno + 2
+        self.watch("alarm", body, f"lock at test_velodrome.py:{line}")
+
+    def test_what_is_ignored_makes_no_alarm(self):
+        x, lock = Var(0, "x"), Lock("log of x")
+
+        def use():
+            with lock:
+                x.get()
+
+        def body():
+            with atomic("twice"):
+                use()
+                elsewhere(lambda: (use(), x.set(1)))
+                use()
+
+        self.watch("alarm", body)
+        self.watch("alarm", body, ignore_locks=["log*"])
+        self.watch("clean", body, ignore_locks=["log*"], ignore_variables=iter("xyz"))
+        self.watch("clean", body, ignore_labels=["twice"])
+        with self.assertRaises(TypeError):
+            velodrome.session(ignore_labels=[7])
+
+    def test_nothing_was_recorded(self):
+        with velodrome.session() as run:
+            pass
+        self.assertEqual(run.outcome.verdict, "incomplete")
+        self.assertIn("nothing was recorded", run.outcome.text)
+
+    def test_settings_that_mean_nothing(self):
+        for name, value in (("EVENTS", "1e6"), ("NOISE", "yes"), ("SEED", "-1")):
+            os.environ[f"VELODROME_{name}"] = value
+            try:
+                with self.assertRaisesRegex(ValueError, f"VELODROME_{name} is '{value}'"):
+                    velodrome.session()
+            finally:
+                del os.environ[f"VELODROME_{name}"]
+        with velodrome.session() as run:
+            with self.assertRaisesRegex(ValueError, "incomplete is 'Fail'"):
+                run.finish("x", incomplete="Fail")
+
     def test_var(self):
         x: Var[list] = Var([1], name="x")
         self.assertEqual((x.get(), repr(x), repr(Var())), ([1], "Var([1])", "Var(None)"))
-        for wrong in (lambda: x.__init__(1), lambda: Lock.__new__(Lock).acquire(), lambda: x.set()):
+        for wrong in (
+            lambda: x.__init__(1),
+            lambda: Lock.__new__(Lock).acquire(),
+            lambda: x.set(),
+        ):
             with self.assertRaises(TypeError):
                 wrong()
         gone = weakref.ref(type("T", (), {})())
@@ -818,7 +1333,8 @@ class Types(Case):
 
         def body():
             self.assertEqual(
-                (Bank.static(1), Bank.of_class(), Bank.static.__doc__), (3, Bank, "Its own.")
+                (Bank.static(1), Bank.of_class(), Bank.static.__doc__),
+                (3, Bank, "Its own."),
             )
             block = atomic("twice")
             with block, block:
@@ -839,17 +1355,19 @@ class Types(Case):
             self.assertEqual(run.outcome.verdict, "alarm")
             self.assertTrue(run.finish("tests/bank::test_lost"))
             self.assertIn(f"velodrome explain {folder}/", run.outcome.text)
-            self.assertEqual(len(os.listdir(folder)), 2)
-            for strict in ("fail", "warn"):
-                os.environ["VELODROME_INCOMPLETE"] = strict
+            self.assertEqual(len(os.listdir(folder)), 3)
+            for setting in ("fail", "warn", ""):
+                os.environ["VELODROME_INCOMPLETE"] = setting
                 run = velodrome.session(events=8)
                 with atomic("b"):
                     for _ in range(20):
                         x.get()
                 self.assertEqual(
                     (run.finish("incomplete"), run.outcome.verdict),
-                    (strict == "fail", "incomplete"),
+                    (setting != "warn", "incomplete"),
                 )
+            run = velodrome.session()
+            self.assertEqual((run.finish("none"), run.finish("none")), (True, False))
         finally:
             del os.environ["VELODROME_LOGS"], os.environ["VELODROME_INCOMPLETE"]
 

@@ -14,37 +14,44 @@ An alarm says that no serial order of the blocks has the accesses of this run in
 Recorded are the accesses of `field` and `Var`, `Lock` and `RLock`, and the start and join of `Thread`; `patched()` puts the last
 three in the place of threading's. A block that waits for another thread, by a join or a condition, is an alarm by definition.
 
+A block is of who runs it: a thread, a task of asyncio (of any loop, eager or not), a greenlet, or a generator or coroutine that is
+suspended by itself. For what else switches within a thread, `Actor` and `switch` say who acts.
+
 Nothing here fails the program: what cannot be recorded makes the session `incomplete`, and the program goes on.
 """
 from __future__ import annotations
 
-import collections.abc
 import contextlib
 import dataclasses
 import functools
 import inspect
 import os
+import shlex
+import sysconfig
 import threading
 import typing
-from typing import Any, Callable, Iterator, Literal, TypeVar, overload
+from typing import Any, Callable, Iterable, Iterator, Literal, TypeVar, overload
 
 from velodrome import _session
-from velodrome._session import Lock, RLock, Var, field
+from velodrome._session import Actor, Lock, RLock, Var, field, switch
 
 __all__ = [
+    "Actor",
     "Alarm",
     "Block",
+    "Incomplete",
     "Lock",
     "Outcome",
     "RLock",
     "Session",
     "Thread",
     "Var",
+    "acting_as",
     "atomic",
     "field",
     "patched",
     "session",
-    "watch_tasks",
+    "switch",
 ]
 __version__ = "0.1.0"
 
@@ -55,26 +62,62 @@ class Alarm(AssertionError):
     """Blocks that were not atomic, for whoever wants to raise it."""
 
 
-@dataclasses.dataclass(frozen=True)
-class Outcome:
-    """The outcome of a session. The text of an alarm says which blocks, by which events and where; that of an incomplete one, why."""
-
-    verdict: Literal["clean", "alarm", "incomplete"]
-    text: str
-
-    @property
-    def clean(self) -> bool:
-        """Whether a serial order of the blocks explains all that was recorded."""
-        return self.verdict == "clean"
+class Incomplete(AssertionError):
+    """A run that was not watched to its end, or of which nothing was recorded, for whoever wants to raise it."""
 
 
 _Verdict = Literal["clean", "alarm", "incomplete"]
 _VERDICTS: dict[int, _Verdict] = {0: "clean", 3: "alarm"}
 
 
-def _outcome(verdict: int, text: str) -> Outcome:
-    word: _Verdict = _VERDICTS.get(verdict, "incomplete")
-    return Outcome(word, text or ("it could not be watched" if word == "incomplete" else ""))
+@dataclasses.dataclass(frozen=True)
+class Outcome:
+    """The outcome of a session. The text of an alarm says which blocks, by which events and where; that of an incomplete one, why."""
+
+    verdict: _Verdict
+    text: str
+
+    @property
+    def clean(self) -> bool:
+        """Whether a serial order of the blocks explains all that was recorded, and something was."""
+        return self.verdict == "clean"
+
+
+# The most of each number that the environment may set.
+_MOST = {
+    "VELODROME_EVENTS": 16_777_216,
+    "VELODROME_NOISE": 2**32 - 1,
+    "VELODROME_SEED": 2**64 - 1,
+}
+
+
+def number_setting(name: str) -> int:
+    """What the environment sets, else 0. Raises ValueError for what is no number, or one that is out of range."""
+    text = os.environ.get(name, "")
+    if not text:
+        return 0
+    if text.isascii() and text.isdigit() and int(text) <= _MOST[name]:
+        return int(text)
+    raise ValueError(f"{name} is {text!r}: it is a number, from 0 to {_MOST[name]}")
+
+
+def incomplete_setting(asked: str | None = None) -> Literal["fail", "warn"]:
+    """What becomes of an incomplete run: as asked, else as VELODROME_INCOMPLETE says, else 'fail'. Raises ValueError for other words."""
+    word = asked or os.environ.get("VELODROME_INCOMPLETE") or "fail"
+    if word in ("fail", "warn"):
+        return typing.cast(Literal["fail", "warn"], word)
+    source = "incomplete" if asked else "VELODROME_INCOMPLETE"
+    raise ValueError(f"{source} is {word!r}: it is 'fail' or 'warn'")
+
+
+_LONGEST_NAME = 200  # bytes of a log's name, which a file system takes with what comes behind it
+
+
+def _log_path(folder: str, name: str) -> str:
+    """Where the log of a test lies: without what is not for the name of a file."""
+    plain = "".join("." if c in '/\\:*?"<>| \t\n\0' else c for c in name or "velodrome")
+    short = os.fsencode(plain)[:_LONGEST_NAME].decode(errors="ignore")
+    return os.path.join(folder, f"{short}.vlog")
 
 
 class Session:
@@ -87,40 +130,77 @@ class Session:
         noise: int | None = None,
         seed: int | None = None,
         places: bool = True,
+        ignore_variables: Iterable[str] = (),
+        ignore_locks: Iterable[str] = (),
+        ignore_labels: Iterable[str] = (),
     ) -> None:
         self._outcome: Outcome | None = None
         self._number = 0
-        self._number = _session.open(events, noise, seed, places)
+        numbers = [
+            number_setting(f"VELODROME_{key}") if asked is None else asked
+            for key, asked in (("EVENTS", events), ("NOISE", noise), ("SEED", seed))
+        ]
+        self._before = _session.counts()
+        ignored = [list(names) for names in (ignore_variables, ignore_locks, ignore_labels)]
+        self._number = _session.open(numbers[0], numbers[1], numbers[2], places)
+        for kind, names in enumerate(ignored if self._number else ()):
+            for name in names:
+                _session.ignore(self._number, kind, name)
 
     @property
     def outcome(self) -> Outcome:
         """What it came to; so far, without the text, while it is open."""
-        return self._outcome or _outcome(_session.so_far(self._number), "")
+        return self._outcome or self._judged(_session.so_far(self._number), "")
+
+    @property
+    def used(self) -> bool:
+        """Whether anything was recorded, or a block began, since it was opened."""
+        return _session.counts() != self._before
+
+    def _judged(self, verdict: int, text: str) -> Outcome:
+        word: _Verdict = _VERDICTS.get(verdict, "incomplete")
+        return Outcome(word, text or ("it could not be watched" if word == "incomplete" else ""))
 
     def save(self, path: str | os.PathLike[str]) -> bool:
-        """PATH gets the log, and PATH.names the names: for `velodrome explain PATH --names PATH.names`. False where it could not."""
+        """PATH gets the log, PATH.names the names and PATH.sites the places: for `velodrome explain PATH --names PATH.names --sites
+        PATH.sites`. False where they could not be written."""
         return _session.save(self._number, path)
 
     def close(self) -> Outcome:
         """Ends it; again is nothing."""
         if self._outcome is None:
-            self._outcome = _outcome(*_session.close(self._number)[:2])
+            verdict, text, _ = _session.close(self._number, None, False)
+            self._outcome = self._judged(verdict, text)
         return self._outcome
 
-    def finish(self, name: str) -> bool:
-        """Ends it as a test: the log of an alarm is kept, as NAME.vlog in the folder VELODROME_LOGS, and the text says so.
+    def finish(
+        self, name: str, *, folder: str | None = None, incomplete: str | None = None
+    ) -> bool:
+        """Ends it as a test. Returns whether the test fails: at an alarm, or where it is incomplete and that is no warning only.
 
-        Returns whether the test fails: at an alarm, or with VELODROME_INCOMPLETE=fail where it was not watched to its end.
+        The log of a test that fails is kept in the folder (else VELODROME_LOGS, else the working directory) under this name, and the
+        text says so. incomplete: 'fail' or 'warn' (else VELODROME_INCOMPLETE, else 'fail').
         """
         if self._outcome is not None:
             return False
-        folder = os.environ.get("VELODROME_LOGS")
-        if folder and not self.outcome.clean:
+        strict = incomplete_setting(incomplete) == "fail"
+        path = _log_path(folder or os.environ.get("VELODROME_LOGS") or ".", name)
+        if not self.outcome.clean:
             with contextlib.suppress(OSError):
-                os.makedirs(folder, exist_ok=True)
-        verdict, text, fails = _session.finish(self._number, name)
-        self._outcome = _outcome(verdict, text)
+                os.makedirs(os.path.dirname(path), exist_ok=True)
+        verdict, text, saved = _session.close(self._number, path, strict and self.used)
+        self._outcome = self._judged(verdict, text)
+        fails = self._outcome.verdict == "alarm" or (strict and not self._outcome.clean)
+        if saved:
+            quoted = shlex.quote(path)
+            self._add(f"velodrome explain {quoted} --names {quoted}.names --sites {quoted}.sites\n")
+        elif fails and self._outcome.verdict == "alarm":
+            self._add(f"the log could not be written to {path}\n")
         return fails
+
+    def _add(self, words: str) -> None:
+        if self._outcome:
+            self._outcome = Outcome(self._outcome.verdict, self._outcome.text + words)
 
     def __enter__(self) -> Session:
         return self
@@ -138,6 +218,9 @@ def session(
     noise: int | None = None,
     seed: int | None = None,
     places: bool = True,
+    ignore_variables: Iterable[str] = (),
+    ignore_locks: Iterable[str] = (),
+    ignore_labels: Iterable[str] = (),
 ) -> Session:
     """Watches the program until the session is closed, as by `with velodrome.session() as run:`.
 
@@ -145,12 +228,28 @@ def session(
     noise: one event in `noise` waits for up to 200 us, so that more schedules happen (0: none). seed: which ones.
     places: whether an event has its file and line, which costs a tenth of its time.
     What is not given is what VELODROME_EVENTS, VELODROME_NOISE and VELODROME_SEED say.
+    ignore_variables, ignore_locks, ignore_labels: what has one of these names is left out, and so makes no alarm; a star in a name
+    stands for any characters.
+
+    A run of which nothing was recorded is incomplete. Raises ValueError for a number that is out of range, also of the environment.
     """
-    return Session(events=events, noise=noise, seed=seed, places=places)
+    return Session(
+        events=events,
+        noise=noise,
+        seed=seed,
+        places=places,
+        ignore_variables=ignore_variables,
+        ignore_locks=ignore_locks,
+        ignore_labels=ignore_labels,
+    )
 
 
 class Block(_session.Block):
-    """An atomic block: of a `with` statement, or of a function that it decorates."""
+    """An atomic block: of a `with` statement, or of a function that it decorates.
+
+    In a context manager of the program it is of the `with` statement of that one; elsewhere in a generator, of the generator: what its
+    consumer does meanwhile is not in it. Where it cannot be known what is in a block, the session is incomplete.
+    """
 
     def __call__(self, function: _Function) -> _Function:
         if isinstance(function, (staticmethod, classmethod)):
@@ -163,8 +262,8 @@ class Block(_session.Block):
 
             @functools.wraps(function)
             async def coroutine(*args: Any, **keywords: Any) -> Any:
-                body = _within(self, function(*args, **keywords))
-                return await (body if _is_watched() else _Itself(body))
+                with self:
+                    return await function(*args, **keywords)
 
             return typing.cast(_Function, coroutine)
 
@@ -204,66 +303,14 @@ def atomic(what: Any) -> Any:
     return Block(f'{getattr(what, "__qualname__", what)}{place}')(what)
 
 
-async def _within(block: Block, coroutine: Any) -> Any:
-    with block:
-        return await coroutine
-
-
-def _is_watched() -> bool:
-    """Whether this task acts as itself."""
-    acting = _session.switch(None)
-    _session.switch(acting)
-    return bool(acting)
-
-
-class _Itself(collections.abc.Coroutine):  # type: ignore[type-arg]
-    """A coroutine that acts as a thread of its own: each step stands between two switches."""
-
-    def __init__(self, coroutine: Any) -> None:
-        self._coroutine, self._self = coroutine, _session.new_self()
-
-    def _step(self, step: Callable[..., Any], *operands: Any) -> Any:
-        before = _session.switch(self._self)
-        try:
-            return step(*operands)
-        finally:
-            _session.switch(before)
-
-    def send(self, value: Any) -> Any:
-        return self._step(self._coroutine.send, value)
-
-    def throw(self, *failure: Any) -> Any:
-        return self._step(self._coroutine.throw, *failure)
-
-    def close(self) -> None:
-        self._step(self._coroutine.close)
-
-    def __next__(self) -> Any:
-        return self.send(None)
-
-    def __iter__(self) -> _Itself:
-        return self
-
-    __await__ = __iter__  # type: ignore[assignment]
-
-    def __getattr__(
-        self, name: str
-    ) -> Any:  # what asyncio asks for to print a task: its name, its code, its frame
-        return getattr(self._coroutine, name)
-
-
-def watch_tasks(loop: Any) -> None:
-    """Each task that this loop makes from now on is a thread of its own, so that races between tasks are seen."""
-    make = loop.get_task_factory() or _task
-    loop.set_task_factory(
-        lambda loop, coroutine, **keywords: make(loop, _Itself(coroutine), **keywords)
-    )
-
-
-def _task(loop: Any, coroutine: Any, **keywords: Any) -> Any:
-    import asyncio
-
-    return asyncio.Task(coroutine, loop=loop, **keywords)
+@contextlib.contextmanager
+def acting_as(actor: Actor) -> Iterator[None]:
+    """What the thread, task or greenlet does within, it does as this actor."""
+    before = switch(actor)
+    try:
+        yield
+    finally:
+        switch(before)
 
 
 class Thread(threading.Thread):
@@ -316,25 +363,43 @@ def _unwatch(thread: threading.Thread) -> None:
         started._cond = threading.Condition(_REAL["Lock"]())
 
 
+_LIBRARY = tuple(
+    os.path.join(os.path.normpath(sysconfig.get_path(name)), "")
+    for name in ("stdlib", "platstdlib")
+)
+_PROGRAMS = (
+    "site-packages",
+    "dist-packages",
+    "test",
+    "tests",
+)  # folders of the library's folder
+_PACKAGE = os.path.join(os.path.dirname(os.path.abspath(__file__)), "")
+
+
+def _is_library(file: str) -> bool:
+    """Whether the code of this file is of Python's own library, or of this package."""
+    if file.startswith(("<frozen ", _PACKAGE)):
+        return True
+    folder = next((f for f in _LIBRARY if file.startswith(f)), None)
+    return folder is not None and file[len(folder) :].split(os.sep)[0] not in _PROGRAMS
+
+
+_session.know(_is_library, threading.Condition.__init__.__code__)
+
+
 @contextlib.contextmanager
-def patched() -> Iterator[None]:
-    """threading's Lock, RLock and Thread are ours meanwhile, and asyncio's loops watch their tasks: for a program that is not changed.
+def patched(*, library_locks: bool = False) -> Iterator[None]:
+    """threading's Lock, RLock and Thread are ours meanwhile: for a program that is not changed.
 
     What is made meanwhile by their names in the modules stays watched. A module that took the names for its own keeps the old ones.
+    The locks that Python's own library makes for itself, as a queue, a logger, an executor and an Event do, are none of the program's:
+    they are recorded with `library_locks` alone. A Condition's lock is the program's.
     """
-    from asyncio import base_events
-
     before = {name: getattr(threading, name) for name in _OURS}
-    create = base_events.BaseEventLoop.create_task
-
-    def create_task(loop: Any, coroutine: Any, **keywords: Any) -> Any:
-        watched = coroutine if loop.get_task_factory() else _Itself(coroutine)
-        return create(loop, watched, **keywords)
-
+    told = _session.tell_library(library_locks)
     vars(threading).update(_OURS)
-    setattr(base_events.BaseEventLoop, "create_task", create_task)
     try:
         yield
     finally:
         vars(threading).update(before)
-        setattr(base_events.BaseEventLoop, "create_task", create)
+        _session.tell_library(told)

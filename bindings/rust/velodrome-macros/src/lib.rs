@@ -3,8 +3,8 @@ use proc_macro::{Delimiter, Group, Ident, Span, TokenStream, TokenTree};
 
 /// A `#[test]` whose atomic blocks are watched: it fails where they were not atomic, as [`check`] does.
 ///
-/// `#[velodrome::test(noise = 4, max_events = 10_000, repeat = 20)]` sets what [`Builder`] has under these names; `repeat` runs
-/// the body so often, or until the first panic.
+/// `#[velodrome::test(noise = 4, max_events = 10_000, repeat = 20)]` sets what [`Builder`] has under these names, which are `noise`,
+/// `seed`, `max_events` and `everywhere`; `repeat` runs the body so often, or until the first panic. The values are expressions.
 ///
 /// [`check`]: https://docs.rs/velodrome/latest/velodrome/fn.check.html
 /// [`Builder`]: https://docs.rs/velodrome/latest/velodrome/struct.Builder.html
@@ -172,18 +172,19 @@ impl Options {
 
     fn take(&mut self, option: &[TokenTree]) -> Result<(), Error> {
         match option {
-            [TokenTree::Ident(key), equals, TokenTree::Literal(value)]
-                if equals.to_string() == "=" =>
+            [TokenTree::Ident(key), equals, value @ ..]
+                if equals.to_string() == "=" && !value.is_empty() =>
             {
+                let value = value.iter().cloned().collect::<TokenStream>().to_string();
                 match key.to_string().as_str() {
-                    key @ ("noise" | "max_events") => {
-                        self.calls.extend([".", key, "(", &value.to_string(), ")"])
+                    key @ ("noise" | "seed" | "max_events" | "everywhere") => {
+                        self.calls.extend([".", key, "(", &value, ")"])
                     }
-                    "repeat" => self.repeat = Some(value.to_string()),
+                    "repeat" => self.repeat = Some(value),
                     _ => {
                         return Err(Error::at(
                             key.span(),
-                            "velodrome::test has the options noise, max_events and repeat",
+                            "velodrome::test has the options noise, seed, max_events, everywhere and repeat",
                         ))
                     }
                 }

@@ -104,6 +104,25 @@ pub struct vs_child {
     pub who: u64,
 }
 
+/// A block, by which it ends.
+#[repr(C)]
+#[derive(Clone, Copy, Debug)]
+pub struct vs_block {
+    /// Who began it; 0: nothing was recorded then.
+    pub who: u64,
+    /// Which of theirs.
+    pub nth: u64,
+}
+
+/// What a name is of.
+pub type vs_named = c_int;
+/// Of variables.
+pub const VS_NAMED_VARIABLE: vs_named = 0;
+/// Of locks.
+pub const VS_NAMED_LOCK: vs_named = 1;
+/// Of blocks.
+pub const VS_NAMED_LABEL: vs_named = 2;
+
 /// Who acts, where that is no thread.
 #[repr(C)]
 #[derive(Debug)]
@@ -149,9 +168,11 @@ extern "C" {
     /// Reports an event.
     pub fn vs_tell_at(object: *const vs_object, kind: vs_kind, place: *const vs_place);
     /// A block begins.
-    pub fn vs_begin(label: *const vs_object);
-    /// The innermost block ends.
-    pub fn vs_end();
+    pub fn vs_begin_block(label: *const vs_object) -> vs_block;
+    /// It ends, with those that began within it.
+    pub fn vs_end_block(block: vs_block);
+    /// Leaves out what has this name, from here on.
+    pub fn vs_ignore(session: vs_session, kind: vs_named, name: *const c_char) -> bool;
     /// Before a thread is started.
     pub fn vs_fork_at(place: *const vs_place) -> vs_child;
     /// The first call of a thread.

@@ -39,7 +39,7 @@ fn main() {
         x.set(x.get() + 1);
     };
     for threads in [1, 4] {
-        let (watched, outcome) = Builder::new().everywhere().run(|| cost(threads, round));
+        let (watched, outcome) = Builder::new().run(|| cost(threads, round));
         assert_eq!(outcome, Outcome::Clean);
         let idle = cost(threads, round);
         let plain = cost(threads, || *plain.lock().unwrap() += 1);

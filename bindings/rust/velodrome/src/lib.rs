@@ -28,8 +28,8 @@
 //! # What is recorded
 //!
 //! Each lock and unlock, atomic access, access of a [`Var`](cell::Var), start and join of a thread, message, barrier and once
-//! of these modules. A thread that no watched one started, such as one of a pool, is met where it uses a variable or lock that the
-//! run knows ([`Builder::everywhere`] meets all). What other types do is not seen. A block that waits for another thread, by a join, a
+//! of these modules, in all threads of the program, also those of a pool. So that each event is of one run, runs take turns
+//! ([`Builder::everywhere`]). What other types do is not seen. A block that waits for another thread, by a join, a
 //! condition variable or a barrier, is never serial: an alarm is then what is to be expected.
 //!
 //! # It never fails the program
@@ -43,11 +43,19 @@
 //! As with loom, a `cfg` keeps the types out of what is shipped:
 //!
 //! ```
+//! # #![allow(unexpected_cfgs)]
 //! #[cfg(velodrome)]
 //! use velodrome::sync;
 //! #[cfg(not(velodrome))]
 //! use std::sync;
 //! # let _ = sync::Mutex::new(0);
+//! ```
+//!
+//! `Cargo.toml` says that it is no mistake, and `RUSTFLAGS="--cfg velodrome" cargo test` sets it:
+//!
+//! ```toml
+//! [lints.rust]
+//! unexpected_cfgs = { level = "warn", check-cfg = ["cfg(velodrome)"] }
 //! ```
 //!
 //! # The environment of `check` and `#[velodrome::test]`
@@ -57,7 +65,8 @@
 //! | `VELODROME_NOISE=4` | one event in four waits for a while, so that more schedules happen |
 //! | `VELODROME_SEED=7` | which ones |
 //! | `VELODROME_LOGS=target/velodrome` | the folder for the logs of alarms; else the working directory. `.cargo/config.toml` can set it |
-//! | `VELODROME_INCOMPLETE=fail` | a test that was not watched to its end fails; else it warns |
+//! | `VELODROME_INCOMPLETE=warn` | a test that was not watched to its end, or of which nothing was recorded, passes, and is named when the process ends; else it fails |
+//! | `VELODROME_IGNORE_LOCK=log` | locks of that name, or with a star in it of such names, are left out; so do `.._VARIABLE` and `.._LABEL`, and commas stand between names |
 #![warn(missing_debug_implementations)]
 use std::fmt;
 use std::marker::PhantomData;
@@ -66,12 +75,15 @@ use velodrome_sys as sys;
 
 pub mod cell;
 mod session;
+mod summary;
 pub mod sync;
+pub mod task;
 pub mod thread;
+mod turn;
 
 pub use velodrome_macros::{atomic, test};
 
-use session::{End, Session};
+use session::{Begun, End, Session};
 
 /// The outcome of a run.
 #[derive(Clone, Debug, PartialEq, Eq)]
@@ -153,7 +165,9 @@ impl fmt::Display for Outcome {
 /// How a run is watched.
 ///
 /// ```
-/// let ((), outcome) = velodrome::Builder::new().max_events(1 << 16).noise(4).run(|| {});
+/// use velodrome::cell::Var;
+/// let hits = Var::new(0);
+/// let ((), outcome) = velodrome::Builder::new().max_events(1 << 16).noise(4).run(|| hits.set(1));
 /// assert!(outcome.is_clean());
 /// ```
 #[derive(Clone, Debug)]
@@ -164,6 +178,7 @@ pub struct Builder {
     noise: u32,
     seed: u64,
     everywhere: bool,
+    ignored: Vec<(sys::vs_named, String)>,
 }
 
 impl Default for Builder {
@@ -180,7 +195,8 @@ impl Builder {
             max_events: 0,
             noise: 0,
             seed: 0,
-            everywhere: false,
+            everywhere: true,
+            ignored: Vec::new(),
         }
     }
 
@@ -209,17 +225,41 @@ impl Builder {
         self
     }
 
-    /// Watches all threads of the program that are in no other run. Otherwise a thread that no watched one started, such as one of a
-    /// pool, is met where it uses a variable or lock that this run knows.
-    pub fn everywhere(mut self) -> Builder {
-        self.everywhere = true;
+    /// Whether all threads of the program that are in no other run are watched, which is the default. Such runs take turns: one begins
+    /// when the one before has ended. A run within a run, on its threads or those of [`thread`], begins at once; so does one that has
+    /// waited for a minute, for its own threads alone.
+    ///
+    /// A test that is not watched but uses these types is watched by the run beside it: run such tests apart from the others.
+    ///
+    /// Otherwise a thread that no watched one started, such as one of a pool, is met where it uses a variable or lock that this run
+    /// knows, and runs go on beside one another.
+    pub fn everywhere(mut self, everywhere: bool) -> Builder {
+        self.everywhere = everywhere;
         self
     }
 
-    /// Runs the body, and returns its value and what its blocks came to. It is watched with the threads that it starts by
-    /// [`thread`], and apart from all that runs beside it. Where the body panics, so does this.
+    /// Leaves out the variables, locks or blocks of this name; a star in it stands for any characters. What is left out makes no alarm.
+    ///
+    /// ```
+    /// use velodrome::{sync::Mutex, Ignored};
+    /// static LOG: Mutex<String> = Mutex::new(String::new());
+    /// let builder = velodrome::Builder::new().ignore(Ignored::Lock, "Mutex (lib.rs:*)");
+    /// # let _ = (builder, &LOG);
+    /// ```
+    pub fn ignore(mut self, what: Ignored, name: impl Into<String>) -> Builder {
+        let kind = match what {
+            Ignored::Variable => sys::VS_NAMED_VARIABLE,
+            Ignored::Lock => sys::VS_NAMED_LOCK,
+            Ignored::Block => sys::VS_NAMED_LABEL,
+        };
+        self.ignored.push((kind, name.into()));
+        self
+    }
+
+    /// Runs the body, and returns its value and what its blocks came to. Where the body panics, so does this. A run of which nothing
+    /// was recorded is incomplete.
     pub fn run<T>(&self, body: impl FnOnce() -> T) -> (T, Outcome) {
-        let session = Session::open(&self.options(sys::vs_options::DEFAULT), self.everywhere);
+        let (_turn, session) = self.open(sys::vs_options::DEFAULT);
         let value = body();
         (value, Outcome::of(session.close()))
     }
@@ -228,19 +268,21 @@ impl Builder {
     ///
     /// # Panics
     ///
-    /// At an alarm, with its report. With `VELODROME_INCOMPLETE=fail`, also where the run was not watched to its end.
+    /// At an alarm, with its report. Also where the run was not watched to its end, or nothing was recorded, unless
+    /// `VELODROME_INCOMPLETE=warn`; and where a setting of the environment means nothing.
     #[track_caller]
     pub fn check<T>(&self, body: impl FnOnce() -> T) -> T {
-        let session = Session::open(
-            &self.options(session::environment(sys::vs_options::DEFAULT)),
-            self.everywhere,
-        );
+        let name = self.log_name(Location::caller());
+        let (turn, session) = self.open(session::environment(sys::vs_options::DEFAULT));
         let result = catch_unwind(AssertUnwindSafe(body));
-        let end = session.finish(&self.log_name(Location::caller()));
+        let end = session.finish(&name);
+        drop(turn);
         match result {
             Ok(_) if end.fails => panic!("{}", end.report),
             Ok(value) => {
-                note(&end);
+                if !end.report.is_empty() {
+                    summary::add(&name, &end.report);
+                }
                 value
             }
             Err(payload) => {
@@ -248,6 +290,15 @@ impl Builder {
                 resume_unwind(payload)
             }
         }
+    }
+
+    fn open(&self, from: sys::vs_options) -> (turn::Turn, Session) {
+        let turn = turn::Turn::take(self.everywhere);
+        let session = Session::open(&self.options(from), self.everywhere && turn.is_mine());
+        for (kind, name) in &self.ignored {
+            session.ignore(*kind, name);
+        }
+        (turn, session)
     }
 
     fn options(&self, from: sys::vs_options) -> sys::vs_options {
@@ -270,6 +321,18 @@ impl Builder {
     }
 }
 
+/// What [`Builder::ignore`] leaves out.
+#[derive(Clone, Copy, Debug, PartialEq, Eq)]
+#[non_exhaustive]
+pub enum Ignored {
+    /// The accesses of variables: of a [`Var`](cell::Var), an atomic, a message, a once or a barrier.
+    Variable,
+    /// The uses of locks.
+    Lock,
+    /// The begins and ends of blocks, by their label. What is done in them stays.
+    Block,
+}
+
 /// Prints what a run came to, if there is something to say.
 fn note(end: &End) {
     if !end.report.is_empty() {
@@ -283,7 +346,8 @@ fn note(end: &End) {
 ///
 /// # Panics
 ///
-/// At an alarm, with its report. With `VELODROME_INCOMPLETE=fail`, also where the run was not watched to its end.
+/// At an alarm, with its report. Also where the run was not watched to its end, or nothing was recorded, unless
+/// `VELODROME_INCOMPLETE=warn`.
 ///
 /// ```should_panic
 /// use velodrome::{cell::Var, thread};
@@ -305,7 +369,14 @@ pub fn check<T>(body: impl FnOnce() -> T) -> T {
     Builder::new().check(body)
 }
 
-/// An atomic block of this thread, by [`block!`]: it ends where the value is dropped.
+/// An atomic block of this thread, by [`block!`]: it ends where the value is dropped, with the blocks that began within it. One that is
+/// forgotten ends with its run. In a future it is of the thread, unless [`task::watch`] has the future; where it cannot be told what is
+/// in it, the run is incomplete.
+///
+/// ```
+/// let transfer = velodrome::block!("transfer");
+/// drop(transfer);
+/// ```
 ///
 /// A block as a statement ends at once, so the compiler warns of it:
 ///
@@ -317,20 +388,23 @@ pub fn check<T>(body: impl FnOnce() -> T) -> T {
 /// ```
 #[must_use = "the block ends where this is dropped: `let _block = ..`"]
 pub struct Block {
+    begun: Begun,
     stays: PhantomData<*const ()>,
 }
 
 impl Block {
     #[doc(hidden)]
     pub fn enter(label: &'static Label) -> Block {
-        session::begin(&label.0);
-        Block { stays: PhantomData }
+        Block {
+            begun: session::begin(&label.0),
+            stays: PhantomData,
+        }
     }
 }
 
 impl Drop for Block {
     fn drop(&mut self) {
-        session::end();
+        session::end(self.begun);
     }
 }
 

@@ -8,7 +8,7 @@ use std::sync::atomic::{AtomicPtr, AtomicU64, Ordering};
 use std::sync::PoisonError;
 use velodrome_sys as sys;
 
-pub(crate) use sys::vs_child as Child;
+pub(crate) use sys::{vs_block as Begun, vs_child as Child};
 
 /// Where an event stands in the source.
 pub(crate) type Place = &'static Location<'static>;
@@ -150,15 +150,49 @@ impl Drop for Hold {
     }
 }
 
-/// A block of this thread begins.
-pub(crate) fn begin(label: &'static Object) {
+/// A block of who acts begins.
+pub(crate) fn begin(label: &'static Object) -> Begun {
     // SAFETY: the label stays.
-    unsafe { sys::vs_begin(label.raw()) }
+    unsafe { sys::vs_begin_block(label.raw()) }
 }
 
-pub(crate) fn end() {
-    // SAFETY: it takes nothing.
-    unsafe { sys::vs_end() }
+pub(crate) fn end(block: Begun) {
+    // SAFETY: numbers alone.
+    unsafe { sys::vs_end_block(block) }
+}
+
+/// Who acts, where that is no thread. Null, where there was no memory for it: the thread acts as itself then.
+#[derive(Debug)]
+pub(crate) struct Someone(*mut sys::vs_self);
+
+// SAFETY: a thread acts as it only within `act`, which borrows it, so no thread does while it is moved to another.
+unsafe impl Send for Someone {}
+
+impl Someone {
+    pub(crate) fn new() -> Someone {
+        // SAFETY: it takes nothing.
+        Someone(unsafe { sys::vs_self_new() })
+    }
+
+    pub(crate) fn act<T>(&mut self, body: impl FnOnce() -> T) -> T {
+        struct Before(*mut sys::vs_self);
+        impl Drop for Before {
+            fn drop(&mut self) {
+                // SAFETY: it is null, or acts further out in this thread, where `act` borrows it.
+                unsafe { sys::vs_switch(self.0) };
+            }
+        }
+        // SAFETY: it lives as long as `self`, and `Before` ends its acting before that, also where the body panics.
+        let _before = Before(unsafe { sys::vs_switch(self.0) });
+        body()
+    }
+}
+
+impl Drop for Someone {
+    fn drop(&mut self) {
+        // SAFETY: nobody acts as it, as `act` borrows it, and it is not used any more.
+        unsafe { sys::vs_self_free(self.0) }
+    }
 }
 
 /// Before the start of a thread.
@@ -215,6 +249,13 @@ impl Session {
         Session { number, stays }
     }
 
+    /// Leaves out what has this name, from here on.
+    pub(crate) fn ignore(&self, kind: sys::vs_named, name: &str) {
+        let name = CString::new(name.replace('\0', "")).unwrap_or_default();
+        // SAFETY: the name outlives the call.
+        unsafe { sys::vs_ignore(self.number, kind, name.as_ptr()) };
+    }
+
     pub(crate) fn close(mut self) -> End {
         let mut report = null_mut();
         // SAFETY: `report` is a place of ours.
@@ -228,7 +269,6 @@ impl Session {
 
     /// Closes it as a test's, whose log is kept under this name.
     pub(crate) fn finish(mut self, name: &str) -> End {
-        self.make_folder();
         let name = CString::new(name.replace('\0', "")).unwrap_or_default();
         let (mut report, mut fails) = (null_mut(), false);
         // SAFETY: the name outlives the call, and the other two are places of ours.
@@ -244,17 +284,6 @@ impl Session {
             verdict,
             report: text(report),
             fails,
-        }
-    }
-}
-
-impl Session {
-    /// Makes the folder that a log will go to. If it cannot, the report says that there is no log.
-    fn make_folder(&self) {
-        // SAFETY: a number alone.
-        let is_clean = unsafe { sys::vs_so_far(self.number) } == sys::VS_CLEAN;
-        if let (false, Some(folder)) = (is_clean, std::env::var_os("VELODROME_LOGS")) {
-            let _ = std::fs::create_dir_all(folder);
         }
     }
 }

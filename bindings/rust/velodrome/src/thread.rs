@@ -1,5 +1,6 @@
 //! `std::thread`, recorded: start, end and join. Threads of other libraries are met at their first event.
 use crate::session::{self, Child, Place};
+use crate::turn;
 use std::cell::OnceCell;
 use std::fmt;
 use std::io;
@@ -12,8 +13,9 @@ pub use std::thread::{
     LocalKey, Result, Thread, ThreadId,
 };
 
-/// The body, in the thread of the child.
-fn inside<T>(child: Child, body: impl FnOnce() -> T) -> T {
+/// The body, in the thread of the child, which is in its parent's run.
+fn inside<T>(child: Child, within: bool, body: impl FnOnce() -> T) -> T {
+    turn::enter(within);
     let _life = session::born(child);
     body()
 }
@@ -82,7 +84,8 @@ impl Builder {
         T: Send + 'static,
     {
         let child = session::fork(Location::caller());
-        let inner = started(child, self.inner.spawn(move || inside(child, body)))?;
+        let within = turn::is_within();
+        let inner = started(child, self.inner.spawn(move || inside(child, within, body)))?;
         Ok(JoinHandle { child, inner })
     }
 
@@ -102,10 +105,11 @@ impl Builder {
         T: Send + 'scope,
     {
         let child = session::fork(Location::caller());
+        let within = turn::is_within();
         let inner = started(
             child,
             self.inner
-                .spawn_scoped(scope.inner, move || inside(child, body)),
+                .spawn_scoped(scope.inner, move || inside(child, within, body)),
         )?;
         scope
             .children

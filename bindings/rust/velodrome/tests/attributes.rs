@@ -55,9 +55,12 @@ fn with_a_result() -> Result<(), std::num::ParseIntError> {
 
 static TIMES: AtomicU32 = AtomicU32::new(0);
 
-#[velodrome::test(repeat = 5, max_events = 100, noise = 4)]
+const LONG: u32 = 50;
+
+#[velodrome::test(repeat = if LONG > 9 { 5 } else { 1 }, max_events = 2 * LONG, noise = u32::from(true) * 4, seed = 7, everywhere = false)]
 fn repeated() -> Result<(), String> {
     TIMES.fetch_add(1, SeqCst);
+    Var::new(0).set(1);
     Ok(())
 }
 
@@ -70,7 +73,7 @@ fn repeats() {
 
 #[test]
 fn check_returns_the_value() {
-    assert_eq!(velodrome::check(|| 7), 7);
+    assert_eq!(velodrome::check(|| Var::new(7).get()), 7);
 }
 
 #[test]

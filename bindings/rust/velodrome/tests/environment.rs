@@ -48,7 +48,6 @@ fn logs_are_kept_and_incomplete_runs_warn_or_fail() {
     let names = std::fs::read_to_string(folder.join("bank.lost.vlog.names")).unwrap();
     assert!(names.starts_with("variable 0 x\n"), "{names}");
 
-    std::env::set_var("VELODROME_INCOMPLETE", "fail");
     let words = panics(|| builder.check(|| too_long(&x))).expect("a failure");
     assert!(
         words.contains("too many events while a block was open"),
@@ -57,10 +56,16 @@ fn logs_are_kept_and_incomplete_runs_warn_or_fail() {
     std::env::set_var("VELODROME_INCOMPLETE", "warn");
     assert_eq!(panics(|| builder.check(|| too_long(&x))), None);
     std::env::set_var("VELODROME_EVENTS", "20");
-    std::env::set_var("VELODROME_INCOMPLETE", "fail");
+    std::env::remove_var("VELODROME_INCOMPLETE");
     assert!(panics(|| velodrome::check(|| too_long(&x))).is_some());
     assert_eq!(
         panics(|| Builder::new().max_events(1000).check(|| too_long(&x))),
         None
     );
+    std::env::set_var("VELODROME_EVENTS", "1e6");
+    let words = panics(|| velodrome::check(|| x.set(1))).expect("a failure");
+    assert!(words.contains("VELODROME_EVENTS"), "{words}");
+    std::env::remove_var("VELODROME_EVENTS");
+    let words = panics(|| velodrome::check(|| ())).expect("a failure");
+    assert!(words.contains("nothing was recorded"), "{words}");
 }

@@ -21,9 +21,10 @@ fn threads_of_other_libraries_are_watched_from_their_first_event_on() {
         };
         builder.run(body).1
     };
-    assert!(matches!(
-        run(Builder::new().everywhere()),
-        Outcome::Alarm(_)
-    ));
-    assert_eq!(run(Builder::new()), Outcome::Clean); // no thread of it told anything
+    assert!(matches!(run(Builder::new()), Outcome::Alarm(_)));
+    let own_alone = run(Builder::new().everywhere(false)); // no thread of it told anything
+    assert!(
+        own_alone.to_string().contains("nothing was recorded"),
+        "{own_alone}"
+    );
 }

@@ -1,11 +1,17 @@
 //! Nothing fails the program: no refusal panics, poisons a lock or holds one, and no code of the program runs under the session's.
 use std::panic::{catch_unwind, AssertUnwindSafe};
+use std::sync::atomic::{AtomicU32, Ordering::SeqCst};
 use std::sync::Arc;
 use velodrome::cell::Var;
 use velodrome::sync::{Mutex, RwLock};
-use velodrome::{block, thread, Builder, Outcome};
+use velodrome::{block, thread, Builder, Ignored, Outcome};
 
 fn watch(body: impl FnOnce()) -> Outcome {
+    let met = Var::new(0); // a run of which nothing is recorded is incomplete
+    let body = || {
+        met.set(1);
+        body();
+    };
     Builder::new().run(body).1
 }
 
@@ -262,17 +268,50 @@ fn deep_blocks() {
 }
 
 #[test]
-fn without_a_run_all_is_std() {
-    let (lock, x) = (Mutex::new(0), Var::new(0));
-    let _block = block!("nobody looks");
-    *lock.lock().unwrap() += 1;
-    x.set(1);
-    assert_eq!(
-        (
-            thread::spawn(|| 7).join().unwrap(),
-            x.get(),
-            *lock.lock().unwrap()
-        ),
-        (7, 1, 1)
-    );
+fn a_run_of_which_nothing_is_recorded() {
+    incomplete(&Builder::new().run(|| ()).1, "nothing was recorded");
 }
+
+#[test]
+fn what_is_ignored_makes_no_alarm() {
+    let (lock, x) = (Mutex::new(0), Var::named(c"x", 0));
+    let body = || {
+        let _block = block!("twice");
+        *lock.lock().unwrap() += 1;
+        elsewhere(|| *lock.lock().unwrap() += 1);
+        *lock.lock().unwrap() += 1;
+        x.set(1);
+        elsewhere(|| x.set(2));
+        x.set(3);
+    };
+    let of = |builder: Builder| builder.run(body).1;
+    assert!(matches!(of(Builder::new()), Outcome::Alarm(_)));
+    let one = Builder::new().ignore(Ignored::Lock, "Mutex (host.rs:*");
+    assert!(matches!(of(one.clone()), Outcome::Alarm(_)));
+    assert_eq!(of(one.ignore(Ignored::Variable, "x")), Outcome::Clean);
+    let block = Builder::new().ignore(Ignored::Block, "twice*");
+    assert_eq!(of(block), Outcome::Clean);
+}
+
+#[test]
+fn runs_take_turns() {
+    static AT_ONCE: AtomicU32 = AtomicU32::new(0);
+    std::thread::scope(|scope| {
+        for _ in 0..8 {
+            scope.spawn(|| {
+                let outcome = watch(|| {
+                    assert_eq!(AT_ONCE.fetch_add(1, SeqCst), 0);
+                    *SHARED.lock().unwrap() += 1;
+                    assert_eq!(watch(|| ()), Outcome::Clean); // within it
+                    thread::scope(|scope| {
+                        scope.spawn(|| assert_eq!(watch(|| ()), Outcome::Clean));
+                    });
+                    AT_ONCE.fetch_sub(1, SeqCst);
+                });
+                assert_eq!(outcome, Outcome::Clean);
+            });
+        }
+    });
+}
+
+static SHARED: Mutex<u32> = Mutex::new(0);

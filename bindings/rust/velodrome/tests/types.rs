@@ -5,7 +5,10 @@ use velodrome::sync::atomic::{
     fence, AtomicBool, AtomicI64, AtomicPtr, AtomicU64, AtomicU8, AtomicUsize,
     Ordering::{Relaxed, SeqCst},
 };
-use velodrome::sync::{mpsc, Arc, Barrier, Condvar, Mutex, Once, RwLock, TryLockError, Weak};
+use velodrome::sync::{
+    mpsc, Arc, Barrier, Condvar, LazyLock, Mutex, Once, OnceLock, RwLock, TryLockError,
+    WaitTimeoutResult, Weak,
+};
 use velodrome::thread::{self, Builder};
 use velodrome::Outcome;
 
@@ -16,6 +19,11 @@ static HITS: AtomicUsize = AtomicUsize::new(0);
 static NAMED: Var<u32> = Var::named(c"named", 3);
 
 fn clean(body: impl FnOnce()) {
+    let met = Var::new(0); // a run of which nothing is recorded is incomplete
+    let body = || {
+        met.set(1);
+        body();
+    };
     assert_eq!(velodrome::Builder::new().run(body).1, Outcome::Clean);
 }
 
@@ -28,11 +36,15 @@ fn bounds() {
     shared::<Condvar>();
     shared::<Barrier>();
     shared::<Once>();
+    shared::<OnceLock<u32>>();
+    shared::<LazyLock<u32>>();
     shared::<AtomicPtr<u8>>();
     shared::<Var<u32>>();
     fn sent<T: Send>() {}
     sent::<mpsc::Receiver<u32>>();
     sent::<thread::JoinHandle<u32>>();
+    sent::<velodrome::task::Actor>();
+    sent::<velodrome::task::Watched<std::future::Ready<u32>>>();
     sent::<thread::ScopedJoinHandle<'_, u32>>();
 }
 
@@ -258,5 +270,104 @@ fn var() {
         );
         let unsized_one: &Var<[u32]> = &Var::new([1, 2]);
         assert_eq!(unsized_one.with(<[u32]>::len), 2);
+    });
+}
+
+#[test]
+fn a_wait_has_stds_result() {
+    clean(|| {
+        let (lock, changed) = (Mutex::new(0), Condvar::new());
+        let held = lock.lock().unwrap();
+        let looked = |held, limit, again: bool| {
+            let (held, why): (_, std::sync::WaitTimeoutResult) = changed
+                .wait_timeout_while(held, Duration::from_millis(limit), |times| {
+                    *times += 1;
+                    again
+                })
+                .unwrap();
+            (held, WaitTimeoutResult::timed_out(&why))
+        };
+        let (held, late) = looked(held, 1000, false);
+        assert_eq!((*held, late), (1, false));
+        let (held, late) = looked(held, 0, true);
+        assert_eq!((*held > 1, late), (true, true));
+        let (_held, late) = looked(held, 2, true);
+        assert!(late && lock.try_lock().is_err());
+    });
+}
+
+#[test]
+fn once_lock() {
+    static NAME: OnceLock<String> = OnceLock::new();
+    clean(|| {
+        assert_eq!(NAME.get(), None);
+        thread::scope(|scope| {
+            for _ in 0..4 {
+                scope.spawn(|| assert_eq!(NAME.get_or_init(|| "bank".into()), "bank"));
+            }
+        });
+        assert_eq!(NAME.get().map(String::as_str), Some("bank"));
+        assert_eq!(NAME.set("other".into()), Err("other".into()));
+        let mut own = OnceLock::new();
+        assert_eq!(
+            (own.set(1), own.set(2), own.get()),
+            (Ok(()), Err(2), Some(&1))
+        );
+        assert!(own.clone() == OnceLock::from(1) && own.get_mut() == Some(&mut 1));
+        assert_eq!(
+            format!("{own:?} {:?}", std::sync::OnceLock::from(1)),
+            "OnceLock(1) OnceLock(1)"
+        );
+        assert_eq!(
+            (own.take(), own.get().copied(), own.into_inner()),
+            (Some(1), None, None)
+        );
+    });
+}
+
+#[test]
+fn once_lock_orders_who_makes_before_who_finds() {
+    let (made, x) = (OnceLock::new(), Var::new(0));
+    clean(|| {
+        thread::scope(|scope| {
+            for _ in 0..4 {
+                scope.spawn(|| {
+                    let _block = velodrome::block!("uses");
+                    made.get_or_init(|| x.set(7));
+                    assert_eq!((made.get(), x.get()), (Some(&()), 7));
+                });
+            }
+        });
+    });
+}
+
+#[test]
+fn lazy_lock() {
+    static TABLE: LazyLock<Vec<u32>> = LazyLock::new(|| vec![1, 2]);
+    clean(|| {
+        assert_eq!(
+            (TABLE.len(), LazyLock::force(&TABLE).first()),
+            (2, Some(&1))
+        );
+        let lazy = LazyLock::new(|| 7);
+        assert_eq!(format!("{lazy:?}"), "LazyLock(<uninit>)");
+        assert_eq!((*lazy, format!("{lazy:?}")), (7, "LazyLock(7)".into()));
+        let fails: LazyLock<u32> = LazyLock::new(|| panic!("mine"));
+        for words in ["mine", "LazyLock instance has previously been poisoned"] {
+            let payload = std::panic::catch_unwind(|| *fails).unwrap_err();
+            assert_eq!(payload.downcast_ref(), Some(&words));
+        }
+    });
+}
+
+#[test]
+fn updates_and_pointers_of_atomics() {
+    clean(|| {
+        let x = AtomicU8::new(1);
+        assert_eq!(x.update(SeqCst, SeqCst, |n| n + 1), 1);
+        assert_eq!(x.try_update(SeqCst, SeqCst, |n| n.checked_sub(3)), Err(2));
+        // SAFETY: no other thread has it.
+        unsafe { *x.as_ptr() += 1 };
+        assert_eq!(x.load(SeqCst), 3);
     });
 }

@@ -1,9 +1,14 @@
 //! The verdict is that of the run, whatever the objects are called and whoever the threads are.
-use std::sync::mpsc;
+use std::cell::RefCell;
+use std::future::Future;
+use std::pin::{pin, Pin};
+use std::sync::mpsc::{self, Sender};
+use std::sync::Arc;
+use std::task::{Context, Poll, Wake};
 use velodrome::cell::Var;
 use velodrome::sync::atomic::{AtomicU64, Ordering::SeqCst};
 use velodrome::sync::{Barrier, Condvar, Mutex, RwLock};
-use velodrome::{block, thread, Builder, Outcome};
+use velodrome::{block, task, thread, Builder, Outcome};
 
 fn watch(body: impl FnOnce()) -> Outcome {
     Builder::new().run(body).1
@@ -323,4 +328,136 @@ fn a_message_goes_from_its_sender_to_its_receiver() {
         answered.recv().unwrap();
     });
     assert!(report(&outcome).contains("not atomic: asks and waits"));
+}
+
+/// `mem::forget` is safe: a block that is forgotten is open for as long as its run, and in no later one.
+#[test]
+fn a_forgotten_block_ends_with_its_run() {
+    let x = Var::new(0);
+    let first = watch(|| {
+        let block = block!("forgotten");
+        x.set(1);
+        std::mem::forget(block);
+    });
+    assert_eq!(first, Outcome::Clean);
+    let second = watch(|| {
+        let before = x.get();
+        stranger(|| x.set(5));
+        x.set(before + 1);
+    });
+    assert_eq!(second, Outcome::Clean);
+    let within = watch(|| {
+        let outer = block!("outer");
+        std::mem::forget(block!("forgotten"));
+        x.set(1);
+        drop(outer);
+        let before = x.get();
+        stranger(|| x.set(5));
+        x.set(before + 1);
+    });
+    assert_eq!(within, Outcome::Clean);
+}
+
+struct Turn(bool);
+
+impl Future for Turn {
+    type Output = ();
+    fn poll(mut self: Pin<&mut Self>, _: &mut Context<'_>) -> Poll<()> {
+        if std::mem::replace(&mut self.0, true) {
+            Poll::Ready(())
+        } else {
+            Poll::Pending
+        }
+    }
+}
+
+async fn deposit(x: &Var<u32>, amount: u32) {
+    let _block = block!("deposit");
+    let before = x.get();
+    Turn(false).await;
+    x.set(before + amount);
+}
+
+struct Nobody;
+
+impl Wake for Nobody {
+    fn wake(self: Arc<Self>) {}
+}
+
+/// Polls both in turns, until each is ready.
+fn join(one: impl Future, two: impl Future) {
+    let waker = Arc::new(Nobody).into();
+    let mut context = Context::from_waker(&waker);
+    let (mut one, mut two) = (pin!(one), pin!(two));
+    assert!(one.as_mut().poll(&mut context).is_pending());
+    assert!(two.as_mut().poll(&mut context).is_pending());
+    assert!(one.as_mut().poll(&mut context).is_ready());
+    assert!(two.as_mut().poll(&mut context).is_ready());
+}
+
+#[test]
+fn futures_of_one_thread() {
+    let x = Var::new(0);
+    let outcome = watch(|| join(deposit(&x, 5), deposit(&x, 5)));
+    assert_eq!(x.get(), 5);
+    assert!(matches!(outcome, Outcome::Incomplete(_)), "{outcome}");
+    let outcome = watch(|| join(task::watch(deposit(&x, 5)), task::watch(deposit(&x, 5))));
+    assert!(report(&outcome).contains("not atomic: deposit"));
+    let y = Var::new(0);
+    let outcome = watch(|| join(task::watch(deposit(&x, 5)), task::watch(deposit(&y, 5))));
+    assert_eq!(outcome, Outcome::Clean);
+}
+
+/// Its blocks end with it.
+#[test]
+fn a_future_that_is_dropped_while_it_waits() {
+    let (x, y) = (Var::new(0), Var::new(0));
+    let outcome = watch(|| {
+        let waker = Arc::new(Nobody).into();
+        let mut waits = Box::pin(task::watch(deposit(&y, 5)));
+        assert!(waits
+            .as_mut()
+            .poll(&mut Context::from_waker(&waker))
+            .is_pending());
+        let _block = block!("update");
+        let before = x.get();
+        drop(waits);
+        stranger(|| x.set(5));
+        x.set(before + 1);
+    });
+    assert!(report(&outcome).contains("not atomic: update"));
+}
+
+struct OnExit(Sender<()>);
+
+static LATE: Mutex<u32> = Mutex::new(0);
+
+impl Drop for OnExit {
+    fn drop(&mut self) {
+        std::thread::sleep(std::time::Duration::from_millis(20));
+        *LATE.lock().unwrap() += 1;
+        self.0.send(()).unwrap();
+    }
+}
+
+thread_local! {
+    static KEPT: RefCell<Option<OnExit>> = const { RefCell::new(None) };
+}
+
+/// A scope waits for the closures of its threads, and not for the destructors of their thread-local values.
+#[test]
+fn thread_local_values_that_go_after_their_scope() {
+    let outcome = watch(|| {
+        *LATE.lock().unwrap() += 1;
+        let (send, gone) = mpsc::channel();
+        thread::scope(|scope| {
+            scope.spawn(|| {
+                KEPT.set(Some(OnExit(send)));
+                *LATE.lock().unwrap() += 1;
+            });
+        });
+        gone.recv().unwrap();
+        *LATE.lock().unwrap() += 1;
+    });
+    assert_eq!(outcome, Outcome::Clean);
 }

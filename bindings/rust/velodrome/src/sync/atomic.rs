@@ -1,4 +1,13 @@
 //! `std::sync::atomic`, told. What reads and writes is one write; a compare-exchange that fails is a read.
+//!
+//! ```
+//! use velodrome::sync::atomic::{AtomicU32, Ordering};
+//! static HITS: AtomicU32 = AtomicU32::new(0);
+//! HITS.fetch_add(1, Ordering::Relaxed);
+//! assert_eq!(HITS.load(Ordering::Relaxed), 1);
+//! ```
+//!
+//! There is no `from_ptr`, as each of them has an identity beside its value.
 use crate::session::{Kind, Object, Place};
 use std::fmt;
 use std::panic::Location;
@@ -112,6 +121,36 @@ macro_rules! atomic {
                     }
                 }
                 Err(value)
+            }
+
+            /// As std's, of Rust 1.95: [`fetch_update`](Self::fetch_update) by its other name.
+            ///
+            /// # Errors
+            ///
+            /// The value that it has, if the closure returns none.
+            #[track_caller]
+            pub fn try_update(
+                &self,
+                set_order: Ordering,
+                fetch_order: Ordering,
+                update: impl FnMut($value) -> Option<$value>,
+            ) -> Result<$value, $value> {
+                self.fetch_update(set_order, fetch_order, update)
+            }
+
+            /// As std's, of Rust 1.95: its reads and its write are told as such.
+            #[track_caller]
+            pub fn update(&self, set_order: Ordering, fetch_order: Ordering, mut update: impl FnMut($value) -> $value) -> $value {
+                let mut value = self.load(fetch_order);
+                while let Err(other) = self.compare_exchange_weak(value, update(value), set_order, fetch_order) {
+                    value = other;
+                }
+                value
+            }
+
+            /// As std's. What is done by the pointer is not told.
+            pub const fn as_ptr(&self) -> *mut $value {
+                self.inner.as_ptr()
             }
 
             /// As std's. It is not told, as no other thread has it.

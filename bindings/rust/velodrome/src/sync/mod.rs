@@ -4,14 +4,18 @@ use std::fmt;
 use std::ops::{Deref, DerefMut};
 use std::panic::Location;
 use std::sync as real;
-use std::time::{Duration, Instant};
+use std::time::Duration;
 
 pub use std::sync::{
-    Arc, BarrierWaitResult, LockResult, OnceState, PoisonError, TryLockError, TryLockResult, Weak,
+    Arc, BarrierWaitResult, LockResult, OnceState, PoisonError, TryLockError, TryLockResult,
+    WaitTimeoutResult, Weak,
 };
 
 pub mod atomic;
 pub mod mpsc;
+mod once;
+
+pub use once::{LazyLock, OnceLock};
 
 /// Tells the release of a lock where it is dropped, which is before the lock is released: a guard has it as its first field.
 struct Told<'a> {
@@ -189,10 +193,22 @@ macro_rules! lock {
 
 lock!(
     /// [`std::sync::Mutex`], told.
+    ///
+    /// ```
+    /// use velodrome::sync::Mutex;
+    /// static BALANCE: Mutex<u32> = Mutex::new(100);
+    /// *BALANCE.lock().unwrap() += 5;
+    /// ```
     Mutex
 );
 lock!(
     /// [`std::sync::RwLock`], told. Of a lock that is read twice by a thread the outermost hold is told.
+    ///
+    /// ```
+    /// let prices = velodrome::sync::RwLock::new(vec![1, 2]);
+    /// prices.write().unwrap().push(3);
+    /// assert_eq!(prices.read().unwrap().len(), 3);
+    /// ```
     RwLock
 );
 
@@ -284,21 +300,34 @@ impl<T: ?Sized> RwLock<T> {
     }
 }
 
-/// [`std::sync::WaitTimeoutResult`].
-#[derive(Clone, Copy, Debug, PartialEq, Eq)]
-pub struct WaitTimeoutResult {
-    timed_out: bool,
-}
-
-impl WaitTimeoutResult {
-    /// As std's.
-    #[must_use]
-    pub fn timed_out(&self) -> bool {
-        self.timed_out
+#[cfg(rust_1_92)]
+impl<'a, T: ?Sized> RwLockWriteGuard<'a, T> {
+    /// As std's, from Rust 1.92 on: told as a release, and an acquire for reading.
+    #[track_caller]
+    #[must_use = "the lock is released where this is dropped, so at once"]
+    #[allow(clippy::incompatible_msrv)] // see the `cfg`
+    pub fn downgrade(guard: Self) -> RwLockReadGuard<'a, T> {
+        let RwLockWriteGuard { _told: told, inner } = guard;
+        let object = told.object;
+        drop(told);
+        let inner = real::RwLockWriteGuard::downgrade(inner);
+        RwLockReadGuard::new(object, inner, Location::caller())
     }
 }
 
 /// [`std::sync::Condvar`]: a wait is told as a release and an acquire of the mutex. A notification is not told.
+///
+/// ```
+/// use velodrome::{sync::{Condvar, Mutex}, thread};
+/// let (open, opened) = (Mutex::new(false), Condvar::new());
+/// thread::scope(|scope| {
+///     scope.spawn(|| {
+///         *open.lock().unwrap() = true;
+///         opened.notify_one();
+///     });
+///     drop(opened.wait_while(open.lock().unwrap(), |open| !*open));
+/// });
+/// ```
 #[derive(Debug, Default)]
 pub struct Condvar {
     inner: real::Condvar,
@@ -361,12 +390,7 @@ impl Condvar {
         let (object, inner) = given_back(guard);
         let place = Location::caller();
         held(self.inner.wait_timeout(inner, timeout), |(guard, why)| {
-            (
-                MutexGuard::new(object, guard, place),
-                WaitTimeoutResult {
-                    timed_out: why.timed_out(),
-                },
-            )
+            (MutexGuard::new(object, guard, place), why)
         })
     }
 
@@ -378,21 +402,25 @@ impl Condvar {
     #[track_caller]
     pub fn wait_timeout_while<'a, T, F>(
         &self,
-        mut guard: MutexGuard<'a, T>,
+        guard: MutexGuard<'a, T>,
         timeout: Duration,
         mut condition: F,
     ) -> LockResult<(MutexGuard<'a, T>, WaitTimeoutResult)>
     where
         F: FnMut(&mut T) -> bool,
     {
-        let start = Instant::now();
-        while condition(&mut guard) {
-            let Some(left) = timeout.checked_sub(start.elapsed()) else {
-                return Ok((guard, WaitTimeoutResult { timed_out: true }));
-            };
-            guard = self.wait_timeout(guard, left)?.0;
-        }
-        Ok((guard, WaitTimeoutResult { timed_out: false }))
+        let (object, inner) = given_back(guard);
+        let place = Location::caller();
+        // std's own loop, which looks while the mutex is held: the hold is told around each look, and lasts after the one that is last
+        let looked = self.inner.wait_timeout_while(inner, timeout, |value| {
+            let told = Told::new(object, Kind::Acquire, place);
+            let again = condition(value);
+            drop(told);
+            again
+        });
+        held(looked, |(guard, why)| {
+            (MutexGuard::new(object, guard, place), why)
+        })
     }
 
     /// As std's.
@@ -415,6 +443,12 @@ fn given_back<T: ?Sized>(guard: MutexGuard<'_, T>) -> (&Object, real::MutexGuard
 }
 
 /// [`std::sync::Once`]: its closure is told as a write, and to find it done as a read.
+///
+/// ```
+/// let once = velodrome::sync::Once::new();
+/// once.call_once(|| println!("first"));
+/// assert!(once.is_completed());
+/// ```
 pub struct Once {
     object: Object,
     done: real::atomic::AtomicBool, // changed in the hold that the write is told in, which std's own state is not
@@ -464,6 +498,15 @@ impl Once {
         self.done.load(real::atomic::Ordering::Acquire)
     }
 
+    /// As std's, from Rust 1.86 on.
+    #[cfg(rust_1_86)]
+    #[track_caller]
+    #[allow(clippy::incompatible_msrv)] // see the `cfg`
+    pub fn wait(&self) {
+        self.inner.wait();
+        self.object.tell(Kind::Read, Location::caller());
+    }
+
     fn finish(&self, place: Place) {
         let _access = self.object.access(Kind::Write, place);
         self.done.store(true, real::atomic::Ordering::Release);
@@ -477,6 +520,10 @@ impl fmt::Debug for Once {
 }
 
 /// [`std::sync::Barrier`]: to come is told as a write, and to go as a read.
+///
+/// ```
+/// assert!(velodrome::sync::Barrier::new(1).wait().is_leader());
+/// ```
 pub struct Barrier {
     object: Object,
     inner: real::Barrier,
