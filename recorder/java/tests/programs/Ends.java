@@ -1,0 +1,114 @@
+package cases;
+
+import java.util.ArrayList;
+import java.util.List;
+import velodrome.tests.Turns;
+
+/** Programs that end in one way or another, or are told in words. */
+public class Ends {
+  static int shared;
+  static volatile boolean up;
+
+  static class Account {
+    int balance;
+  }
+
+  static void touch() {
+    synchronized (Ends.class) {
+      shared++;
+    }
+  }
+
+  static Thread start(Runnable r, String name) {
+    Thread t = new Thread(r, name);
+    t.start();
+    return t;
+  }
+
+  static void two() throws Exception {
+    start(Ends::touch, "two").join();
+    touch();
+  }
+
+  /** One thread after the other, and more of them at a time than a log has numbers for. */
+  static void many() throws Exception {
+    for (int round = 0; round < 3; round++) {
+      List<Thread> all = new ArrayList<>();
+      for (int i = 0; i < 40; i++) {
+        all.add(start(Ends::touch, "t" + i));
+      }
+      for (Thread t : all) {
+        t.join();
+      }
+    }
+  }
+
+  static void names() throws Exception {
+    Account[] all = {new Account(), new Account()};
+    Thread t = start(() -> all[1].balance = 1, "the other one");
+    t.join();
+    all[1].balance = 2;
+    System.out.println(all.length);
+  }
+
+  /** Two locks in two orders: both threads wait for ever. */
+  static void deadlock() throws Exception {
+    Object a = new Object();
+    Object b = new Object();
+    Thread first = start(() -> both(a, b, 0, 1), "first");
+    Thread second = start(() -> both(b, a, 1, 0), "second");
+    while (first.getState() != Thread.State.BLOCKED || second.getState() != Thread.State.BLOCKED) {
+      Thread.onSpinWait();
+    }
+    Runtime.getRuntime().halt(7);
+  }
+
+  private static void both(Object a, Object b, int own, int other) {
+    synchronized (a) {
+      Turns.done(own);
+      Turns.await(other);
+      synchronized (b) {
+        shared++;
+      }
+    }
+  }
+
+  public static void main(String[] arguments) throws Exception {
+    switch (arguments[0]) {
+      case "two":
+        two();
+        break;
+      case "many":
+        many();
+        break;
+      case "names":
+        names();
+        break;
+      case "deadlock":
+        deadlock();
+        break;
+      case "exit":
+        two();
+        System.exit(5);
+        break;
+      case "halt":
+        two();
+        Runtime.getRuntime().halt(6);
+        break;
+      case "throw":
+        two();
+        throw new IllegalStateException("as it was");
+      case "hang":
+        two();
+        Thread.sleep(2500);
+        System.out.println("up");
+        Thread.sleep(600_000);
+        break;
+      default:
+        for (int i = 0; i < 1_000_000; i++) {
+          touch();
+        }
+        System.out.println(shared);
+    }
+  }
+}
