@@ -12,6 +12,7 @@ import shutil
 import subprocess
 import sys
 import tempfile
+import time
 from typing import Callable, Dict, List, Optional, Sequence, Set
 
 HERE = os.path.dirname(os.path.realpath(__file__))
@@ -29,7 +30,6 @@ QUICK = ("-XX:TieredStopAtLevel=1", "-XX:+UseSerialGC", "-Xshare:auto")
 COPIED = ("--add-exports", "java.base/jdk.internal.util=ALL-UNNAMED")
 ASM = ":".join(f"/usr/share/java/{name}.jar" for name in ("asm", "asm-tree", "asm-commons"))
 SECONDS_MOST = 120
-PREFIX = "cases.Cases$"
 
 
 class Room:
@@ -41,8 +41,10 @@ class Room:
         copier = ["java", *QUICK, "-cp", ASM, f"{HERE}/copier/Copier.java", self.classes]
         subprocess.run(copier, check=True)
         sources = sorted(glob.glob(f"{HERE}/programs/**/*.java", recursive=True))
-        words = ["javac", *(f"-J{option}" for option in QUICK), "-g", "--release", "11", "-cp", f"{ATOMIC}:{self.classes}", "-d", self.classes, *sources]
-        subprocess.run(words, check=True)
+        quick = [f"-J{option}" for option in QUICK]
+        classpath = f"{ATOMIC}:{self.classes}"
+        words = ["javac", *quick, "-g", "--release", "11", "-cp", classpath, "-d", self.classes]
+        subprocess.run([*words, *sources], check=True)
 
     def folder(self, name: str) -> str:
         path = os.path.join(self.path, name)
@@ -120,7 +122,7 @@ class Run:
 
 # ---- each kind of hook, by its log
 def plain(event: str) -> str:
-    return re.sub(r" \(made at [^)]*\)", "", event).replace(PREFIX, "").replace("Cases$", "").replace("cases.", "")
+    return re.sub(r" \(made at [^)]*\)|cases\.|Cases\$", "", event)
 
 
 def case_names() -> List[str]:
@@ -228,15 +230,28 @@ def line_of(text: str) -> int:
         return next(i for i, line in enumerate(f, 1) if text in line)
 
 
+def wait_for_name(folder: str, name: bytes) -> None:
+    end = time.monotonic() + SECONDS_MOST
+    while time.monotonic() < end:
+        for path in glob.glob(os.path.join(folder, "run.*.elf")):
+            with open(path, "rb") as f:
+                if name in f.read():
+                    return
+        time.sleep(0.1)
+    raise RuntimeError(f"no name {name!r}")
+
+
 def killed(room: Room) -> Optional[str]:
-    """What was recorded until a second before the end has names."""
+    """A program that is killed leaves its trace, and names that are written as it runs."""
     folder = room.folder("killed")
-    java = ["java", f"-javaagent:{AGENT}", "-cp", room.classes, "cases.Ends", "hang"]
+    java = ["java", f"-javaagent:{AGENT}", *QUICK, "-cp", room.classes, "cases.Ends", "hang"]
     env = {**os.environ, "VELODROME_OUT": os.path.join(folder, "run")}
     with subprocess.Popen(java, env=env, stdout=subprocess.PIPE, text=True) as process:
-        assert process.stdout
-        process.stdout.readline()
-        process.kill()
+        try:
+            assert process.stdout and process.stdout.readline() == "up\n"
+            wait_for_name(folder, b"Ends.shared")
+        finally:
+            process.kill()
     run = Run.__new__(Run)
     run.folder, run.log = folder, os.path.join(folder, "log")
     run.make_log("--all-variables")
@@ -285,7 +300,7 @@ def left_as_it_is(room: Room) -> Optional[str]:
         f.write(
             "public class Long { public static void main(String[] s) { int[] a = new int[1000];"
             + stores
-            + ' System.out.println(a[999]); Short.say(); } } class Short { static int x;'
+            + " System.out.println(a[999]); Short.say(); } } class Short { static int x;"
             + " static void say() { x++; System.out.println(x); } }"
         )
     subprocess.run(["javac", "-d", folder, f"{folder}/Long.java"], check=True)
@@ -314,7 +329,9 @@ def module(room: Room) -> Optional[str]:
 
 def write_projects(folder: str) -> None:
     """A project with two parts, which two threads of Maven can look at."""
-    ids = "<modelVersion>4.0.0</modelVersion>{}<artifactId>{}</artifactId><packaging>pom</packaging>"
+    ids = (
+        "<modelVersion>4.0.0</modelVersion>{}<artifactId>{}</artifactId><packaging>pom</packaging>"
+    )
     group = "<groupId>g</groupId><version>1</version>"
     parent = f"<parent>{group}<artifactId>top</artifactId></parent>"
     modules = "<modules><module>a</module><module>b</module></modules>"

@@ -15,6 +15,7 @@ import java.util.concurrent.locks.Lock;
 import java.util.concurrent.locks.ReadWriteLock;
 import java.util.concurrent.locks.ReentrantLock;
 import java.util.concurrent.locks.ReentrantReadWriteLock;
+import java.util.concurrent.locks.StampedLock;
 import velodrome.Atomic;
 import velodrome.tests.Turns;
 
@@ -501,6 +502,29 @@ public class Cases {
       both.readLock().unlock();
       reads.lock();
       reads.unlock();
+    }
+  }
+
+  static class Stamped implements Case {
+    final StampedLock lock = new StampedLock();
+    int x;
+
+    public void f() {
+      long stamp = lock.writeLock();
+      x = 1;
+      lock.unlockWrite(stamp);
+      if (lock.validate(lock.tryOptimisticRead()) && lock.isReadLocked()) {
+        throw new AssertionError();
+      }
+    }
+
+    public void g() {
+      long stamp = lock.readLock();
+      int y = x;
+      long other = lock.tryWriteLock();
+      stamp = lock.tryConvertToWriteLock(stamp);
+      x = y + (int) other;
+      lock.unlock(stamp);
     }
   }
 

@@ -7,7 +7,6 @@ import velodrome.tests.Turns;
 /** Programs that end in one way or another, or are told in words. */
 public class Ends {
   static int shared;
-  static volatile boolean up;
 
   static class Account {
     int balance;
@@ -100,7 +99,6 @@ public class Ends {
         throw new IllegalStateException("as it was");
       case "hang":
         two();
-        Thread.sleep(2500);
         System.out.println("up");
         Thread.sleep(600_000);
         break;

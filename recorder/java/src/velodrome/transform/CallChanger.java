@@ -15,6 +15,8 @@ final class CallChanger {
   private static final String ATOMICS = "velodrome/runtime/Atomics";
   private static final String THREAD = "java/lang/Thread";
   private static final String CONDITION = "java/util/concurrent/locks/Condition";
+  private static final String STAMPED = "java/util/concurrent/locks/StampedLock";
+  private static final String STAMPS = "velodrome/runtime/Stamps";
   private static final String ATOMIC = "java/util/concurrent/atomic/Atomic";
   private static final String OBJECT = "Ljava/lang/Object;";
   private static final Set<String> WAITS = Set.of("()V", "(J)V", "(JI)V");
@@ -61,6 +63,8 @@ final class CallChanger {
       method.before(n, call(CALLS, "halting", "()V"));
     } else if (n.owner.startsWith(ATOMIC) && isValue(n.owner)) {
       changeAtomic(n);
+    } else if (n.owner.equals(STAMPED)) {
+      changeStamped(n);
     } else if (LOCK_CALLS.getOrDefault(n.name, Set.of()).contains(n.desc)) {
       changeLock(n);
     } else if (n.desc.startsWith("()Ljava/util/concurrent/locks/")) {
@@ -120,6 +124,34 @@ final class CallChanger {
           call(LOCKS, "tried", "(Z" + OBJECT + "I)V"));
     } else if (!unlocks) {
       method.after(n, t.load(0), MethodChanger.number(site), call(LOCKS, "locked", takesLock));
+    }
+  }
+
+  private void changeStamped(MethodInsnNode n) {
+    boolean unlocks = n.name.startsWith("unlock") && n.desc.equals("(J)V");
+    boolean converts = n.name.startsWith("tryConvertTo");
+    boolean isStamp = n.desc.endsWith(")J") && !n.name.equals("tryOptimisticRead");
+    if (!unlocks && !isStamp) {
+      return;
+    }
+    Temporaries t = method.temporaries(n);
+    AbstractInsnNode site = site();
+    method.before(n, t.store());
+    if (unlocks) {
+      method.before(n, t.load(0), t.load(1), site, call(STAMPS, "giving", "(L" + STAMPED + ";JI)V"));
+    }
+    method.before(n, t.load());
+    if (converts) {
+      method.after(
+          n,
+          Opcodes.DUP2,
+          t.load(0),
+          t.load(1),
+          site,
+          call(STAMPS, "became", "(JL" + STAMPED + ";JI)V"));
+    } else if (isStamp) {
+      method.after(
+          n, Opcodes.DUP2, t.load(0), site, call(STAMPS, "got", "(JL" + STAMPED + ";I)V"));
     }
   }
 
