@@ -8,7 +8,7 @@
 #
 # In them are the checker, the recorder, the report, headers, libraries, what CMake and pkg-config read, the wheel, man pages and
 # completions. The checker is built by tools/build.sh, the recorder by make; of the libraries what tools/bindings.sh left is taken,
-# and it is called where there is nothing. The version is the checker's. The file BUILD, which `velodrome-report --version` prints,
+# and it is called where there is nothing; of the recorder for Java what make left. The version is the checker's. The file BUILD, which `velodrome-report --version` prints,
 # has version, commit, toolchain, and whether the checker was proved.
 #
 # It needs cmake, dpkg-dev and Python 3.11; --try needs debootstrap, root and a mirror (MIRROR).
@@ -50,6 +50,7 @@ stage() {
         "$root"/share/{zsh/vendor-completions,fish/vendor_completions.d}
     make -s -C "$top/recorder" install PREFIX="$home" DESTDIR=
     install -s "$checker" "$home/bin/velodrome"
+    [ ! -f "$top/recorder/java/out/velodrome.jar" ] || install -m 644 "$top"/recorder/java/out/*.jar "$home/lib/"
     strip --strip-unneeded "$home/bin/velodrome-log" "$home/lib/libvelodrome_recorder.so"
     build_file >"$home/BUILD"
     for command in "$home"/bin/*; do
