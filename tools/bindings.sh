@@ -157,6 +157,12 @@ tsan_tests() {
         $1 -std=c++17 -O1 -g -fsanitize=thread "${includes[@]}" -pthread -o "$out/cpp_tsan" "$top/bindings/cpp/test.cpp" "$out/session_tsan.o" "$out/libvelodrome.a"
 }
 
+# mixed COMPILER: a program whose files are built in two ways
+mixed() {
+    $1 -std=c++17 -DVELODROME_OFF "${includes[@]}" -c -o "$out/mixed_off.o" "$top/bindings/cpp/mixed.cpp" &&
+        $1 -std=c++17 "${includes[@]}" -pthread -o "$out/mixed" "$top/bindings/cpp/mixed.cpp" "$out/mixed_off.o" "$out/libvelodrome.a"
+}
+
 # cost_builds COMPILER: what a round costs, by the shell and by the calls
 cost_builds() {
     local c=${1/clang++/clang}
@@ -180,6 +186,8 @@ if wants session; then
         done
         step "session: memory builds ($compiler)" build "$compiler" "$out/session_memory" "$session/memory.c" "$session/session.c" $refusing
         step "session: tests ($compiler)" in_time "$out/session_test"
+        step "session: copies builds ($compiler)" build "$compiler" "$out/session_copies" "$session/copies.c" -ldl
+        step "session: two copies in one process ($compiler)" in_time "$out/session_copies" "$out/libvelodrome.so.0"
         step "session: fuzz against the calls ($compiler)" in_time "$out/session_fuzz" 20000
         step "session: each allocation refused in turn ($compiler)" in_time "$out/session_memory"
         step "session: longer than a log ($compiler)" in_time "$out/session_long"
@@ -230,6 +238,8 @@ if wants cpp; then
             step "cpp: VELODROME_OFF builds without the library (C++$standard, $compiler)" $compiler -std=c++$standard "${flags[@]}" -o "$out/cpp_off" "$top/bindings/cpp/off.cpp"
             step "cpp: VELODROME_OFF (C++$standard, $compiler)" "$out/cpp_off"
         done
+        step "cpp: without exceptions, no name hides another ($compiler)" $compiler -std=c++17 "${flags[@]}" -fno-exceptions -Wshadow -include velodrome.hpp -c -o /dev/null -x c++ /dev/null
+        step "cpp: with and without VELODROME_OFF in one program ($compiler)" says 'undefined reference' mixed $compiler
         step "cpp: cost builds ($compiler)" cost_builds $compiler
         step "cpp: cost of a round ($compiler)" in_time "$out/cpp_cost"
         step "cpp: a block that ends at once is refused ($compiler)" says discarded $compiler -std=c++17 "${flags[@]}" -c -o /dev/null "$top/bindings/cpp/discarded.cpp"
@@ -284,7 +294,7 @@ if wants examples && have cmake; then
     fi
     if have pkg-config pkgconf; then
         by_pkg_config=$(PKG_CONFIG_PATH=$prefix/lib/pkgconfig pkg-config --cflags --libs velodrome)
-        step "install: pkg-config" sh -c "g++ -std=c++17 -o '$out/by_pkg_config' '$top/bindings/examples/cpp/lost_update.cpp' $by_pkg_config -Wl,-rpath,'$prefix/lib'"
+        step "install: pkg-config" sh -c "g++ -std=c++17 -o '$out/by_pkg_config' '$top/bindings/examples/cpp/lost_update.cpp' $by_pkg_config"
         step "install: linked with libvelodrome.so.0" status 3 "$out/by_pkg_config"
     fi
 fi

@@ -16,6 +16,8 @@ static void expect(bool holds, const char *what, int line) {
 static vs_mutex lock = VS_MUTEX("lock");
 static VS_VARIABLE(long) balance = {100, VS_OBJECT("balance")};
 static VS_VARIABLE(int) step = {0, VS_OBJECT("step")};
+extern VS_VARIABLE(long) declared; /* as in a header */
+VS_DEFINE(declared) = {3, VS_OBJECT("declared")};
 static pthread_cond_t stepped = PTHREAD_COND_INITIALIZER;
 
 /* What makes a schedule come about is not watched: a wait in a block would be an alarm. */
@@ -111,6 +113,8 @@ static void the_rest(void) {
     EXPECT(vs_cond_timedwait(&never, &m, &past) != 0);
     EXPECT(vs_mutex_unlock(&m) == 0 && vs_mutex_destroy(&m) == 0);
     EXPECT(vs_thread_create(&t, NULL, leave, NULL) == 0 && vs_thread_join(&t, NULL) == 0);
+    VS_SET(declared, VS_GET(declared) + 1);
+    EXPECT(declared.value == 4);
 }
 
 #ifdef VELODROME_OFF

@@ -31,12 +31,15 @@
 #define VS_AFTER_() vs_after(vs_token_)
 #endif
 
-/* A variable that threads share; VS_GET and VS_SET are its read and its write. */
+/* A variable that threads share; VS_GET and VS_SET are its read and its write. One that files share
+ * is declared in a header as `extern VS_VARIABLE(long) balance;`, and defined in one of them as
+ * `VS_DEFINE(balance) = {100, VS_OBJECT("balance")};`. */
 #define VS_VARIABLE(type)                                                                          \
     struct {                                                                                       \
         type value;                                                                                \
         vs_object object;                                                                          \
     }
+#define VS_DEFINE(variable) __typeof__(variable) variable
 #define VS_GET(variable)                                                                           \
     __extension__({                                                                                \
         VS_BEFORE_(&(variable).object, VS_READ);                                                   \

@@ -14,11 +14,16 @@ struct account {
     velodrome::mutex lock VELODROME_NAMED("lock");
     velodrome::var<long> balance VELODROME_VALUE(0, "balance");
     velodrome::atomic<int> hits VELODROME_VALUE(0, "hits");
+    velodrome::var<int> named{3, velodrome::named{"named"}};
+    velodrome::watched<std::mutex> own VELODROME_NAMED("own");
 };
 
 int main() {
     account a;
     velodrome::session s(velodrome::options::environment());
+    velodrome::actor who;
+    velodrome::acting as(who);
+    std::lock_guard hold_own(a.own);
     velodrome::thread([&] {
         VELODROME_ATOMIC("deposit");
         std::lock_guard hold(a.lock);
@@ -26,7 +31,8 @@ int main() {
         ++a.hits;
     }).join();
     const velodrome::result r = s.finish("off");
-    return a.balance == 5 && a.hits == 1 && r.what == velodrome::verdict::incomplete && !r.fails
+    return a.balance == 5 && a.hits == 1 && a.named == 3 &&
+                   r.what == velodrome::verdict::incomplete && !r.fails
                ? 0
                : 1;
 }

@@ -16,6 +16,9 @@
 #include <sys/wait.h>
 #include <unistd.h>
 #include <vector>
+#if __has_include(<coroutine>) && defined(__cpp_impl_coroutine)
+#include <coroutine>
+#endif
 using namespace velodrome;
 
 // ---- a small harness
@@ -912,6 +915,209 @@ TEST(jthreads) {
     }
     x = 2;
     EXPECT(clean(s));
+}
+#endif
+
+TEST(std_lock_is_one_acquire) { // where it backs off, its tries are no events of the block
+    session s;
+    velodrome::mutex a, b;
+    var<int> x;
+    std::atomic<bool> held{false};
+    velodrome::thread t([&] {
+        std::unique_lock second(b);
+        held = true;
+        std::this_thread::sleep_for(std::chrono::milliseconds(20));
+        { std::lock_guard first(a); }
+        x = 1;
+    });
+    while (!held)
+        std::this_thread::yield();
+    {
+        VELODROME_ATOMIC("both");
+        std::scoped_lock both(a, b);
+        x += 1;
+    }
+    t.join();
+    EXPECT(clean(s));
+}
+TEST(locks_of_the_programs_own) {
+    struct spin {
+        void lock() {
+            while (taken.test_and_set())
+                std::this_thread::yield();
+        }
+        void unlock() { taken.clear(); }
+        std::atomic_flag taken = ATOMIC_FLAG_INIT;
+    };
+    session s;
+    watched<spin> lock VELODROME_NAMED("spin");
+    var<int> x;
+    auto add = [&] {
+        for (int i = 0; i < 20; i++) {
+            VELODROME_ATOMIC("add");
+            std::lock_guard hold(lock);
+            x += 1;
+        }
+    };
+    velodrome::thread one(add), two(add);
+    one.join();
+    two.join();
+    EXPECT(x == 40 && clean(s));
+}
+struct named_account {
+    std::string owner;
+    var<long> balance;
+    explicit named_account(std::string o)
+        : owner(std::move(o)), balance(0, velodrome::named{owner.c_str()}) {}
+};
+TEST(copies_outlive_the_names_of_the_first) { // as in a vector that grows
+    std::vector<named_account> all;
+    for (int i = 0; i < 3; i++)
+        all.emplace_back("the account of customer number " + std::to_string(i));
+    session s;
+    for (named_account &a : all)
+        a.balance = 1;
+    EXPECT(s.save("copies.vlog"));
+    std::ifstream names("copies.vlog.names");
+    std::stringstream text;
+    text << names.rdbuf();
+    EXPECT(text.str() == "variable 0 the account of customer number 0\nvariable 1 the account of "
+                         "customer number 1\nvariable 2 the account of customer number 2\n");
+    for (const char *suffix : {"", ".names", ".sites"})
+        std::remove((std::string("copies.vlog") + suffix).c_str());
+    EXPECT(clean(s));
+}
+struct copy_that_waits { // for another thread, as for a lock that it holds
+    copy_that_waits() = default;
+    copy_that_waits(const copy_that_waits &) {
+        asked = true;
+        for (int i = 0; i < 5000 && !go; i++)
+            std::this_thread::sleep_for(std::chrono::milliseconds(1));
+        came = go.load();
+    }
+    copy_that_waits &operator=(const copy_that_waits &) = default;
+    static inline std::atomic<bool> asked{false}, go{false}, came{false};
+};
+TEST(a_copy_may_wait_for_another_thread) {
+    session s;
+    var<copy_that_waits> x;
+    var<int> y;
+    velodrome::thread t([&] {
+        while (!copy_that_waits::asked)
+            std::this_thread::yield();
+        y = 1;
+        copy_that_waits::go = true;
+    });
+    (void)x.load();
+    t.join();
+    EXPECT(copy_that_waits::came && clean(s));
+}
+TEST(values_that_only_move) {
+    struct holder {
+        var<std::unique_ptr<int>> p;
+    };
+    session s;
+    std::vector<holder> all;
+    for (int i = 0; i < 5; i++) {
+        holder h;
+        h.p.store(std::make_unique<int>(i));
+        all.push_back(std::move(h));
+    }
+    EXPECT(all[3].p.with([](const auto &p) { return *p; }) == 3);
+    static_assert(!std::is_copy_constructible_v<var<std::unique_ptr<int>>> &&
+                  std::is_nothrow_move_constructible_v<holder> &&
+                  std::is_copy_constructible_v<var<int>>);
+    static_assert(!std::is_convertible_v<velodrome::named, velodrome::mutex>);
+    static_assert(noexcept(std::declval<velodrome::mutex &>().try_lock()) ==
+                  noexcept(std::declval<std::mutex &>().try_lock()));
+    EXPECT(clean(s));
+}
+TEST(what_is_left_out_makes_no_alarm) {
+    session s;
+    EXPECT(s.ignore_variable("count*") && s.ignore_label("none") && s.ignore_lock("none"));
+    var<int> x VELODROME_VALUE(0, "counter"), y VELODROME_VALUE(0, "y");
+    add_around(x, [&] { x = 5; });
+    EXPECT(s.so_far() == verdict::clean);
+    add_around(y, [&] { y = 5; });
+    EXPECT(s.close().what == verdict::alarm);
+}
+
+// ---- blocks of coroutines
+
+#ifdef __cpp_lib_coroutine
+struct task {
+    struct promise_type {
+        task get_return_object() {
+            return {std::coroutine_handle<promise_type>::from_promise(*this)};
+        }
+        std::suspend_never initial_suspend() noexcept { return {}; }
+        std::suspend_always final_suspend() noexcept { return {}; }
+        void return_void() {}
+        void unhandled_exception() {}
+    };
+    std::coroutine_handle<promise_type> handle;
+};
+static task write_twice(var<int> &y) {
+    VELODROME_ATOMIC("work");
+    y.store(1);
+    co_await std::suspend_always{};
+    y.store(2);
+}
+static task wait_once() {
+    VELODROME_ATOMIC("work");
+    co_await std::suspend_always{};
+}
+TEST(
+    a_coroutine_that_another_thread_resumes) { // its block is over then, and its session incomplete
+    session s;
+    var<int> x, y;
+    task t = write_twice(y);
+    apart([&] { t.handle.resume(); });
+    const int before = x;
+    apart([&] { x = 5; });
+    x = before + 1;
+    const result r = s.close();
+    EXPECT(r.what == verdict::incomplete && has(r.words, "ended by another thread"));
+    t.handle.destroy();
+}
+TEST(a_coroutine_within_a_block_of_another_thread) { // whose block goes on
+    session s;
+    var<int> x;
+    task t = wait_once();
+    apart([&] {
+        VELODROME_ATOMIC("update");
+        const int before = x;
+        t.handle.resume();
+        apart([&] { x = 5; });
+        x = before + 1;
+    });
+    const result r = s.close();
+    EXPECT(r.what == verdict::alarm && has(r.words, "not atomic: update"));
+    t.handle.destroy();
+}
+TEST(a_coroutine_that_its_threads_act_as) { // its block is its own, wherever it is resumed
+    for (bool lost : {false, true}) {
+        session s;
+        var<int> y;
+        actor who;
+        task t = [&] {
+            acting as(who);
+            return write_twice(y);
+        }();
+        if (lost)
+            (void)y.load();
+        else
+            (void)s.so_far();
+        apart([&] {
+            acting as(who);
+            t.handle.resume();
+        });
+        if (lost)
+            EXPECT(s.close().what == verdict::alarm);
+        else
+            EXPECT(clean(s));
+        t.handle.destroy();
+    }
 }
 #endif
 

@@ -30,9 +30,23 @@
 #include <stop_token>
 #endif
 
+// Files of one program are built with VELODROME_OFF, or without: what they share does not link
+// else.
+#ifdef VELODROME_OFF
+#define VELODROME_KIND_ not_watched
+#else
+#define VELODROME_KIND_ is_watched
+#endif
+
 namespace velodrome {
+inline namespace VELODROME_KIND_ {
+// A name for people; several objects may have the same.
+struct named {
+    const char *name;
+};
 // A mutex of std's: the same in both worlds.
 using std::condition_variable_any;
+} // namespace VELODROME_KIND_
 } // namespace velodrome
 
 #ifdef VELODROME_OFF
@@ -72,11 +86,7 @@ using std::condition_variable_any;
 #endif
 
 namespace velodrome {
-
-// A name for people; several objects may have the same.
-struct named {
-    const char *name;
-};
+inline namespace VELODROME_KIND_ {
 
 // Where a call stands in the source, as a default argument.
 class place {
@@ -99,12 +109,48 @@ private:
 // VELODROME_ATOMIC makes one in a scope; it stands nowhere else.
 class [[nodiscard]] atomic_block {
 public:
-    [[nodiscard]] explicit atomic_block(vs_object &label) noexcept { vs_begin(&label); }
+    [[nodiscard]] explicit atomic_block(vs_object &label) noexcept
+        : block_(vs_idle() ? vs_block{} : vs_begin_block(&label)) {}
     atomic_block(const atomic_block &) = delete;
     atomic_block &operator=(const atomic_block &) = delete;
-    ~atomic_block() { vs_end(); }
+    ~atomic_block() {
+        if (block_.who)
+            vs_end_block(block_);
+    }
     static void *operator new(std::size_t) = delete;
     static void *operator new[](std::size_t) = delete;
+
+private:
+    vs_block block_;
+};
+
+// Who acts, where that is no thread: a coroutine that is resumed by one thread or another, a fiber.
+// It has blocks of its own.
+class actor {
+public:
+    actor() noexcept : self_(vs_self_new()) {}
+    actor(actor &&other) noexcept : self_(std::exchange(other.self_, nullptr)) {}
+    actor &operator=(actor &&other) noexcept {
+        std::swap(self_, other.self_);
+        return *this;
+    }
+    ~actor() { vs_self_free(self_); }
+
+private:
+    friend class acting;
+    vs_self *self_;
+};
+
+// While it lives, its thread acts as the actor: put one round each resume.
+class [[nodiscard]] acting {
+public:
+    [[nodiscard]] explicit acting(actor &as) noexcept : before_(vs_switch(as.self_)) {}
+    acting(const acting &) = delete;
+    acting &operator=(const acting &) = delete;
+    ~acting() { vs_switch(before_); }
+
+private:
+    vs_self *before_;
 };
 
 namespace detail {
@@ -114,6 +160,8 @@ class access {
 public:
     access(vs_object &object, vs_kind kind) noexcept
         : token_(vs_idle() ? 0 : vs_before(&object, kind)) {}
+    access(vs_object &object, vs_kind kind, const vs_place *at) noexcept
+        : token_(vs_idle() ? 0 : vs_before_at(&object, kind, at)) {}
     access(vs_object &object, vs_kind kind, place at) noexcept : token_(0) {
         if (vs_idle())
             return;
@@ -131,24 +179,27 @@ private:
     unsigned token_;
 };
 
-inline void tell(vs_object &object, vs_kind kind) noexcept {
+inline void tell(vs_object &object, vs_kind kind, const vs_place *at = nullptr) noexcept {
     if (!vs_idle())
-        vs_tell(&object, kind);
+        vs_tell_at(&object, kind, at);
 }
 
 // A mutex of std's, recorded: an acquire after it was acquired, a release before it is released.
+// What std::lock tries and gives back is no event.
 template <class M> class lockable {
 public:
     constexpr lockable(place at = place::here()) noexcept : object_(at.object()) {}
-    constexpr lockable(named n) noexcept : object_{0, n.name, 0} {}
+    constexpr explicit lockable(named n) noexcept : object_{0, n.name, 0} {}
     lockable(const lockable &) = delete;
     lockable &operator=(const lockable &) = delete;
 
     void lock() {
         inner_.lock();
-        tell(object_, VS_ACQUIRE);
+        acquired(VS_ACQUIRE);
     }
-    [[nodiscard]] bool try_lock() { return taken(inner_.try_lock()); }
+    [[nodiscard]] bool try_lock() noexcept(noexcept(std::declval<M &>().try_lock())) {
+        return taken(inner_.try_lock());
+    }
     void unlock() noexcept {
         tell(object_, VS_RELEASE);
         inner_.unlock();
@@ -158,9 +209,15 @@ public:
     }
 
 protected:
+    void acquired(vs_kind kind) noexcept {
+        if (!vs_idle())
+            vs_acquired(&object_, kind);
+    }
     bool taken(bool got, vs_kind kind = VS_ACQUIRE) noexcept {
         if (got)
-            tell(object_, kind);
+            acquired(kind);
+        else if (!vs_idle())
+            vs_try_failed();
         return got;
     }
     M inner_;
@@ -185,9 +242,10 @@ public:
     using Base::Base;
     void lock_shared() {
         this->inner_.lock_shared();
-        tell(this->object_, VS_ACQUIRE_SHARED);
+        this->acquired(VS_ACQUIRE_SHARED);
     }
-    [[nodiscard]] bool try_lock_shared() {
+    [[nodiscard]] bool
+    try_lock_shared() noexcept(noexcept(std::declval<shared &>().inner_.try_lock_shared())) {
         return this->taken(this->inner_.try_lock_shared(), VS_ACQUIRE_SHARED);
     }
     void unlock_shared() noexcept {
@@ -203,7 +261,7 @@ public:
 class mutex : public detail::lockable<std::mutex> {
 public:
     constexpr mutex(place at = place::here()) noexcept : lockable(at) {}
-    constexpr mutex(named n) noexcept : lockable(n) {}
+    constexpr explicit mutex(named n) noexcept : lockable(n) {}
     using native_handle_type = std::mutex::native_handle_type;
 
 private:
@@ -214,33 +272,33 @@ private:
 class recursive_mutex : public detail::lockable<std::recursive_mutex> {
 public:
     constexpr recursive_mutex(place at = place::here()) noexcept : lockable(at) {}
-    constexpr recursive_mutex(named n) noexcept : lockable(n) {}
+    constexpr explicit recursive_mutex(named n) noexcept : lockable(n) {}
     using native_handle_type = std::recursive_mutex::native_handle_type;
 };
 
 class timed_mutex : public detail::timed<std::timed_mutex> {
 public:
     constexpr timed_mutex(place at = place::here()) noexcept : timed(at) {}
-    constexpr timed_mutex(named n) noexcept : timed(n) {}
+    constexpr explicit timed_mutex(named n) noexcept : timed(n) {}
 };
 
 class recursive_timed_mutex : public detail::timed<std::recursive_timed_mutex> {
 public:
     constexpr recursive_timed_mutex(place at = place::here()) noexcept : timed(at) {}
-    constexpr recursive_timed_mutex(named n) noexcept : timed(n) {}
+    constexpr explicit recursive_timed_mutex(named n) noexcept : timed(n) {}
 };
 
 class shared_mutex : public detail::shared<detail::lockable<std::shared_mutex>> {
 public:
     constexpr shared_mutex(place at = place::here()) noexcept : shared(at) {}
-    constexpr shared_mutex(named n) noexcept : shared(n) {}
+    constexpr explicit shared_mutex(named n) noexcept : shared(n) {}
     using native_handle_type = std::shared_mutex::native_handle_type;
 };
 
 class shared_timed_mutex : public detail::shared<detail::timed<std::shared_timed_mutex>> {
 public:
     constexpr shared_timed_mutex(place at = place::here()) noexcept : shared(at) {}
-    constexpr shared_timed_mutex(named n) noexcept : shared(n) {}
+    constexpr explicit shared_timed_mutex(named n) noexcept : shared(n) {}
     template <class R, class P>
     [[nodiscard]] bool try_lock_shared_for(const std::chrono::duration<R, P> &time) {
         return taken(inner_.try_lock_shared_for(time), VS_ACQUIRE_SHARED);
@@ -249,6 +307,14 @@ public:
     [[nodiscard]] bool try_lock_shared_until(const std::chrono::time_point<C, D> &time) {
         return taken(inner_.try_lock_shared_until(time), VS_ACQUIRE_SHARED);
     }
+};
+
+// A lock of the program's own, with lock() and unlock(), and what else of std's it has: its holds
+// are recorded, and what it does to come about is not.
+template <class M> class watched : public detail::lockable<M> {
+public:
+    constexpr watched(place at = place::here()) noexcept : detail::lockable<M>(at) {}
+    constexpr explicit watched(named n) noexcept : detail::lockable<M>(n) {}
 };
 
 // ---- waiting: the mutex is released and acquired again, and both are recorded
@@ -314,50 +380,129 @@ private:
 
 // ---- variables
 
+namespace detail {
+
+// A copy of a value that is no more than bytes is made in the hold of its event. Any other may run
+// code of the program, which may wait for a lock of its own, so its event is told first.
+template <class T> inline constexpr bool is_copied_in_hold = std::is_trivially_copyable_v<T>;
+template <class T>
+inline constexpr bool is_swapped_in_hold =
+    std::is_trivially_copyable_v<T> || std::is_nothrow_swappable_v<T>;
+
+// The object of a copy: its name may go with the first.
+inline vs_object another(const vs_object &o) noexcept {
+    return vs_object{0, o.line ? o.name : vs_keep_name(o.name), o.line};
+}
+
+// A value and its object. A copy is another variable with the same value.
+template <class T> class cell {
+public:
+    constexpr explicit cell(vs_object object) noexcept(std::is_nothrow_default_constructible_v<T>)
+        : value_(), object_(object) {}
+    constexpr cell(T value, vs_object object) : value_(std::move(value)), object_(object) {}
+    cell(const cell &other) : value_(other.get(nullptr)), object_(another(other.object_)) {}
+    cell(cell &&other) noexcept(std::is_nothrow_move_constructible_v<T>)
+        : value_(other.taken()), object_(another(other.object_)) {}
+    cell &operator=(const cell &other) {
+        put(other.get(nullptr), nullptr);
+        return *this;
+    }
+    cell &operator=(cell &&other) {
+        put(other.taken(), nullptr);
+        return *this;
+    }
+    ~cell() = default;
+
+protected:
+    T get(const vs_place *at) const {
+        if constexpr (is_copied_in_hold<T>) {
+            access a(object_, VS_READ, at);
+            return value_;
+        } else {
+            tell(object_, VS_READ, at);
+            return value_;
+        }
+    }
+    void put(T value, const vs_place *at) { // the old value goes when the hold is over
+        using std::swap;
+        if constexpr (is_swapped_in_hold<T>) {
+            access a(object_, VS_WRITE, at);
+            swap(value_, value);
+        } else {
+            tell(object_, VS_WRITE, at);
+            swap(value_, value);
+        }
+    }
+    T taken() noexcept(std::is_nothrow_move_constructible_v<T>) {
+        if constexpr (std::is_nothrow_move_constructible_v<T>) {
+            access a(object_, VS_WRITE);
+            return std::move(value_);
+        } else {
+            tell(object_, VS_WRITE);
+            return std::move(value_);
+        }
+    }
+    T value_;
+    mutable vs_object object_;
+};
+
+// What can be copied where its value can.
+template <bool> struct copying {};
+template <> struct copying<false> {
+    copying() = default;
+    copying(const copying &) = delete;
+    copying(copying &&) = default;
+    copying &operator=(const copying &) = delete;
+    copying &operator=(copying &&) = default;
+    ~copying() = default;
+};
+
+} // namespace detail
+
 // A variable that threads share: to be read and written as T is. `x += 1` is a read and a write.
-template <class T> class var {
+template <class T>
+class var : public detail::cell<T>, private detail::copying<std::is_copy_constructible_v<T>> {
+    using cell = detail::cell<T>;
+    using cell::get, cell::put, cell::value_, cell::object_;
+
 public:
     using value_type = T;
     constexpr var(place at = place::here()) noexcept(std::is_nothrow_default_constructible_v<T>)
-        : value_(), object_(at.object()) {}
-    constexpr var(T value, place at = place::here())
-        : value_(std::move(value)), object_(at.object()) {}
-    constexpr var(T value, named n) : value_(std::move(value)), object_{0, n.name, 0} {}
-    constexpr explicit var(named n) : value_(), object_{0, n.name, 0} {}
-    var(const var &other)
-        : value_(other.load()), object_{0, other.object_.name, other.object_.line} {
-    } // another variable with the same value
-    var &operator=(const var &other) {
-        store(other.load());
-        return *this;
-    }
+        : cell(at.object()) {}
+    constexpr var(T value, place at = place::here()) : cell(std::move(value), at.object()) {}
+    constexpr var(T value, named n) : cell(std::move(value), vs_object{0, n.name, 0}) {}
+    constexpr explicit var(named n) : cell(vs_object{0, n.name, 0}) {}
+    var(const var &) = default; // another variable with the same value
+    var(var &&) = default;
+    var &operator=(const var &) = default;
+    var &operator=(var &&) = default;
+    ~var() = default;
 
     [[nodiscard]] T load(place at = place::here()) const {
-        detail::access a(object_, VS_READ, at);
-        return value_;
+        const vs_place told = at.told();
+        return get(&told);
     }
-    void store(T value, place at = place::here()) { // the old value goes when the hold is over
-        detail::access a(object_, VS_WRITE, at);
-        using std::swap;
-        swap(value_, value);
+    void store(T value, place at = place::here()) {
+        const vs_place told = at.told();
+        put(std::move(value), &told);
     }
-    operator T() const { return read(); }
+    operator T() const { return get(nullptr); }
     T operator=(T value) {
-        write(value);
+        put(value, nullptr);
         return value;
     }
-    template <class U> T operator+=(U &&d) { return *this = read() + std::forward<U>(d); }
-    template <class U> T operator-=(U &&d) { return *this = read() - std::forward<U>(d); }
+    template <class U> T operator+=(U &&d) { return *this = get(nullptr) + std::forward<U>(d); }
+    template <class U> T operator-=(U &&d) { return *this = get(nullptr) - std::forward<U>(d); }
     T operator++() { return *this += 1; }
     T operator--() { return *this -= 1; }
     T operator++(int) {
-        T before = read();
-        write(before + 1);
+        T before = get(nullptr);
+        put(before + 1, nullptr);
         return before;
     }
     T operator--(int) {
-        T before = read();
-        write(before - 1);
+        T before = get(nullptr);
+        put(before - 1, nullptr);
         return before;
     }
 
@@ -373,19 +518,6 @@ public:
     }
     T &unwatched() noexcept { return value_; }
     const T &unwatched() const noexcept { return value_; }
-
-private:
-    T read() const {
-        detail::access a(object_, VS_READ);
-        return value_;
-    }
-    void write(T value) {
-        detail::access a(object_, VS_WRITE);
-        using std::swap;
-        swap(value_, value);
-    }
-    T value_;
-    mutable vs_object object_;
 };
 template <class T> var(T, named) -> var<T>;
 
@@ -531,6 +663,17 @@ struct living { // reports the thread's begin and end, also if it is unwound
     ~living() { vs_exit(child); }
     vs_child child;
 };
+struct starting { // reports the end of a thread that could not be started
+    explicit starting(vs_child c) noexcept : child(c) {}
+    starting(const starting &) = delete;
+    starting &operator=(const starting &) = delete;
+    ~starting() {
+        if (!done)
+            vs_exit(child);
+    }
+    vs_child child;
+    bool done = false;
+};
 } // namespace detail
 
 class thread {
@@ -542,19 +685,16 @@ public:
               class = std::enable_if_t<
                   !std::is_same_v<std::remove_cv_t<std::remove_reference_t<F>>, thread>>>
     explicit thread(F &&f, A &&...a) : child_(vs_fork()) {
-        try {
-            inner_ = std::thread(
-                [](vs_child child, std::decay_t<F> f, std::decay_t<A>... a) {
-                    detail::living l(child);
-                    std::invoke(
-                        std::move(f),
-                        std::move(a)...); // what it throws ends the program, as std::thread's does
-                },
-                child_, std::forward<F>(f), std::forward<A>(a)...);
-        } catch (...) {
-            vs_exit(child_);
-            throw;
-        }
+        detail::starting start(child_);
+        inner_ = std::thread(
+            [](vs_child child, std::decay_t<F> body, std::decay_t<A>... with) {
+                detail::living l(child);
+                std::invoke(
+                    std::move(body),
+                    std::move(with)...); // what it throws ends the program, as std::thread's does
+            },
+            child_, std::forward<F>(f), std::forward<A>(a)...);
+        start.done = true;
     }
     thread(thread &&) noexcept = default;
     thread &operator=(thread &&) noexcept = default;
@@ -651,7 +791,7 @@ struct collision {
 
 struct options {
     std::uint32_t events = 0;    // most of them between two cuts; 0: 1,048,576
-    std::uint16_t variables = 0; // 0: 65,535
+    std::uint16_t variables = 0; // 0: 65,471
     std::uint16_t locks = 0;     // 0: 4,096
     std::uint32_t noise = 0;     // one event in `noise` waits for a while; 0: none
     std::uint64_t seed = 0;      // which ones; 0: by the clock
@@ -675,7 +815,7 @@ struct [[nodiscard]] result {
     verdict what = verdict::incomplete;
     std::string words; // what `velodrome explain` prints of an alarm, with names and places; why it
                        // is incomplete
-    bool fails = true; // what VELODROME_INCOMPLETE asks for, by finish()
+    bool fails = true; // whether the test fails, by finish()
     explicit operator bool() const noexcept { return what == verdict::clean; }
 };
 
@@ -702,6 +842,12 @@ public:
     }
     verdict so_far() const noexcept { return static_cast<verdict>(vs_so_far(id_)); }
     bool save(const char *path) const noexcept { return vs_save(id_, path); }
+    // Leaves out, from here on, what has this name; a star in it stands for any characters.
+    bool ignore_variable(const char *name) noexcept {
+        return vs_ignore(id_, VS_NAMED_VARIABLE, name);
+    }
+    bool ignore_lock(const char *name) noexcept { return vs_ignore(id_, VS_NAMED_LOCK, name); }
+    bool ignore_label(const char *name) noexcept { return vs_ignore(id_, VS_NAMED_LABEL, name); }
     vs_session native_handle() const noexcept { return id_; }
 
     // The verdict, for good.
@@ -732,17 +878,25 @@ private:
         return {s.position, s.thread, s.event ? s.event : "", s.block ? s.block : "",
                 s.place ? s.place : ""};
     }
+    void call(const vs_alarm &a) {
+        on_alarm_(collision{side_of(a.first), side_of(a.second), a.report});
+    }
     static void called(void *data, const vs_alarm *a) noexcept {
+        session &s = *static_cast<session *>(data);
+#ifdef __cpp_exceptions
         try {
-            static_cast<session *>(data)->on_alarm_(
-                collision{side_of(a->first), side_of(a->second), a->report});
-        } catch (...) {
+            s.call(*a);
+        } catch (...) { // it is lost
         }
+#else
+        s.call(*a);
+#endif
     }
     std::function<void(const collision &)> on_alarm_;
     vs_session id_ = 0;
 };
 
+} // namespace VELODROME_KIND_
 } // namespace velodrome
 #endif
 #endif

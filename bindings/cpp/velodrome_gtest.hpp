@@ -4,8 +4,9 @@
 //     testing::UnitTest::GetInstance()->listeners().Append(new velodrome::gtest_listener);
 //
 // The explanation stands in the failure; log and names are kept in VELODROME_LOGS (or here) as
-// SUITE.TEST.vlog. A test that could not be watched to its end says so, and fails with
-// VELODROME_INCOMPLETE=fail. VELODROME_NOISE=4 holds up one event in four.
+// SUITE.TEST.vlog. A test that could not be watched to its end, or recorded nothing, fails and says
+// why; with VELODROME_INCOMPLETE=warn it says so alone. VELODROME_NOISE=4 holds up one event in
+// four.
 #ifndef VELODROME_GTEST_HPP
 #define VELODROME_GTEST_HPP
 #include "velodrome.hpp"
@@ -14,6 +15,7 @@
 #include <memory>
 
 namespace velodrome {
+inline namespace VELODROME_KIND_ {
 
 class gtest_listener : public testing::EmptyTestEventListener {
     void OnTestStart(const testing::TestInfo &) override {
@@ -33,5 +35,6 @@ class gtest_listener : public testing::EmptyTestEventListener {
     std::unique_ptr<session> session_;
 };
 
+} // namespace VELODROME_KIND_
 } // namespace velodrome
 #endif

@@ -8,6 +8,7 @@
     { value }
 
 namespace velodrome {
+inline namespace VELODROME_KIND_ {
 using std::atomic;
 using std::condition_variable;
 using std::mutex;
@@ -27,6 +28,8 @@ public:
     using value_type = T;
     constexpr var() noexcept(std::is_nothrow_default_constructible_v<T>) : value_() {}
     constexpr var(T value) : value_(std::move(value)) {}
+    constexpr var(T value, named) : value_(std::move(value)) {}
+    constexpr explicit var(named) : value_() {}
     [[nodiscard]] T load() const { return value_; }
     void store(T value) { value_ = std::move(value); }
     operator T() const { return value_; }
@@ -44,6 +47,24 @@ public:
 
 private:
     T value_;
+};
+
+template <class T> var(T, named) -> var<T>;
+
+// The lock alone.
+template <class M> class watched : public M {
+public:
+    watched() = default;
+    explicit watched(named) {}
+};
+
+class actor {};
+class [[nodiscard]] acting {
+public:
+    [[nodiscard]] explicit acting(actor &) noexcept {}
+    acting(const acting &) = delete;
+    acting &operator=(const acting &) = delete;
+    ~acting() {} // as one that is used
 };
 
 // Sessions see nothing, and say so: a test that asks for a verdict is not one of such a build.
@@ -79,8 +100,12 @@ public:
     session &operator=(const session &) = delete;
     verdict so_far() const noexcept { return verdict::incomplete; }
     bool save(const char *) const noexcept { return false; }
+    bool ignore_variable(const char *) noexcept { return false; }
+    bool ignore_lock(const char *) noexcept { return false; }
+    bool ignore_label(const char *) noexcept { return false; }
     result close() { return {}; }
     result finish(const char *) { return {}; }
 };
+} // namespace VELODROME_KIND_
 } // namespace velodrome
 #endif

@@ -19,8 +19,9 @@
 #define SEATS 4   /* sessions that one thread acts in at a time */
 #define DEPTH 32  /* blocks that are told; the outermost decide */
 #define THREADS VELODROME_MAX_THREADS
-#define VARIABLES (VELODROME_MAX_VARIABLES - THREADS) /* the rest are starts and ends of threads   \
-                                                       */
+#define VARIABLES                                                                                  \
+    (VELODROME_MAX_VARIABLES - THREADS) /* the rest are starts and ends of threads                 \
+                                         */
 #define PATH_BYTES 900
 #define NAME_ROOM 256
 #define NAME_BYTES 150 /* with a kind, a line and an ordinal it fits a names file */
@@ -28,11 +29,11 @@
 #define NOT_TOLD UINT32_MAX
 #define IGNORED ((1u << NUMBER_BITS) - 1) /* the number of all that is left out */
 #define REUSED_FROM (THREADS * 3 / 4)     /* so many numbers are given before one is given again */
-#define ENDS 256         /* ends of blocks by others that are kept for their owners */
-#define PENDING 8        /* locks that std::lock takes at a time */
-#define WAITED 100000    /* nanoseconds between two looks of who waits for room */
-#define MOST_WAITS 10000 /* looks: a second */
-#define SPINS 20         /* looks at a lock that another thread has, before sleeping */
+#define ENDS 256             /* ends of blocks by others that are kept for their owners */
+#define PENDING 8            /* locks that std::lock takes at a time */
+#define BETWEEN_LOOKS 100000 /* nanoseconds, of who waits for open blocks */
+#define MOST_LOOKS 10000     /* a second, and five where there is no number else */
+#define SPINS 20             /* looks at a lock that another thread has, before sleeping */
 #define FIRST_SLEEP                                                                                \
     50000 /* nanoseconds; each is twice as long as the one before, up to the longest */
 #define LONGEST_SLEEP 400000
@@ -115,8 +116,9 @@ typedef struct slot {
     _Atomic uint64_t last;    /* the epoch: of the numbers in tags since the last cut, from id on */
     _Atomic uintptr_t keeper; /* the thread that has it */
     _Atomic bool recording;
-    _Atomic bool slow;    /* noise is wanted, or it is crowded: events may have to wait */
-    _Atomic bool crowded; /* it can only be cut once the open blocks have ended */
+    _Atomic bool slow;      /* noise is wanted, or it is crowded: events may have to wait */
+    _Atomic bool crowded;   /* it can only be cut once the open blocks have ended */
+    _Atomic uint32_t looks; /* of those who waited for open blocks in this piece */
     _Atomic bool in_hook;
     _Atomic bool missed;       /* an event, since its lock could not be had */
     _Atomic uint64_t left_out; /* calls of signal handlers */
@@ -166,7 +168,7 @@ uint32_t vs_recording;
 
 typedef struct seat {
     slot *in;
-    uint64_t id, since, who, epoch, random, waited;
+    uint64_t id, since, who, epoch, random;
     uint32_t told; /* a bit for each of its blocks: it is in the log */
     uint8_t number;
     int done; /* how many of its blocks were looked at */
@@ -192,7 +194,7 @@ struct vs_self {
     open_block block[DEPTH];
     struct {
         vs_object *lock;
-        vs_place place;
+        vs_kind kind;
     } pending[PENDING]; /* locks that it took, and has not told of */
     int pendings;
     bool tried; /* since then a try failed */
@@ -1065,6 +1067,17 @@ static uint32_t enrol(slot *s, uint32_t parent, uint64_t who, const vs_place *pl
     return s->threads++;
 }
 
+/* That of a thread which `parent` has joined: so whatever it did leads to what the new one does,
+ * also where they are two. */
+static uint32_t number_to_use_again(const slot *s, uint32_t parent) {
+    for (uint32_t i = 1; i < s->threads && s->threads >= REUSED_FROM; i++) {
+        const thread *t = &s->thread[i];
+        if (t->joined && t->ended && t->joiner == parent && !t->deepest && !t->locks)
+            return i;
+    }
+    return 0;
+}
+
 /* ---- the cut */
 
 static void clear_names(slot *s) {
@@ -1092,6 +1105,7 @@ static void next_piece(slot *s) {
     atomic_store(&s->last, epoch(s) + SLOTS);
     s->threads = 1;
     s->open = s->events = 0;
+    s->looks = 0;
     set_crowded(s, false);
 }
 
@@ -1225,6 +1239,13 @@ static void make_room(slot *s, uint32_t used, uint32_t limit) {
         set_crowded(s, true);
 }
 
+/* The last numbers are for those that cannot wait. */
+static void make_room_for_thread(slot *s, uint32_t used) {
+    make_room(s, used, THREADS);
+    if (s->open && s->recording && used >= REUSED_FROM)
+        set_crowded(s, true);
+}
+
 static void make_room_for_events(slot *s) {
     if (s->events < s->near)
         return;
@@ -1279,7 +1300,7 @@ static seat *seat_of(slot *s, struct vs_self *me) {
         return t;
     uint32_t number = number_of_who(s, t->who);
     if (!number) {
-        make_room(s, s->threads, THREADS);
+        make_room_for_thread(s, s->threads);
         number = number_again(s, t->who);
     }
     if (!s->recording)
@@ -1828,43 +1849,43 @@ static void disturb(slot *s, struct vs_self *me, uint64_t id) {
         pause_for(s, (uint32_t)((drawn >> 16) % 200000));
 }
 
-/* Whether it helps that this thread waits: another thread of the system has a block open. One that
- * holds a lock may be what that waits for, so it goes on, unless there is no number for it. */
-static bool helps_to_wait(slot *s, const seat *t, bool wants_number, bool has_lock) {
+/* How many looks who waits for open blocks takes: none where no other thread of the system has one.
+ * A thread with a lock may be what such a one waits for, so it goes on, unless it cannot: where
+ * there is no number for it, or for the thread that it starts. */
+static uint32_t looks_to_take(slot *s, const seat *t, bool forks, bool has_lock) {
     bool others = false;
     if (!keep(s))
-        return false;
-    bool is_known = t && t->epoch == epoch(s);
-    has_lock |= is_known && s->thread[t->number].locks;
-    wants_number |= !is_known;
+        return 0;
+    uint32_t number = !t ? 0 : t->epoch == epoch(s) ? t->number : number_of_who(s, t->who);
+    bool is_stuck = s->threads == THREADS && (forks ? !number_to_use_again(s, number) : !number);
+    has_lock |= number && s->thread[number].locks;
     for (uint32_t i = 1; i < s->threads; i++)
         others |= s->thread[i].deepest && s->thread[i].system != mine.system;
-    bool helps = s->crowded && others && (!has_lock || (wants_number && s->threads == THREADS));
+    bool waits = s->crowded && others && (is_stuck || !has_lock);
     let_go(s);
-    return helps;
+    return !waits ? 0 : is_stuck ? 5 * MOST_LOOKS : MOST_LOOKS;
 }
 
-/* A thread without an open block waits for those of others, once in each piece of the run. */
-static void wait_for_blocks(slot *s, struct vs_self *me, uint64_t id, bool wants_number,
-                            bool has_lock) {
+/* A thread without an open block waits for those of others. In each piece of the run all together
+ * take so many looks, as a block may wait for one of them. */
+static void wait_for_blocks(slot *s, struct vs_self *me, uint64_t id, bool forks, bool has_lock) {
     seat *t = seat_in(me, id);
     uint64_t piece = epoch(s);
-    if (!s->crowded || (t && (t->told || t->waited == piece)) ||
-        !helps_to_wait(s, t, wants_number, has_lock))
+    if (!s->crowded || (t && t->told))
         return;
-    if (t)
-        t->waited = piece;
-    for (int i = 0; i < MOST_WAITS && s->recording && epoch(s) == piece &&
-                    helps_to_wait(s, t, wants_number, has_lock);
-         i++)
-        pause_for(s, WAITED);
+    for (uint32_t i = s->looks;
+         s->recording && epoch(s) == piece && i < looks_to_take(s, t, forks, has_lock); i++) {
+        pause_for(s, BETWEEN_LOOKS);
+        if (s->looks <= i)
+            s->looks = i + 1;
+    }
 }
 
-COLD void wait_before(slot *s, struct vs_self *me, uint64_t id, bool wants_number, bool has_lock) {
+COLD void wait_before(slot *s, struct vs_self *me, uint64_t id, bool forks, bool has_lock) {
     if (is_keeper(s))
         return;
     disturb(s, me, id);
-    wait_for_blocks(s, me, id, wants_number, has_lock);
+    wait_for_blocks(s, me, id, forks, has_lock);
 }
 
 COLD void wait_at_begin(struct vs_self *me) {
@@ -1906,8 +1927,7 @@ COLD void tell_all_pending(slot *kept_slot, struct vs_self *me) {
         uint64_t id = session_for(me->pending[i].lock);
         slot *s = !id ? NULL : kept_slot == slot_of(id) ? kept_slot : kept(id);
         if (s && s->recording)
-            event(s, me, me->pending[i].lock, VS_ACQUIRE,
-                  me->pending[i].place.file ? &me->pending[i].place : NULL);
+            event(s, me, me->pending[i].lock, me->pending[i].kind, NULL);
         if (s && s != kept_slot)
             let_go(s);
     }
@@ -1987,8 +2007,9 @@ void vs_tell_at(vs_object *o, vs_kind kind, const vs_place *place) {
     if (vs_idle() || !come_in())
         return;
     struct vs_self *me = self();
-    slot *s =
-        me->pendings && kind == VS_RELEASE && backs_off(me, o) ? NULL : told_of(me, o, kind, place);
+    bool is_back =
+        me->pendings && (kind == VS_RELEASE || kind == VS_RELEASE_SHARED) && backs_off(me, o);
+    slot *s = is_back ? NULL : told_of(me, o, kind, place);
     if (s)
         let_go(s);
     go_out();
@@ -1998,20 +2019,15 @@ void vs_tell(vs_object *o, vs_kind kind) {
     vs_tell_at(o, kind, NULL);
 }
 
-void vs_acquired_at(vs_object *lock, const vs_place *place) {
+void vs_acquired(vs_object *lock, vs_kind kind) {
     if (vs_idle() || !come_in())
         return;
     struct vs_self *me = self();
     if (me->pendings == PENDING)
         tell_pending(me);
     me->pending[me->pendings].lock = lock;
-    me->pending[me->pendings].place = place ? *place : (vs_place){0};
-    me->pendings++;
+    me->pending[me->pendings++].kind = kind;
     go_out();
-}
-
-void vs_acquired(vs_object *lock) {
-    vs_acquired_at(lock, NULL);
 }
 
 void vs_try_failed(void) {
@@ -2020,17 +2036,6 @@ void vs_try_failed(void) {
 }
 
 /* ---- threads that the program starts */
-
-/* That of a thread which `parent` has joined: so whatever it did leads to what the new one does,
- * also where they are two. */
-static uint32_t number_to_use_again(const slot *s, uint32_t parent) {
-    for (uint32_t i = 1; i < s->threads && s->threads >= REUSED_FROM; i++) {
-        const thread *t = &s->thread[i];
-        if (t->joined && t->ended && t->joiner == parent && !t->deepest && !t->locks)
-            return i;
-    }
-    return 0;
-}
 
 static void start_thread(slot *s, uint32_t parent, uint64_t who, const vs_place *place) {
     velodrome_answer a;
@@ -2058,8 +2063,11 @@ static vs_child forked(const vs_place *place) {
     child.who = ++s->born;
     if (s->recording) {
         make_room_for_events(s);
-        make_room(s, s->threads + 1, THREADS);
         seat *t = s->recording ? seat_of(s, me) : NULL;
+        if (t && !number_to_use_again(s, t->number)) {
+            make_room_for_thread(s, s->threads + 1);
+            t = s->recording ? seat_of(s, me) : NULL;
+        }
         if (t && in_blocks(s, me, t))
             start_thread(s, t->number, child.who, place);
     }

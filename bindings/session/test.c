@@ -632,6 +632,35 @@ static void a_thread_acts_after_it_was_joined(void) { /* as what is local to it 
     vs_self_free(thread);
 }
 
+static _Atomic int come;
+static void *be_in_a_block(void *object) {
+    vs_block block = begin();
+    set(object);
+    come = 1;
+    while (come < 2)
+        sched_yield();
+    pause_for(50000);
+    set(object);
+    vs_end_block(block);
+    return NULL;
+}
+static void who_is_crowded_waits(void) { /* more threads than numbers, until the block has ended */
+    static vs_object x = VS_OBJECT("x"), y = VS_OBJECT("y");
+    pthread_t t;
+    vs_session s = vs_open(NULL, true);
+    come = 0;
+    pthread_create(&t, NULL, be_in_a_block, &x);
+    while (come < 1)
+        sched_yield();
+    for (int i = 0; i < 40; i++)
+        set_apart(&y);
+    come = 2;
+    for (int i = 0; i < 60; i++)
+        set_apart(&y);
+    pthread_join(t, NULL);
+    EXPECT_END(s, VS_CLEAN, NULL);
+}
+
 /* ---- incomplete is seen */
 
 static void nothing_was_recorded(void) {
@@ -711,7 +740,7 @@ static void a_test_ends_while_threads_are_at_work(void) { /* what it came to, an
     setenv("VELODROME_INCOMPLETE", "warn", 1);
     for (int i = 0; i < 2; i++)
         pthread_create(&t[i], NULL, update_on, &x);
-    for (int i = 0; i < 300; i++) {
+    for (int i = 0; i < 60; i++) {
         vs_session s = vs_open(NULL, true);
         set(&x);
         for (volatile int k = 0; k < i * 10; k++)
@@ -845,13 +874,13 @@ static void tries_that_back_off_are_no_events(void) {
     for (int fails = 0; fails < 2; fails++) {
         vs_session s = vs_open(NULL, true);
         vs_block block = begin();
-        vs_acquired(&first_lock); /* as std::lock does */
+        vs_acquired(&first_lock, VS_ACQUIRE); /* as std::lock does */
         if (fails)
             vs_try_failed();
         vs_tell(&first_lock, VS_RELEASE);
         apart(hold_first, NULL);
-        vs_acquired(&second_lock);
-        vs_acquired(&first_lock);
+        vs_acquired(&second_lock, VS_ACQUIRE);
+        vs_acquired(&first_lock, VS_ACQUIRE);
         set(&x);
         vs_tell(&first_lock, VS_RELEASE);
         vs_tell(&second_lock, VS_RELEASE);
@@ -862,12 +891,12 @@ static void tries_that_back_off_are_no_events(void) {
 static void an_acquire_is_told_before_what_follows(void) {
     vs_object x = VS_OBJECT("x");
     vs_session s = vs_open(NULL, true);
-    vs_acquired(&first_lock); /* outside the block */
+    vs_acquired(&first_lock, VS_ACQUIRE); /* outside the block */
     vs_block block = begin();
     set(&x);
     vs_tell(&first_lock, VS_RELEASE);
     vs_end_block(block);
-    vs_acquired(&second_lock);
+    vs_acquired(&second_lock, VS_ACQUIRE);
     EXPECT(vs_save(s, "locks.vlog"));
     EXPECT(strstr(read_whole("locks.vlog"),
                   "0 fork 1\n1 acq 0\n1 begin 0\n1 wr 0 0\n1 rel 0\n1 end\n1 acq 1\n"));
@@ -894,12 +923,13 @@ static void handlers_of_signals_act(void) { /* also within a call: that is left 
     set(&ticks);
     signal(SIGALRM, tick);
     setitimer(ITIMER_REAL, &every, NULL);
-    for (int i = 0; i < 200000 || (signals < 20 && i < 20000000); i++) {
+    for (int i = 0; i < 20000; i++) {
         vs_block block = begin();
         set(&x);
         vs_end_block(block);
     }
     setitimer(ITIMER_REAL, &never, NULL);
+    raise(SIGALRM);
     signal(SIGALRM, SIG_DFL);
     char *report;
     vs_verdict v = vs_close(s, &report);
@@ -941,6 +971,7 @@ int main(void) {
         T(numbers_of_joined_threads_are_used_again),
         T(a_number_is_used_again_by_its_joiner_alone),
         T(a_thread_acts_after_it_was_joined),
+        T(who_is_crowded_waits),
         T(nothing_was_recorded),
         T(wrong_settings_are_told),
         T(the_folder_of_logs_is_made),

@@ -171,11 +171,10 @@ unsigned vs_hold(vs_object *object);
 void vs_tell(vs_object *object, vs_kind kind);
 void vs_tell_at(vs_object *object, vs_kind kind, const vs_place *place);
 
-/* The same of an acquire alone by VS_ACQUIRE, told with the next event of its thread. Where a try
- * for another lock fails before that, which vs_try_failed reports, and the lock is released then,
- * neither is an event: so whatever std::lock tries is one acquire. */
-void vs_acquired(vs_object *lock);
-void vs_acquired_at(vs_object *lock, const vs_place *place);
+/* An acquire by VS_ACQUIRE or VS_ACQUIRE_SHARED that is told with the next event of its thread.
+ * Where a try for another lock fails before that, which vs_try_failed reports, and the lock is
+ * released then, neither is an event: so whatever std::lock tries is one acquire. */
+void vs_acquired(vs_object *lock, vs_kind kind);
 void vs_try_failed(void);
 
 /* A block of who acts that is meant to be atomic. It is recorded once an event is in it. The label
