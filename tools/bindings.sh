@@ -318,9 +318,9 @@ if wants rust && have cargo ''; then
     step "examples: rust without velodrome" cargo test --offline --quiet --manifest-path "$bank"
     step "examples: rust, careful: a hundred times without an alarm" in_time env VELODROME_NOISE=4 cargo test --offline --quiet --manifest-path "$bank" --features watch careful
     step "examples: rust, careless: repeated until it fails" says 'not atomic: bank::deposit_carelessly (lib.rs:' in_time env VELODROME_NOISE=4 cargo test --offline --quiet --manifest-path "$bank" --features watch careless
-    incomplete=(env VELODROME_EVENTS=2 cargo test --offline --quiet --manifest-path "$bank" --features watch careful -- --nocapture)
-    step "examples: rust, incomplete: a warning" warns 'too many events while a block was open' in_time "${incomplete[@]}"
-    step "examples: rust, incomplete, with VELODROME_INCOMPLETE=fail" says 'too many events while a block was open' in_time env VELODROME_INCOMPLETE=fail "${incomplete[@]}"
+    incomplete=(env VELODROME_EVENTS=2 cargo test --offline --quiet --manifest-path "$bank" --features watch careful)
+    step "examples: rust, incomplete: it fails" says 'too many events while a block was open' in_time "${incomplete[@]}"
+    step "examples: rust, incomplete, with VELODROME_INCOMPLETE=warn" warns 'too many events while a block was open' in_time env VELODROME_INCOMPLETE=warn "${incomplete[@]}"
     step "examples: rust, its log is kept" kept "$out/logs/bank.careless.vlog"
     unset VELODROME_LIB_DIR CARGO_TARGET_DIR VELODROME_LOGS
 fi
@@ -342,6 +342,12 @@ if wants python && have python3; then
     step "python: fresh environment" "${with_pytest:-python3}" -m venv ${with_pytest:+--system-site-packages} "$fresh"
     step "python: wheel installs" "$fresh/bin/pip" install --quiet --no-index --disable-pip-version-check "$out"/velodrome-*.whl
     step "python: tests" in_time env -C "$fresh" "$fresh/bin/python" -X dev "$python/tests/test_velodrome.py"
+    unpacked=$fresh/unpacked
+    step "python: wheel unpacks" "$fresh/bin/python" -m zipfile -e "$out"/velodrome-*.whl "$unpacked"
+    for other in "${PYENV_ROOT:-$HOME/.pyenv}"/versions/3.*/bin/python3; do
+        "$other" -c 'import sys; sys.exit(sys.version_info < (3, 9))' 2>/dev/null || continue
+        step "python: tests ($("$other" -V))" in_time env -C "$fresh" PYTHONPATH="$unpacked" "$other" "$python/tests/test_velodrome.py" Tasks Suspended Types
+    done
     step "python: cost of an event" in_time env -C "$fresh" "$fresh/bin/python" "$python/cost.py"
     if [ -n "$with_pytest" ]; then
         pytest=(in_time env -C "$fresh" "$fresh/bin/python" -m pytest -q -p no:cacheprovider --rootdir "$fresh")
@@ -351,8 +357,8 @@ if wants python && have python3; then
         step "examples: python, careless: repeated until it fails" says 'not atomic: Account.deposit_carelessly (bank.py:' "${pytest[@]}" --velodrome-noise 4 "$bank" -k careless
         step "examples: python, its log is kept" kept "$out"/logs/*test_careless.vlog
         incomplete=(in_time env VELODROME_EVENTS=2 "${pytest[@]:1}" "$bank" -k careful)
-        step "examples: python, incomplete: a warning" warns 'too many events while a block was open' "${incomplete[@]}"
-        step "examples: python, incomplete, with --velodrome-incomplete fail" says 'too many events while a block was open' "${incomplete[@]}" --velodrome-incomplete fail
+        step "examples: python, incomplete: it fails" says 'too many events while a block was open' "${incomplete[@]}"
+        step "examples: python, incomplete, with --velodrome-incomplete warn" warns 'too many events while a block was open' "${incomplete[@]}" --velodrome-incomplete warn
     else
         echo "left out: no pytest"
     fi
