@@ -1,4 +1,5 @@
 //! The line of what became of a claim.
+ghost use Rattle.std.specs.Prelude.{◌≤◌, length};
 
 use velo_bytes::{Sink, WriteFault, put_bytes, put_number, write_all};
 use velo_check::Fate;
@@ -9,7 +10,9 @@ use velo_worker::Ending;
 const LINE_ROOM: usize = 64;
 
 /// Why a claim is not borne out, in words.
-fn words_of_reason(reason: Reason) -> &'static [u8] {
+fn words_of_reason(reason: Reason) -> &'static [u8]
+    ensures { length result.now ≤ 32 }
+{
     match reason {
         Reason::OtherEvents => b"another number of events",
         Reason::NoCertificate => b"no certificate",
@@ -20,7 +23,10 @@ fn words_of_reason(reason: Reason) -> &'static [u8] {
 }
 
 /// Puts the line of an outcome at the front of a buffer, and returns where it ends.
-fn put_outcome(buffer: &mut [u8], outcome: Outcome) -> usize {
+fn put_outcome(buffer: &mut [u8], outcome: Outcome) -> usize
+    requires { LINE_ROOM ≤ length buffer.old }
+    ensures { result ≤ length buffer.new }
+{
     match outcome {
         Outcome::Clean => put_bytes(buffer, 0, b"verified clean\n"),
         Outcome::Alarm(position) => {
