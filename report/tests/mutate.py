@@ -336,7 +336,7 @@ def copied(edit: Edit) -> Optional[str]:
 
 def is_seen(folder: str, name: str) -> bool:
     """Says whether a test fails."""
-    tests = [*TESTS, *(["test_page"] if name in PAGE else []), *JUDGED.get(name, [])]
+    tests = [*JUDGED.get(name, []), *TESTS, *(["test_page"] if name in PAGE else [])]
     return any(fails(folder, test) for test in tests)
 
 
