@@ -17,7 +17,7 @@ from typing import Dict, List, Tuple
 ROOT = os.path.dirname(os.path.dirname(os.path.abspath(__file__)))
 WORD = re.compile(r"\S*\w\S*")
 USERS, MAINTAINERS = "for whoever has a bug", "for whoever carries it on"
-MOST = {USERS: 14_500, MAINTAINERS: 11_500}
+MOST = {USERS: 15_000, MAINTAINERS: 11_500}
 # the first pattern that fits a page decides
 GROUPS = (
     (r"tests/|docs/EVALUATION\.md", None),
