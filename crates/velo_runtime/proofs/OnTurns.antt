@@ -146,6 +146,9 @@ pub handed_on : {X : Type 0} (result : Result X Refusal) (r : Refusal) (P : Refu
 handed_on (Ok x) r P same holds = tt
 handed_on (Err f) r P same holds = subst P (sym same) holds
 
+pub same_after_wait : (room room' : RoomState) (share share' : Holding) (action : Action) → TurnsIn room share action Wait room' share' → share' ≡ share
+same_after_wait room room' share share' action turns = undone room room' share share' action Wait (λ reply is. cc) turns
+
 -- a refusal that may pass is not answered
 pub lasting_refusal : (room room' : RoomState) (share share' : Holding) (action : Action) (r : Refusal) → TurnsIn room share action (Refused r) room' share' → wanted_by action r ≡ None
 lasting_refusal room room' share share' action r (inl takes) = ⊎_elim
@@ -153,3 +156,5 @@ lasting_refusal room room' share share' action r (inl takes) = ⊎_elim
     (λ is. rw is refl)
     (turn-refused room share.thread action takes.outcome r takes.wait takes.turn_is)
 lasting_refusal room room' share share' action r (inr foreign) = let told = foreign.1 in let is : r ≡ Foreign = cc in rw is refl
+
+pub ruleset turns = (same_after_refusal, same_after_wait, lasting_refusal)

@@ -8,5 +8,6 @@ pub mod OnTurns
 pub mod OnEndings
 pub mod OnCauses
 pub mod OnDone
+pub mod OnBodies
 pub mod OnListing
 pub mod OnLogs
