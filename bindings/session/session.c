@@ -2616,9 +2616,8 @@ static const struct {
 } settings[] = {{"VELODROME_NOISE", UINT32_MAX, {0}},
                 {"VELODROME_SEED", UINT64_MAX, {0}},
                 {"VELODROME_EVENTS", VELODROME_MAX_EVENTS, {0}},
-                {"VELODROME_INCOMPLETE", 0, {"fail", "warn"}},
-                {"VELODROME_REPORT", 0, {"yes", "no"}}};
-enum { NOISE, SEED, EVENTS, INCOMPLETE, REPORT, SETTINGS };
+                {"VELODROME_INCOMPLETE", 0, {"fail", "warn"}}};
+enum { NOISE, SEED, EVENTS, INCOMPLETE, SETTINGS };
 
 /* The number, or which of the two words it is; 0 where it is not set, or wrong. */
 static uint64_t value_of(int i) {

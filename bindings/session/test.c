@@ -685,8 +685,7 @@ static void wrong_settings_are_told(void) {
                                            {"VELODROME_NOISE", "-1"},
                                            {"VELODROME_NOISE", "4294967296"},
                                            {"VELODROME_SEED", "18446744073709551616"},
-                                           {"VELODROME_INCOMPLETE", "Fail"},
-                                           {"VELODROME_REPORT", "maybe"}};
+                                           {"VELODROME_INCOMPLETE", "Fail"}};
     vs_object x = VS_OBJECT("x");
     for (size_t i = 0; i < sizeof wrong / sizeof *wrong; i++) {
         vs_options o = {0};

@@ -112,14 +112,3 @@ def asked(
     if sites:
         words += ["--sites", sites]
     return call(words + list(more))
-
-
-def audited(
-    checker: str, log: str, names: Optional[str], sites: Optional[str], more: Sequence[str] = ()
-) -> Done:
-    """The answer of `audit` with the counts of its labels.
-
-    One checker counts if it is asked to, another one always, and has no option for it.
-    """
-    done = asked(checker, "audit", log, names, sites, ("--counts", *more))
-    return asked(checker, "audit", log, names, sites, more) if done.status == USAGE else done

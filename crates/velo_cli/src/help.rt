@@ -5,7 +5,7 @@ mod labels;
 pub use labels::{OF_AUDIT, OF_PREDICT};
 
 /// The version of the program.
-pub const VERSION: &str = "0.1.0";
+pub const VERSION: &str = "0.2.0";
 
 /// After the help of the program.
 pub const OF_PROGRAM: &str = "\
