@@ -15,7 +15,6 @@ CHECKER_BUILT = os.path.join(HERE, "..", "..", "crates", "velodrome", "out", "ve
 LOG_BUILT = os.path.join(HERE, "..", "..", "recorder", "out", "bin", "velodrome-log")
 # statuses of the checker with an answer: nothing found, something found
 ANSWERED = (0, 3)
-USAGE = 2
 LONGEST_WORDS = 300
 
 # what runs now, to end it if the call is interrupted

@@ -2,7 +2,7 @@ use Rattle.std.proofs.Common.{◌≡◌, ◌∙◌, ◌-◌, ◌<◌, ℕ, List,
 use Rattle.velo_events.specs.declared.event.ThreadId.{ThreadId}
 use Rattle.velo_explore.specs.Goals.{Reached}
 use Rattle.velo_explore.specs.Simple.{IsLimited}
-use Rattle.velo_explore.proofs.OnShrunk.{above-none, above-some, at_is_some, at_some, needed, threads-without}
+use Rattle.velo_explore.proofs.OnShrunk.{above-none, above-some, at_some, needed, threads-without}
 use Rattle.velo_explore.proofs.minimizing.leave_out.Goals as goal
 
 pub returns-in_default-clause-needed : goal.returns-in_default-clause-needed

@@ -6,7 +6,7 @@ use Rattle.velo_logtext.specs.Finding.{ReadsAs}
 use Rattle.velo_logtext.specs.Reader.{ReaderState, HasGiven, Gives, IsMetBehind}
 use Rattle.velo_watch.specs.declared.long.TheConstants.{MAX_WATCHED}
 use Rattle.velo_watch.specs.Reading.{HasRead, IsMetEndless}
-use Rattle.velo_watch.proofs.OnReading.{from_header, anew, given_anew, read_one, long_read, end_read, fault_read, fault_met}
+use Rattle.velo_watch.proofs.OnReading.{from_header, anew, given_anew, read_one, long_read, end_read, fault_read}
 use Rattle.velo_watch.proofs.long.LongReader.next.Goals as goal
 
 pub returns-then-self-eq-MAX_WATCHED-clause-gives : goal.returns-then-self-eq-MAX_WATCHED-clause-gives
