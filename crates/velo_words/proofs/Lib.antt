@@ -1,3 +1,1 @@
-mod OnExamples
-pub mod OnReplays
 mod OnWaits
