@@ -1,2 +1,3 @@
 mod OnExplaining
 mod OnFindings
+mod OnWatching
