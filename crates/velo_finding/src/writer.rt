@@ -143,10 +143,10 @@ impl JsonWriter {
     ///
     /// # Errors
     /// `Memory` if an allocation failed.
-    pub fn number(self, number: u64) -> Result<JsonWriter, Memory>
-        ensures { IfOk result (λ writer. writer ≡ self ++ number (decimal number.entry) ∷ []) }
+    pub fn number(self, value: u64) -> Result<JsonWriter, Memory>
+        ensures { IfOk result (λ writer. writer ≡ self ++ number (decimal value) ∷ []) }
     {
-        self.token(Token::Number(number))
+        self.token(Token::Number(value))
     }
 
     /// Adds a truth value.
