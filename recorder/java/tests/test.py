@@ -309,6 +309,14 @@ def left_as_it_is(room: Room) -> Optional[str]:
     return None if run.done.stdout == "6999\n1\n" and told else run.done.stderr
 
 
+def hidden_hooks(room: Room) -> Optional[str]:
+    """A class whose loader does not find the hooks runs as it was."""
+    run = Run(room, room.folder("hiding"), ["cases.Ends", "hiding"], {})
+    if run.done.stdout != "hidden 1\n" or "1 left as they are" not in run.done.stderr:
+        return f"it printed {run.done.stdout}{run.done.stderr}"
+    return said(run, "odd 0 late 0 lost 0", "threads 2", "locks 1")
+
+
 MODULE = """package inside; public class Main { static int x; static synchronized void touch() { x++; }
 public static void main(String[] a) throws Exception {
 Thread t = new Thread(Main::touch); t.start(); t.join(); touch(); System.out.println(x); } }"""
@@ -387,7 +395,16 @@ def all_tests(room: Room) -> Dict[str, Test]:
         tests["maven validate"] = lambda: maven(room, "validate", *validate)
     elif shutil.which("mvn"):
         tests["maven"] = lambda: maven(room, "version", "-v")
-    whole = (tells_names, killed, full, unrecorded, keeps_trace_of_stack, left_as_it_is, module)
+    whole = (
+        tells_names,
+        killed,
+        full,
+        unrecorded,
+        keeps_trace_of_stack,
+        left_as_it_is,
+        hidden_hooks,
+        module,
+    )
     for body in whole:
         tests[body.__name__] = lambda b=body: b(room)
     return tests

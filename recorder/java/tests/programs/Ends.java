@@ -1,5 +1,7 @@
 package cases;
 
+import java.io.IOException;
+import java.io.InputStream;
 import java.util.ArrayList;
 import java.util.List;
 import velodrome.tests.Turns;
@@ -72,6 +74,49 @@ public class Ends {
     }
   }
 
+  /** A loader that knows nothing but the JDK and what it defines. */
+  static class Hiding extends ClassLoader {
+    Hiding() {
+      super(null);
+    }
+
+    @Override
+    protected Class<?> loadClass(String name, boolean resolve) throws ClassNotFoundException {
+      if (name.startsWith("velodrome")) {
+        throw new ClassNotFoundException(name);
+      }
+      return super.loadClass(name, resolve);
+    }
+
+    @Override
+    protected Class<?> findClass(String name) throws ClassNotFoundException {
+      String file = "/" + name.replace('.', '/') + ".class";
+      try (InputStream in = Ends.class.getResourceAsStream(file)) {
+        byte[] bytes = in.readAllBytes();
+        return defineClass(name, bytes, 0, bytes.length);
+      } catch (IOException e) {
+        throw new ClassNotFoundException(name, e);
+      }
+    }
+  }
+
+  /** What is defined by such a loader. */
+  public static class Hidden implements Runnable {
+    private int x;
+
+    @Override
+    public void run() {
+      x++;
+      System.out.println("hidden " + x);
+    }
+  }
+
+  static void hiding() throws Exception {
+    Class<?> type = new Hiding().loadClass("cases.Ends$Hidden");
+    ((Runnable) type.getDeclaredConstructor().newInstance()).run();
+    two();
+  }
+
   public static void main(String[] arguments) throws Exception {
     switch (arguments[0]) {
       case "two":
@@ -79,6 +124,9 @@ public class Ends {
         break;
       case "many":
         many();
+        break;
+      case "hiding":
+        hiding();
         break;
       case "names":
         names();

@@ -1,5 +1,6 @@
 package velodrome.runtime;
 
+import java.lang.ref.WeakReference;
 import java.util.Arrays;
 
 /**
@@ -46,12 +47,12 @@ public final class Sites {
 
   /** What a site's field is called in the class file. */
   private static final class Field {
-    final ClassLoader loader;
+    final WeakReference<ClassLoader> loader;
     final String owner;
     final String field;
 
     Field(ClassLoader loader, String owner, String field) {
-      this.loader = loader;
+      this.loader = new WeakReference<>(loader);
       this.owner = owner;
       this.field = field;
     }
@@ -140,7 +141,7 @@ public final class Sites {
     Field f = field(site);
     long found = -1;
     try {
-      Class<?> type = Class.forName(f.owner.replace('/', '.'), false, f.loader);
+      Class<?> type = Class.forName(f.owner.replace('/', '.'), false, f.loader.get());
       found = addressIn(type, f.field);
     } catch (ClassNotFoundException | LinkageError e) {
       // It is not recorded.
