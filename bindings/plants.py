@@ -1,4 +1,4 @@
-"""plants.py [WORD..]: puts the faults of README.md back, one at a time, in a copy: each test that is named must fail then.
+"""plants.py [WORD..]: puts faults of earlier bindings back, one at a time, in a copy: each test that is named must fail then.
 
 It builds over the library that `tools/bindings.sh` takes with --built. With words (such as `rust`, or `fork`) it takes the
 faults and tests that have one of them. A test that does not end in a minute has failed: it hangs. First the tests are run

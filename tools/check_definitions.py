@@ -1,5 +1,5 @@
 """Checks the names in docs/DEFINITIONS.md and docs/internals/ARCHITECTURE.md: each is in the specs
-or the sources of the crates.
+or the sources of the crates. Of all pages it checks that each crate that is named is there.
 
     python3 tools/check_definitions.py
 
@@ -14,9 +14,23 @@ ROOT = os.path.dirname(os.path.dirname(os.path.abspath(__file__)))
 WORD = re.compile(r"[A-Za-z_][A-Za-z_0-9]+")
 
 
-def words_of(path):
+def text_of(path):
     with open(path, encoding="utf-8") as file:
-        return set(WORD.findall(file.read()))
+        return file.read()
+
+
+def words_of(path):
+    return set(WORD.findall(text_of(path)))
+
+
+def crates_that_are_not():
+    """Names of crates in README and docs of which there is no folder, each with its page."""
+    pages = glob.glob(os.path.join(ROOT, "*.md"))
+    pages += glob.glob(os.path.join(ROOT, "docs", "**", "*.md"), recursive=True)
+    for page in sorted(pages):
+        for crate in sorted(set(re.findall(r"\bvelo_[a-z_]+\b", text_of(page)))):
+            if not os.path.isdir(os.path.join(ROOT, "crates", crate)):
+                yield f"{os.path.relpath(page, ROOT)}: there is no crate {crate}"
 
 
 def main():
@@ -30,9 +44,11 @@ def main():
     known = set().union(*(words_of(path) for path in sources))
     files = {os.path.splitext(os.path.basename(path))[0] for path in sources}
     faults = 0
+    for fault in crates_that_are_not():
+        faults += 1
+        print(fault)
     for page in ("DEFINITIONS.md", "internals/ARCHITECTURE.md"):
-        with open(os.path.join(ROOT, "docs", page), encoding="utf-8") as file:
-            lines = file.read().splitlines()
+        lines = text_of(os.path.join(ROOT, "docs", page)).splitlines()
         for number, line in enumerate(lines, 1):
             for name in re.findall(r"(?<!`)`([^`]+)`(?!`)", line):
                 missing = [

@@ -11,11 +11,11 @@ import sys
 
 ROOT = os.path.dirname(os.path.dirname(os.path.abspath(__file__)))
 PAGES = (
-    "README.md",
+    "*.md",
     "docs/**/*.md",
-    "crates/*/README.md",
+    "tests/*.md",
+    "*/README.md",
     "recorder/*.md",
-    "bindings/README.md",
     "bindings/*/README.md",
 )
 LINK = re.compile(r"\]\(([^)\s]+)\)")

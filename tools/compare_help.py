@@ -1,5 +1,5 @@
-"""Compares the help of each command with docs/REFERENCE.md: options, ranges and defaults; statuses and their lines; faults and
-refusals. README.md's table has the commands that the program's help has.
+"""Compares the help of the commands with docs/REFERENCE.md: statuses and their lines; faults and refusals. README.md's table has
+the commands that the program's help has. (The table of options is written by shell_pages.py.)
 
     python3 tools/compare_help.py crates/velodrome/out/velodrome
 
@@ -11,10 +11,6 @@ import subprocess
 import sys
 
 ROOT = os.path.dirname(os.path.dirname(os.path.abspath(__file__)))
-
-
-def numbers_in(text):
-    return sorted(int(number.replace(",", "")) for number in re.findall(r"\d[\d,]*", text))
 
 
 def quoted(text, mark):
@@ -34,32 +30,8 @@ def rows_of(page, title):
     return [[cell.strip() for cell in line.strip("|").split("|")] for line in lines[2:]]
 
 
-def options_in_page(page, command):
-    rows = [
-        row for row in rows_of(page, "## Options") if f"`{command}`" in row[1] or row[1] == "all"
-    ]
-    parts = {re.search(r"--[\w-]+", row[0]).group(): row[2].partition("(") for row in rows}
-    return {
-        name: (numbers_in(span), numbers_in(default)) for name, (span, _, default) in parts.items()
-    }
-
-
-def options_in_help(text):
-    found = {}
-    for name, meaning in re.findall(
-        r"^ +(--[\w-]+)(?: <\w+>)? {2,}(.*)$", section_of(text, "Options:", r"^\S"), re.MULTILINE
-    ):
-        span, _, default = meaning.partition("[default:")
-        found[name] = (numbers_in(span), numbers_in(default))
-    return found
-
-
-def statuses_in_page(page, command):
-    found = {}
-    for status, commands, _, lines in rows_of(page, "## Statuses"):
-        if commands == "all" or f"`{command}`" in commands:
-            found.setdefault(int(status), set()).update(quoted(lines, "`"))
-    return found
+def statuses_in_page(page):
+    return {int(row[0]): quoted(row[2], "`") for row in rows_of(page, "## Statuses")}
 
 
 def statuses_in_help(text):
@@ -82,10 +54,17 @@ def numbered_in_page(page, title):
     }
 
 
-def differences(page, command, text):
-    compared = [("options", options_in_page(page, command), options_in_help(text))]
-    if "\nStatuses" in text:
-        compared.append(("statuses", statuses_in_page(page, command), statuses_in_help(text)))
+def statuses_of_all(helps):
+    """The lines that some command prints with each status."""
+    found = {}
+    for text in helps.values():
+        for status, lines in statuses_in_help(text).items():
+            found.setdefault(status, set()).update(lines)
+    return found
+
+
+def differences(page, text):
+    compared = []
     for title in (
         "Log faults",
         "Names faults",
@@ -99,9 +78,13 @@ def differences(page, command, text):
         if told:
             compared.append((title, numbered_in_page(page, f"## {title}"), told))
     for what, written, told in compared:
-        for key in sorted(written.keys() | told.keys(), key=str):
-            if written.get(key) != told.get(key):
-                yield f"{command}: {what}: {key}: REFERENCE.md has {written.get(key)}, help {told.get(key)}"
+        yield from unequal(what, written, told)
+
+
+def unequal(what, written, told):
+    for key in sorted(written.keys() | told.keys(), key=str):
+        if written.get(key) != told.get(key):
+            yield f"{what}: {key}: REFERENCE.md has {written.get(key)}, help {told.get(key)}"
 
 
 def help_of(program, *command):
@@ -131,8 +114,10 @@ def main():
     commands = commands_in_help(help_of(sys.argv[1]))
     for command in sorted(commands_in_readme(text_of("README.md")) ^ set(commands)):
         found.append(f"{command}: in one of README.md and help, not in both")
-    for command in commands:
-        found.extend(differences(page, command, help_of(sys.argv[1], command)))
+    helps = {command: help_of(sys.argv[1], command) for command in commands}
+    found.extend(unequal("statuses", statuses_in_page(page), statuses_of_all(helps)))
+    for command, text in helps.items():
+        found.extend(f"{command}: {difference}" for difference in differences(page, text))
     for difference in found:
         print(difference)
     return 1 if found else 0

@@ -50,16 +50,14 @@ PARTS = [
         {
             "velo_worker": "Progress Schedule Live Logs Causes",
             "velo_schedule_text": "Schedule Short File",
-            "velo_explore": "Logs* Goals* Told*",
-            "velo_shrink": "Simple*",
-            "velo_random": "Drawing Runs Tallies",
+            "velo_explore": "Logs* Goals* Told* Simple* Drawing Runs Tallies",
         },
     ),
     (
         "What is told of a log",
         {
             "velo_report": "Names Report Alarm Certificate",
-            "velo_explain": "Evidence Lanes Fitting Text Picture",
+            "velo_explain": "Evidence",
             "velo_watch": "Watch UnderWay",
         },
     ),
@@ -68,8 +66,7 @@ PARTS = [
         {
             "velo_filter": "Left* Thinned",
             "velo_audit": "Audit* Rounds* Tells Witness",
-            "velo_audit_text": "Text",
-            "velo_suppressions": "Line* Known* List",
+            "velo_sidecars": "ListLine* Known* List",
         },
     ),
     (
@@ -77,7 +74,6 @@ PARTS = [
         {
             "velo_predict": "Predictions* Deadlocks* Feasible* Differences* Sources* Waits",
             "velo_delays": "Anew* Differing* Sources* Found* Deadlock*",
-            "velo_predict_text": "Text",
         },
     ),
     (
@@ -85,23 +81,15 @@ PARTS = [
         {
             "velo_laws": "Cut* Restart* Renumber Ordered* Repeats*",
             "velo_renew": "Renewal*",
-            "velo_races": "Races*",
+            "velo_thinning": "Races*",
         },
     ),
     (
         "What the program does",
         {
-            "velo_commands": "Program* Causes",
-            "velo_inputs": "Context* Input",
-            "velo_log_commands": "Commands* Check Explaining Carrying",
-            "velo_audit_commands": "Commands* Predicting",
-            "velo_verify": "Commands* Verifying",
+            "velo_check": "Check Carrying Input Verdict Format Delivery Barred Fate Failures Disk"
+            " Reading Writing Answers",
             "velo_claims": "Judging* Text* Line",
-            "velo_workload_commands": "Commands* Scheduling Playing ByChance Exploring*",
-            "velo_fate": "Verdict Format Delivery Barred Fate Failures Causes",
-            "velo_delivery": "Disk Reading Writing Answers",
-            "velo_arguments": "CommandLine Asked Together",
-            "velo_cli": "Running Usage",
         },
     ),
     (

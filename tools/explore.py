@@ -5,28 +5,18 @@
 PROGRAM is the built `velodrome`. COUNT workloads (1,000 at first) are made by chance from SEED (1 at first): two or three
 threads, two variables, two locks, blocks, at most 500 interleavings. Each interleaving is replayed. A turn of a thread that
 cannot act passes, so these are all schedules that matter. Where `explore` tells an alarm, a deadlock or a refusal, some replay
-has to have one, and its own schedule too; where it tells none, no replay may. In half of the workloads something is left out:
-then an alarm is one that `velodrome check` finds in what is left of the replay's log. Each workload that differs is printed. The
-last line is `N passed, N failed`; the status is 0 where none failed.
+has to have one, and its own schedule too; where it tells none, no replay may. Each workload that differs is printed. The last line
+is `N passed, N failed`; the status is 0 where none failed.
 """
 import math
 import multiprocessing
 import os
 import random
-import re
 import subprocess
 import sys
 import tempfile
 
 MAX_INTERLEAVINGS = 500
-LEFT_OUT = [
-    ["--ignore-locks"],
-    ["--ignore-lock", "m"],
-    ["--ignore-lock", "*"],
-    ["--ignore-variable", "x"],
-    ["--ignore-label", "b0"],
-    ["--ignore-label", "b1", "--ignore-lock", "m"],
-]
 
 
 def body(chance, room):
@@ -95,58 +85,37 @@ def ran(words, folder):
     return done.returncode, done.stdout, done.stderr
 
 
-def seen(program, folder, option, schedule, left):
-    """Which of alarm, stuck and refused a replay has, where this is left out of its log."""
-    saved = ["--log", "r.log", "--names-out", "r.names"] if left else []
-    _, out, err = ran([program, "replay", "w.work", option, schedule] + saved, folder)
+def seen(program, folder, option, schedule):
+    """Which of alarm, stuck and refused a replay has."""
+    _, out, err = ran([program, "replay", "w.work", option, schedule], folder)
     ends = {err.split()[0]} & {"stuck", "refused"} if err else set()
-    if left:
-        _, out, _ = ran([program, "check", "r.log", "--names", "r.names"] + left, folder)
     return ends | ({"alarm"} if "\nverdict alarm" in out else set())
 
 
-def means_something(text, left):
-    """Whether the workload has the names that are left out."""
-    return all(
-        word.startswith("-") or "*" in word or re.search(r"\b%s\b" % word, text) for word in left
-    )
-
-
 def judged(task):
-    """Why the answer for a workload is wrong, or None; what is left out; and what its replays have."""
+    """Why the answer for a workload is wrong, or None; and what its replays have."""
     program, number, seed = task
-    chance = random.Random("%s %s" % (seed, number))
-    text, counts = workload(chance)
-    left = chance.choice(LEFT_OUT) if chance.random() < 0.5 else []
-    left = left if means_something(text, left) else []
+    text, counts = workload(random.Random("%s %s" % (seed, number)))
     with tempfile.TemporaryDirectory() as folder:
         with open(os.path.join(folder, "w.work"), "w", encoding="utf-8") as it:
             it.write(text)
-        status, out, err = ran([program, "explore", "w.work"] + left, folder)
+        status, out, err = ran([program, "explore", "w.work"], folder)
         told = dict(
             line.split(" ", 1) if " " in line else (line, "") for line in out.splitlines()[2:5]
         )
         if set(told) != {"alarm", "stuck", "refused"} or "open" in told.values():
-            return "%s%s%s(status %d)" % (text, out, err, status), left, set()
+            return "%s%s%s(status %d)" % (text, out, err, status), set()
         found = set()
         for order in interleavings(counts):
-            found |= seen(program, folder, "--schedule", " ".join(map(str, order)), left)
+            found |= seen(program, folder, "--schedule", " ".join(map(str, order)))
         for kind, said in told.items():
             if (said == "none") == (kind in found):
-                return (
-                    "%s%s%s%s: replays say %s" % (text, left, out, kind, sorted(found)),
-                    left,
-                    found,
-                )
+                return "%s%s%s: replays say %s" % (text, out, kind, sorted(found)), found
             if said != "none" and kind not in seen(
-                program, folder, "--turns", turns_of(kind, said), left
+                program, folder, "--turns", turns_of(kind, said)
             ):
-                return (
-                    "%s%s%s%s: its own schedule does not show it" % (text, left, out, kind),
-                    left,
-                    found,
-                )
-    return None, left, found
+                return "%s%s%s: its own schedule does not show it" % (text, out, kind), found
+    return None, found
 
 
 def turns_of(kind, said):
@@ -163,11 +132,10 @@ def main(words):
     seed = words[2] if len(words) > 2 else "1"
     failed, kinds = 0, {}
     with multiprocessing.Pool() as pool:
-        for why, left, found in pool.imap_unordered(
+        for why, found in pool.imap_unordered(
             judged, [(program, number, seed) for number in range(count)]
         ):
             for kind in found or ["none"]:
-                kind += " of what is left" if left else ""
                 kinds[kind] = kinds.get(kind, 0) + 1
             if why:
                 failed += 1

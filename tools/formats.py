@@ -1,5 +1,5 @@
-"""Compares the JSON of audits, explanations, predictions and explorations with their text, and SARIF logs and JUnit reports with the
-JSON, which is validated where the Python module `jsonschema` is installed.
+"""Compares the JSON of audits, explanations, predictions and explorations with their text. The JSON is validated where the Python
+module `jsonschema` is installed.
 
     python3 tools/formats.py PROGRAM LOG|WORKLOAD..
 
@@ -11,12 +11,10 @@ import os
 import re
 import subprocess
 import sys
-import urllib.parse
-import xml.etree.ElementTree
 
 DOCS = os.path.join(os.path.dirname(os.path.dirname(os.path.abspath(__file__))), "docs")
 COMMANDS = ("audit", "explain", "explore", "predict")
-AUDITS = ([], ["--no-witness"], ["--counts"], ["--innermost", "--by-count", "--counts"])
+AUDITS = ([], ["--no-witness"])
 EXPLANATIONS = ([], ["--ignore-lock", "0", "--ignore-variable", "0"], ["--ignore-locks"])
 EXPLORATIONS = ([], ["--first"], ["--states", "9"], ["--random", "20"])
 NUMBERS = "  lines below are its own; its values are the lines of the log that wrote them (0: none)"
@@ -44,94 +42,20 @@ def named(thing):
     return str(thing["number"]) + ("" if thing["name"] is None else " " + thing["name"])
 
 
-def source_of(event):
-    """The file and the line of an event's site FILE:LINE FUNCTION, or None: up to the first colon that a line follows as a word."""
-    found = re.match(r"(.+?):([1-9][0-9]{0,9})(?= |$)", event["site"] or "", re.S)
-    return (found[1], int(found[2])) if found and int(found[2]) < 2**31 else None
-
-
-def line_text(event):
-    """The line of an event, and its place."""
-    return f"line {event['line']}" + ("" if event["site"] is None else f" at {event['site']}")
-
-
-def physical(location):
-    """The file and the line of a location of SARIF."""
-    place = location["physicalLocation"]
-    return urllib.parse.unquote(place["artifactLocation"]["uri"]), place["region"]["startLine"]
-
-
-def findings(program, log, words, status, answer):
-    sarif, one = printed(program, "audit", log, [*words, "--format", "sarif"])
-    junit, other = printed(program, "audit", log, [*words, "--format", "junit"])
-    results = [
-        (
-            result["message"]["text"],
-            [physical(location) for location in result["locations"]],
-            [physical(location) for location in result.get("relatedLocations", [])],
-        )
-        for result in json.loads(sarif)["runs"][0]["results"]
-    ]
-    cases = [
-        (
-            case.get("name"),
-            case.get("file"),
-            case.get("line"),
-            case[0].get("message") if len(case) else None,
-        )
-        for case in xml.etree.ElementTree.fromstring(junit.encode()).iter("testcase")
-    ]
-    blocks = [
-        (f"block {named(block['label'])}", block["begin"], alarm["closing"])
-        for alarm in answer["alarms"]
-        for block in alarm["blocks"]
-    ]
-    said = [
-        f"{name}, from {line_text(begin)}, is not atomic: {line_text(closing)} closes a cycle"
-        for name, begin, closing in blocks
-    ]
-    places = [
-        [source for source in (source_of(begin), (answer["log"], begin["line"])) if source]
-        for _, begin, _ in blocks
-    ]
-    files = [(file, str(line)) if more else (None, None) for (file, line), *more in places]
-    return [
-        what
-        for what, right in (
-            ("status of findings", one == other == status),
-            (
-                "sarif",
-                results == [(text, place[:1], place[1:]) for text, place in zip(said, places)],
-            ),
-            (
-                "junit",
-                cases
-                == (
-                    [(name, *file, text) for (name, _, _), file, text in zip(blocks, files, said)]
-                    or [("atomic", None, None, None)]
-                ),
-            ),
-        )
-        if not right
-    ]
-
-
 def audit_faults(program, log, words, text, status, answer):
-    listed = (
-        answer["counts"]["labels"]
-        if answer["counts"]
-        else [block for alarm in answer["alarms"] for block in alarm["blocks"]]
-    )
-    labels = list(dict.fromkeys("not atomic " + named(entry["label"]) for entry in listed))
+    blocks = [block for alarm in answer["alarms"] for block in alarm["blocks"]]
+    labels = list(dict.fromkeys("not atomic " + named(block["label"]) for block in blocks))
+    counted = ["not atomic " + named(entry["label"]) for entry in answer["counts"]["labels"]]
     lines = text.splitlines()
     closing = [
         f"  Line {alarm['closing']['line']} `{alarm['closing']['text']}`"
         for alarm in answer["alarms"]
     ]
-    wrong = [
+    return [
         what
         for what, right in (
             ("labels", labels == [line for line in lines if line.startswith("not atomic ")]),
+            ("counts", counted == labels),
             ("atomic", f"atomic {answer['atomic']} labels" in lines),
             (
                 "rounds",
@@ -142,13 +66,11 @@ def audit_faults(program, log, words, text, status, answer):
             (
                 "closing",
                 "--no-witness" in words
-                or "--counts" in words
                 or all(any(line.startswith(at) for line in lines) for at in closing),
             ),
         )
         if not right
     ]
-    return wrong + findings(program, log, words, status, answer)
 
 
 def left_out(asked):

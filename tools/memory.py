@@ -20,7 +20,7 @@ TOP = os.path.dirname(os.path.dirname(os.path.abspath(__file__)))
 
 # the variants that have a `Memory`, and why they may
 KEPT = {
-    "velo_delivery Failure::Memory": "an error on its way out: a command ends with it",
+    "velo_check Failure::Memory": "an error on its way out: a command ends with it",
     "velo_runtime RunError::Memory": "an error on its way out: a program with threads ends with it",
 }
 

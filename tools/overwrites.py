@@ -57,19 +57,13 @@ COMMANDS = (
         {"OUT": "--log", "MAP": "--map"},
     ),
     Command(
-        "explain",
-        {"LOG": "log", "--names": "names", "--sites": "sites", "--ignore": "list"},
-        {"OUT": "--dot", "SVG": "--svg"},
-    ),
-    Command(
         "predict",
         {"LOG": "order", "--names": "names", "--sites": "order.sites", "--not-atomic": "list"},
         {"OUT": "--log"},
     ),
     Command("replay", {"FILE": "work", "--turns": "turns"}, RUN),
     Command("run", {"FILE": "work"}, RUN),
-    Command("explore", {"FILE": "work", "--ignore": "list"}, RUN),
-    Command("explore", {"FILE": "work", "--not-atomic": "list"}, RUN),
+    Command("explore", {"FILE": "work"}, RUN),
 )
 
 

@@ -1,12 +1,12 @@
 #!/usr/bin/env python3
-"""What `check` and `watch` say where something is left out is what `check` says of a log without it, at the positions of the whole log.
+"""What `watch` says where something is left out is what `check` says of a log without it, at the positions of the whole log.
 
     tools/rest.py PROGRAM [COUNT]             COUNT random logs, 5,000 if it is not given
 
-A random log is checked with random labels, locks and variables left out, each by an option or by a line of an --ignore list. The
+A random log is watched with random labels, locks and variables left out, each by an option or by a line of an --ignore list. The
 same events are taken out of the log here, and what is left is checked without options. The two reports have to be the same, but
-for the positions, which are turned into those of the whole log; and so has that of `watch`, behind the line of its alarm, which
-has the same position and blocks. With a file of sites `watch` says the same, and after it the places of the alarm. The last line is
+for the positions, which are turned into those of the whole log, and for the line of the alarm before the one of `watch`, which has
+the same position and blocks. With a file of sites `watch` says the same, and after it the places of the alarm. The last line is
 `N compared, N alarms`.
 """
 import os
@@ -182,7 +182,6 @@ def main():
             watched = alarm_of(wanted) + wanted
             places_told = told(wanted, sited(draw, run.events, path))
             for command, more, said in (
-                ("check", [], wanted),
                 ("watch", [], watched),
                 ("watch", ["--sites", path], watched + places_told),
             ):

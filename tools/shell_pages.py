@@ -1,7 +1,8 @@
 #!/usr/bin/env python3
-"""Makes the man pages and the completions for bash, zsh and fish from the program's help.
+"""Makes what stands in the program's help in another form: man pages, completions for bash, zsh and fish, and the table of options
+in docs/REFERENCE.md.
 
-    tools/shell_pages.py PROGRAM           writes docs/man and docs/completions
+    tools/shell_pages.py PROGRAM           writes docs/man, docs/completions and the table
     tools/shell_pages.py PROGRAM --check   fails if they are not what PROGRAM's help says today
 """
 import argparse
@@ -16,7 +17,7 @@ DOCS = os.path.join(os.path.dirname(os.path.dirname(os.path.abspath(__file__))),
 NAME = "velodrome"
 SUMMARY = "checks the atomic blocks of a multithreaded run"
 # what the value of an option is, by its placeholder: these are paths, all others are not
-PATHS = ("FILE", "FOLDER", "OUT", "NAMES", "LOG", "MAP", "LIST", "REPORT", "SVG")
+PATHS = ("FILE", "OUT", "NAMES", "LOG", "MAP", "LIST", "REPORT")
 
 Flag = collections.namedtuple("Flag", "short long value text")
 Command = collections.namedtuple("Command", "name summary usage arguments flags rest")
@@ -216,6 +217,31 @@ def fish(commands):
             yield f"complete -c {NAME} -n {seen} -l {flag.long[2:]}{value} -d {quoted(flag.text)}"
 
 
+# the table of options
+
+BEGIN, END = "<!-- written by tools/shell_pages.py -->\n", "<!-- end of the options -->\n"
+
+
+def option_rows(commands):
+    """Returns a row for each option: those of one name, value and text together."""
+    users = collections.defaultdict(list)
+    for command in commands:
+        for flag in command.flags:
+            if flag.long != "--help":
+                users[flag.long, flag.value, flag.text].append(command.name)
+    yield "| Option | Commands | Meaning |"
+    yield "|---|---|---|"
+    for (long, value, text), names in sorted(users.items(), key=lambda it: it[0][0]):
+        of = "all" if len(names) == len(commands) else ", ".join(f"`{it}`" for it in names)
+        yield f"| `{long}{' ' + value if value else ''}` | {of} | {text.replace('|', chr(92) + '|')} |"
+
+
+def reference_of(commands):
+    """Returns the reference, with its table of options as it is today."""
+    head, rest = text_of(os.path.join(DOCS, "REFERENCE.md")).split(BEGIN)
+    return head + BEGIN + "\n".join(option_rows(commands)) + "\n" + END + rest.split(END)[1]
+
+
 def pages_of(program):
     """Returns the text of each file, by its path below docs."""
     commands = commands_of(program)
@@ -224,7 +250,8 @@ def pages_of(program):
     made[f"completions/{NAME}.bash"] = bash(commands)
     made[f"completions/_{NAME}"] = zsh(commands)
     made[f"completions/{NAME}.fish"] = fish(commands)
-    return {path: "\n".join(lines) + "\n" for path, lines in made.items()}
+    texts = {path: "\n".join(lines) + "\n" for path, lines in made.items()}
+    return {**texts, "REFERENCE.md": reference_of(commands)}
 
 
 def text_of(path):

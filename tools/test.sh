@@ -60,9 +60,9 @@ scripts() {
 }
 
 python() {
-    scripts check_links.py check_definitions.py "definitions.py --check" "crate_picture.py --check" \
+    scripts words.py check_links.py check_definitions.py "definitions.py --check" "crate_picture.py --check" \
         "compare_help.py $program" "shell_pages.py --check $program" "overwrites.py $program" \
-        "colours.py $program" "watch.py $program" \
+        "watch.py $program" \
         "formats.py $program docs/data/leveldb.log crates/velodrome/data/lost.log" \
         "verify.py $program 100" "rest.py $program 300" "explore.py $program 30" "predict.py $program 30"
 }

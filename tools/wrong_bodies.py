@@ -172,7 +172,7 @@ BODIES = (
         "has an exclusive event look up no shared ones",
         (
             "velo_tables/Tables.predecessors_into-write_looks_up_no_reads",
-            "velo_conflicts/ConflictTable.look_up-write_looks_up_no_reads",
+            "velo_traces/ConflictTable.look_up-write_looks_up_no_reads",
         ),
     ),
     Body("follows the waits of one sharer only", ("velo_runtime/Room.leads-one_sharer_alone",)),
@@ -183,7 +183,7 @@ BODIES = (
     ),
     Body(
         "answers clean beside an alarm",
-        ("velo_fate/verdict_of-clean_beside_an_alarm",),
+        ("velo_check/verdict_of-clean_beside_an_alarm",),
     ),
     Body("waits for a free lock", ("velo_runtime/Room.turn_after-waits_for_a_free_lock",)),
     Body(
@@ -205,7 +205,7 @@ BODIES = (
     Body("overwrites bits where it joins them", ("velo_rows/join_chunk-bits_overwritten",)),
     Body(
         "counts a thread's own reads as those of others",
-        ("velo_clocks/raise_but-own_reads_count_as_those_of_others",),
+        ("velo_tables/ClockTables.note-own_reads_count_as_those_of_others",),
     ),
 )
 

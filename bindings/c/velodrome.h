@@ -21,8 +21,8 @@
 extern "C" {
 #endif
 
-#define VELODROME_VERSION "0.1.0"
-#define VELODROME_VERSION_NUMBER 100 /* 10000 * major + 100 * minor + patch */
+#define VELODROME_VERSION "0.2.0"
+#define VELODROME_VERSION_NUMBER 200 /* 10000 * major + 100 * minor + patch */
 
 /* The version of the library that is linked: VELODROME_VERSION, where it is that of this header. */
 const char *velodrome_version(void);

@@ -7,16 +7,16 @@ _velodrome() {
     fi
     case $before in --events|--format|--ignore-label|--ignore-lock|--ignore-variable|--nodes|--random|--schedule|--seconds|--seed|--states|--tries|--turns) COMPREPLY=(); return ;; esac
     case ${COMP_WORDS[1]} in
-        check) words="--names --why --not-atomic --ignore --ignore-label --ignore-lock --ignore-locks --ignore-variable --events --nodes --certificate --help" ;;
+        check) words="--names --why --events --nodes --certificate --help" ;;
         replay) words="--schedule --turns --stop --why --log --names-out --events --nodes --certificate --help" ;;
         run) words="--stop --why --log --names-out --events --nodes --certificate --help" ;;
-        explain) words="--dot --svg --stacks --format --names --sites --source --not-atomic --ignore --ignore-label --ignore-lock --ignore-locks --ignore-variable --help" ;;
+        explain) words="--format --names --sites --not-atomic --ignore --ignore-label --ignore-lock --ignore-locks --ignore-variable --help" ;;
         carry) words="--log --help" ;;
-        explore) words="--states --seconds --first --progress --random --seed --format --not-atomic --ignore --ignore-label --ignore-lock --ignore-locks --ignore-variable --log --names-out --events --nodes --certificate --help" ;;
-        watch) words="--names --sites --source --stop --endless --not-atomic --ignore --ignore-label --ignore-lock --ignore-locks --ignore-variable --events --nodes --certificate --help" ;;
-        audit) words="--no-witness --counts --by-count --innermost --summary --merge --format --names --sites --source --not-atomic --ignore --ignore-label --ignore-lock --ignore-locks --ignore-variable --events --nodes --help" ;;
+        explore) words="--states --seconds --first --progress --random --seed --format --log --names-out --events --nodes --certificate --help" ;;
+        watch) words="--names --sites --stop --endless --not-atomic --ignore --ignore-label --ignore-lock --ignore-locks --ignore-variable --events --nodes --certificate --help" ;;
+        audit) words="--no-witness --format --names --sites --not-atomic --ignore --ignore-label --ignore-lock --ignore-locks --ignore-variable --events --nodes --help" ;;
         thin) words="--log --map --names --not-atomic --ignore --ignore-label --ignore-lock --ignore-locks --ignore-variable --help" ;;
-        predict) words="--log --values --tries --seed --format --names --sites --source --not-atomic --ignore --ignore-label --ignore-lock --ignore-locks --ignore-variable --events --nodes --help" ;;
+        predict) words="--log --values --tries --seed --format --names --sites --not-atomic --ignore --ignore-label --ignore-lock --ignore-locks --ignore-variable --events --nodes --help" ;;
         verify) words="--help" ;;
     esac
     case $word in

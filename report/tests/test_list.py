@@ -257,18 +257,6 @@ class Lists(support.InFolder):
         self.assertIn("worker() (counter.cpp:5), the routine of a thread, loops", said)
         self.assertEqual(done.returncode, 3)
 
-    def test_a_checker_that_always_counts(self) -> None:
-        """It has no option for the counts, and answers with them."""
-        support.lost_update().write(self.path("run.log"))
-        asked = self.answer("run.log")["findings"]
-        script = 'case "$*" in *--counts*) exit 2;; esac\n'
-        script += f'[ "$1" = audit ] && set -- "$@" --counts\nexec {support.CHECKER} "$@"'
-        program = support.program(self.path("velodrome"), script)
-        done = self.run_command("run.log", "--format", "json", checker=program)
-        found = json.loads(done.stdout)["findings"]
-        self.assertEqual(found, asked)
-        self.assertEqual(found[0]["counts"], {"calls": 2, "to_blame": 1})
-
     def test_how_to_repeat_it(self) -> None:
         log = self.path("velodrome.runs", "0001", "01", "trace.7.log")
         support.lost_update().write(log)

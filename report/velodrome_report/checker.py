@@ -15,7 +15,6 @@ CHECKER_BUILT = os.path.join(HERE, "..", "..", "crates", "velodrome", "out", "ve
 LOG_BUILT = os.path.join(HERE, "..", "..", "recorder", "out", "bin", "velodrome-log")
 # statuses of the checker with an answer: nothing found, something found
 ANSWERED = (0, 3)
-USAGE = 2
 LONGEST_WORDS = 300
 
 # what runs now, to end it if the call is interrupted
@@ -112,14 +111,3 @@ def asked(
     if sites:
         words += ["--sites", sites]
     return call(words + list(more))
-
-
-def audited(
-    checker: str, log: str, names: Optional[str], sites: Optional[str], more: Sequence[str] = ()
-) -> Done:
-    """The answer of `audit` with the counts of its labels.
-
-    One checker counts if it is asked to, another one always, and has no option for it.
-    """
-    done = asked(checker, "audit", log, names, sites, ("--counts", *more))
-    return asked(checker, "audit", log, names, sites, more) if done.status == USAGE else done

@@ -8,7 +8,7 @@ import shutil
 import sys
 from concurrent.futures import ThreadPoolExecutor, as_completed
 from dataclasses import replace
-from typing import Dict, List, NoReturn, Optional, Sequence
+from typing import Any, Dict, List, NoReturn, Optional, Sequence
 
 from . import VERSION, as_json, assemble, checker, judge, ranking, runs
 from .forms import FILES, FORMATS, Settings
@@ -45,6 +45,23 @@ class Parser(argparse.ArgumentParser):
 
     def error(self, message: str) -> NoReturn:
         raise Refused(f"{message}. velodrome-report --help has all options", Status.USAGE)
+
+
+class Version(argparse.Action):
+    """Prints the version, and the file BUILD of the package that the command is installed by."""
+
+    def __init__(self, **given: Any) -> None:
+        super().__init__(nargs=0, **given)
+
+    def __call__(self, parser: argparse.ArgumentParser, *_: object) -> NoReturn:
+        print(f"velodrome-report {VERSION}")
+        beside = os.path.join(os.path.dirname(os.path.realpath(sys.argv[0])), os.pardir, "BUILD")
+        try:
+            with open(beside, encoding="utf-8") as build:
+                print(build.read(), end="")
+        except OSError:
+            pass  # it is not installed by a package
+        parser.exit()
 
 
 def parser() -> argparse.ArgumentParser:
@@ -109,7 +126,7 @@ def parser() -> argparse.ArgumentParser:
         metavar="FILE",
         help="the functions in FILE are no blocks, for velodrome-log",
     )
-    made.add_argument("--version", action="version", version=f"velodrome-report {VERSION}")
+    made.add_argument("--version", action=Version, help="show what this is built of, and exit")
     return made
 
 

@@ -243,7 +243,7 @@ def _ask(looked: Looked, asked: Asked) -> None:
     if asked.known is not None:
         looked.leaving = ("--ignore", asked.known.for_log(looked.beside.labels))
     leaving = looked.leaving
-    done = checker.audited(program, log, names, sites, leaving)
+    done = checker.asked(program, "audit", log, names, sites, leaving)
     if done.why is not None:
         looked.run.reasons += (f"the checker refused the log: {done.why}",)
         _scan(looked, set())

@@ -1,13 +1,12 @@
 -- The list of free slots, as slots are given out and come back.
-use Rattle.std.proofs.Common.{◌≡◌, ◌≢◌, ℕ, ◌+◌, ◌*◌, ◌-◌, ◌<◌, ◌≤◌, false, cond, List, [], ◌∷◌, ◌++◌, length, get_or, set, Option, Some, None, sym, refl, ap, ◌∙◌, ⊎_elim, arith, get_or-set_other, length-set}
-use Rattle.std.specs.Prelude.{is_some, count_by, replicate, IsTrue}
-use Rattle.std.proofs.lemmas.List.{get_or_append_left, get_or_push, length_push, get_or-replicate, length-replicate, get_or_past}
+use Rattle.std.proofs.Common.{◌≡◌, ◌≢◌, ℕ, ◌+◌, ◌-◌, ◌<◌, ◌≤◌, cond, List, [], ◌∷◌, ◌++◌, length, get_or, set, Option, Some, None, sym, refl, ap, ◌∙◌, ⊎_elim, arith, get_or-set_other, length-set}
+use Rattle.std.specs.Prelude.{is_some, count_by, IsTrue}
+use Rattle.std.proofs.lemmas.List.{get_or_append_left, get_or_push, length_push}
 use Rattle.std.proofs.lemmas.List.Sums.{sum_by-set}
-use Rattle.std.proofs.lemmas.List.Folds.{sum_by-replicate}
 use Rattle.std.proofs.lemmas.Bool.{cases_eq, cases_lt}
 use Rattle.velo_arena.specs.declared.step.Node.{Node}
 use Rattle.velo_arena.specs.Kept.{TracksFree, CountsDown}
-use Rattle.velo_arena.specs.Slots.{Slots, node_in, is_used, used_in, with_node, Opens}
+use Rattle.velo_arena.specs.Slots.{Slots, node_in, is_used, used_in, with_node}
 use Rattle.velo_arena.proofs.OnSlots.{in_range, freed, node_of_used}
 
 -- ---- how many slots are in use
@@ -150,33 +149,6 @@ tracks-rewrite nodes free slot room extent was node used tracks =
 abbrev vacant : Option Node
 vacant = None
 
-no_node_anywhere : (limit k : ℕ) → get_or (replicate limit vacant) k None ≡ None
-no_node_anywhere limit k =
-    ⊎_elim (λ (lt : k < limit). get_or-replicate limit k None None lt) (λ (ge : limit ≤ k). get_or_past (replicate limit None) k None (omega (arith, length-replicate limit vacant))) (cases_lt k limit)
-
-none_used : (limit : ℕ) → count_by is_some (replicate limit vacant) ≡ 0
-none_used limit = let zeros : count_by is_some (replicate limit vacant) ≡ limit * 0 = sum_by-replicate one_if_used limit None in omega arith
-
-pub tracks-new : (limit : ℕ) (free : List ℕ) (room : ℕ) → CountsDown free limit limit → limit ≤ room → limit < 65536 → TracksFree (replicate limit None) free room 0
-tracks-new limit free room falls enough few =
-    let len : length (replicate limit vacant) ≡ limit = length-replicate limit None in
-    let all : length free ≡ limit = falls.length_is in
-    let none : count_by is_some (replicate limit vacant) ≡ 0 = none_used limit in
-    record {
-      each_free = λ k lt. no_node_anywhere limit (get_or free k 0);
-      in_range = λ k lt. let is : get_or free k 0 + k + 1 ≡ limit = falls.each k (omega arith) in omega arith;
-      each_once =
-          λ j k lt below e.
-          let first : get_or free j 0 + j + 1 ≡ limit = falls.each j (omega arith) in
-          let second : get_or free k 0 + k + 1 ≡ limit = falls.each k (omega arith) in
-          omega arith;
-      counted = omega arith;
-      has_room = omega arith;
-      untouched = λ k past. no_node_anywhere limit k;
-      within = omega arith;
-      small = omega arith;
-    }
-
 -- ---- one more number, counting down
 
 pub counts_down-push : (numbers : List ℕ) (limit n : ℕ) → n < limit → CountsDown numbers limit n → CountsDown (numbers ++ (limit - 1 - n) ∷ []) limit (n + 1)
@@ -203,14 +175,6 @@ pub counts_down-none : (limit : ℕ) → CountsDown [] limit 0
 counts_down-none limit = record { length_is = refl; each = λ k below. absurd (omega arith) }
 
 -- ---- how many slots are in use afterwards
-
-pub used-opens : (old new : Slots) (slot stamp : ℕ) → Opens old new slot stamp → used_in new ≡ used_in old + 1
-used-opens old new slot stamp opens =
-    let node : Node = record { stamp = stamp; finished = false } in
-    let before : one_if_used (get_or old.nodes slot None) ≡ 0 = ap one_if_used opens.was_free in
-    let count : count_by is_some (set old.nodes slot (Some node)) + one_if_used (get_or old.nodes slot None) ≡ count_by is_some old.nodes + 1 = count-set old.nodes slot (Some node) opens.in_range in
-    let now : count_by is_some new.nodes ≡ count_by is_some (set old.nodes slot (Some node)) = ap (count_by is_some) opens.nodes in
-    omega arith
 
 pub used-freed : (slots : Slots) (slot : ℕ) → IsTrue (is_used slots slot) → used_in (with_node slots slot None) + 1 ≡ used_in slots
 used-freed slots slot used =

@@ -24,9 +24,6 @@ pub node_of_used : (o : Option Node) → IsTrue (is_some o) → (n : Node) × (o
 node_of_used None used = absurd (false≢true used)
 node_of_used (Some n) used = (n, refl)
 
-pub used_from_node : (o : Option Node) (n : Node) → o ≡ Some n → IsTrue (is_some o)
-used_from_node o n there = ap is_some there
-
 pub node_of_stamp : (o : Option Node) (stamp : ℕ) → IsTrue (has_stamp o stamp) → (n : Node) × (o ≡ Some n) × (n.stamp ≡ stamp)
 node_of_stamp None stamp borne = absurd (false≢true borne)
 node_of_stamp (Some n) stamp borne = (n, refl, eqb-true n.stamp stamp borne)

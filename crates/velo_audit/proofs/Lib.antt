@@ -1,14 +1,19 @@
-pub mod OnRounds
-pub mod OnTold
-pub mod OnWitness
 pub mod OnAnswers
-pub mod OnShifted
+pub mod OnAudit
+mod OnBlame
+pub mod OnClean
+pub mod OnCount
+pub mod OnCuts
+pub mod OnFewNodes
+mod OnMarks
+mod OnOpen
 pub mod OnPieceWitness
 pub mod OnPieces
-pub mod OnCuts
-pub mod OnVerdicts
-pub mod OnAudit
-pub mod OnClean
+mod OnReach
+pub mod OnRounds
+pub mod OnShifted
+mod OnTally
+pub mod OnTold
 pub mod OnUnique
-pub mod OnCount
-pub mod OnFewNodes
+pub mod OnVerdicts
+pub mod OnWitness

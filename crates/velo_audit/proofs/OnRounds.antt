@@ -90,14 +90,6 @@ is_listed-nil : (n : ℕ) → IsFalse (is_listed [] n)
 unfolding is_listed
 is_listed-nil n = refl
 
-is_listed-from : (xs : List ℕ) (n : ℕ) → Contains xs n → IsTrue (is_listed xs n)
-is_listed-from xs n w = at xs w.0 w.1 w.2
-  where
-    at : (xs : List ℕ) (k : ℕ) → k < length xs → slice_index_or xs k n ≡ n → IsTrue (is_listed xs n)
-    at [] k l is = absurd (omega (arith, l))
-    at (x ∷ xs) zero l is = subst (λ m. is_listed (x ∷ xs) m ≡ true) is (is_listed-here x xs)
-    at (x ∷ xs) (suc k) l is = is_listed-later x xs n (at xs k (omega (arith, l)) is)
-
 is_listed-filter : (p : ℕ → Bool) (xs : List ℕ) (n : ℕ) → IsTrue (p n) → IsTrue (is_listed xs n) → IsTrue (is_listed (filter p xs) n)
 is_listed-filter p [] n h w = absurd (false≢true (sym (is_listed-nil n) ∙ w))
 is_listed-filter p (x ∷ xs) n h w = ⊎_elim

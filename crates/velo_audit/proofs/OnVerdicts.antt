@@ -1,30 +1,23 @@
 -- What a piece says of the round.
-use Rattle.std.proofs.Common.{◌≡◌, ℕ, ◌<◌, ◌≤◌, Bool, List, length, Option, Some, None, refl, sym, ap, ◌∙◌, subst, arith}
+use Rattle.std.proofs.Common.{◌≡◌, ℕ, ◌≤◌, Bool, List, length, Option, Some, None, refl, sym, ap, ◌∙◌, subst, arith}
 use Rattle.std.specs.Prelude.{not}
 use Rattle.std.proofs.lemmas.Option.{none-some, same_Some}
 use Rattle.velo_events.specs.declared.event.Event.{Event}
 use Rattle.velo_events.specs.Graph.{HasCycle}
 use Rattle.velo_filter.specs.Left.{Omitted}
-use Rattle.velo_filter.specs.Marks.{AreMarks}
 use Rattle.velo_filter.specs.Tables.{members}
 use Rattle.velo_filter.specs.Thinned.{first_of_rest}
 use Rattle.velo_filter.proofs.OnThinned.{first_of_rest-all}
 use Rattle.velo_laws.specs.Cut.{IsQuiet}
 use Rattle.velo_laws.specs.Restart.{HasNoBegin}
 use Rattle.velo_audit.specs.Audit.{CheckTells, RoundTells}
-use Rattle.velo_audit.specs.Cut.{AreBegun, IsCut, GoesTo, EndsAt}
+use Rattle.velo_audit.specs.Cut.{AreBegun, IsCut, EndsAt}
 use Rattle.velo_audit.specs.Verdict.{IsRoundVerdict, Judges}
 use Rattle.velo_audit.specs.declared.cut.Cut.{Cut}
 use Rattle.velo_audit.specs.declared.pieces.PiecesVerdict.{PiecesVerdict}
 use Rattle.velo_audit.specs.declared.pieces.PiecesVerdict.TheVariants as verdict
 use Rattle.velo_audit.specs.declared.told.Told.{Told}
 use Rattle.velo_audit.proofs.OnCuts.{RoundTells-none, RoundTells-some, IsCut-moved}
-
-pub EndsAt-from : (left : Omitted) (log events : List Event) → events ≡ log → (cut : Cut) (end n : ℕ) → end ≡ n → (marks : List ℕ) (trace : List Event) (places : List ℕ)
-    → GoesTo left events cut.place n cut.prologue.events trace places → length marks ≡ 256 → AreMarks left events n marks → cut.place < n → n ≤ length events → EndsAt left log cut end marks trace places
-EndsAt-from left log events same cut end n at marks trace places goes many are later within =
-    subst (λ es. EndsAt left es cut end marks trace places) same (subst (λ k. EndsAt left events cut k marks trace places) (sym at)
-    (record { goes = goes; as_many = many; marks_are = are; later = later; within = within }))
 
 pub Judges-verdict : (with_witness : Bool) (log : List Event) (left : Omitted) (place : ℕ) (cut : Cut) (v : PiecesVerdict) → IsCut left log cut → IsRoundVerdict with_witness log left v → Judges with_witness log left place cut (Some v)
 Judges-verdict with_witness log left place cut v is said = record {

@@ -1,7 +1,12 @@
-pub mod Rounds
-pub mod Count
-pub mod Witness
-pub mod Tells
 pub mod Audit
+pub mod Blame
+pub mod Count
 pub mod Cut
+pub mod Marks
+pub mod Open
+pub mod Reach
+pub mod Rounds
+pub mod Tally
+pub mod Tells
 pub mod Verdict
+pub mod Witness

@@ -13,8 +13,8 @@ use Rattle.velo_events.specs.WellFormed.{IsWellFormed}
 use Rattle.velo_events.proofs.OnTraces.{slice_get-push}
 use Rattle.velo_traces.specs.declared.block.Block.{Block}
 use Rattle.velo_traces.specs.Blocks.{block_at}
-use Rattle.velo_clocks.specs.Clocks.{ClockState, AreClocksSince, IsNoted, blame_bound}
-use Rattle.velo_clocks.proofs.OnClocks.{notes, blames}
+use Rattle.velo_tables.specs.Clocks.{ClockState, AreClocksSince, IsNoted, blame_bound}
+use Rattle.velo_tables.proofs.OnClocks.{notes, blames}
 use Rattle.velo_blame.specs.Blamed.{begins_of, AreBlamedAt}
 use Rattle.velo_blame.specs.Clocks.{RunClocks}
 use Rattle.velo_blame.proofs.OnOuter.{filter-blocks}

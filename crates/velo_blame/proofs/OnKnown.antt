@@ -10,8 +10,8 @@ use Rattle.velo_events.specs.Conflict.{conflict}
 use Rattle.velo_events.proofs.OnScans.{passes_at-event, passes_at-is, event_at}
 use Rattle.velo_events.proofs.OnReorderings.{conflict_at-within}
 use Rattle.velo_events.proofs.OnHappening.{IsFrom-last, IsFrom-next, IsFrom-le}
-use Rattle.velo_conflicts.specs.Numbers.{Rows, IsGreatest, AreBlank, IsRecorded}
-use Rattle.velo_conflicts.proofs.OnRows.{HasNumbers-none}
+use Rattle.velo_traces.specs.Numbers.{Rows, IsGreatest, AreBlank, IsRecorded}
+use Rattle.velo_traces.proofs.OnRows.{HasNumbers-none}
 use Rattle.velo_blame.specs.Known.{IsOwnBefore, IsKnown, IsEndOf, KnowsUpTo}
 
 -- ---- the greatest number plus one

@@ -2,11 +2,11 @@
 ghost use Rattle.std.specs.Prelude.{◌≡◌, ◌+◌, ◌^◌, ◌<◌, length};
 ghost use Rattle.velo_events.specs.Event.{thread_of};
 ghost use Rattle.velo_events.specs.Conflict.{conflict};
-ghost use Rattle.velo_conflicts.specs.Places.{sizes, HasPlaces, AllHavePlaces};
+ghost use Rattle.velo_traces.specs.Places.{sizes, HasPlaces, AllHavePlaces};
 ghost use Rattle.velo_blame.specs.Known.{is_by_others, IsBound, TakesIn};
 
-use velo_conflicts::ConflictTable;
 use velo_events::{Event, ThreadId, conflicts};
+use velo_traces::ConflictTable;
 
 /// Records the event at a position, where those before it are recorded, with what it knows of the
 /// thread: the last position of the thread that happens before it, or is it, counted from 1; 0

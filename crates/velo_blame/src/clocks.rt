@@ -6,15 +6,14 @@ ghost use Rattle.velo_events.specs.Block.{is_open_at, open_blocks};
 ghost use Rattle.velo_events.specs.Graph.{HasCycle};
 ghost use Rattle.velo_events.specs.WellFormed.{IsWellFormed};
 ghost use Rattle.velo_traces.specs.Blocks.{block_at};
-ghost use Rattle.velo_clocks.specs.Clocks.{AreClocksSince};
-ghost use Rattle.velo_clocks.specs.Noted.{HasRoomToNote, IsOfThreads};
+ghost use Rattle.velo_tables.specs.Clocks.{AreClocksSince, HasRoomToNote, IsOfThreads};
 ghost use Rattle.velo_blame.specs.Blamed.{begins_of, AreBlamedAt};
 
 use smallvec::SmallVec;
 use std::alloc::Global;
 use std::marker::Model;
-use velo_clocks::ClockTables;
 use velo_events::{Bounds, Config, Event, MAX_OPEN_BLOCKS, Memory, Resolved};
+use velo_tables::ClockTables;
 use velo_traces::Block;
 
 /// Which open blocks are to blame where an event closes the first cycle, without a look at the
@@ -27,7 +26,7 @@ pub struct Clocks {
 }
 
 impl Model for Clocks {
-    ghost use Rattle.std.specs.Prelude.{◌≡◌, ◌≤◌, length};
+    ghost use Rattle.std.specs.Prelude.{◌≡◌, ◌≤◌};
     ghost use Rattle.velo_events.specs.declared.limits.TheConstants.{MAX_THREADS};
     ghost use Rattle.velo_blame.specs.Clocks.{RunClocks};
 
@@ -35,7 +34,7 @@ impl Model for Clocks {
 
     ghost view = { λ c. record { state = c.tables; bounds = c.bounds } };
 
-    ghost invariant = { λ c. (length c.tables.threads ≡ c.bounds.threads) × (c.bounds.threads ≤ MAX_THREADS) };
+    ghost invariant = { λ c. (c.tables.count ≡ c.bounds.threads) × (c.bounds.threads ≤ MAX_THREADS) };
 }
 
 /// The blocks that begin below the bound.

@@ -1,5 +1,5 @@
 -- Known bytes through several calls of a device.
-use Rattle.std.proofs.Common.{◌≡◌, ℕ, ◌+◌, List, [], ◌++◌, take, drop, Option, Some, None, refl, sym, ap, subst, ◌∙◌, append_assoc}
+use Rattle.std.proofs.Common.{◌≡◌, ℕ, ◌+◌, List, [], ◌++◌, take, drop, Option, Some, None, sym, ap, subst, ◌∙◌, append_assoc}
 use Rattle.std.proofs.Math.Seq.{take-add}
 use Rattle.std.proofs.lemmas.List.{append-nil, take-append-drop}
 use Rattle.std.specs.Io.KnownBytes.{Appends, Keeps, Consumes, prepend_known}
@@ -69,9 +69,6 @@ pub record WroteSome (old new : Option (List ℕ)) (held text : List ℕ) : Type
   pub out : List ℕ
   pub appends : Appends old new out
   pub whole : text ≡ out ++ held
-
-pub wrote_none : (old : Option (List ℕ)) (held : List ℕ) → WroteSome old old held held
-wrote_none old held = record { out = []; appends = appends_nothing old; whole = refl }
 
 -- more is held
 pub wrote_held : (old new : Option (List ℕ)) (held text more : List ℕ) → WroteSome old new held text → WroteSome old new (held ++ more) (text ++ more)

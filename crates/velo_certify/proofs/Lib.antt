@@ -7,12 +7,8 @@ pub mod OnNumbered
 pub mod OnCovering
 pub mod OnOwners
 pub mod OnOrders
-pub mod OnReached
-pub mod OnSorting
-pub mod OnLists
-pub mod OnVisits
-pub mod OnSearch
 pub mod OnDistances
+pub mod OnLevels
 pub mod OnNearest
 pub mod OnCycles
 pub mod OnSerial

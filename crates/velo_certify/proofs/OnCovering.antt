@@ -8,7 +8,7 @@ use Rattle.velo_events.specs.Block.{owner}
 use Rattle.velo_events.specs.Graph.{conflict_at, Edge}
 use Rattle.velo_certify.specs.declared.chains.Links.{Links}
 use Rattle.velo_certify.specs.Links.{IsInList, IsGrown, IsKept, pair_at, IsBefore, IsBehind, AreShown, IsLinked, HasRows}
-use Rattle.velo_conflicts.specs.Numbers.{IsBlank}
+use Rattle.velo_traces.specs.Numbers.{IsBlank}
 use Rattle.velo_certify.specs.Threads.{thread_at}
 use Rattle.velo_certify.proofs.OnChains.{IsAdded}
 use Rattle.velo_certify.proofs.OnLinks.{IsGrown-same, IsInList-grown, edge-into}

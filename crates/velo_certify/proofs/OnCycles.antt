@@ -12,10 +12,9 @@ use Rattle.velo_events.proofs.OnGraphs.{Path-append}
 use Rattle.velo_events.proofs.OnReaching.{IsCycle-next}
 use Rattle.velo_certify.specs.declared.fault.CertFault.{CertFault}
 use Rattle.velo_certify.specs.declared.fault.CertFault.TheVariants.{HasCycle, NoCycle, NotThere, Memory}
-use Rattle.velo_certify.specs.Distances.{AreDistances, AreTowards}
+use Rattle.velo_certify.specs.Distances.{AreShortest, AreTowards}
 use Rattle.velo_certify.specs.Nearest.{IsNearest}
 use Rattle.velo_certify.specs.Cycle.{IsCycleFault, IsLastFault, IsOnNone, IsCycleFrom, IsShortestFrom, IsLinked, next_in}
-use Rattle.velo_certify.proofs.OnDistances.{AreDistances-path}
 
 -- the walk has come from the start, by the list, to the present transaction, and with the way back it is as long as it can be
 pub record WalksBack (trace : List Event) (distance : List ℕ) (start second : ℕ) (cycle : List ℕ) (present : ℕ) : Type 0 where
@@ -26,7 +25,7 @@ pub record WalksBack (trace : List Event) (distance : List ℕ) (start second : 
   pub reached : 0 < slice_index distance present
 
 -- ---- the walk
-module _ (trace : List Event) (distance : List ℕ) (start second : ℕ) (w : AreDistances trace start distance) where
+module _ (trace : List Event) (distance : List ℕ) (start second : ℕ) (w : AreShortest trace start distance) where
   pub WalksBack-start : IsNearest trace distance start second → WalksBack trace distance start second (start ∷ []) second
   WalksBack-start n = record { between = []; items = refl; path = n.edge; steps = omega arith; reached = n.reached }
 
@@ -46,9 +45,8 @@ module _ (trace : List Event) (distance : List ℕ) (start second : ℕ) (w : Ar
   second-least n (a ∷ b ∷ rest) c =
       let edge : Edge trace start b = subst (λ x. Edge trace x b) c.begins c.cyclic.0 in
       let path : Path (Edge trace) b rest start = subst (λ x. Path (Edge trace) b rest x) c.begins c.cyclic.1 in
-      let long = AreDistances-path trace start distance w b rest path in
-      let most = n.nearest b edge long.0 in
-      let upto = long.1 in
+      let (c, out, some, upto) = w.least b rest edge path in
+      let most = n.nearest c out some in
       omega (arith, most, upto)
 
   pub IsShortestFrom-end : (cycle : List ℕ) (present : ℕ) → present ≡ start → IsNearest trace distance start second → WalksBack trace distance start second cycle present → IsShortestFrom trace start cycle
@@ -74,8 +72,7 @@ module _ (trace : List Event) (distance : List ℕ) (start second : ℕ) (w : Ar
   IsOnNone-by none = record {
     none = λ cycle c has.
         let b = IsCycle-next (Edge trace) cycle start c has in
-        let is = none b.0 b.1 in
-        ⊎_elim (λ same. b.1.differ (sym same)) (λ p. let some = (AreDistances-path trace start distance w b.0 p.0 p.1).0 in omega (arith, some, is)) b.2;
+        ⊎_elim (λ same. b.1.differ (sym same)) (λ p. let (c, out, some, upto) = w.least b.0 p.0 b.1 p.1 in let zero = none c out in omega (arith, some, zero)) b.2;
   }
 
 -- ---- the events up to a position
@@ -113,13 +110,6 @@ module _ (trace : List Event) (p : ℕ) (within : p < length trace) where
     }),
     (λ s. says.1 (subst (λ a. IsCycleFrom (take (p + 1) trace) a cycle) (sym last-owner) (IsCycleFrom-at cycle s.is_cycle))),
   )
-
--- two shortest cycles are of one length
-pub shortest-same_length : (trace : List Event) (p : ℕ) (found cycle : List ℕ) → IsShortestCycleAt trace p found → IsShortestCycleAt trace p cycle → length cycle ≡ length found
-shortest-same_length trace p found cycle v w =
-    let one = v.shortest cycle w.is_cycle in
-    let two = w.shortest found v.is_cycle in
-    omega (arith, one, two)
 
 -- ---- links
 

@@ -51,10 +51,6 @@ module _ (trace : List Event) (a n m : ℕ) (g : IsGreatestBefore trace (own_pla
         differ = λ same. other (sym same);
       })
 
--- an edge of the trace leads into one of its positions
-pub LeadsInto-of : (trace : List Event) (a b : ℕ) (e : Edge trace a b) → LeadsInto trace a e.to
-LeadsInto-of trace a b e = record { place = e.from; before = e.in_order; in_conflict = e.in_conflict; of_place = e.of_from; differ = λ same. e.differ (same ∙ e.of_to) }
-
 -- one edge more
 pub ShowEdgesSoFar-next : (trace : List Event) (cycle : List ℕ) (k : ℕ) (edges : List EdgeEvents) (edge : EdgeEvents) → ShowEdgesSoFar trace cycle k edges → ShowsEdge trace (slice_index cycle k) (next_in cycle k) edge → ShowEdgesSoFar trace cycle (k + 1) (edges ++ edge ∷ [])
 ShowEdgesSoFar-next trace cycle k edges edge w e = record {

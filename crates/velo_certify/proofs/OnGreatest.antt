@@ -10,7 +10,7 @@ use Rattle.velo_events.specs.Graph.{conflict_at, both_conflict}
 use Rattle.velo_events.specs.Conflict.{conflict}
 use Rattle.velo_events.proofs.OnScans.{passes_at-event, passes_at-is, event_at}
 use Rattle.velo_events.proofs.OnReorderings.{conflict_at-within}
-use Rattle.velo_conflicts.specs.Numbers.{IsGreatest, IsNumbered}
+use Rattle.velo_traces.specs.Numbers.{IsGreatest, IsNumbered}
 use Rattle.velo_certify.specs.Table.{IsGreatestBefore, IsGreatestAfter, numbers_before, numbers_from}
 
 -- ---- forwards and backwards

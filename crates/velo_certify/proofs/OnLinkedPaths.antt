@@ -1,5 +1,5 @@
 -- Chains of links stand for all edges.
-use Rattle.std.proofs.Common.{◌≡◌, ◌≢◌, ℕ, zero, suc, ◌+◌, ◌-◌, ◌<◌, ◌≤◌, Bool, List, [], ◌∷◌, length, Option, Some, None, refl, sym, ap, ◌∙◌, subst, arith, ⊎_elim, inl, inr}
+use Rattle.std.proofs.Common.{◌≡◌, ◌≢◌, ℕ, zero, suc, ◌+◌, ◌-◌, ◌<◌, ◌≤◌, Bool, List, [], ◌∷◌, length, Some, refl, sym, ap, ◌∙◌, subst, arith, ⊎_elim, inl, inr}
 use Rattle.std.specs.Prelude.{◌⊎◌, ◌||◌, slice_get, IsTrue, IsFalse}
 use Rattle.std.proofs.lemmas.Bool.{cases_Bool, cases_eq, cases_lt, or_cases, eqb-true, eq-eqb, and_parts, both_ways, false≢true}
 use Rattle.std.proofs.lemmas.Option.{slice_get-get_or}
@@ -18,7 +18,7 @@ use Rattle.velo_traces.proofs.Past.{past}
 use Rattle.velo_certify.specs.Links.{is_weak, IsLast, IsFirst, LinksBack, LinksSoFar}
 use Rattle.velo_certify.specs.Owners.{event_at}
 use Rattle.velo_certify.specs.Serial.{has, IsFree}
-use Rattle.velo_conflicts.specs.Numbers.{strong_for}
+use Rattle.velo_traces.specs.Numbers.{strong_for}
 use Rattle.velo_certify.proofs.OnLinks.{edge-into, edge-out, conflicts-own, conflicts-strong}
 
 -- a position is linked to a later one of another transaction

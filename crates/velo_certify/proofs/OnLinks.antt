@@ -18,7 +18,7 @@ use Rattle.velo_traces.proofs.Past.{past}
 use Rattle.velo_certify.specs.declared.chains.Links.{Links}
 use Rattle.velo_certify.specs.Links.{is_weak, IsLast, IsFirst, LinksBack, LinksOn, IsInList, IsGrown, IsImplied, IsKept, counted, counted_back, HasRows, HasLinks}
 use Rattle.velo_certify.specs.Owners.{event_at}
-use Rattle.velo_conflicts.specs.Numbers.{IsGreatest, IsBlank, strong_for}
+use Rattle.velo_traces.specs.Numbers.{IsGreatest, IsBlank, strong_for}
 use Rattle.velo_certify.specs.Table.{numbers_before, numbers_from}
 use Rattle.velo_certify.specs.Threads.{thread_at}
 use Rattle.velo_certify.proofs.OnGreatest.{conflict-comm}

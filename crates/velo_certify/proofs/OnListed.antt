@@ -18,9 +18,6 @@ use Rattle.velo_certify.proofs.OnLinkedPaths.{IsFree-linked, IsFree-not_linked}
 use Rattle.velo_certify.proofs.OnSerial.{has-set}
 use Rattle.velo_certify.proofs.OnThreads.{own-thread, one-thread, own-conflict}
 
-pub IsLeft-start : (listed : List Bool) (l : Links) (a : ℕ) (xs : List ℕ) → list_of l a xs → IsLeft listed l (slice_index l.heads.items a) xs
-IsLeft-start listed l a xs chain = record { ys = xs; list = chain; keeps = λ b h. inr h; only = λ b h. h }
-
 -- one more listed one is taken away
 pub IsLeft-next : (listed : List Bool) (l : Links) (k j : ℕ) (e : Link) (xs : List ℕ) → k ≡ suc j → slice_get l.links.items j ≡ Some e → IsTrue (has listed e.before) → IsLeft listed l k xs → IsLeft listed l e.next xs
 IsLeft-next listed l k j e xs is there known w = at w.ys w.list w.keeps w.only

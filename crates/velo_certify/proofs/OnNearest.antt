@@ -1,15 +1,14 @@
 -- The edges out of a transaction, position by position.
-use Rattle.std.proofs.Common.{◌≡◌, ◌≢◌, ℕ, ◌+◌, ◌<◌, ◌≤◌, cond, not, List, length, Option, Some, None, sym, ap, ◌∙◌, subst, arith, ⊎_elim}
+use Rattle.std.proofs.Common.{◌≡◌, ◌≢◌, ℕ, ◌+◌, ◌<◌, ◌≤◌, cond, not, List, Option, Some, None, sym, ap, ◌∙◌, subst, arith, ⊎_elim}
 use Rattle.std.specs.Prelude.{◌⊎◌, ◌↔◌, ◌==◌, nat_lt, slice_index, IsTrue, IfSome, MatchOption}
-use Rattle.std.proofs.lemmas.Bool.{cases_eq, cases_lt, eq-eqb, eqb-false, ne_eqb, le-ltb, lt-ltb, ltb-true, not_from_false, not-true}
+use Rattle.std.proofs.lemmas.Bool.{cases_eq, cases_lt, eq-eqb, eqb-false, ne_eqb, lt-ltb, ltb-true, not_from_false, not-true}
 use Rattle.std.proofs.lemmas.Option.{same_Some, none-some}
 use Rattle.velo_events.specs.declared.event.Event.{Event}
 use Rattle.velo_events.specs.Block.{owner}
 use Rattle.velo_events.specs.Graph.{Edge}
 use Rattle.velo_events.proofs.OnReorderings.{conflict_at-within}
-use Rattle.velo_conflicts.specs.Numbers.{HasNumbers, AreBlank}
-use Rattle.velo_certify.specs.Table.{IsGreatestBefore, numbers_before}
-use Rattle.velo_certify.specs.Nearest.{own_positions, LeadsInto, IsNearest, IsNearestBelow, IsNoneBelow, IsWithNext}
+use Rattle.velo_certify.specs.Table.{IsGreatestBefore}
+use Rattle.velo_certify.specs.Nearest.{own_positions, LeadsInto, IsNearestBelow, IsNoneBelow, IsWithNext}
 
 pub own_positions-yes : (trace : List Event) (a i : ℕ) → owner trace i ≡ a → own_positions trace a i ≡ 1
 unfolding own_positions
@@ -47,15 +46,6 @@ LeadsInto-edge trace a n b w is = record {
   of_from = w.of_place;
   of_to = is;
   differ = λ same. w.differ (same ∙ sym is);
-}
-
-pub Edge-leads : (trace : List Event) (a b : ℕ) (e : Edge trace a b) → LeadsInto trace a e.to
-Edge-leads trace a b e = record {
-  place = e.from;
-  before = e.in_order;
-  in_conflict = e.in_conflict;
-  of_place = e.of_from;
-  differ = λ same. e.differ (same ∙ e.of_to);
 }
 
 -- a nearest one of the events before position n, or none of them leads there
@@ -99,14 +89,6 @@ module _ (trace : List Event) (distance : List ℕ) (a n : ℕ) where
         reached = ⊎_elim (λ e. subst (λ x. 0 < slice_index distance x) (sym e) some) (λ e. subst (λ x. 0 < slice_index distance x) (same_Some b r e) w.reached) either;
         nearest = λ i l h has. ⊎_elim (λ g. let before = w.nearest i g h has in omega (arith, old, before)) (λ g. let is = ap (λ k. slice_index distance (owner trace k)) (let same : i ≡ n = omega (arith, g, l) in same) in omega (arith, is, near)) (cases_lt i n);
       }
-
-pub IsNearestSoFar-end : (trace : List Event) (distance : List ℕ) (a n : ℕ) (nearest : Option ℕ) → length trace ≤ n → IsNearestSoFar trace distance a n nearest → MatchOption nearest ((b : ℕ) → Edge trace a b → slice_index distance b ≡ 0) (IsNearest trace distance a)
-IsNearestSoFar-end trace distance a n None all w = λ b e. subst (λ x. slice_index distance x ≡ 0) e.of_to (w.none e.to (let inside = e.in_trace in omega (arith, inside, all)) (Edge-leads trace a b e))
-IsNearestSoFar-end trace distance a n (Some b) all w = record {
-  edge = w.edge;
-  reached = w.reached;
-  nearest = λ c e some. subst (λ x. slice_index distance b ≤ slice_index distance x) e.of_to (w.nearest e.to (let inside = e.in_trace in omega (arith, inside, all)) (Edge-leads trace a c e) (subst (λ x. 0 < slice_index distance x) (sym e.of_to) some));
-}
 
 -- ---- whether an edge leads into a position
 

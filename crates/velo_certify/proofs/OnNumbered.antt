@@ -6,8 +6,8 @@ use Rattle.std.proofs.lemmas.Option.{slice_get-get_or, same_Some}
 use Rattle.velo_events.specs.declared.event.Event.{Event}
 use Rattle.velo_events.specs.Event.{access_of}
 use Rattle.velo_traces.proofs.Past.{past}
-use Rattle.velo_conflicts.specs.Numbers.{Rows, HasNumbers, IsGreatest, AreBlank, IsLookedUp, IsChangeLookedUp, IsRecorded, strong_for}
-use Rattle.velo_conflicts.proofs.OnRows.{HasNumbers-none}
+use Rattle.velo_traces.specs.Numbers.{Rows, HasNumbers, IsGreatest, AreBlank, IsLookedUp, IsChangeLookedUp, IsRecorded, strong_for}
+use Rattle.velo_traces.proofs.OnRows.{HasNumbers-none}
 use Rattle.velo_certify.specs.Owners.{event_at}
 use Rattle.velo_certify.specs.Table.{numbers_before, numbers_from, TakesIn, TakesChanges}
 use Rattle.velo_certify.proofs.OnGreatest.{IsNumbered-before, IsNumbered-from, IsGreatestBefore-by, IsGreatestAfter-by}

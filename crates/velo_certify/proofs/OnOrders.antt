@@ -12,7 +12,6 @@ use Rattle.velo_events.proofs.OnBlocks.{owner-le}
 use Rattle.velo_events.proofs.OnReorderings.{conflict_at-within, IsReordering-place, IsReordering-pair}
 use Rattle.velo_certify.specs.Owners.{AreOwners}
 use Rattle.velo_certify.specs.Order.{HasEachOnce, IsFilled, ArePlaces, KeepsConflicts, owner_at, AreTogether, StandSoFar}
-use Rattle.velo_conflicts.specs.Numbers.{IsBlank}
 
 -- ---- places
 
@@ -22,15 +21,6 @@ count_take p k xs =
     let both = sum_by-append (λ x. cond {A = ℕ} (p x) 1 0) (take k xs) (drop k xs) in
     let all = ap (count_by p) (take-append-drop k xs) in
     omega (arith, both, all)
-
-pub IsFilled-start : (order places : List ℕ) → IsBlank places → IsFilled order 0 places
-IsFilled-start order places blank = record {
-  counts = λ i. sym (ap (λ b. cond {A = ℕ} b 1 0) (le-ltb 0 (slice_index places i) (let none = zero_at i in omega (arith, none))));
-  placed = λ m l. absurd (omega (arith, l));
-}
-  where
-    zero_at : (i : ℕ) → slice_index places i ≡ 0
-    zero_at i = ⊎_elim (λ l. blank.each i l) (λ g. get_or_past places i 0 g) (cases_lt i (length places))
 
 module _ (order : List ℕ) (k : ℕ) (places : List ℕ) (within : k < length order) (w : IsFilled order k places) where
   abbrev pub here : ℕ

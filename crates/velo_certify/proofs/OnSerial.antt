@@ -1,12 +1,11 @@
 -- The rounds in which a serial order is listed.
-use Rattle.std.proofs.Common.{◌≡◌, ◌≢◌, ℕ, zero, suc, ◌+◌, ◌-◌, ◌<◌, ◌≤◌, Bool, true, false, cond, not, List, [], ◌∷◌, ◌++◌, length, set, replicate, refl, sym, ap, ◌∙◌, subst, arith, ⊎_elim}
-use Rattle.std.specs.Prelude.{◌==◌, ◌||◌, filter, slice_index_or, IsTrue, IsFalse, Contains}
+use Rattle.std.proofs.Common.{◌≡◌, ◌≢◌, ℕ, zero, suc, ◌+◌, ◌-◌, ◌<◌, ◌≤◌, Bool, true, false, cond, List, [], ◌∷◌, ◌++◌, length, set, replicate, refl, sym, ap, ◌∙◌, subst, arith, ⊎_elim}
+use Rattle.std.specs.Prelude.{◌==◌, ◌||◌, filter, slice_index_or, IsTrue, Contains}
 use Rattle.std.specs.List.{range_with_len}
 use Rattle.std.proofs.lemmas.Bool.{cases_Bool, cases_eq, eq-eqb, ne_eqb, or_right, both_ways, false_from_ne_true}
 use Rattle.std.proofs.lemmas.List.{append-nil, length-set, get_or-set_same, get_or-set_other, length-replicate, get_or-replicate, flat_map_more}
 use Rattle.std.proofs.lemmas.List.Elements.{filter-append}
 use Rattle.std.proofs.lemmas.List.Folds.{list_any-append}
-use Rattle.std.proofs.lemmas.List.Sums.{sum_by-set}
 use Rattle.std.proofs.lemmas.Cmp.{nat_eq_equiv}
 use Rattle.std.proofs.lemmas.Map.Views.{Contains-from_any, list_any-from_Contains, exact_unsigned_eq}
 use Rattle.velo_events.specs.declared.event.Event.{Event}
@@ -16,7 +15,7 @@ use Rattle.velo_events.specs.Certificate.{positions_of, IsReady, IsSerialOrder}
 use Rattle.velo_events.proofs.OnBlocks.{owner-le}
 use Rattle.velo_events.proofs.OnReorderings.{conflict_at-within}
 use Rattle.velo_events.proofs.OnSerializing.{is_listed, in_turn, IsGreedy, IsGreedy-nil, IsGreedy-push, ready_or_cycle, IsSerialOrder-by}
-use Rattle.velo_certify.specs.Serial.{has, AreClosed, IsFree, IsCandidate, left}
+use Rattle.velo_certify.specs.Serial.{has, AreClosed, IsFree, IsCandidate}
 
 -- ---- the positions of a transaction
 
@@ -179,13 +178,6 @@ module _ (trace : List Event) (listed : List Bool) (order : List ℕ) (w : Lists
   IsSerialOrder-done none = subst (IsSerialOrder trace) (sym w.items)
       (IsSerialOrder-by trace w.list w.greedy (λ a t. ⊎_elim (λ h. contains-of w.list a h)
       (λ h. absurd (none a (transaction-candidate trace w.list listed w.marked a t (λ k. both_ways _ h (of_contains w.list a k))))) (cases_Bool (is_listed w.list a))))
-
--- one is less to be listed
-pub left-set : (listed : List Bool) (a : ℕ) → a < length listed → IsFalse (has listed a) → left (set listed a true) < left listed
-left-set listed a within new =
-    let both = sum_by-set (λ b. cond {A = ℕ} (not b) 1 0) listed a true false within in
-    let was : cond {A = ℕ} (not (has listed a)) 1 0 ≡ 1 = ap (λ b. cond {A = ℕ} (not b) 1 0) new in
-    omega (arith, both, was)
 
 -- what was listed stays so
 pub has-set : (listed : List Bool) (a b : ℕ) → a < length listed → IsTrue (has listed b) → IsTrue (has (set listed a true) b)

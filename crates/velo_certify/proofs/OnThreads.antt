@@ -2,7 +2,7 @@
 use Rattle.std.proofs.Common.{◌≡◌, ◌≢◌, ℕ, ◌+◌, ◌-◌, ◌<◌, ◌≤◌, Bool, true, false, List, length, set, replicate, refl, sym, ap, ◌∙◌, subst, arith, ⊎_elim}
 use Rattle.std.specs.Prelude.{slice_index, slice_index_or, IsTrue, IsFalse}
 use Rattle.std.proofs.lemmas.Bool.{cases_lt, cases_eq, cases_Bool, eq-eqb, ltb-true, ltb-false, both_ways, false≢true}
-use Rattle.std.proofs.lemmas.List.{length-set, get_or-set_same, get_or-set_other, length-replicate, get_or-replicate}
+use Rattle.std.proofs.lemmas.List.{length-set, get_or-set_same, get_or-set_other, get_or-replicate}
 use Rattle.std.proofs.lemmas.Option.{slice_get-get_or}
 use Rattle.velo_events.specs.declared.event.Event.{Event}
 use Rattle.velo_events.specs.Event.{is_by}
@@ -18,7 +18,6 @@ use Rattle.velo_certify.specs.declared.serial.Next.{Next}
 use Rattle.velo_certify.specs.declared.serial.Next.TheVariants.{Ready, Stuck, Done}
 use Rattle.velo_certify.specs.Owners.{event_at}
 use Rattle.velo_certify.specs.Serial.{has, AreClosed, IsFree, IsCandidate, IsNext, is_before}
-use Rattle.velo_conflicts.specs.Places.{Sizes, AllHavePlaces}
 use Rattle.velo_certify.specs.Threads.{thread_at, IsFirstFrom, AreFirstFrom, AreFollowing, NamesFronts, AreFronts, IsBehind, IsNextSoFar, IsWithFront}
 use Rattle.velo_certify.proofs.OnSerial.{has-set, positions_below, below-stays, below-last}
 
@@ -37,24 +36,6 @@ own-conflict trace i j before within same =
     (ConflictsInOrder-same_thread trace (thread_at trace j) i j before (own-thread trace (thread_at trace j) i (omega (arith, before, within)) same) (own-thread trace (thread_at trace j) j within refl)).1
 
 -- ---- the places, found from the end
-
-pub NamesFronts-by : (trace : List Event) (s : Sizes) (fronts : List ℕ) → AllHavePlaces s trace (length trace) → s.threads ≡ length fronts → NamesFronts trace fronts
-NamesFronts-by trace s fronts names count = record {
-  each = λ i within. let w = (names.each i (event_at trace i) within (slice_get-get_or trace i past within)).thread in omega (arith, w, count);
-}
-
-pub AreFirstFrom-start : (trace : List Event) (count : ℕ) → AreFirstFrom trace (length trace) (replicate count (length trace))
-AreFirstFrom-start trace count = record {
-  each = λ t l. subst (IsFirstFrom trace t (length trace)) (sym (get_or-replicate count t (length trace) 0 (let n = length-replicate count (length trace) in omega (arith, l, n)))) (record {
-    from_n = omega arith;
-    at_most = omega arith;
-    own = λ h. absurd (omega (arith, h));
-    none = λ k l h. absurd (omega (arith, l, h));
-  });
-}
-
-pub AreFollowing-start : (trace : List Event) (following : List ℕ) → length following ≡ length trace → AreFollowing trace (length trace) following
-AreFollowing-start trace following count = record { count = count; each = λ i l h. absurd (omega (arith, l, h)) }
 
 module _ (trace : List Event) (n : ℕ) (fronts : List ℕ) (within : n < length trace) (names : NamesFronts trace fronts) (firsts : AreFirstFrom trace (n + 1) fronts) where
   pub AreFirstFrom-next : AreFirstFrom trace n (set fronts (thread_at trace n) n)

@@ -8,7 +8,7 @@ use Rattle.velo_events.specs.Conflict.{conflict}
 use Rattle.velo_events.specs.Graph.{Path, Reaches, conflict_at, ConflictsInOrder, HappensBefore}
 use Rattle.velo_events.proofs.OnGraphs.{Reaches-trans}
 use Rattle.velo_events.proofs.OnHappening.{HappensBefore-lt}
-use Rattle.velo_conflicts.specs.Numbers.{IsGreatest, IsNumbered}
+use Rattle.velo_traces.specs.Numbers.{IsGreatest, IsNumbered}
 use Rattle.velo_certify.specs.Table.{IsGreatestBefore, numbers_before}
 use Rattle.velo_certify.specs.Witness.{AreMarks, IsWitness, thread_at}
 use Rattle.velo_certify.proofs.OnGreatest.{IsGreatestBefore-by}

@@ -1,17 +1,15 @@
 -- Distances to a transaction, backwards along the edges of the graph. Private contracts cite these
 -- words.
-use Rattle.std.specs.Prelude.{◌≡◌, ◌≢◌, ℕ, suc, ◌+◌, ◌<◌, ◌≤◌, List, length, slice_index}
+use Rattle.std.specs.Prelude.{◌≡◌, ◌≢◌, ℕ, ◌+◌, ◌<◌, ◌≤◌, List, length, slice_index}
 use Rattle.velo_events.specs.declared.event.Event.{Event}
-use Rattle.velo_events.specs.Graph.{Edge}
+use Rattle.velo_events.specs.Graph.{Edge, Path}
 
--- the number of each transaction is the least number of edges that lead from it to the target plus
--- one, or 0 where none do
-pub record AreDistances (trace : List Event) (target : ℕ) (distance : List ℕ) : Type 0 where
+-- where a way leads out of the target and back to it, an edge leads from it to one whose number is
+-- no greater than the way back is long
+pub record AreShortest (trace : List Event) (target : ℕ) (distance : List ℕ) : Type 0 where
   pub count : length distance ≡ length trace
   pub begins : slice_index distance target ≡ 1
-  pub alone : (a : ℕ) → slice_index distance a ≡ 1 → a ≡ target
-  pub step : (a d : ℕ) → slice_index distance a ≡ suc (suc d) → (b : ℕ) × Edge trace a b × (slice_index distance b ≡ suc d)
-  pub least : (a b : ℕ) → Edge trace a b → 0 < slice_index distance b → (0 < slice_index distance a) × (slice_index distance a ≤ slice_index distance b + 1)
+  pub least : (b : ℕ) (between : List ℕ) → Edge trace target b → Path (Edge trace) b between target → (c : ℕ) × Edge trace target c × (0 < slice_index distance c) × (slice_index distance c ≤ length between + 2)
 
 -- what each but the target leads to is nearer by one
 pub record AreNearer (target : ℕ) (distance next : List ℕ) : Type 0 where

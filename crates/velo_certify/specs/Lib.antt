@@ -2,10 +2,9 @@ pub mod Shortest
 pub mod Table
 pub mod Owners
 pub mod Order
-pub mod Distances
 pub mod Reached
-pub mod Lists
-pub mod Search
+pub mod Distances
+pub mod Levels
 pub mod Nearest
 pub mod Cycle
 pub mod Faults

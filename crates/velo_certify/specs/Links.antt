@@ -12,7 +12,7 @@ use Rattle.velo_certify.specs.Chains.{IsIn, IsChain}
 use Rattle.velo_certify.specs.declared.chains.Links.{Links}
 use Rattle.velo_certify.specs.Owners.{event_at}
 use Rattle.velo_certify.specs.Serial.{has}
-use Rattle.velo_conflicts.specs.Numbers.{strong_for}
+use Rattle.velo_traces.specs.Numbers.{strong_for}
 use Rattle.velo_certify.specs.Threads.{thread_at}
 
 -- ---- which positions are linked

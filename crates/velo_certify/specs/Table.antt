@@ -4,7 +4,7 @@ use Rattle.std.specs.Prelude.{◌≡◌, ℕ, ◌+◌, ◌<◌, ◌≤◌, cond,
 use Rattle.velo_events.specs.declared.event.Event.{Event}
 use Rattle.velo_events.specs.Event.{access_of}
 use Rattle.velo_events.specs.Graph.{conflict_at}
-use Rattle.velo_conflicts.specs.Numbers.{Rows, HasNumbers, IsGreatest, strong_for}
+use Rattle.velo_traces.specs.Numbers.{Rows, HasNumbers, IsGreatest, strong_for}
 use Rattle.velo_certify.specs.Owners.{event_at}
 
 -- m is the greatest number of a position before j whose event conflicts with the one there, or 0

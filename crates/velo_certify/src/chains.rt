@@ -1,7 +1,7 @@
 //! Lists that are kept in one store.
 ghost use Rattle.std.specs.Prelude.{◌≡◌, ◌<◌, ◌+◌, ◌++◌, ◌∷◌, [], length, slice_index, slice_set, IfOk, OnOk};
 ghost use Rattle.velo_certify.specs.Chains.{AreDescending, AreWithin};
-ghost use Rattle.velo_conflicts.specs.Numbers.{IsBlank};
+ghost use Rattle.velo_traces.specs.Numbers.{IsBlank};
 
 use std::alloc::Global;
 use velo_events::Memory;

@@ -5,8 +5,8 @@ ghost use Rattle.velo_events.specs.Reordering.{IsSelfSerializable};
 ghost use Rattle.velo_certify.specs.Shortest.{IsShortestCycleAt};
 ghost use Rattle.velo_events.specs.declared.event.Event.{Event};
 ghost use Rattle.velo_certify.specs.Owners.{AreOwners};
-ghost use Rattle.velo_conflicts.specs.Places.{AllHavePlaces, sizes};
-ghost use Rattle.velo_certify.specs.Distances.{AreDistances, AreNearer, AreTowards};
+ghost use Rattle.velo_traces.specs.Places.{AllHavePlaces, sizes};
+ghost use Rattle.velo_certify.specs.Distances.{AreShortest, AreNearer, AreTowards};
 ghost use Rattle.velo_certify.specs.Nearest.{IsNearest};
 ghost use Rattle.velo_certify.specs.Cycle.{IsCycleFault, IsLastFault, IsCycleFrom, IsShortestFrom, IsLinked, next_in};
 
@@ -17,10 +17,9 @@ use crate::numbered::table_of;
 use crate::owners::{owner_of, owners_of};
 use crate::reached::Reached;
 use std::alloc::Global;
-use velo_conflicts::ConflictTable;
 use velo_events::growth::reserve;
 use velo_events::{Event, Memory};
-use velo_traces::Trace;
+use velo_traces::{ConflictTable, Trace};
 
 /// Walks from the first transaction of a cycle by way of the second back to the first.
 fn cycle_through(
@@ -32,7 +31,7 @@ fn cycle_through(
     requires nearer { AreNearer start reached.now.distance.items reached.now.next.items }
     requires second { 0 < slice_index reached.now.distance.items second }
     ensures { IfOk result (λ cycle.
-        (trace : List Event) → AreDistances trace start reached.now.distance.items →
+        (trace : List Event) → AreShortest trace start reached.now.distance.items →
         AreTowards trace start reached.now.distance.items reached.now.next.items →
         IsNearest trace reached.now.distance.items start second → IsShortestFrom trace start cycle.items) }
 {
@@ -69,8 +68,8 @@ fn last_cycle(alloc: Global, events: &[Event]) -> Result<Vec<usize>, CertFault>
 /// position. Each transaction is named by its first position; of several shortest cycles the least
 /// list is given.
 ///
-/// Each event is passed a bounded number of times, however long the cycle is, and the transactions
-/// that are at one distance are sorted.
+/// The events are passed once for each transaction of the cycle, or for each level of those that
+/// reach it where there is none.
 ///
 /// # Errors
 /// `NotThere` where the trace has no such position, `NoCycle` where no cycle of the events up to it

@@ -1,62 +1,123 @@
-//! How far transactions are from one that they reach, found backwards along the edges of the graph.
-ghost use Rattle.std.specs.Prelude.{◌≡◌, ◌<◌, ℕ, length, slice_index, IfOk};
+//! How far transactions are from one that they reach, found level by level, by one pass over the
+//! events for each.
+ghost use Rattle.std.specs.Prelude.{◌≡◌, ◌≤◌, ◌<◌, ◌+◌, false, ℕ, length, slice_index, IfOk, IsTrue};
+ghost use Rattle.velo_events.specs.Graph.{Edge};
+ghost use Rattle.velo_traces.specs.Numbers.{HasNumbers};
+ghost use Rattle.velo_certify.specs.declared.reached.Reached.{Reached};
+ghost use Rattle.velo_traces.specs.Places.{AllHavePlaces, sizes};
+ghost use Rattle.velo_certify.specs.Table.{numbers_from};
 ghost use Rattle.velo_certify.specs.Owners.{AreOwners};
-ghost use Rattle.velo_certify.specs.Distances.{AreDistances, AreTowards};
-ghost use Rattle.velo_certify.specs.Search.{AreOnLevel, AreVisited, Expands, IsSearched};
+ghost use Rattle.velo_certify.specs.Distances.{AreShortest, AreTowards};
+ghost use Rattle.velo_certify.specs.Reached.{unreached};
+ghost use Rattle.velo_certify.specs.Levels.{level_numbers, IsPassed, IsSearched, ReachesFrom};
 
-use crate::lists::Lists;
+use crate::numbered::{table_of, take_in};
 use crate::owners::owner_of;
 use crate::reached::Reached;
 use std::alloc::Global;
 use velo_events::{Event, Memory};
+use velo_traces::ConflictTable;
 
-/// Reaches the transactions from which an edge leads to this one.
-fn expand(
+/// Takes in the event at a position, where those after it were taken in, and reaches its transaction
+/// if one on the level has a later event that conflicts with it. Gives the lowest of these.
+fn reach_from(
     events: &[Event],
     owners: &[usize],
-    lists: &mut Lists,
+    table: &mut ConflictTable,
     reached: &mut Reached,
-    transaction: usize,
-)
+    level: usize,
+    at: usize,
+) -> Option<usize>
+    requires within { at < length events.now }
     requires owners { AreOwners owners.now events.now }
-    requires lists { AreVisited events.now lists.old reached.old }
-    requires positive { 0 < slice_index reached.old.distance.items transaction }
-    ensures lists { AreVisited events.now lists.new reached.new }
-    ensures expands { Expands events.now transaction reached.old reached.new }
+    requires names { AllHavePlaces (sizes table.old) events.now (length events.now) }
+    requires count { length reached.old.distance.items ≡ length events.now }
+    requires positive { 0 < level }
+    requires level { level ≤ length events.now }
+    requires numbers { HasNumbers events.now (numbers_from (level_numbers events.now reached.old.distance.items level) (at + 1)) table.old }
+    ensures sizes { sizes table.new ≡ sizes table.old }
+    ensures numbers { HasNumbers events.now (numbers_from (level_numbers events.now reached.new.distance.items level) at) table.new }
+    ensures reaches { ReachesFrom events.now level at reached.old reached.new result }
 {
-    let mut at = transaction;
-    while at < events.len() && owner_of(events, owners, at) == transaction {
-        lists.visit_conflicts(events, owners, reached, at);
-        at = lists.following[at];
+    let transaction = owner_of(events, owners, at);
+    let number = if reached.distance[transaction] == level {
+        events.len() - transaction
+    } else {
+        0
+    };
+    let found = take_in(table, events, at, number);
+    if found == 0 {
+        return None;
+    }
+    let next = events.len() - found;
+    reached.reach(transaction, next, level);
+    Some(next)
+}
+
+/// The same. Whether the transaction is the target, and an edge leads from it to the level.
+fn pass(
+    events: &[Event],
+    owners: &[usize],
+    table: &mut ConflictTable,
+    reached: &mut Reached,
+    target: usize,
+    level: usize,
+    at: usize,
+) -> bool
+    requires within { at < length events.now }
+    requires owners { AreOwners owners.now events.now }
+    requires names { AllHavePlaces (sizes table.old) events.now (length events.now) }
+    requires count { length reached.old.distance.items ≡ length events.now }
+    requires positive { 0 < level }
+    requires level { level ≤ length events.now }
+    requires numbers { HasNumbers events.now (numbers_from (level_numbers events.now reached.old.distance.items level) (at + 1)) table.old }
+    ensures sizes { sizes table.new ≡ sizes table.old }
+    ensures numbers { HasNumbers events.now (numbers_from (level_numbers events.now reached.new.distance.items level) at) table.new }
+    ensures passed { (first : Reached) → ((a : ℕ) → slice_index first.distance.items a ≤ level) →
+        IsPassed events.now level (at + 1) first reached.old → IsPassed events.now level at first reached.new }
+    ensures closes { IsTrue result → (c : ℕ) × Edge events.now target c × (slice_index reached.old.distance.items c ≡ level) }
+{
+    match reach_from(events, owners, table, reached, level, at) {
+        Some(next) => next != target && owner_of(events, owners, at) == target,
+        None => false,
     }
 }
 
-/// Expands the transactions of the queue from a place on, which are on one level.
-fn expand_level(
+/// Reaches the transactions from which an edge leads to one of the level. Whether there is a next
+/// level, and none of its transactions is the target.
+fn reach_level(
     events: &[Event],
     owners: &[usize],
-    lists: &mut Lists,
+    table: &mut ConflictTable,
     reached: &mut Reached,
-    begin: usize,
-)
+    target: usize,
+    level: usize,
+) -> bool
     requires owners { AreOwners owners.now events.now }
-    requires lists { AreVisited events.now lists.old reached.old }
-    requires begin { begin < length reached.old.found.items }
-    requires level { AreOnLevel reached.old begin }
-    ensures lists { AreVisited events.now lists.new reached.new }
-    ensures searched { (target : ℕ) → IsSearched events.now target begin reached.old →
-        IsSearched events.now target (length reached.old.found.items) reached.new }
-    ensures level { AreOnLevel reached.new (length reached.old.found.items) }
+    requires names { AllHavePlaces (sizes table.old) events.now (length events.now) }
+    requires positive { 0 < level }
+    requires level { level ≤ reached.old.count }
+    requires searched { IsSearched events.now target level reached.old }
+    ensures sizes { sizes table.new ≡ sizes table.old }
+    ensures fewer { IsTrue result → reached.old.count < reached.new.count }
+    ensures searched { IsSearched events.now target (level + 1) reached.new }
+    ensures shortest { result ≡ false → AreShortest events.now target reached.new.distance.items }
 {
-    let end = reached.found.len();
-    for k in begin..end {
-        let transaction = reached.found[k];
-        expand(events, owners, lists, reached, transaction);
+    table.clear();
+    let before = reached.count;
+    let mut is_closed = false;
+    let mut at = events.len();
+    while at > 0 {
+        at -= 1;
+        if pass(events, owners, table, reached, target, level, at) {
+            is_closed = true;
+        }
     }
+    reached.count > before && !is_closed
 }
 
 /// The transactions that reach the target, with the least numbers of edges that lead from them to
-/// it. On each level the lower numbers come first, so that each leads to the lowest one that is
+/// it, up to the level by which the target reaches itself. Each leads to the lowest one that is
 /// nearer.
 ///
 /// # Errors
@@ -69,17 +130,14 @@ pub(crate) fn reach_target(
 ) -> Result<Reached, Memory>
     requires owners { AreOwners owners.now events.now }
     requires target { target < length events.now }
-    ensures distances { IfOk result (λ reached. AreDistances events.now target reached.distance.items) }
+    ensures shortest { IfOk result (λ reached. AreShortest events.now target reached.distance.items) }
     ensures next { IfOk result (λ reached. AreTowards events.now target reached.distance.items reached.next.items) }
 {
-    let mut lists = Lists::new(alloc, events)?;
+    let mut table = table_of(alloc, events)?;
     let mut reached = Reached::new(alloc, events.len(), target)?;
-    let mut done = 0;
-    while done < reached.found.len() {
-        let end = reached.found.len();
-        reached.sort_from(done);
-        expand_level(events, owners, &mut lists, &mut reached, done);
-        done = end;
+    let mut level = 1;
+    while reach_level(events, owners, &mut table, &mut reached, target, level) {
+        level += 1;
     }
     Ok(reached)
 }

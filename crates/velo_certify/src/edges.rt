@@ -7,18 +7,17 @@ ghost use Rattle.velo_certify.specs.Cycle.{next_in, IsLinked};
 ghost use Rattle.velo_certify.specs.Edges.{ShowsEdge, ShowEdges, own_places};
 ghost use Rattle.velo_certify.specs.Owners.{AreOwners};
 ghost use Rattle.velo_certify.specs.Nearest.{LeadsInto};
-ghost use Rattle.velo_conflicts.specs.Numbers.{HasNumbers};
-ghost use Rattle.velo_conflicts.specs.Places.{AllHavePlaces, sizes};
+ghost use Rattle.velo_traces.specs.Numbers.{HasNumbers};
+ghost use Rattle.velo_traces.specs.Places.{AllHavePlaces, sizes};
 ghost use Rattle.velo_certify.specs.Table.{numbers_before};
 
 use crate::cycle::next_in;
 use crate::numbered::{table_of, take_in};
 use crate::owners::{owner_of, owners_of};
 use std::alloc::Global;
-use velo_conflicts::ConflictTable;
 use velo_events::growth::with_capacity;
 use velo_events::{Event, Memory};
-use velo_traces::Trace;
+use velo_traces::{ConflictTable, Trace};
 
 /// Two conflicting events of two transactions. They make an edge from the first one's transaction
 /// to the second one's.

@@ -8,7 +8,6 @@ mod distances;
 mod edges;
 mod fault;
 mod links;
-mod lists;
 mod nearest;
 mod numbered;
 mod order;

@@ -2,11 +2,11 @@
 //! these stand for all edges.
 ghost use Rattle.std.specs.Prelude.{◌≡◌, ◌<◌, ◌+◌, length, IfOk, OnOk, IsTrue};
 ghost use Rattle.velo_events.specs.Graph.{conflict_at};
-ghost use Rattle.velo_conflicts.specs.Numbers.{HasNumbers, IsBlank};
+ghost use Rattle.velo_traces.specs.Numbers.{HasNumbers, IsBlank};
 ghost use Rattle.velo_certify.specs.Links.{is_weak, counted, counted_back, pair_at, AreShown, IsBefore, IsBehind, IsLinked, DropsListed, HasRows, HasLinks};
 ghost use Rattle.velo_certify.specs.Serial.{has};
 ghost use Rattle.velo_certify.specs.Owners.{AreOwners};
-ghost use Rattle.velo_conflicts.specs.Places.{AllHavePlaces, sizes, sizes_of};
+ghost use Rattle.velo_traces.specs.Places.{AllHavePlaces, sizes, sizes_of};
 ghost use Rattle.velo_certify.specs.Table.{numbers_before, numbers_from};
 ghost use Rattle.velo_certify.specs.Threads.{thread_at};
 
@@ -14,9 +14,9 @@ use crate::chains::Links;
 use crate::numbered::take_change;
 use crate::owners::owner_of;
 use std::alloc::Global;
-use velo_conflicts::{ConflictTable, Counts};
 use velo_events::growth::filled;
 use velo_events::{Access, Event, Memory};
+use velo_traces::{ConflictTable, Counts};
 
 /// How many pairs of thread numbers there are.
 const PAIRS: usize = 65_536;

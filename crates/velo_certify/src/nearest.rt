@@ -2,15 +2,15 @@
 ghost use Rattle.std.specs.Prelude.{◌≡◌, ◌≤◌, ◌<◌, ◌+◌, ◌↔◌, ◌⊎◌, ℕ, length, slice_index, IfSome, MatchOption, IsTrue};
 ghost use Rattle.velo_events.specs.Graph.{Edge};
 ghost use Rattle.velo_certify.specs.Owners.{AreOwners};
-ghost use Rattle.velo_conflicts.specs.Numbers.{HasNumbers};
-ghost use Rattle.velo_conflicts.specs.Places.{AllHavePlaces, sizes};
+ghost use Rattle.velo_traces.specs.Numbers.{HasNumbers};
+ghost use Rattle.velo_traces.specs.Places.{AllHavePlaces, sizes};
 ghost use Rattle.velo_certify.specs.Table.{numbers_before};
 ghost use Rattle.velo_certify.specs.Nearest.{own_positions, LeadsInto, IsWithNext, IsNearest};
 
 use crate::numbered::take_in;
 use crate::owners::owner_of;
-use velo_conflicts::ConflictTable;
 use velo_events::Event;
+use velo_traces::ConflictTable;
 
 /// Takes in the event at a position, where those before it were taken in. Whether it makes an edge
 /// from the transaction to its own.

@@ -1,12 +1,12 @@
 //! Positions that get numbers one after another, from the front or from the back.
 ghost use Rattle.std.specs.Prelude.{◌≡◌, ◌<◌, length, IfOk};
-ghost use Rattle.velo_conflicts.specs.Numbers.{AreBlank};
-ghost use Rattle.velo_conflicts.specs.Places.{AllHavePlaces, sizes};
+ghost use Rattle.velo_traces.specs.Numbers.{AreBlank};
+ghost use Rattle.velo_traces.specs.Places.{AllHavePlaces, sizes};
 ghost use Rattle.velo_certify.specs.Table.{TakesIn, TakesChanges};
 
 use std::alloc::Global;
-use velo_conflicts::{ConflictTable, counts_of};
 use velo_events::{Event, Memory};
+use velo_traces::{ConflictTable, counts_of};
 
 /// A table for the events, without numbers.
 ///

@@ -2,7 +2,7 @@
 ghost use Rattle.std.specs.Prelude.{◌≡◌, ◌≤◌, ◌<◌, ◌+◌, ◌↔◌, ℕ, length, slice_index, IfOk, IfSome, IfNone, IsTrue, IsFalse};
 ghost use Rattle.velo_events.specs.Reordering.{IsReordering, IsSerial};
 ghost use Rattle.velo_certify.specs.Order.{HasEachOnce, IsFilled, ArePlaces, KeepsConflicts, AreTogether, StandSoFar};
-ghost use Rattle.velo_conflicts.specs.Numbers.{IsBlank};
+ghost use Rattle.velo_traces.specs.Numbers.{IsBlank};
 
 use crate::numbered::{table_of, take_in};
 use crate::owners::owners_of;

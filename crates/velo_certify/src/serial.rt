@@ -18,10 +18,9 @@ use crate::links::{drop_listed, links_of};
 use crate::owners::{owner_of, owners_of};
 use crate::threads::Threads;
 use std::alloc::Global;
-use velo_conflicts::counts_of;
 use velo_events::growth::{filled, reserve, with_capacity};
 use velo_events::{Event, Memory};
-use velo_traces::Trace;
+use velo_traces::{Trace, counts_of};
 
 /// What is listed next.
 #[derive(Clone, Copy)]

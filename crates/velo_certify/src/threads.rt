@@ -1,12 +1,12 @@
 //! The events of each thread in their order, and how far each thread's are listed.
 ghost use Rattle.std.specs.Prelude.{◌≡◌, ◌<◌, ◌+◌, length, IfOk};
-ghost use Rattle.velo_conflicts.specs.Places.{AllHavePlaces, sizes_of};
+ghost use Rattle.velo_traces.specs.Places.{AllHavePlaces, sizes_of};
 ghost use Rattle.velo_certify.specs.Threads.{AreFirstFrom, AreFollowing, NamesFronts};
 
 use std::alloc::Global;
-use velo_conflicts::Counts;
 use velo_events::growth::filled;
 use velo_events::{Event, Memory};
+use velo_traces::Counts;
 
 /// Each place that is not there is the number of positions.
 #[derive(Drop)]

@@ -1,15 +1,14 @@
 //! Why a block is to blame: an event of another thread that no reordering moves out of it.
 ghost use Rattle.std.specs.Prelude.{◌≡◌, ◌≢◌, ◌≤◌, ◌<◌, ◌+◌, ℕ, length, slice_index, vec_len, vec_capacity, IfOk, MatchOption, IsTrue};
-ghost use Rattle.velo_conflicts.specs.Numbers.{HasNumbers};
-ghost use Rattle.velo_conflicts.specs.Places.{AllHavePlaces, sizes};
+ghost use Rattle.velo_traces.specs.Numbers.{HasNumbers};
+ghost use Rattle.velo_traces.specs.Places.{AllHavePlaces, sizes};
 ghost use Rattle.velo_certify.specs.Witness.{AreMarks, IsWitness};
 
 use crate::numbered::table_of;
 use std::alloc::Global;
-use velo_conflicts::ConflictTable;
 use velo_events::growth::with_capacity;
 use velo_events::{Event, Memory, conflicts};
-use velo_traces::Trace;
+use velo_traces::{ConflictTable, Trace};
 
 /// Takes the next event in, and marks it where it is the begin or a marked one conflicts with it.
 fn mark_next(

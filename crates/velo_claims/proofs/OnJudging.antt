@@ -1,7 +1,7 @@
 -- What a certificate says of its log, and what a judged claim comes to.
 use Rattle.std.proofs.Common.{◌≡◌, ℕ, ◌+◌, ◌<◌, Bool, true, false, List, [], ◌∷◌, length, take, Option, Some, None, refl, sym, ap, subst, ◌∙◌, arith}
 use Rattle.std.proofs.lemmas.Bool.{false≢true}
-use Rattle.std.specs.Prelude.{◌≢◌, ◌↔◌, ◌≤◌, IsTrue, Contains, slice_index, slice_get}
+use Rattle.std.specs.Prelude.{◌↔◌, ◌≤◌, IsTrue, Contains, slice_index, slice_get}
 use Rattle.velo_events.specs.declared.event.Event.{Event}
 use Rattle.velo_events.specs.Block.{owner}
 use Rattle.velo_events.specs.Graph.{Edge, HasCycle, IsCycle}
@@ -13,7 +13,7 @@ use Rattle.velo_claims.specs.declared.claim.ClaimedAlarm.{ClaimedAlarm}
 use Rattle.velo_claims.specs.declared.judging.Outcome.{Outcome}
 use Rattle.velo_claims.specs.declared.judging.Outcome.TheVariants.{Clean, Alarm, Refuted}
 use Rattle.velo_claims.specs.declared.judging.Reason.{Reason}
-use Rattle.velo_claims.specs.declared.judging.Reason.TheVariants.{OtherEvents, NoCertificate, WrongOrder, WrongCycle, WrongTransaction}
+use Rattle.velo_claims.specs.declared.judging.Reason.TheVariants.{NoCertificate, WrongOrder}
 use Rattle.velo_claims.specs.Judging.{Certifies, CertifiesOrder, HasCycleAt, IsBorneOut, IsClean, IsOutcome, IsRefuted, is_verified, refuted_by}
 use Rattle.velo_claims.specs.Text.{Claimed}
 
@@ -67,23 +67,6 @@ IsOutcome-order log claim same none wrong = by claim.certificate refl
     by : (list : List ℕ) → claim.certificate ≡ list → IsOutcome log claim (refuted_by list WrongOrder)
     by [] e = ((same, e, λ h. not_so (record { events = same; certified = h })), not_so)
     by (x ∷ xs) e = ((same, (λ h. cc), none, wrong), not_so)
-
-pub IsOutcome-cycle : (log : List Event) (claim : Claimed) (alarm : ClaimedAlarm) → claim.events ≡ length log → claim.alarm ≡ Some alarm → ¬ IsShortestCycleAt log alarm.position claim.certificate → IsOutcome log claim (refuted_by claim.certificate WrongCycle)
-IsOutcome-cycle log claim alarm same some wrong = by claim.certificate refl
-  where
-    not_so : ¬ IsBorneOut log claim
-    not_so h = wrong (certified_by log claim (Some alarm) some h).0
-
-    by : (list : List ℕ) → claim.certificate ≡ list → IsOutcome log claim (refuted_by list WrongCycle)
-    by [] e = ((same, e, λ h. not_so (record { events = same; certified = h })), not_so)
-    by (x ∷ xs) e = ((same, (λ h. cc), (alarm, some, wrong)), not_so)
-
-pub IsOutcome-transaction : (log : List Event) (claim : Claimed) (alarm : ClaimedAlarm) → claim.events ≡ length log → claim.alarm ≡ Some alarm → IsShortestCycleAt log alarm.position claim.certificate → alarm.transaction ≢ owner log alarm.position → IsOutcome log claim (Refuted WrongTransaction)
-IsOutcome-transaction log claim alarm same some h other =
-    ((same, (alarm, some, h, other)), λ b. other (certified_by log claim (Some alarm) some b).1)
-
-pub IsOutcome-events : (log : List Event) (claim : Claimed) → claim.events ≢ length log → IsOutcome log claim (Refuted OtherEvents)
-IsOutcome-events log claim other = (other, λ b. other b.events)
 
 -- ---- the outcome tells whether the claim is borne out
 

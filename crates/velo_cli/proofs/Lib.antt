@@ -1,1 +1,3 @@
-mod OnRunning
+mod OnExplaining
+mod OnFindings
+mod OnWatching

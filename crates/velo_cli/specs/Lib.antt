@@ -1,2 +1,2 @@
-pub mod Running
-pub mod Usage
+pub mod Auditing
+pub mod Predicting

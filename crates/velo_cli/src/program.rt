@@ -1,30 +1,21 @@
 //! What the program does with the words of its command line, whatever its devices are.
-ghost use Rattle.std.specs.Prelude.{◌≡◌, map};
-ghost use Rattle.std.specs.declared.io.ErrorKind.TheVariants.{InvalidData};
-ghost use Rattle.clap.specs.Words.{subcommand_rows_of};
-ghost use Rattle.velo_delivery.specs.Disk.{store};
-ghost use Rattle.velo_fate.specs.Fate.{Closes, Ends};
-ghost use Rattle.velo_delivery.specs.Writing.{writing};
-ghost use Rattle.velo_fate.specs.declared.fate.Fate.TheVariants as fate;
-ghost use Rattle.velo_arguments.specs.Asked.{AsksForNothing};
-ghost use Rattle.velo_cli.specs.Running.{DoesOrTellsClash, Runs};
-ghost use Rattle.velo_cli.specs.Usage.{bad_usage, console_of, not_utf8};
 
+use crate::arguments::command;
+use crate::doing::do_request;
+use crate::growth::matches_of;
+use crate::progress::ExploreProgress;
 use crate::telling::{tell_clash, tell_error, tell_fault};
+use crate::together::read_request;
 use clap::ArgMatches;
 use std::alloc::Global;
 use std::convert::AsStr;
 use std::io;
 use std::sync::Wait;
 use std::thread::Threads;
-use velo_arguments::{command, matches_of, read_request};
 use velo_bytes::Sink;
-use velo_commands::do_request;
-use velo_delivery::Files;
+use velo_check::{Fate, Files, end_with};
 use velo_events::Memory;
-use velo_fate::{Fate, end_with};
 use velo_words::{Recall, end_in_words};
-use velo_workload_commands::ExploreProgress;
 
 /// Does what the words ask for, with reports and help on the one sink and all else on the other,
 /// and returns the status to end with. How far a search is goes to `progress`.
@@ -43,13 +34,7 @@ pub fn run<
     out: &mut O,
     err: &mut E,
     progress: &mut P,
-) -> u8
-    ensures { Runs (map W.text words.now) (store F.disk files.old files.new)
-        (F.failed files.new)
-        (console_of (out.new ≡ out.old)
-        (writing O.contents O.failures out.old out.new)
-        (writing E.contents E.failures err.old err.new) result) }
-{
+) -> u8 {
     let command = match command(alloc) {
         Ok(command) => command,
         Err(Memory) => return end_with(&Fate::Memory, err),
@@ -78,14 +63,7 @@ fn do_asked<R: Threads + Wait + Sync, F: Files + Recall, O: Sink, E: Sink, P: Ex
     out: &mut O,
     err: &mut E,
     progress: &mut P,
-) -> u8
-    requires { ¬ AsksForNothing (subcommand_rows_of matches.now) }
-    ensures { DoesOrTellsClash (subcommand_rows_of matches.now) (store F.disk files.old files.new)
-        (F.failed files.new)
-        (console_of (out.new ≡ out.old)
-        (writing O.contents O.failures out.old out.new)
-        (writing E.contents E.failures err.old err.new) result) }
-{
+) -> u8 {
     match read_request(matches) {
         Ok(request) => {
             let fate = do_request(rt, alloc, &request, files, out, progress);
@@ -97,12 +75,7 @@ fn do_asked<R: Threads + Wait + Sync, F: Files + Recall, O: Sink, E: Sink, P: Ex
 
 /// Reports why the words of the command line could not be had, and returns the status to end with.
 /// Any kind but `InvalidData` is reported as out of memory.
-pub fn end_without_words<E: Sink>(kind: io::ErrorKind, err: &mut E) -> u8
-    ensures not_utf8 { kind ≡ InvalidData → Closes bad_usage not_utf8
-        (writing E.contents E.failures err.old err.new) result }
-    ensures memory { ¬ (kind ≡ InvalidData) → Ends fate.Memory
-        (writing E.contents E.failures err.old err.new) result }
-{
+pub fn end_without_words<E: Sink>(kind: io::ErrorKind, err: &mut E) -> u8 {
     if kind != io::ErrorKind::InvalidData {
         return end_with(&Fate::Memory, err);
     }

@@ -1,22 +1,15 @@
 //! What the program prints where the words of its command line ask for nothing to be done.
-ghost use Rattle.std.specs.Prelude.{◌≡◌, ◌≢◌};
-ghost use Rattle.clap.specs.Words.{kind_of};
-ghost use Rattle.clap.specs.declared.error.kind.ErrorKind.TheVariants.{OutOfMemory};
-ghost use Rattle.velo_events.specs.Refusals.{GrowthRefused};
-ghost use Rattle.velo_fate.specs.Fate.{Closes};
-ghost use Rattle.velo_delivery.specs.Writing.{writing};
-ghost use Rattle.velo_arguments.specs.Together.{line_of_clash};
-ghost use Rattle.velo_cli.specs.Usage.{ShowsHelp, Tells, TellsError, bad_usage, console_of};
 
+use crate::clash::{Clash, line_of_clash};
+use crate::growth::text_of;
 use clap::Error;
 use clap::error::ErrorKind;
 use std::alloc::Global;
-use velo_arguments::{Clash, line_of_clash, text_of};
 use velo_bytes::{Sink, write_all};
-use velo_escapes::escaped_lines;
+use velo_check::status::{DONE, FAILED};
+use velo_check::{Fate, end_with};
 use velo_events::Memory;
-use velo_fate::{Fate, end_with};
-use velo_request::status::{DONE, FAILED};
+use velo_words::escaped_lines;
 
 /// The status of a fault of usage.
 const BAD_USAGE: u8 = 2;
@@ -29,12 +22,7 @@ fn words_of(alloc: Global, error: &Error) -> Result<Vec<u8>, Memory> {
 
 /// Reports an error of the words: help on the one sink, a fault of usage on the other. Returns the
 /// status to end with.
-pub fn tell_error<O: Sink, E: Sink>(alloc: Global, error: &Error, out: &mut O, err: &mut E) -> u8
-    requires { kind_of error.now ≡ OutOfMemory → GrowthRefused }
-    ensures { Tells (kind_of error.now) (console_of (out.new ≡ out.old)
-        (writing O.contents O.failures out.old out.new)
-        (writing E.contents E.failures err.old err.new) result) }
-{
+pub fn tell_error<O: Sink, E: Sink>(alloc: Global, error: &Error, out: &mut O, err: &mut E) -> u8 {
     if error.kind() == ErrorKind::OutOfMemory {
         return end_with(&Fate::Memory, err);
     }
@@ -48,11 +36,7 @@ pub fn tell_error<O: Sink, E: Sink>(alloc: Global, error: &Error, out: &mut O, e
 }
 
 /// Reports an error of this kind by its text.
-fn tell_text<O: Sink, E: Sink>(kind: ErrorKind, text: &[u8], out: &mut O, err: &mut E) -> u8
-    ensures { kind ≢ OutOfMemory → TellsError kind text.now (console_of (out.new ≡ out.old)
-        (writing O.contents O.failures out.old out.new)
-        (writing E.contents E.failures err.old err.new) result) }
-{
+fn tell_text<O: Sink, E: Sink>(kind: ErrorKind, text: &[u8], out: &mut O, err: &mut E) -> u8 {
     match kind {
         ErrorKind::DisplayHelp | ErrorKind::DisplayVersion => show_help(text, out, err),
         _ => tell_fault(text, err),
@@ -60,11 +44,7 @@ fn tell_text<O: Sink, E: Sink>(kind: ErrorKind, text: &[u8], out: &mut O, err: &
 }
 
 /// Prints help, or reports that it could not be written.
-fn show_help<O: Sink, E: Sink>(text: &[u8], out: &mut O, err: &mut E) -> u8
-    ensures { ShowsHelp (console_of (out.new ≡ out.old)
-        (writing O.contents O.failures out.old out.new)
-        (writing E.contents E.failures err.old err.new) result) text.now }
-{
+fn show_help<O: Sink, E: Sink>(text: &[u8], out: &mut O, err: &mut E) -> u8 {
     match write_all(out, text) {
         Ok(()) => DONE,
         Err(_) => end_with(&Fate::WriteFailed, err),
@@ -72,9 +52,7 @@ fn show_help<O: Sink, E: Sink>(text: &[u8], out: &mut O, err: &mut E) -> u8
 }
 
 /// Reports a fault of usage. If this fails, there is no other place to report it.
-pub fn tell_fault<E: Sink>(text: &[u8], err: &mut E) -> u8
-    ensures { Closes bad_usage text.now (writing E.contents E.failures err.old err.new) result }
-{
+pub fn tell_fault<E: Sink>(text: &[u8], err: &mut E) -> u8 {
     match write_all(err, text) {
         Ok(()) => BAD_USAGE,
         Err(_) => FAILED,
@@ -82,9 +60,6 @@ pub fn tell_fault<E: Sink>(text: &[u8], err: &mut E) -> u8
 }
 
 /// Reports why the options of a request do not go together, and returns the status to end with.
-pub fn tell_clash<E: Sink>(clash: Clash, err: &mut E) -> u8
-    ensures { Closes bad_usage (line_of_clash clash)
-        (writing E.contents E.failures err.old err.new) result }
-{
+pub fn tell_clash<E: Sink>(clash: Clash, err: &mut E) -> u8 {
     tell_fault(line_of_clash(clash), err)
 }

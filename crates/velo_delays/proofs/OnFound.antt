@@ -1,10 +1,10 @@
 -- What is found one after another.
-use Rattle.std.proofs.Common.{◌≡◌, ℕ, zero, suc, ◌<◌, ◌≤◌, true, List, [], ◌∷◌, ◌++◌, get_or, length, map, take, Option, Some, None, refl, sym, ap, ◌∙◌, subst, append_assoc, arith, ⊎_elim}
+use Rattle.std.proofs.Common.{◌≡◌, ℕ, zero, suc, ◌<◌, ◌≤◌, true, List, [], ◌∷◌, ◌++◌, length, map, take, Option, Some, None, refl, sym, ap, ◌∙◌, subst, append_assoc, arith, ⊎_elim}
 use Rattle.std.specs.Prelude.{Bool, All, Contains, IfSome, IsFalse, IsTrue, OnOk, Result, Ok, Err, slice_get, slice_index}
 use Rattle.std.proofs.lemmas.Bool.{eq-eqb, or_left, or_right}
 use Rattle.std.proofs.lemmas.List.{append-nil, length-append, take-append-le, take_all}
 use Rattle.std.proofs.lemmas.List.Elements.{All-head, All-weaker, All-contains_itself}
-use Rattle.std.proofs.lemmas.Option.{none-some, same_Some, slice_get-get_or, slice_get_within}
+use Rattle.std.proofs.lemmas.Option.{none-some, same_Some, slice_get_within}
 use Rattle.velo_events.specs.declared.config.Bounds.{Bounds}
 use Rattle.velo_events.specs.declared.event.Event.{Event}
 use Rattle.velo_traces.specs.declared.block.Block.{Block}
@@ -27,9 +27,6 @@ each-push P [] y each last zero x is = subst (P []) (same_Some y x is) last
 each-push P [] y each last (suc i) x is = absurd (none-some x is)
 each-push P (z ∷ zs) y each last zero x is = each 0 x is
 each-push P (z ∷ zs) y each last (suc i) x is = each-push (λ ws. P (z ∷ ws)) zs y (λ j w its. each (suc j) w its) last i x is
-
-pub All-from_each : {X : Type 0} (P : X → Type 0) (xs : List X) → ((i : ℕ) (x : X) → slice_get xs i ≡ Some x → P x) → All P xs
-All-from_each P xs each = λ i d within. each i (get_or xs i d) (slice_get-get_or xs i d within)
 
 pub on_ok : {A E : Type 0} {P Q : Type 0} (r : Result A E) → (P → Q) → OnOk r P → OnOk r Q
 on_ok (Ok x) f h = f h

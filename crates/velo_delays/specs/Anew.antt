@@ -1,17 +1,16 @@
 -- The events of a log with values that tell where they come from.
-use Rattle.std.specs.Prelude.{◌≡◌, ℕ, List, take, length, slice_get, Some}
+use Rattle.std.specs.Prelude.{◌≡◌, ℕ, ◌+◌, List, take, length, slice_get, Some}
 use Rattle.velo_events.specs.declared.event.Event.{Event}
 use Rattle.velo_events.specs.declared.event.Kind.{Kind}
 use Rattle.velo_events.specs.declared.event.Kind.TheVariants.{Read, Write}
 use Rattle.velo_events.specs.Heap.{value_in}
 use Rattle.velo_heap.specs.Contents.{Contents, IsHeapOf}
-use Rattle.velo_explain.specs.Text.{line_of}
 use Rattle.velo_search.specs.Plain.{plain_log}
 
 -- the operation after these events: a write writes the number of its line, a read has the latest value
 abbrev pub renewed_kind : List Event → Kind → Kind
 renewed_kind before (Read x v) = Read x (value_in before x.0)
-renewed_kind before (Write x v) = Write x (line_of (length before))
+renewed_kind before (Write x v) = Write x (length before + 2)
 renewed_kind before kind = kind
 
 abbrev pub renewed : List Event → Event → Event

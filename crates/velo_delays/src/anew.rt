@@ -8,7 +8,6 @@ ghost use Rattle.velo_delays.specs.Anew.{renewed, IsRenewed, IsRenewedSoFar};
 
 use std::alloc::Global;
 use velo_events::{Config, Event, Kind, Memory};
-use velo_explain::line_of;
 use velo_heap::Heap;
 use velo_traces::Trace;
 
@@ -20,7 +19,7 @@ fn renewed(heap: &Heap, event: Event, position: usize) -> Event
 {
     let kind = match event.kind {
         Kind::Read(x, _) => Kind::Read(x, heap.value(x)),
-        Kind::Write(x, _) => Kind::Write(x, line_of(position)),
+        Kind::Write(x, _) => Kind::Write(x, position as u64 + 2),
         kind => kind,
     };
     Event {

@@ -15,8 +15,6 @@ pub mod OnConflicts
 pub mod OnGraphs
 pub mod OnReorderings
 pub mod Deciders
-pub mod Rows
-pub mod RowsOfMeaning
 pub mod OnPositions
 pub mod OnHappening
 pub mod OnOwners

@@ -201,11 +201,6 @@ self_serializable_law trace t b p last own opened = (
   self_serializable-from_none trace t b p last own opened,
 )
 
--- so it is self-serializable, or is not
-pub cases_self_serializable : (trace : List Event) (t b p : ℕ) → length trace ≡ p + 1 → IsTrue (passes_at trace (is_by t) p) → IsTrue (is_open_at trace t b (length trace)) → IsSelfSerializable trace b ⊎ (¬ IsSelfSerializable trace b)
-cases_self_serializable trace t b p last own opened =
-    ⊎_elim (λ w. inr (not_self_serializable-from_interrupted trace t b p own opened w)) (λ none. inl (self_serializable-from_none trace t b p last own opened none)) (cases_interrupted trace t b p)
-
 -- The open blocks of the thread of the last position that pass a test are those to blame, where the test passes just those
 -- that are interrupted
 pub AreBlamed-filter : (trace : List Event) (t p : ℕ) (test : ℕ → Bool) → length trace ≡ p + 1 → IsTrue (passes_at trace (is_by t) p) → ((b : ℕ) → IsTrue (is_open_at trace t b (length trace)) → IsTrue (test b) ↔ IsInterrupted trace t b p) → AreBlamed trace t (filter test (open_blocks trace t))
@@ -220,15 +215,6 @@ AreBlamed-filter trace t p test last own says = record {
         (Contains-filter test (open_blocks trace t) b).1 (w.0, (says b opened).1 ((blame_law trace t b p last own opened).0 w.1))),
   );
   outermost_first = IsStrictlyIncreasing-filter test (open_blocks trace t) (open_blocks-increase trace t);
-}
-
--- where an inner block is interrupted so are the outer ones
-pub IsInterrupted-outer : (trace : List Event) (t b inner p : ℕ) → IsTrue (passes_at trace (is_by t) b) → IsTrue (passes_at trace (is_by t) inner) → b < inner → IsInterrupted trace t inner p → IsInterrupted trace t b p
-IsInterrupted-outer trace t b inner p own own_inner l w = record {
-  through = w.through;
-  of_another = w.of_another;
-  out = Leads-trans (ConflictsInOrder trace) b inner w.through ([], ConflictsInOrder-same_thread trace t b inner l own own_inner) w.out;
-  back = w.back;
 }
 
 -- ---- before the first cycle the last link decides

@@ -1,5 +1,5 @@
 -- Lists that are filled up with blanks.
-use Rattle.std.proofs.Common.{◌≡◌, ℕ, ◌+◌, ◌-◌, ◌≤◌, List, ◌++◌, length, take, get_or, max, refl, sym, ap, ◌∙◌, arith, length-append, ⊎_elim}
+use Rattle.std.proofs.Common.{◌≡◌, ℕ, ◌-◌, ◌≤◌, List, ◌++◌, length, take, get_or, max, refl, sym, ap, ◌∙◌, arith, length-append, ⊎_elim}
 use Rattle.std.specs.Prelude.{replicate}
 use Rattle.std.proofs.lemmas.Bool.{cases_lt}
 use Rattle.std.proofs.lemmas.List.{append-nil, take_all, get_or_append_left, get_or-append_right, get_or_past, get_or-replicate, length-replicate}
@@ -15,11 +15,6 @@ unfolding filled_up
 filled_up-short blank n k xs all h =
     ap (λ ys. ys ++ replicate (n - k) blank) (take_all n xs (omega (arith, all, h)))
     ∙ ap (λ m. xs ++ replicate m blank) (let same : n - k ≡ n - length xs = omega (arith, all) in same)
-
--- what as many pushes as are missing leave
-pub filled_up-pushed : {X : Type 0} (blank : X) (n k : ℕ) (xs : List X) → length xs + k ≡ n → xs ++ replicate k blank ≡ filled_up blank n xs
-unfolding filled_up
-filled_up-pushed blank n k xs h = ap (λ m. xs ++ replicate m blank) (let same : k ≡ n - length xs = omega (arith, h) in same)
 
 pub get_or-blanks : {X : Type 0} (blank : X) (n i : ℕ) → get_or (replicate n blank) i blank ≡ blank
 get_or-blanks blank n i =

@@ -34,22 +34,6 @@ IsCycle-next R (c ∷ d ∷ rest) a h w = at w.0 w.1 w.2
         let v = Path-at R c (d ∷ rest) c a k h (omega arith) e in
         (v.0, v.1, Reaches-trans R v.0 c a v.2 v.3)
 
--- the first number of a cycle reaches each, and each reaches it
-IsCycle-first : (R : ℕ → ℕ → Type 0) (c d : ℕ) (rest : List ℕ) (a : ℕ) → Path R c (d ∷ rest) c → Contains (c ∷ d ∷ rest) a → Reaches R c a × Reaches R a c
-IsCycle-first R c d rest a h w = at w.0 w.1 w.2
-  where
-    at : (k : ℕ) → k < length (c ∷ d ∷ rest) → slice_index_or (c ∷ d ∷ rest) k a ≡ a → Reaches R c a × Reaches R a c
-    at zero l e = (inl e, inl (sym e))
-    at (suc k) l e =
-        let v = Path-at R c (d ∷ rest) c a k h (omega arith) e in
-        (v.3, Reaches-trans R a v.0 c (inr ([], v.1)) v.2)
-
--- any two numbers on a cycle reach one another
-pub IsCycle-reaches : (R : ℕ → ℕ → Type 0) (cycle : List ℕ) (a b : ℕ) → IsCycle R cycle → Contains cycle a → Contains cycle b → Reaches R a b
-IsCycle-reaches R [] a b h v w = absurd h
-IsCycle-reaches R (c ∷ []) a b h v w = absurd h
-IsCycle-reaches R (c ∷ d ∷ rest) a b h v w = Reaches-trans R a c b (IsCycle-first R c d rest a h v).1 (IsCycle-first R c d rest b h w).0
-
 -- two paths, there and back, make a cycle that contains both ends
 pub IsCycle-by : (R : ℕ → ℕ → Type 0) (a b : ℕ) → Leads R a b → Leads R b a → (cycle : List ℕ) × IsCycle R cycle × Contains cycle a × Contains cycle b
 IsCycle-by R a b there back = make there.0 there.1
@@ -86,15 +70,6 @@ IsOnCycle-cycle trace a b differ there back =
 -- a transaction on a cycle makes one
 pub HasCycle-from_on : (trace : List Event) (a : ℕ) → IsOnCycle trace a → HasCycle trace
 HasCycle-from_on trace a w = let c = IsOnCycle-cycle trace a w.other w.differ w.there w.back in record { cycle = c.0; is_cycle = c.1 }
-
--- and each cycle has one on it
-pub HasCycle-on : (trace : List Event) → HasCycle trace → (a : ℕ) × IsOnCycle trace a
-HasCycle-on trace c = go c.cycle c.is_cycle
-  where
-    go : (cycle : List ℕ) → IsCycle (Edge trace) cycle → (a : ℕ) × IsOnCycle trace a
-    go [] h = absurd h
-    go (a ∷ []) h = absurd h
-    go (a ∷ b ∷ rest) h = (a, IsOnCycle-from_cycle trace (a ∷ b ∷ rest) a h (0, omega arith, refl))
 
 -- ---- what reaches is in the trace
 

@@ -59,9 +59,6 @@ is_Unborn Live h = absurd (false≢true h)
 is_Unborn Exited h = absurd (false≢true h)
 is_Unborn Joined h = absurd (false≢true h)
 
-pub unborn-Unborn : (s : Status) → s ≡ Unborn → IsTrue (is_unborn s)
-unborn-Unborn s h = ap is_unborn h
-
 -- at the start thread 0 is born, and no other
 pub status_in-nil : (t : ℕ) → status_in [] t ≡ status_by false false ((t == 0) || false)
 status_in-nil t = rw (happened-nil (is_join_of t), happened-nil (is_exit_by t), happened-nil (is_fork_of t)) refl

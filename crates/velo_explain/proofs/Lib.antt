@@ -1,4 +1,4 @@
-pub mod OnPieces
 pub mod OnEvidence
 pub mod OnReasons
-pub mod OnLanes
+pub mod OnLatest
+pub mod OnPairs

@@ -1,10 +1,5 @@
-pub mod Pieces
-pub mod Fitting
 pub mod Spans
 pub mod Evidence
-pub mod Order
-pub mod Lanes
-pub mod Text
-pub mod Picture
+pub mod Latest
+pub mod Pairs
 pub mod Count
-pub mod Places

@@ -1,10 +1,4 @@
 //! Which events a picture in lanes shows.
-ghost use Rattle.std.specs.Prelude.{◌≡◌, ◌≤◌, ◌++◌, length, map, fold, IfOk, OnOk};
-ghost use Rattle.std.specs.List.{flat_map};
-ghost use Rattle.velo_events.specs.declared.limits.TheConstants.{MAX_EVENTS};
-ghost use Rattle.velo_explain.specs.declared.spans.Span.{Span};
-ghost use Rattle.velo_explain.specs.declared.evidence.Blame.{Blame};
-ghost use Rattle.velo_explain.specs.Lanes.{ends_of, cycle_marks, other_marks, fits, with_mark, marks_of, lanes_text, marked_text};
 
 use crate::evidence::{Blame as BlameOf, Evidence};
 use crate::fitting::{SCREEN_LANES, SCREEN_LINES, lines_in};
@@ -18,9 +12,7 @@ use velo_events::{Event, Memory};
 use velo_names::Names;
 
 /// The events of the edges of the cycle.
-pub(crate) fn cycle_marks(alloc: Global, edges: &[EdgeEvents]) -> Result<Vec<usize>, Memory>
-    ensures { IfOk result (λ marks. marks.items ≡ flat_map ends_of edges.now) }
-{
+pub(crate) fn cycle_marks(alloc: Global, edges: &[EdgeEvents]) -> Result<Vec<usize>, Memory> {
     let mut marks = Vec::new(alloc);
     for edge in edges {
         push(&mut marks, edge.from)?;
@@ -30,9 +22,7 @@ pub(crate) fn cycle_marks(alloc: Global, edges: &[EdgeEvents]) -> Result<Vec<usi
 }
 
 /// Adds the events that part the blocks to blame.
-fn add_witnesses(marks: &mut Vec<usize>, blames: &[BlameOf]) -> Result<(), Memory>
-    ensures { OnOk result (marks.new.items ≡ marks.old.items ++ map (λ (b : Blame). b.witness) blames.now) }
-{
+fn add_witnesses(marks: &mut Vec<usize>, blames: &[BlameOf]) -> Result<(), Memory> {
     for blame in blames {
         push(marks, blame.witness)?;
     }
@@ -40,9 +30,7 @@ fn add_witnesses(marks: &mut Vec<usize>, blames: &[BlameOf]) -> Result<(), Memor
 }
 
 /// Adds the first events of the transactions.
-fn add_firsts(marks: &mut Vec<usize>, spans: &[SpanOf]) -> Result<(), Memory>
-    ensures { OnOk result (marks.new.items ≡ marks.old.items ++ map (λ (s : Span). s.first) spans.now) }
-{
+fn add_firsts(marks: &mut Vec<usize>, spans: &[SpanOf]) -> Result<(), Memory> {
     for span in spans {
         push(marks, span.first)?;
     }
@@ -50,9 +38,7 @@ fn add_firsts(marks: &mut Vec<usize>, spans: &[SpanOf]) -> Result<(), Memory>
 }
 
 /// Adds the first events of the blocks to blame.
-fn add_begins(marks: &mut Vec<usize>, blames: &[BlameOf]) -> Result<(), Memory>
-    ensures { OnOk result (marks.new.items ≡ marks.old.items ++ map (λ (b : Blame). b.block.first) blames.now) }
-{
+fn add_begins(marks: &mut Vec<usize>, blames: &[BlameOf]) -> Result<(), Memory> {
     for blame in blames {
         push(marks, blame.block.first)?;
     }
@@ -60,9 +46,7 @@ fn add_begins(marks: &mut Vec<usize>, blames: &[BlameOf]) -> Result<(), Memory>
 }
 
 /// What is shown where there is room.
-pub(crate) fn other_marks(alloc: Global, evidence: &Evidence) -> Result<Vec<usize>, Memory>
-    ensures { IfOk result (λ marks. marks.items ≡ other_marks evidence.now) }
-{
+pub(crate) fn other_marks(alloc: Global, evidence: &Evidence) -> Result<Vec<usize>, Memory> {
     let mut marks = Vec::new(alloc);
     add_witnesses(&mut marks, &evidence.blames)?;
     add_firsts(&mut marks, &evidence.spans)?;
@@ -71,11 +55,7 @@ pub(crate) fn other_marks(alloc: Global, evidence: &Evidence) -> Result<Vec<usiz
 }
 
 /// Whether the picture of marked positions is at most a screen.
-#[tactic(auto, unfolding(crate::specs::Lanes::fits))]
-fn fits(alloc: Global, names: &Names, events: &[Event], marks: &[usize]) -> Result<bool, Memory>
-    requires few { length events.now ≤ MAX_EVENTS }
-    ensures { IfOk result (λ yes. yes ≡ fits names.now events.now marks.now) }
-{
+fn fits(alloc: Global, names: &Names, events: &[Event], marks: &[usize]) -> Result<bool, Memory> {
     let shown = in_order(alloc, marks, events.len())?;
     let lanes = lanes_of(alloc, events, &shown)?;
     if lanes.len() > SCREEN_LANES {
@@ -93,10 +73,7 @@ fn add_mark(
     events: &[Event],
     marks: &mut Vec<usize>,
     position: usize,
-) -> Result<(), Memory>
-    requires few { length events.now ≤ MAX_EVENTS }
-    ensures { OnOk result (marks.new.items ≡ with_mark names.now events.now marks.old.items position) }
-{
+) -> Result<(), Memory> {
     let before = marks.len();
     push(marks, position)?;
     if !fits(alloc, names, events, marks)? {
@@ -112,10 +89,7 @@ fn add_marks(
     events: &[Event],
     marks: &mut Vec<usize>,
     positions: &[usize],
-) -> Result<(), Memory>
-    requires few { length events.now ≤ MAX_EVENTS }
-    ensures { OnOk result (marks.new.items ≡ fold (with_mark names.now events.now) marks.old.items positions.now) }
-{
+) -> Result<(), Memory> {
     for position in positions {
         add_mark(alloc, names, events, marks, *position)?;
     }
@@ -128,10 +102,7 @@ fn marks_of(
     names: &Names,
     events: &[Event],
     evidence: &Evidence,
-) -> Result<Vec<usize>, Memory>
-    requires few { length events.now ≤ MAX_EVENTS }
-    ensures { IfOk result (λ marks. marks.items ≡ marks_of names.now events.now evidence.now) }
-{
+) -> Result<Vec<usize>, Memory> {
     let mut marks = cycle_marks(alloc, &evidence.edges)?;
     let others = other_marks(alloc, evidence)?;
     add_marks(alloc, names, events, &mut marks, &others)?;
@@ -145,10 +116,7 @@ fn add_marked(
     names: &Names,
     events: &[Event],
     marks: &[usize],
-) -> Result<(), Memory>
-    requires few { length events.now ≤ MAX_EVENTS }
-    ensures { OnOk result (page.new ≡ page.old ++ marked_text names.now events.now marks.now) }
-{
+) -> Result<(), Memory> {
     let shown = in_order(alloc, marks, events.len())?;
     let lanes = lanes_of(alloc, events, &shown)?;
     add_rows(page, alloc, names, events, &lanes, &shown)
@@ -164,10 +132,7 @@ pub(crate) fn add_lanes(
     names: &Names,
     events: &[Event],
     evidence: &Evidence,
-) -> Result<(), Memory>
-    requires few { length events.now ≤ MAX_EVENTS }
-    ensures { OnOk result (page.new ≡ page.old ++ lanes_text names.now events.now evidence.now) }
-{
+) -> Result<(), Memory> {
     let marks = marks_of(alloc, names, events, evidence)?;
     add_marked(page, alloc, names, events, &marks)
 }

@@ -1,14 +1,6 @@
 //! Text that is put together in memory, piece by piece.
-ghost use Rattle.std.specs.Prelude.{◌≡◌, ◌++◌, [], OnOk, codes, decimal};
-ghost use Rattle.velo_logtext.specs.Text.{kind_text};
-ghost use Rattle.velo_explain.specs.Pieces.{event_text, block_text, lines_text, piece_text, pieces_text, name_about, block_name, name_text, escape, escaped_text};
-ghost use Rattle.std.specs.Option.{option_copied};
-ghost use Rattle.std.specs.List.{flat_map};
-ghost use Rattle.velo_names.specs.Names.{name_of};
-ghost use Rattle.velo_names.specs.declared.kind.NameKind.TheVariants as of_name;
 
 use std::alloc::Global;
-use std::marker::Model;
 use velo_bytes::{append, append_number};
 use velo_events::{Event, Kind, Memory, ThreadId};
 use velo_logtext::{KIND_ROOM, put_kind};
@@ -37,25 +29,15 @@ pub enum Piece<'a> {
     KindName(&'a Names<'a>, Kind),
     /// The name of the label of the block that an operation begins, after a space, if there is one.
     BlockName(&'a Names<'a>, Kind),
-    /// The name of a thread in a picture.
-    EscapedThread(&'a Names<'a>, ThreadId),
-    /// The name of what an operation is about, in a picture.
-    EscapedKind(&'a Names<'a>, Kind),
-    /// The name of the label of the block that an operation begins, in a picture.
-    EscapedBlock(&'a Names<'a>, Kind),
 }
 
 /// The name of a thread, if it has one.
-fn thread_name<'a>(names: &Names<'a>, thread: ThreadId) -> Option<&'a [u8]>
-    ensures { option_copied result ≡ name_of names.now of_name.Thread thread.0 }
-{
+fn thread_name<'a>(names: &Names<'a>, thread: ThreadId) -> Option<&'a [u8]> {
     names.name_of(NameKind::Thread, u32::from(thread.0))
 }
 
 /// The name of what an operation is about, if it has one.
-fn name_about<'a>(names: &Names<'a>, kind: Kind) -> Option<&'a [u8]>
-    ensures { option_copied result ≡ name_about names.now kind }
-{
+fn name_about<'a>(names: &Names<'a>, kind: Kind) -> Option<&'a [u8]> {
     match kind {
         Kind::Read(x, _) | Kind::Write(x, _) => names.name_of(NameKind::Variable, u32::from(x.0)),
         Kind::Acquire(m) | Kind::Release(m) => names.name_of(NameKind::Lock, u32::from(m.0)),
@@ -69,9 +51,7 @@ fn name_about<'a>(names: &Names<'a>, kind: Kind) -> Option<&'a [u8]>
 }
 
 /// The name of the label of the block that an operation begins, if there is one.
-fn block_name<'a>(names: &Names<'a>, kind: Kind) -> Option<&'a [u8]>
-    ensures { option_copied result ≡ block_name names.now kind }
-{
+fn block_name<'a>(names: &Names<'a>, kind: Kind) -> Option<&'a [u8]> {
     match kind {
         Kind::Begin(label) => names.name_of(NameKind::Label, label.0),
         _ => None,
@@ -84,28 +64,16 @@ pub struct Page {
     bytes: Vec<u8>,
 }
 
-impl Model for Page {
-    ghost use Rattle.std.specs.Prelude.{ℕ, List};
-
-    ghost Value = { List ℕ };
-
-    ghost view = { λ page. page.bytes.items };
-}
-
 impl Page {
     /// No text yet.
-    pub fn new(alloc: Global) -> Page
-        ensures { result ≡ [] }
-    {
+    pub fn new(alloc: Global) -> Page {
         Page {
             bytes: Vec::new(alloc),
         }
     }
 
     /// The text.
-    pub fn as_slice(&self) -> &[u8]
-        ensures { result.now ≡ self.now }
-    {
+    pub fn as_slice(&self) -> &[u8] {
         self.bytes.as_slice()
     }
 
@@ -113,41 +81,31 @@ impl Page {
     ///
     /// # Errors
     /// `Memory` if an allocation failed.
-    pub fn add_bytes(&mut self, bytes: &[u8]) -> Result<(), Memory>
-        ensures { OnOk result (self.new ≡ self.old ++ bytes.now) }
-    {
+    pub fn add_bytes(&mut self, bytes: &[u8]) -> Result<(), Memory> {
         append(&mut self.bytes, bytes)
     }
 
     /// Adds the digits of a number.
-    fn add_number(&mut self, number: u64) -> Result<(), Memory>
-        ensures { OnOk result (self.new ≡ self.old ++ decimal number) }
-    {
+    fn add_number(&mut self, number: u64) -> Result<(), Memory> {
         append_number(&mut self.bytes, number)
     }
 
     /// Adds an operation as in the log.
-    fn add_operation(&mut self, kind: Kind) -> Result<(), Memory>
-        ensures { OnOk result (self.new ≡ self.old ++ kind_text kind) }
-    {
+    fn add_operation(&mut self, kind: Kind) -> Result<(), Memory> {
         let mut buffer = [0u8; KIND_ROOM];
         let end = put_kind(&mut buffer, 0, kind);
         self.add_bytes(&buffer[..end])
     }
 
     /// Adds an event as in the log.
-    fn add_event(&mut self, event: Event) -> Result<(), Memory>
-        ensures { OnOk result (self.new ≡ self.old ++ event_text event) }
-    {
+    fn add_event(&mut self, event: Event) -> Result<(), Memory> {
         self.add_number(u64::from(event.thread.0))?;
         self.add_bytes(b" ")?;
         self.add_operation(event.kind)
     }
 
     /// Adds what a transaction is.
-    fn add_block(&mut self, kind: Kind) -> Result<(), Memory>
-        ensures { OnOk result (self.new ≡ self.old ++ block_text kind) }
-    {
+    fn add_block(&mut self, kind: Kind) -> Result<(), Memory> {
         match kind {
             Kind::Begin(label) => {
                 self.add_bytes(b"block ")?;
@@ -159,9 +117,7 @@ impl Page {
     }
 
     /// Adds a first and a last line.
-    fn add_lines(&mut self, first: u64, last: u64) -> Result<(), Memory>
-        ensures { OnOk result (self.new ≡ self.old ++ lines_text first last) }
-    {
+    fn add_lines(&mut self, first: u64, last: u64) -> Result<(), Memory> {
         if first == last {
             self.add_bytes(b"line ")?;
             self.add_number(first)?;
@@ -175,9 +131,7 @@ impl Page {
     }
 
     /// Adds a name after a space, if there is one.
-    fn add_name(&mut self, name: Option<&[u8]>) -> Result<(), Memory>
-        ensures { OnOk result (self.new ≡ self.old ++ name_text (option_copied name.entry)) }
-    {
+    fn add_name(&mut self, name: Option<&[u8]>) -> Result<(), Memory> {
         match name {
             None => Ok(()),
             Some(name) => {
@@ -187,43 +141,8 @@ impl Page {
         }
     }
 
-    /// Adds a byte of a text in a picture.
-    fn add_escaped_byte(&mut self, byte: u8) -> Result<(), Memory>
-        ensures { OnOk result (self.new ≡ self.old ++ escape byte) }
-    {
-        if byte == b'"' || byte == b'\\' {
-            return self.add_bytes(&[b'\\', byte]);
-        }
-        self.add_bytes(&[byte])
-    }
-
-    /// Adds a text in a picture.
-    fn add_escaped_bytes(&mut self, text: &[u8]) -> Result<(), Memory>
-        ensures { OnOk result (self.new ≡ self.old ++ flat_map escape text.now) }
-    {
-        for byte in text {
-            self.add_escaped_byte(*byte)?;
-        }
-        Ok(())
-    }
-
-    /// Adds a name in a picture after a space, if there is one.
-    fn add_escaped(&mut self, name: Option<&[u8]>) -> Result<(), Memory>
-        ensures { OnOk result (self.new ≡ self.old ++ escaped_text (option_copied name.entry)) }
-    {
-        match name {
-            None => Ok(()),
-            Some(name) => {
-                self.add_bytes(b" ")?;
-                self.add_escaped_bytes(name)
-            }
-        }
-    }
-
     /// Adds a piece.
-    fn add_piece(&mut self, piece: Piece) -> Result<(), Memory>
-        ensures { OnOk result (self.new ≡ self.old ++ piece_text piece.entry) }
-    {
+    fn add_piece(&mut self, piece: Piece) -> Result<(), Memory> {
         match piece {
             Piece::Text(text) => self.add_bytes(text.as_bytes()),
             Piece::Number(number) => self.add_number(number),
@@ -235,9 +154,6 @@ impl Page {
             Piece::ThreadName(names, thread) => self.add_name(thread_name(names, thread)),
             Piece::KindName(names, kind) => self.add_name(name_about(names, kind)),
             Piece::BlockName(names, kind) => self.add_name(block_name(names, kind)),
-            Piece::EscapedThread(names, thread) => self.add_escaped(thread_name(names, thread)),
-            Piece::EscapedKind(names, kind) => self.add_escaped(name_about(names, kind)),
-            Piece::EscapedBlock(names, kind) => self.add_escaped(block_name(names, kind)),
         }
     }
 
@@ -246,9 +162,7 @@ impl Page {
     /// # Errors
     /// `Memory` if an allocation failed; the text can then have a part of them, and is no more to
     /// be used.
-    pub fn add(&mut self, pieces: &[Piece]) -> Result<(), Memory>
-        ensures { OnOk result (self.new ≡ self.old ++ pieces_text pieces.now) }
-    {
+    pub fn add(&mut self, pieces: &[Piece]) -> Result<(), Memory> {
         for piece in pieces {
             self.add_piece(*piece)?;
         }

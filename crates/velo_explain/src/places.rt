@@ -1,10 +1,4 @@
 //! Where in the source the events happened that an explanation mentions.
-ghost use Rattle.std.specs.Prelude.{◌≡◌, ◌≤◌, ◌<◌, ◌++◌, length, map, IfOk, OnOk};
-ghost use Rattle.std.specs.List.{flat_map};
-ghost use Rattle.velo_events.specs.declared.limits.TheConstants.{MAX_EVENTS};
-ghost use Rattle.velo_explain.specs.declared.spans.Span.{Span};
-ghost use Rattle.velo_explain.specs.Lanes.{AreBelow, among_below};
-ghost use Rattle.velo_explain.specs.Places.{mentioned, place_text, places_text};
 
 use crate::evidence::Evidence;
 use crate::fitting::add_right;
@@ -15,12 +9,10 @@ use crate::spans::Span as SpanOf;
 use crate::words::line_of;
 use std::alloc::Global;
 use velo_events::Memory;
-use velo_sites::Sites;
+use velo_sidecars::Sites;
 
 /// Adds some positions.
-fn add_positions(positions: &mut Vec<usize>, others: &[usize]) -> Result<(), Memory>
-    ensures { OnOk result (positions.new.items ≡ positions.old.items ++ others.now) }
-{
+fn add_positions(positions: &mut Vec<usize>, others: &[usize]) -> Result<(), Memory> {
     for position in others {
         push(positions, *position)?;
     }
@@ -28,10 +20,7 @@ fn add_positions(positions: &mut Vec<usize>, others: &[usize]) -> Result<(), Mem
 }
 
 /// Adds the last events of the transactions.
-fn add_lasts(positions: &mut Vec<usize>, spans: &[SpanOf]) -> Result<(), Memory>
-    ensures { OnOk result (positions.new.items
-        ≡ positions.old.items ++ map (λ (s : Span). s.last) spans.now) }
-{
+fn add_lasts(positions: &mut Vec<usize>, spans: &[SpanOf]) -> Result<(), Memory> {
     for span in spans {
         push(positions, span.last)?;
     }
@@ -39,9 +28,7 @@ fn add_lasts(positions: &mut Vec<usize>, spans: &[SpanOf]) -> Result<(), Memory>
 }
 
 /// The positions that the explanation of an alarm mentions.
-fn mentioned(alloc: Global, position: usize, evidence: &Evidence) -> Result<Vec<usize>, Memory>
-    ensures { IfOk result (λ positions. positions.items ≡ mentioned position evidence.now) }
-{
+fn mentioned(alloc: Global, position: usize, evidence: &Evidence) -> Result<Vec<usize>, Memory> {
     let mut positions = cycle_marks(alloc, &evidence.edges)?;
     let others = other_marks(alloc, evidence)?;
     add_positions(&mut positions, &others)?;
@@ -51,10 +38,7 @@ fn mentioned(alloc: Global, position: usize, evidence: &Evidence) -> Result<Vec<
 }
 
 /// Adds the place of an event, if it is known.
-fn add_place(page: &mut Page, sites: &Sites, position: usize) -> Result<(), Memory>
-    requires { position < MAX_EVENTS }
-    ensures { OnOk result (page.new ≡ page.old ++ place_text sites.now position) }
-{
+fn add_place(page: &mut Page, sites: &Sites, position: usize) -> Result<(), Memory> {
     let Some(place) = sites.place_of(position) else {
         return Ok(());
     };
@@ -65,10 +49,7 @@ fn add_place(page: &mut Page, sites: &Sites, position: usize) -> Result<(), Memo
 }
 
 /// Adds a line for each of some events whose place is known.
-fn add_lines(page: &mut Page, sites: &Sites, shown: &[usize]) -> Result<(), Memory>
-    requires { AreBelow MAX_EVENTS shown.now }
-    ensures { OnOk result (page.new ≡ page.old ++ flat_map (place_text sites.now) shown.now) }
-{
+fn add_lines(page: &mut Page, sites: &Sites, shown: &[usize]) -> Result<(), Memory> {
     for position in shown {
         add_place(page, sites, *position)?;
     }
@@ -76,10 +57,7 @@ fn add_lines(page: &mut Page, sites: &Sites, shown: &[usize]) -> Result<(), Memo
 }
 
 /// Adds the places of some events.
-fn add_shown(page: &mut Page, sites: &Sites, shown: &[usize]) -> Result<(), Memory>
-    requires { AreBelow MAX_EVENTS shown.now }
-    ensures { OnOk result (page.new ≡ page.old ++ places_text sites.now shown.now) }
-{
+fn add_shown(page: &mut Page, sites: &Sites, shown: &[usize]) -> Result<(), Memory> {
     page.add_bytes(b"In the source:\n")?;
     add_lines(page, sites, shown)?;
     Ok(())
@@ -87,19 +65,12 @@ fn add_shown(page: &mut Page, sites: &Sites, shown: &[usize]) -> Result<(), Memo
 
 /// The positions that the explanation of an alarm mentions, in the order of a log with so many
 /// events, each once.
-///
-/// # Errors
-/// `Memory` if an allocation failed.
-pub fn mentioned_in_order(
+fn mentioned_in_order(
     alloc: Global,
     events: usize,
     position: usize,
     evidence: &Evidence,
-) -> Result<Vec<usize>, Memory>
-    ensures ok { IfOk result (λ shown. shown.items
-        ≡ among_below events (mentioned position evidence.now)) }
-    ensures below { IfOk result (λ shown. AreBelow events shown.items) }
-{
+) -> Result<Vec<usize>, Memory> {
     let positions = mentioned(alloc, position, evidence)?;
     in_order(alloc, &positions, events)
 }
@@ -115,11 +86,7 @@ pub(crate) fn add_places(
     events: usize,
     position: usize,
     evidence: &Evidence,
-) -> Result<(), Memory>
-    requires { events ≤ MAX_EVENTS }
-    ensures { OnOk result (page.new
-        ≡ page.old ++ places_text sites.now (among_below events (mentioned position evidence.now))) }
-{
+) -> Result<(), Memory> {
     let shown = mentioned_in_order(alloc, events, position, evidence)?;
     add_shown(page, sites, &shown)
 }

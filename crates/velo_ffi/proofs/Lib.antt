@@ -3,4 +3,3 @@ mod OnVerdicts
 mod OnPieces
 mod OnJoined
 mod OnTexts
-mod OnExplaining

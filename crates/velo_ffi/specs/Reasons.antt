@@ -3,8 +3,8 @@ use Rattle.std.specs.Prelude.{◌≡◌, ◌≢◌, ℕ, List, [], length, Optio
 use Rattle.velo_events.specs.declared.event.Event.{Event}
 use Rattle.velo_events.specs.Refusals.{GrowthRefused}
 use Rattle.velo_names.specs.Names.{ReadsAs as ReadAsNames}
-use Rattle.velo_sites.specs.declared.fault.SitesFault.{SitesFault}
-use Rattle.velo_sites.specs.Sites.{ReadsAs as ReadAsSites, Table}
+use Rattle.velo_sidecars.specs.declared.site_fault.SitesFault.{SitesFault}
+use Rattle.velo_sidecars.specs.Sites.{ReadsAs as ReadAsSites, Table}
 use Rattle.velo_ffi.specs.declared.explaining.Unexplained.{Unexplained}
 use Rattle.velo_ffi.specs.declared.explaining.Unexplained.TheVariants.{Names, Sites, OtherSites, Memory}
 use Rattle.velo_ffi.specs.Explaining.{AreNames, AreOfOther}

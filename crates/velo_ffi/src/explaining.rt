@@ -1,10 +1,8 @@
 //! The explanation of the events so far, whole or not at all.
-ghost use Rattle.std.specs.Prelude.{◌≡◌, ◌≢◌, ◌≤◌, ◌⊎◌, ℕ, [], List, None, length, IfErr, IfNone, IfOk, IfSome};
+ghost use Rattle.std.specs.Prelude.{◌≡◌, ◌≢◌, ◌⊎◌, ℕ, [], List, None, IfErr, IfNone, IfOk, IfSome, OnOk};
 ghost use Rattle.velo_events.specs.declared.event.Event.{Event};
-ghost use Rattle.velo_events.specs.declared.limits.TheConstants.{MAX_EVENTS};
-ghost use Rattle.velo_explain.specs.Evidence.{IsWithin};
 ghost use Rattle.velo_world.specs.World.{IsAlarm};
-ghost use Rattle.velo_ffi.specs.Explaining.{AreSitesBy, ExplainsAlarm, HaveLengthOf, IsExplanation, IsExplanationBy, TellsExplanation, TellsFaultOfSites, TellsReason, words_of};
+ghost use Rattle.velo_ffi.specs.Explaining.{AreSitesBy, HaveLengthOf, IsExplainedBy, TellsExplanation, TellsFaultOfSites, TellsReason};
 ghost use Rattle.velo_ffi.specs.Reasons.{AreOthers, IsReason, IsReasonOfSites, LackSites};
 ghost use Rattle.velo_ffi.specs.Texts.{WantsMemory};
 
@@ -17,7 +15,7 @@ use velo_certify::CertFault;
 use velo_events::Memory;
 use velo_explain::{Evidence, Page, evidence_of, explain_clean, explain_named, explain_sited};
 use velo_names::{Names, NamesFault};
-use velo_sites::{Sites, SitesFault};
+use velo_sidecars::{Sites, SitesFault};
 use velo_traces::Trace;
 use velo_world::{Alarm, World};
 
@@ -54,12 +52,7 @@ fn words_of(
     evidence: &Evidence,
     names: &Names,
     sites: &Option<Sites>,
-) -> Result<Page, Memory>
-    requires few { length log.now.events ≤ MAX_EVENTS }
-    requires within { IsWithin (length log.now.events) position evidence.now }
-    ensures { IfOk result (λ page. page
-        ≡ words_of names.now sites.now log.now.events position evidence.now) }
-{
+) -> Result<Page, Memory> {
     match sites {
         Some(sites) => explain_sited(alloc, log, position, evidence, names, sites),
         None => explain_named(alloc, log, position, evidence, names),
@@ -77,10 +70,7 @@ fn explain_alarm(
     names: &Names,
     sites: &Option<Sites>,
 ) -> Result<Page, Memory>
-    requires few { length log.now.events ≤ MAX_EVENTS }
-    requires alarm { IsAlarm log.now.events alarm.now }
-    ensures { IfOk result (λ page. ExplainsAlarm names.now sites.now
-        log.now.events page) }
+    requires { IsAlarm log.now.events alarm.now }
 {
     let position = alarm.position;
     match evidence_of(alloc, log, position, alarm.blamed.as_slice()) {
@@ -104,10 +94,7 @@ fn explanation_of(
     world: &World,
     names: &Names,
     sites: &Option<Sites>,
-) -> Result<Page, Memory>
-    ensures { IfOk result (λ page. IsExplanation names.now sites.now
-        world.now.log page) }
-{
+) -> Result<Page, Memory> {
     let log = world.log();
     match world.alarm() {
         None => explain_clean(alloc, log),
@@ -140,9 +127,7 @@ fn explanation_if_of(
     names: &Names,
     sites: &Option<Sites>,
 ) -> Result<Page, Unexplained>
-    ensures explains { IfOk result (λ page. HaveLengthOf sites.now world.now.log
-        × IsExplanation names.now sites.now
-        world.now.log page) }
+    ensures explains { OnOk result (HaveLengthOf sites.now world.now.log) }
     ensures reason { IfErr result (IsReasonOfSites sites.now world.now.log) }
 {
     if let Some(events) = other_length(sites, world.log()) {
@@ -177,8 +162,7 @@ fn sites_of<'a>(alloc: Global, file: &'a [u8]) -> Result<Option<Sites<'a>>, Site
 /// # Errors
 /// The first reason that applies. `Memory`, also of a file's fault, if an allocation failed.
 fn explanation_by(alloc: Global, world: &World, given: &Given) -> Result<Page, Unexplained>
-    ensures explains { IfOk result (λ page. IsExplanationBy given.now.names.now given.now.sites.now
-        world.now.log page) }
+    ensures explains { OnOk result (IsExplainedBy given.now.names.now given.now.sites.now world.now.log) }
     ensures reason { IfErr result (IsReason given.now.names.now given.now.sites.now world.now.log) }
 {
     let names = match Names::parse(alloc, given.names) {

@@ -40,12 +40,6 @@ left-none slots heirs gone marks none =
       marks = record { same_length = refl; others = λ k other. refl };
     }
 
--- the slot at the index was not freed before
-pub still-used : (old new : Slots) (heirs : List (Option Heir)) (gone : FinSet nat_cmp) (before after : List Bool) (index : ℕ) → LeftTo old new heirs gone before after index → IsTrue (is_used old index) → IsTrue (is_used new index)
-still-used old new heirs gone before after index so_far used =
-    let no : finite.contains gone index ≡ false = false_from_ne_true (finite.contains gone index) (λ there. omega (arith, so_far.have.below index there)) in
-    ap is_some (so_far.vacates.each index ∙ cond-false (finite.contains gone index) None (node_in old index) no) ∙ used
-
 pub left-step : (old new new' : Slots) (heirs : List (Option Heir)) (gone gone' : FinSet nat_cmp) (before after after' : List Bool) (index : ℕ) → LeftTo old new heirs gone before after index → IsTrue (is_some (heir_in heirs index)) → gone' ≡ finite.insert gone index → new' ≡ with_node new index None → after' ≡ set after index false → LeftTo old new' heirs gone' before after' (index + 1)
 left-step old new new' heirs gone gone' before after after' index so_far heir is freed_is marks_are =
     record {

@@ -1,6 +1,6 @@
 //! Tests of blame, by clocks and by passes.
 ghost use Rattle.std.specs.Prelude.{◌≡◌, ◌<◌, length, take, IfOk, OnOk, IsTrue};
-ghost use Rattle.velo_clocks.specs.Noted.{IsOfThreads};
+ghost use Rattle.velo_tables.specs.Clocks.{IsOfThreads};
 ghost use Rattle.velo_events.specs.Graph.{HasCycle};
 
 mod growths;

@@ -1,16 +1,16 @@
 //! Tests of the clocks.
 ghost use Rattle.std.specs.Prelude.{◌≡◌, ◌<◌, length};
-ghost use Rattle.velo_clocks.specs.Noted.{IsOfThreads};
+ghost use Rattle.velo_tables.specs.Clocks.{IsOfThreads};
 
 use crate::words::by;
 use std::alloc::Global;
 use std::process::Abort;
-use velo_clocks::ClockTables;
 use velo_events::{Bounds, Config, Event, Kind, Label, ThreadId, VarId};
+use velo_tables::ClockTables;
 
 /// The clocks of a run of four threads.
 fn clocks_of_four(rt: &impl Abort, alloc: Global) -> ClockTables
-    ensures { length result.threads ≡ 4 }
+    ensures { result.count ≡ 4 }
 {
     let bounds = Bounds {
         threads: 4,
@@ -23,9 +23,9 @@ fn clocks_of_four(rt: &impl Abort, alloc: Global) -> ClockTables
 
 /// Makes room in the clocks for the event and notes it.
 fn note_clock(rt: &impl Abort, clocks: &mut ClockTables, position: u32, event: Event)
-    requires known { IsOfThreads (length clocks.old.threads) event }
+    requires known { IsOfThreads clocks.old.count event }
     requires early { position < 100 }
-    ensures { length clocks.new.threads ≡ length clocks.old.threads }
+    ensures { clocks.new.count ≡ clocks.old.count }
 {
     clocks.reserve_for(&event).expect(rt, "memory");
     clocks.note(position, &event);

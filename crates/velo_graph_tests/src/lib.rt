@@ -1,5 +1,5 @@
-//! Tests of `velo_rows`, `velo_arena`, `velo_graph`, `velo_collect`, `velo_merge`, `velo_clocks`,
-//! `velo_tables` and `velo_blame`, through their public calls.
+//! Tests of `velo_rows`, `velo_arena`, `velo_graph`, `velo_collect`, `velo_merge`, `velo_tables` and `velo_blame`, through their
+//! public calls.
 #![tactic(auto)]
 
 #[cfg(test)]

@@ -8,7 +8,7 @@ use mir.Syntax.{w64}
 use native.Mathlib.Nat.{pow-suc}
 use Rattle.std.proofs.lemmas.Bool.{cases_Bool, cases_lt, cases_eq, lt-ltb, le-ltb, eq-eqb, ne_eqb, or_parts}
 use Rattle.std.proofs.lemmas.Nat.{pow_pos}
-use Rattle.std.proofs.lemmas.Nat.Bits.{bit_at-zero, bit_at_above, bit_at_and, bit_at_cat_low, bit_at_cat_high, bit_at_set_same, bit_at_set_other, bit_at_clear_same, bit_at_clear_other, same_from_bits}
+use Rattle.std.proofs.lemmas.Nat.Bits.{bit_at_above, bit_at_and, bit_at_cat_low, bit_at_cat_high, bit_at_set_same, bit_at_set_other, bit_at_clear_same, bit_at_clear_other, same_from_bits}
 use Rattle.velo_events.specs.Block.{any_below}
 use Rattle.velo_heap.specs.Contents.{mask_below}
 
@@ -27,10 +27,6 @@ mask_below-lt (suc n) test = by_bit (mask_below-lt n test) (test n)
 bit_of_one : (b : Bool) → bit_at (if b then 1 else 0) 0 ≡ (if b then 1 else 0)
 bit_of_one true = refl
 bit_of_one false = refl
-
-no_bit_of_one : (b : Bool) (i : ℕ) → 1 ≤ i → bit_at (if b then 1 else 0) i ≡ 0
-no_bit_of_one true i l = bit_at_above 1 1 i (omega arith) l
-no_bit_of_one false i l = bit_at-zero i
 
 -- the bits are what the tests say
 pub bit_at-mask_below : (n : ℕ) (test : ℕ → Bool) (i : ℕ) → i < n → bit_at (mask_below n test) i ≡ (if test i then 1 else 0)

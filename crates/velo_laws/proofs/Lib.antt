@@ -30,4 +30,3 @@ pub mod OnEitherOrder
 pub mod OnJudged
 pub mod OnJudgedRepeats
 pub mod OnJudgedOperations
-pub mod Rows

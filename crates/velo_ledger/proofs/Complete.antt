@@ -1,18 +1,17 @@
 -- Shares that are there and fit.
-use Rattle.std.proofs.Common.{◌≡◌, ◌≢◌, ◌<◌, ◌≤◌, ◌⊎◌, inl, inr, ⊎_elim, ℕ, ◌+◌, List, [], ◌∷◌, ◌++◌, length, Option, Some, None, option_and_then, refl, sym, ap, subst, ◌∙◌, arith, add-zero, get_or, sum_by, take, take_all, below_more}
+use Rattle.std.proofs.Common.{◌≡◌, ◌<◌, ◌≤◌, ◌⊎◌, inl, inr, ⊎_elim, ℕ, ◌+◌, List, [], ◌∷◌, ◌++◌, length, Option, Some, None, option_and_then, refl, sym, ap, subst, ◌∙◌, arith, add-zero, get_or, sum_by, take, take_all, below_more}
 use Rattle.std.specs.Prelude.{slice_get}
 use Rattle.std.specs.Option.{option_map_or, SomeIff}
 use Rattle.std.proofs.lemmas.Option.{slice_get_within, slice_get_past, slice_get_cases, same_Some, none-some}
 use Rattle.std.proofs.lemmas.List.{length_push, length-replicate}
 use Rattle.std.proofs.lemmas.List.Sums.{sum_by_more}
 use Rattle.velo_events.proofs.OnTraces.{slice_get-append, slice_get-push}
-use Rattle.velo_events.specs.declared.event.ThreadId.{ThreadId}
 use Rattle.velo_ledger.specs.declared.tally.Tally.{Tally}
 use Rattle.velo_ledger.specs.Tally.{blank}
 use Rattle.velo_ledger.specs.Views.{Accounts, Holding}
 use Rattle.velo_ledger.specs.Shares.{AreInPlace, AreOpening, opening_share, events_in, events_in_all, share_in}
-use Rattle.velo_ledger.specs.Book.{FitsBook, PlacesFit, IsFilled, HasAllShares, HaveAllShares, opening_accounts, with_row}
-use Rattle.velo_ledger.proofs.Places.{slice_get-replicate, slice_get-set_other, some_below, not_both, not_in_nil}
+use Rattle.velo_ledger.specs.Book.{FitsBook, PlacesFit, IsFilled, HasAllShares, HaveAllShares, opening_accounts}
+use Rattle.velo_ledger.proofs.Places.{slice_get-replicate, some_below, not_both, not_in_nil}
 
 -- ---- the share in a place
 
@@ -154,13 +153,4 @@ opening-complete run n places opening = record {
       let lt : t < n = omega (arith, opening.all) in
       let same : share ≡ opening_share run t = same_Some _ _ (same_Some _ _ (sym is ∙ opening.each t lt)) in
       rw same (record { run = refl; row = slice_get-replicate n t blank lt });
-}
-
--- ---- another row
-
--- the shares of the other threads still fit
-pub others-fit : (book : Accounts) (t : ThreadId) (tally : Tally) (share : Holding) → share.thread.0 ≢ t.0 → FitsBook book share → FitsBook (with_row book t tally) share
-others-fit book t tally share other fits = record {
-  run = fits.run;
-  row = slice_get-set_other book.rows t.0 share.thread.0 tally (λ is. other (sym is)) ∙ fits.row;
 }

@@ -1,4 +1,4 @@
-//! Tests of explanations in words and as a picture.
+//! Tests of explanations in words.
 use crate::traces::logs;
 use crate::words::{block, event, trace_of};
 use std::alloc::Global;
@@ -6,7 +6,8 @@ use std::process::Abort;
 use std::test::Fail;
 use velo_certify::{CertFault, serial_order};
 use velo_events::Event;
-use velo_explain::{Evidence, evidence_of, explain, explain_clean, picture};
+use velo_explain::{Evidence, evidence_of, explain_clean, explain_named};
+use velo_names::Names;
 use velo_traces::{Block, Trace};
 
 /// A log with its alarm, and what is to be written.
@@ -16,17 +17,15 @@ struct Known<'a> {
     position: usize,
     blamed: &'a [Block],
     text: &'a str,
-    picture: &'a str,
 }
 
-/// Compares the words and the picture of an alarm with what is wanted.
+/// Compares the words of an alarm with what is wanted.
 fn compare(rt: &impl Abort, alloc: Global, trace: &Trace, known: &Known) -> Result<(), Fail> {
     assert!(rt; trace.len() < 100);
     let evidence = evidence_of(alloc, trace, known.position, known.blamed)?;
-    let words = explain(alloc, trace, known.position, &evidence)?;
+    let names = Names::new(alloc);
+    let words = explain_named(alloc, trace, known.position, &evidence, &names)?;
     assert!(rt; words.as_slice() == known.text.as_bytes());
-    let drawn = picture(alloc, trace, known.position, &evidence)?;
-    assert!(rt; drawn.as_slice() == known.picture.as_bytes());
     Ok(())
 }
 
@@ -57,16 +56,6 @@ Each must come before the next, and the last before the first:
 To blame in thread 0:
   block 7, from line 3: line 5 `1 wr 0 5` must come after its begin and before line 6
 ",
-        picture: "\
-digraph cycle {
-  rankdir=LR;
-  node [shape=box];
-  subgraph cluster_0 { label=\"thread 0\"; T1 [label=\"T1: block 7\\nlines 3 to 6\"]; }
-  subgraph cluster_1 { label=\"thread 1\"; T2 [label=\"T2: outside blocks\\nline 5\"]; }
-  T1 -> T2 [label=\"line 4: 0 rd 0 0\\nline 5: 1 wr 0 5\"];
-  T2 -> T1 [label=\"line 5: 1 wr 0 5\\nline 6: 0 wr 0 1\"];
-}
-",
     },
     Known {
         events: &[
@@ -96,16 +85,6 @@ Each must come before the next, and the last before the first:
   T1 before T2: line 6 `1 wr 1 1`, then line 7 `0 rd 1 1`
   T2 before T1: line 4 `0 wr 0 1`, then line 8 `1 rd 0 1`
 No block alone is to blame: each can be brought together, but not all transactions at once.
-",
-        picture: "\
-digraph cycle {
-  rankdir=LR;
-  node [shape=box];
-  subgraph cluster_1 { label=\"thread 1\"; T1 [label=\"T1: block 2\\nlines 5 to 8\"]; }
-  subgraph cluster_0 { label=\"thread 0\"; T2 [label=\"T2: block 1\\nlines 3 to 7\"]; }
-  T1 -> T2 [label=\"line 6: 1 wr 1 1\\nline 7: 0 rd 1 1\"];
-  T2 -> T1 [label=\"line 4: 0 wr 0 1\\nline 8: 1 rd 0 1\"];
-}
 ",
     },
     Known {
@@ -139,16 +118,6 @@ Each must come before the next, and the last before the first:
   T2 before T1: line 7 `1 acq 3`, then line 9 `0 acq 3`
 To blame in thread 0:
   block 1, from line 3: line 7 `1 acq 3` must come after its begin and before line 9
-",
-        picture: "\
-digraph cycle {
-  rankdir=LR;
-  node [shape=box];
-  subgraph cluster_0 { label=\"thread 0\"; T1 [label=\"T1: block 1\\nlines 3 to 9\"]; }
-  subgraph cluster_1 { label=\"thread 1\"; T2 [label=\"T2: outside blocks\\nline 7\"]; }
-  T1 -> T2 [label=\"line 5: 0 rel 3\\nline 7: 1 acq 3\"];
-  T2 -> T1 [label=\"line 7: 1 acq 3\\nline 9: 0 acq 3\"];
-}
 ",
     },
 ];
@@ -185,16 +154,6 @@ Each must come before the next, and the last before the first:
 To blame in thread 0:
   block 1, from line 3: line 6 `1 acq 0` must come after its begin and before line 8
 ",
-        picture: "\
-digraph cycle {
-  rankdir=LR;
-  node [shape=box];
-  subgraph cluster_0 { label=\"thread 0\"; T1 [label=\"T1: block 1\\nlines 3 to 8\"]; }
-  subgraph cluster_1 { label=\"thread 1\"; T2 [label=\"T2: outside blocks\\nline 6\"]; }
-  T1 -> T2 [label=\"line 5: 0 rels 0\\nline 6: 1 acq 0\"];
-  T2 -> T1 [label=\"line 6: 1 acq 0\\nline 8: 0 acqs 0\"];
-}
-",
     },
     Known {
         events: logs::INNER_BLOCK_BEFORE_THE_READ,
@@ -217,16 +176,6 @@ Each must come before the next, and the last before the first:
 To blame in thread 0:
   block 1, from line 3: line 6 `1 wr 0 3` must come after its begin and before line 7
   block 2, from line 4: line 6 `1 wr 0 3` must come after its begin and before line 7
-",
-        picture: "\
-digraph cycle {
-  rankdir=LR;
-  node [shape=box];
-  subgraph cluster_0 { label=\"thread 0\"; T1 [label=\"T1: block 1\\nlines 3 to 7\"]; }
-  subgraph cluster_1 { label=\"thread 1\"; T2 [label=\"T2: outside blocks\\nline 6\"]; }
-  T1 -> T2 [label=\"line 5: 0 rd 0 0\\nline 6: 1 wr 0 3\"];
-  T2 -> T1 [label=\"line 6: 1 wr 0 3\\nline 7: 0 wr 0 4\"];
-}
 ",
     },
 ];

@@ -4,12 +4,11 @@ use std::alloc::Global;
 use std::process::Abort;
 use std::test::Fail;
 use velo_events::Event;
-use velo_explain::{evidence_of, explain_named, picture_named};
+use velo_explain::{evidence_of, explain_named};
 use velo_names::Names;
 use velo_traces::Block;
 
-/// A log with names and its alarm, the first lines of what is to be written, and whether they are
-/// those of the picture for Graphviz.
+/// A log with names and its alarm, and the first lines of what is to be written.
 #[derive(Clone, Copy)]
 struct Known<'a> {
     names: &'a str,
@@ -17,7 +16,6 @@ struct Known<'a> {
     position: usize,
     blamed: &'a [Block],
     text: &'a str,
-    dot: bool,
 }
 
 /// Compares the first lines of what is written of an alarm with what is wanted.
@@ -28,11 +26,7 @@ fn compare(rt: &impl Abort, alloc: Global, known: &Known) -> Result<(), Fail> {
     let Ok(names) = Names::parse(alloc, known.names.as_bytes()) else {
         panic!(rt; "the names have a fault");
     };
-    let written = if known.dot {
-        picture_named(alloc, &trace, known.position, &evidence, &names)?
-    } else {
-        explain_named(alloc, &trace, known.position, &evidence, &names)?
-    };
+    let written = explain_named(alloc, &trace, known.position, &evidence, &names)?;
     assert!(rt; written.as_slice().starts_with(known.text.as_bytes()));
     Ok(())
 }
@@ -79,7 +73,6 @@ The blocks of this log cannot be serialized.
       13  rd 2 1 exactly fifteen
 Line 13 `0 rd 2 1` exactly fifteen closes a cycle of 3 transactions:
 ",
-    dot: false,
 };
 
 /// The event that parts the block is not on the cycle. Two events of thread 1 are side by side.
@@ -112,7 +105,6 @@ The blocks of this log cannot be serialized.
       11  acq 0 table
 Line 11 `0 acq 0` table closes a cycle of 2 transactions:
 ",
-    dot: false,
 };
 
 /// Six transactions of six threads, with lines between any two events of the cycle: a screen is
@@ -185,32 +177,6 @@ The blocks of this log cannot be serialized.
       35  rd 5 1 abc
 Line 35 `0 rd 5 1` abc closes a cycle of 6 transactions:
 ",
-    dot: false,
-};
-
-/// Quotes and backslashes of names are escaped.
-static NAMES_IN_A_PICTURE: Known = Known {
-    names: "thread 0 \"main\"\nthread 1 C:\\pool\nvariable 0 a\\\"b\nlabel 7 f<\"x\">\n",
-    events: &[
-        event!(0 fork 1),
-        event!(0 begin 7),
-        event!(0 rd 0 0),
-        event!(1 wr 0 5),
-        event!(0 wr 0 1),
-    ],
-    position: 4,
-    blamed: &[],
-    text: "\
-digraph cycle {
-  rankdir=LR;
-  node [shape=box];
-  subgraph cluster_0 { label=\"thread 0 \\\"main\\\"\"; T1 [label=\"T1: block 7 f<\\\"x\\\">\\nlines 3 to 6\"]; }
-  subgraph cluster_1 { label=\"thread 1 C:\\\\pool\"; T2 [label=\"T2: outside blocks\\nline 5\"]; }
-  T1 -> T2 [label=\"line 4: 0 rd 0 0 a\\\\\\\"b\\nline 5: 1 wr 0 5 a\\\\\\\"b\"];
-  T2 -> T1 [label=\"line 5: 1 wr 0 5 a\\\\\\\"b\\nline 6: 0 wr 0 1 a\\\\\\\"b\"];
-}
-",
-    dot: true,
 };
 
 #[test]
@@ -218,9 +184,4 @@ fn lanes(rt: HostRuntime) -> Result<(), Fail> {
     compare(&rt, rt.alloc(), &THREE_LANES)?;
     compare(&rt, rt.alloc(), &WITNESS_BESIDE_THE_CYCLE)?;
     compare(&rt, rt.alloc(), &SIX_LANES)
-}
-
-#[test]
-fn pictures_with_names(rt: HostRuntime) -> Result<(), Fail> {
-    compare(&rt, rt.alloc(), &NAMES_IN_A_PICTURE)
 }

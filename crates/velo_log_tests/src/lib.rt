@@ -1,5 +1,5 @@
 //! Tests of `velo_events`, `velo_traces`, `velo_logtext`, `velo_heap`, `velo_certify`,
-//! `velo_explain`, `velo_ledger`, `velo_workload`, `velo_repeats` and `velo_predict`, through their public calls.
+//! `velo_explain`, `velo_ledger`, `velo_workload`, `velo_thinning` and `velo_predict`, through their public calls.
 #![tactic(auto)]
 
 #[cfg(test)]

@@ -3,7 +3,7 @@ use std::alloc::Global;
 use std::process::Abort;
 use std::test::Fail;
 use velo_events::{Event, Kind, Label, LockId, ThreadId, VarId};
-use velo_repeats::{repeats, without_repeats};
+use velo_thinning::{repeats, without_repeats};
 use velo_traces::Trace;
 
 fn by(thread: u8, kind: Kind) -> Event {

@@ -11,7 +11,7 @@ use Rattle.velo_logtext.specs.declared.reader.Front.{Front}
 use Rattle.velo_logtext.specs.declared.reader.Front.TheVariants.{Open, End}
 use Rattle.velo_logtext.specs.Text.{AreEventsIn, header_line, event_line, event_lines, text_in, Begins, Head}
 use Rattle.velo_logtext.specs.Finding.{Stands, ReadsAs, HasNoHeader, IsCutLine, failures_after}
-use Rattle.velo_logtext.specs.Front.{IsOfText, Takes, Finds, is_whole, judged_front, judged_full}
+use Rattle.velo_logtext.specs.Front.{IsOfText, Takes, Finds, is_whole, judged_front}
 use Rattle.velo_logtext.specs.Reader.{ReaderState, HasGiven, Gives, HasWholeLine}
 use Rattle.velo_logtext.specs.Reading.{event_in, header_at}
 use Rattle.velo_bytes.proofs.OnDevices.{keeps_front, keeps_then}
@@ -100,12 +100,6 @@ end_stands (Some all) events r (Some more) h none ended =
     let text : all ≡ front = sym h.text ∙ ap (λ (t : List ℕ). (front ++ r.held) ++ t) nothing ∙ append-nil (front ++ r.held) ∙ ap (λ (t : List ℕ). front ++ t) none ∙ append-nil front in
     (record { shares = r.shares; is_text = record { bounds_fit = h.bounds_fit; events_fit = h.events_fit; text = text } }, h.few)
 
-too_long_stands : (bytes : Option (List ℕ)) (events : List Event) (r : ReaderState) (remaining : Option (List ℕ)) → HasGiven bytes events r remaining → 0 < length r.held → r.given ≡ MAX_EVENTS → IfSome bytes (λ all. Stands MAX_EVENTS all (Err TooLong))
-too_long_stands None events r remaining h some full = tt
-too_long_stands (Some all) events r None h some full = absurd h.text
-too_long_stands (Some all) events r (Some more) h some full =
-    record { shares = r.shares; bounds = r.bounds; events = events; rest = r.held ++ more; begins = begins_with all events r more h; full = sym h.count ∙ full; more = omega (arith, some, length-append r.held more) }
-
 bad_stands : (bytes : Option (List ℕ)) (events : List Event) (r : ReaderState) (remaining : Option (List ℕ)) → HasGiven bytes events r remaining → event_in r.shares r.held ≡ None → r.given < MAX_EVENTS → is_whole r.held ≡ true → IfSome bytes (λ all. Stands MAX_EVENTS all (Err (BadLine (r.given + 2))))
 bad_stands None events r remaining h none room whole = tt
 bad_stands (Some all) events r None h none room whole = absurd h.text
@@ -181,22 +175,6 @@ finds_front bytes events r remaining h none room =
 pub takes_front : (r : ReaderState) → Takes r (judged_front r.held r.ended (r.given + 2)) r
 takes_front r = subst (λ (f : Result Front LogFault). Takes r f r) (judged_is r.held r.ended (r.given + 2)) (front_takes r r.held r.ended (is_whole r.held) refl refl refl)
 
-full_finds : (bytes : Option (List ℕ)) (events : List Event) (r : ReaderState) (remaining : Option (List ℕ)) → HasGiven bytes events r remaining → r.given ≡ MAX_EVENTS → (held : List ℕ) (ended : Bool) → r.held ≡ held → r.ended ≡ ended → Finds bytes events (judged_full held ended) r remaining
-full_finds bytes events r remaining h full [] true held-is ended-is = end_stands bytes events r remaining h held-is ended-is
-full_finds bytes events r remaining h full [] false held-is ended-is = tt
-full_finds bytes events r remaining h full (b ∷ bs) ended held-is ended-is = too_long_stands bytes events r remaining h (omega (arith, ap length held-is)) full
-
-full_takes : (r : ReaderState) (held : List ℕ) (ended : Bool) → r.given ≡ MAX_EVENTS → r.held ≡ held → r.ended ≡ ended → Takes r (judged_full held ended) r
-full_takes r [] true full held-is ended-is = (refl, ended-is)
-full_takes r [] false full held-is ended-is = (refl, ended-is, ap is_whole held-is)
-full_takes r (b ∷ bs) ended full held-is ended-is = (refl, tt, full)
-
-pub finds_full : (bytes : Option (List ℕ)) (events : List Event) (r : ReaderState) (remaining : Option (List ℕ)) → HasGiven bytes events r remaining → r.given ≡ MAX_EVENTS → Finds bytes events (judged_full r.held r.ended) r remaining
-finds_full bytes events r remaining h full = full_finds bytes events r remaining h full r.held r.ended refl refl
-
-pub takes_full : (r : ReaderState) → r.given ≡ MAX_EVENTS → Takes r (judged_full r.held r.ended) r
-takes_full r full = full_takes r r.held r.ended full refl refl
-
 -- ---- faults
 
 fault_read : (all : List ℕ) (fault : LogFault) → Stands MAX_EVENTS all (Err fault) → ReadsAs MAX_EVENTS all (Err fault)
@@ -206,10 +184,6 @@ fault_read all (Truncated n) h = h
 fault_read all TooLong h = h
 fault_read all Read h = tt
 fault_read all Memory h = absurd h
-
-pub stands_reads : (bytes : Option (List ℕ)) (fault : LogFault) → IfSome bytes (λ all. Stands MAX_EVENTS all (Err fault)) → IfSome bytes (λ all. ReadsAs MAX_EVENTS all (Err fault))
-stands_reads None fault h = tt
-stands_reads (Some all) fault h = fault_read all fault h
 
 pub no_failure : (X : Type 0) (fault : LogFault) (count : ℕ) → IsOfText fault → count ≡ failures_after {X = X} (Err fault) count
 no_failure X BadHeader count h = refl

@@ -1,12 +1,11 @@
 -- Live, covered and harmless transactions: what stays so in every longer trace, and what is given up without loss.
-use Rattle.std.proofs.Common.{◌≡◌, ◌≢◌, ℕ, suc, ◌+◌, ◌<◌, Bool, false, cond, List, [], ◌∷◌, ◌++◌, length, refl, sym, ap, ◌∙◌, subst, arith, append_assoc, ⊎_elim, inl}
+use Rattle.std.proofs.Common.{◌≡◌, ◌≢◌, ℕ, suc, ◌+◌, ◌<◌, Bool, false, cond, List, [], ◌∷◌, ◌++◌, length, refl, sym, ap, ◌∙◌, subst, arith, ⊎_elim, inl}
 use Rattle.std.specs.Prelude.{◌||◌, ◌==◌, sum_by, count_by, filter, IsTrue, IsFalse, AllPairs, Contains}
 use Rattle.std.proofs.lemmas.List.Sums.{sum_by-cons, length-filter}
 use Rattle.std.proofs.lemmas.List.Kept.{IsStrictlyIncreasing-filter}
 use Rattle.std.proofs.lemmas.Bool.{cases_Bool, or_cases, eqb-true, lt-ltb, false≢true, false_from_ne_true}
 use Rattle.velo_events.specs.declared.config.Bounds.{Bounds}
 use Rattle.velo_events.specs.declared.event.Event.{Event}
-use Rattle.velo_events.specs.WellFormed.{IsWellFormed}
 use Rattle.velo_events.specs.Block.{positions, IsTransaction, IsUnfinished, IsFinished}
 use Rattle.velo_events.specs.Graph.{Reaches, IsCycle, Edge, HasCycle}
 use Rattle.velo_monitor.specs.Collection.{IsHarmless, IsLive, IsCovered, IsAccountedFor, IsGivenUp, HasManyLive}
@@ -22,17 +21,9 @@ use Rattle.velo_events.proofs.OnReaching.{IsCycle-by, IsOnCycle, IsOnCycle-from_
 pub IsLive-unfinished : (trace : List Event) (a : ℕ) → IsUnfinished trace a → IsLive trace a
 IsLive-unfinished trace a u = record { root = a; unfinished = u; reaches = inl refl }
 
--- what a live one reaches is live
-pub IsLive-reached : (trace : List Event) (a b : ℕ) → IsLive trace a → Reaches (Edge trace) a b → IsLive trace b
-IsLive-reached trace a b w r = record { root = w.root; unfinished = w.unfinished; reaches = Reaches-trans (Edge trace) w.root a b w.reaches r }
-
 -- what is live is a transaction
 pub IsLive-transaction : (trace : List Event) (a : ℕ) → IsLive trace a → IsTransaction trace a
 IsLive-transaction trace a w = Reaches-to_transaction trace w.root a w.unfinished.transaction w.reaches
-
--- what is not live is finished
-pub not_live-finished : (trace : List Event) (a : ℕ) → IsTransaction trace a → ¬ IsLive trace a → IsFinished trace a
-not_live-finished trace a t dead = ⊎_elim (λ u. absurd (dead (IsLive-unfinished trace a u))) (λ f. f) (cases_unfinished trace a t)
 
 module _ (trace : List Event) (event : Event) where
   -- what the transaction of an appended event reached before is live
@@ -101,15 +92,6 @@ not_live-harmless bounds trace a none t dead = record {
   on_no_cycle = λ more well cycle h w. not_live-off_cycle trace more a t dead (λ on. none (HasCycle-from_on trace a on)) (IsOnCycle-from_cycle (trace ++ more) cycle a h w);
 }
 
--- what is harmless is so in every longer trace
-pub IsHarmless-append : (bounds : Bounds) (trace more : List Event) (a : ℕ) → IsHarmless bounds trace a → IsHarmless bounds (trace ++ more) a
-IsHarmless-append bounds trace more a harmless = record {
-  transaction = IsTransaction-append trace more a harmless.transaction;
-  on_no_cycle = λ rest well cycle h.
-      let same : (trace ++ more) ++ rest ≡ trace ++ (more ++ rest) = append_assoc trace more rest in
-      harmless.on_no_cycle (more ++ rest) (subst (IsWellFormed bounds) same well) cycle (subst (λ xs. IsCycle (Edge xs) cycle) same h);
-}
-
 -- ---- covered
 
 -- what is covered is a transaction
@@ -137,10 +119,6 @@ IsCovered-push trace event a n c = record {
         let was = newest-unfinished trace event (Reaches-from_transaction trace (newest trace event) a t w.after).within in
         Reaches-by trace event u n (record { by = w.by; predecessor = w.predecessor; before = w.before; after = c.by_way_of (newest trace event) was w.after })
 
--- and in every longer trace
-pub IsCovered-append : (trace more : List Event) (a n : ℕ) → IsCovered trace a n → IsCovered (trace ++ more) a n
-IsCovered-append trace more a n = append-induct (λ xs. IsCovered xs a n) (λ xs event c. IsCovered-push xs event a n c) trace more
-
 -- what covers what covers it
 pub IsCovered-trans : (trace : List Event) (a b n : ℕ) → IsCovered trace a b → IsCovered trace b n → IsCovered trace a n
 IsCovered-trans trace a b n c d = record {
@@ -164,10 +142,6 @@ IsCovered-finished trace a n none c = ⊎_elim (λ u. absurd (around u)) (λ f. 
 -- what is covered is live only as long as what covers it is
 pub not_live-covered : (trace : List Event) (a n : ℕ) → IsCovered trace a n → ¬ IsLive trace n → ¬ IsLive trace a
 not_live-covered trace a n c dead w = dead (record { root = w.root; unfinished = w.unfinished; reaches = c.by_way_of w.root w.unfinished w.reaches })
-
--- what covers a live one is live
-pub IsLive-covered : (trace : List Event) (a n : ℕ) → IsCovered trace a n → IsLive trace a → IsLive trace n
-IsLive-covered trace a n c w = record { root = w.root; unfinished = w.unfinished; reaches = c.by_way_of w.root w.unfinished w.reaches }
 
 -- ---- given up
 

@@ -6,8 +6,7 @@ use Rattle.std.proofs.lemmas.Bool.{both_ways, false_from_ne_true}
 use Rattle.std.proofs.lemmas.List.{take_more, take_all, get_or_default, append-nil}
 use Rattle.std.proofs.lemmas.List.Elements.{Contains-push_cases, filter_map-append}
 use Rattle.velo_arena.specs.declared.step.Step.{Step}
-use Rattle.velo_arena.specs.Slots.{Slots, bears, is_used, node_in}
-use Rattle.velo_arena.proofs.OnSlots.{node_of_stamp, used_from_node}
+use Rattle.velo_arena.specs.Slots.{Slots, bears}
 use Rattle.velo_graph.specs.declared.graph.Edge.{Edge}
 use Rattle.velo_graph.specs.declared.graph.Edge.TheVariants.{Same, Known, Added, Closes}
 use Rattle.velo_graph.specs.Nodes.{Nodes, reaches, IsSound, AddsEdge, AddsEdges}
@@ -15,10 +14,6 @@ use Rattle.velo_graph.proofs.OnEdges.{adds-none, adds-more, adds-same, adds-know
 use Rattle.velo_tables.proofs.OnSteps.{filter_map-contains, filter_map-from}
 use Rattle.velo_merge.specs.Named.{Bears}
 use Rattle.velo_monitor.specs.Steps.{live_slot, live_slots, ReachesSome}
-
--- a node that is named is in use
-pub borne-used : (slots : Slots) (k a : ℕ) → IsTrue (bears slots k a) → IsTrue (is_used slots k)
-borne-used slots k a borne = let n = node_of_stamp (node_in slots k) a borne in used_from_node (node_in slots k) n.0 n.1
 
 -- what a step resolves to
 pub resolved_to : (b : Bool) (slot from : ℕ) → Some from ≡ cond b (Some slot) None → (b ≡ true) × (slot ≡ from)
@@ -63,21 +58,6 @@ slots-dead nodes steps i x d inside is gone =
     ∙ append-nil (live_slots nodes (take i steps))
 
 -- ---- whether the slot reaches one of them
-
-pub reaches-none : (nodes : Nodes) (slot : ℕ) (steps : List Step) → ¬ ReachesSome nodes slot (take 0 steps)
-reaches-none nodes slot steps some = absurd (omega (arith, some.among.1))
-
-pub reaches-next : (nodes : Nodes) (slot : ℕ) (steps : List Step) (i : ℕ) (x d : Step) → i < length steps → x ≡ get_or steps i d → (Bears nodes x.slot x.stamp → x.slot ≢ slot → IsTrue (reaches nodes slot x.slot) → ⊥) → ¬ ReachesSome nodes slot (take i steps) → ¬ ReachesSome nodes slot (take (i + 1) steps)
-reaches-next nodes slot steps i x d inside is not_this before some =
-    ⊎_elim
-    (λ (earlier : Contains (take i steps) some.step). before (record { step = some.step; among = earlier; borne = some.borne; other = some.other; reached = some.reached }))
-    (λ (here : get_or steps i d ≡ some.step).
-    let same : x ≡ some.step = is ∙ here in
-    not_this (subst (λ (s : Step). Bears nodes s.slot s.stamp) (sym same) some.borne) (λ (at : x.slot ≡ slot). some.other (ap (λ (s : Step). s.slot) (sym same) ∙ at)) (subst (λ (s : Step). IsTrue (reaches nodes slot s.slot)) (sym same) some.reached))
-    (Contains-push_cases (take i steps) (get_or steps i d) some.step (subst (λ (xs : List Step). Contains xs some.step) (take_more steps i d inside) some.among))
-
-pub reaches-all : (nodes : Nodes) (slot : ℕ) (steps : List Step) (i : ℕ) → length steps ≤ i → ¬ ReachesSome nodes slot (take i steps) → ¬ ReachesSome nodes slot steps
-reaches-all nodes slot steps i all before some = before (subst (λ (xs : List Step). ReachesSome nodes slot xs) (sym (take_all i steps all)) some)
 
 pub reaches-this : (nodes : Nodes) (slot : ℕ) (steps : List Step) (i : ℕ) (x d : Step) → i < length steps → x ≡ get_or steps i d → Bears nodes x.slot x.stamp → x.slot ≢ slot → IsTrue (reaches nodes slot x.slot) → ReachesSome nodes slot steps
 reaches-this nodes slot steps i x d inside is borne other reached = record { step = x; among = (i, inside, get_or_default steps i x d inside ∙ sym is); borne = borne; other = other; reached = reached }

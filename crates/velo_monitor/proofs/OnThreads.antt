@@ -12,7 +12,7 @@ use Rattle.velo_events.specs.Block.{passes_at, is_open_at, IsUnfinished}
 use Rattle.velo_events.proofs.OnScans.{passes_at-is}
 use Rattle.velo_events.proofs.OnUnfinished.{unfinished-one, unfinished-block, depth_in-none}
 use Rattle.velo_arena.specs.Slots.{node_in, stamp_of_node, stamp_in, is_used, is_finished_in, limit_of}
-use Rattle.velo_arena.proofs.OnSlots.{node_of_used, node_of_stamp}
+use Rattle.velo_arena.proofs.OnSlots.{node_of_used}
 use Rattle.velo_graph.specs.Nodes.{Nodes, is_ancestor}
 use Rattle.velo_graph.proofs.OnNodes.{used_in_range}
 use Rattle.velo_merge.specs.Named.{Bears}
@@ -26,12 +26,6 @@ pub bears-own : (nodes : Nodes) (k : ℕ) → IsTrue (is_used nodes.slots k) →
 bears-own nodes k used =
     let n = node_of_used (node_in nodes.slots k) used in
     subst (Bears nodes k) (sym (ap stamp_of_node n.1)) (bears-node nodes k n.0 n.1)
-
-pub stamp-borne : (nodes : Nodes) (k a : ℕ) → Bears nodes k a → stamp_in nodes.slots k ≡ a
-stamp-borne nodes k a borne = let n = node_of_stamp (node_in nodes.slots k) a borne in ap stamp_of_node n.1 ∙ n.2
-
-pub used-borne : (nodes : Nodes) (k a : ℕ) → Bears nodes k a → IsTrue (is_used nodes.slots k)
-used-borne nodes k a borne = let n = node_of_stamp (node_in nodes.slots k) a borne in ap is_some n.1
 
 -- ---- threads
 

@@ -69,10 +69,3 @@ private-no_twins (Release m) l h = refl
 private-no_twins (ReleaseShared m) l h = refl
 private-no_twins Exit l h = refl
 private-no_twins _ l h = absurd (false≢true h)
-
--- so they are free wherever they are due
-pub IsFreeStatement-private : (May : ℕ → List Event → Type 0) (mine : List Event) (t : ℕ) (k : Kind) → IsTrue (is_private k) → IsFreeStatement May mine t k
-IsFreeStatement-private May mine t k h = record {
-  guarded = λ events g other may rivals. absurd (both_ways _ (private-no_rivals k g.kind h) rivals);
-  single = λ events g other may. private-no_twins k g.kind h;
-}

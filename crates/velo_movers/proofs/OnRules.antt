@@ -11,17 +11,15 @@ use Rattle.velo_events.specs.declared.event.Kind.{Kind}
 use Rattle.velo_events.specs.declared.event.Kind.TheVariants.{Read, Write, Acquire, Release, AcquireShared, ReleaseShared, Begin, End, Fork, Join, Exit}
 use Rattle.velo_events.specs.Event.{thread_of, is_by}
 use Rattle.velo_events.specs.Conflict.{conflict}
-use Rattle.velo_events.specs.Graph.{HasCycle}
 use Rattle.velo_events.specs.Meaning.{kind_for, action_of}
 use Rattle.velo_events.specs.WellFormed.{IsInTurn, MayFollow}
-use Rattle.velo_events.proofs.OnGraphs.{HasCycle-append}
 use Rattle.velo_events.proofs.OnWellFormed.{IsWellFormed-before, IsWellFormed-last, IsWellFormed-push}
 use Rattle.velo_movers.specs.Moves.{DoesNotConflict}
 use Rattle.velo_movers.specs.Programs.{own, IsProgram, IsLog, IsNever}
 use Rattle.velo_movers.specs.Free.{IsFree, GoesAlong}
 use Rattle.velo_movers.proofs.OnHolders.{own-push_yes, own-push_no}
 use Rattle.velo_movers.proofs.OnFree.{free-no_conflict, free-due, free-stays}
-use Rattle.velo_movers.proofs.OnMoves.{IsWellFormed-forward, HasCycle-forward}
+use Rattle.velo_movers.proofs.OnMoves.{IsWellFormed-forward}
 
 -- ---- stretches without a conflict
 
@@ -183,15 +181,3 @@ module _ (bounds : Bounds) (May : ℕ → List Event → Type 0) (program : IsPr
           never (stretch ++ rest)
           (subst (IsLog bounds May) longer (IsLog-forward log stretch e rest apart bounds May whole))
           (subst Bad longer (along.forward log stretch e rest apart whole there))
-
--- ---- cycles
-
-pub HasCycle-goes_along : (bounds : Bounds) (May : ℕ → List Event → Type 0) → GoesAlong bounds May HasCycle
-HasCycle-goes_along bounds May = record {
-  forward = λ log stretch e rest apart all c. (HasCycle-forward log stretch e rest apart bounds all.well).0 c;
-  follow = λ log e free next c. HasCycle-append log (e ∷ []) c;
-}
-
--- No trace of the program that goes on from the log has a cycle, where none does that goes on from it with a free event
-pub no_cycle-rule_of_one : (bounds : Bounds) (May : ℕ → List Event → Type 0) → IsProgram May → (log : List Event) (e : Event) → IsLog bounds May (log ++ e ∷ []) → IsFree bounds May log e → IsNever bounds May HasCycle (log ++ e ∷ []) → IsNever bounds May HasCycle log
-no_cycle-rule_of_one bounds May program = rule_of_one bounds May program HasCycle (HasCycle-goes_along bounds May)

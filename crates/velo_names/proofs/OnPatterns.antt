@@ -4,7 +4,7 @@ use Rattle.std.proofs.lemmas.Bool.{ne_eqb}
 use Rattle.std.proofs.lemmas.Bool.Decides.{eqb_tells}
 use Rattle.std.specs.Borrow.{Bor}
 use Rattle.velo_names.specs.Pattern.{begins_with, is_like, some_tail}
-use Rattle.velo_names.specs.Meeting.{Goes, left_of, value_of}
+use Rattle.velo_names.specs.Meeting.{Goes, value_of}
 use Rattle.velo_names.specs.declared.pattern.Met.{Met}
 use Rattle.velo_names.specs.declared.pattern.Met.TheVariants.{Star, End, Apart}
 
@@ -38,13 +38,6 @@ none_later test b bs e = right_false (test (b ∷ bs)) (some_tail test bs) e
 some_here : (test : List ℕ → Bool) (ts : List ℕ) → test ts ≡ true → some_tail test ts ≡ true
 some_here test [] e = e
 some_here test (b ∷ bs) e = ap (λ (v : Bool). v || some_tail test bs) e
-
-pub some_later : (test : List ℕ → Bool) (b : ℕ) (bs : List ℕ) → test (b ∷ bs) ≡ false → some_tail test (b ∷ bs) ≡ some_tail test bs
-some_later test b bs e = ap (λ (v : Bool). v || some_tail test bs) e
-
-none_twice : (test : List ℕ → Bool) (ts : List ℕ) → some_tail test ts ≡ false → some_tail (some_tail test) ts ≡ false
-none_twice test [] e = e
-none_twice test (b ∷ bs) e = both_false (some_tail test (b ∷ bs)) (some_tail (some_tail test) bs) e (none_twice test bs (none_later test b bs e))
 
 -- ---- a byte of a pattern
 
@@ -81,9 +74,6 @@ pub record Meets (pattern text piece rest : List ℕ) : Type 0 where
   pub in_vain : some_tail (is_like piece) rest ≡ false → some_tail (is_like pattern) text ≡ false
   pub shorter : length piece ≤ length pattern
 
-pub meets_at_first : (pattern text : List ℕ) → Meets pattern text pattern text
-meets_at_first pattern text = record { same = refl; in_vain = λ e. e; shorter = omega arith }
-
 pub meets_next : (pattern text : List ℕ) (p : ℕ) (ps : List ℕ) (b : ℕ) (bs piece rest : List ℕ) → piece ≡ p ∷ ps → rest ≡ b ∷ bs → p ≢ 42 → b ≡ p → Meets pattern text piece rest → Meets pattern text ps bs
 meets_next pattern text p ps b bs piece rest is_piece is_rest other like meets = record {
   same = sym (at_byte p ps (b ∷ bs) e ∙ ap (λ (v : Bool). v && is_like ps bs) (same_eqb p b (sym like))) ∙ m.same;
@@ -113,21 +103,6 @@ goes_to_star pattern text p more rest piece is star meets = record {
     stars [] none = at_star p more.now [] e ∙ none
     stars (b ∷ bs) none = both_false (is_like (p ∷ more.now) (b ∷ bs)) (some_tail (is_like (p ∷ more.now)) bs) (at_star p more.now (b ∷ bs) e ∙ none) (stars bs (none_later (is_like more.now) b bs none))
 
-pub goes_to_end : (pattern text : List ℕ) → Meets pattern text [] [] → Goes pattern text End
-goes_to_end pattern text m = record { value = m.same; ends = tt }
-
-pub goes_apart_behind : (pattern text : List ℕ) (b : ℕ) (bs : List ℕ) → Meets pattern text [] (b ∷ bs) → Goes pattern text Apart
-goes_apart_behind pattern text b bs m = record { value = m.same; ends = tt }
-
-pub goes_apart_before : (pattern text : List ℕ) (p : ℕ) (ps : List ℕ) → eqb p 42 ≡ false → Meets pattern text (p ∷ ps) [] → Goes pattern text Apart
-goes_apart_before pattern text p ps e m = record { value = sym (at_byte p ps [] e) ∙ m.same; ends = tt }
-
-pub goes_apart_at : (pattern text : List ℕ) (p : ℕ) (ps : List ℕ) (b : ℕ) (bs : List ℕ) → eqb p 42 ≡ false → eqb p b ≡ false → Meets pattern text (p ∷ ps) (b ∷ bs) → Goes pattern text Apart
-goes_apart_at pattern text p ps b bs e other m = record {
-  value = sym (at_byte p ps (b ∷ bs) e ∙ ap (λ (v : Bool). v && is_like ps bs) other) ∙ m.same;
-  ends = tt;
-}
-
 -- ---- the first tail of a text that meets a piece
 
 pub tail_met : (pattern text : List ℕ) (met : Met) → Goes pattern text met → met ≢ Apart → value_of met ≡ some_tail (is_like pattern) text
@@ -138,8 +113,3 @@ tail_met pattern text (Star more rest) goes met = by (some_tail (is_like more.no
     by : (v : Bool) → some_tail (is_like more.now) rest.now ≡ v → some_tail (is_like more.now) rest.now ≡ some_tail (is_like pattern) text
     by true e = e ∙ sym (some_here (is_like pattern) text (sym goes.value ∙ e))
     by false e = e ∙ sym (goes.ends.1 e)
-
-pub less_left : (pattern text : List ℕ) (met : Met) → Goes pattern text met → left_of met ≤ length pattern
-less_left pattern text (Star more rest) goes = omega (arith, goes.ends.0)
-less_left pattern text End goes = omega arith
-less_left pattern text Apart goes = omega arith

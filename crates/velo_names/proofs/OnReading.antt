@@ -1,12 +1,11 @@
 -- The steps of the reader.
-use Rattle.std.proofs.Common.{◌≡◌, ℕ, ◌+◌, Bool, true, false, cond, nat_lt, List, [], ◌∷◌, Option, Some, None, Result, Ok, Err, refl, sym, ap, subst, ◌∙◌}
+use Rattle.std.proofs.Common.{◌≡◌, ℕ, ◌+◌, Bool, false, cond, nat_lt, List, [], ◌∷◌, Option, Some, Result, Ok, Err, refl, sym, ap, subst, ◌∙◌}
 use Rattle.std.specs.Option.{option_map_or}
 use Rattle.velo_names.specs.declared.limits.TheConstants.{MAX_NAME_LINES}
 use Rattle.velo_names.specs.declared.fault.NamesFault.{NamesFault}
-use Rattle.velo_names.specs.declared.fault.NamesFault.TheVariants.{BadLine, NamedTwice, TooManyLines, TooManyBytes, NotText, Memory}
+use Rattle.velo_names.specs.declared.fault.NamesFault.TheVariants.{BadLine, TooManyLines}
 use Rattle.velo_names.specs.Line.{Naming, naming_of, is_silent}
-use Rattle.velo_names.specs.Names.{NameLists, names_with, names_after, and_then, names_from, names_in_text, IsText, ReadsAs}
-use Rattle.velo_names.specs.Answers.{AnswersAs}
+use Rattle.velo_names.specs.Names.{NameLists, names_with, names_after, and_then, names_from}
 
 -- ---- one line
 
@@ -17,18 +16,8 @@ after_is : (names : NameLists) (n : ℕ) (line : List ℕ) → names_after names
 unfolding names_after
 after_is names n line = refl
 
-pub one_too_many : (names : NameLists) (n : ℕ) (line : List ℕ) → nat_lt MAX_NAME_LINES n ≡ true → names_after names n line ≡ Err TooManyLines
-one_too_many names n line e = after_is names n line ∙ ap (λ (v : Bool). by_tests v (is_silent line) (naming_of line) names n) e
-
 few : (names : NameLists) (n : ℕ) (line : List ℕ) → nat_lt MAX_NAME_LINES n ≡ false → names_after names n line ≡ by_tests false (is_silent line) (naming_of line) names n
 few names n line e = after_is names n line ∙ ap (λ (v : Bool). by_tests v (is_silent line) (naming_of line) names n) e
-
-pub nothing_said : (names : NameLists) (n : ℕ) (line : List ℕ) → nat_lt MAX_NAME_LINES n ≡ false → is_silent line ≡ true → names_after names n line ≡ Ok names
-nothing_said names n line e silent = few names n line e ∙ ap (λ (v : Bool). by_tests false v (naming_of line) names n) silent
-
-pub no_naming : (names : NameLists) (n : ℕ) (line : List ℕ) → nat_lt MAX_NAME_LINES n ≡ false → is_silent line ≡ false → naming_of line ≡ None → names_after names n line ≡ Err (BadLine n)
-no_naming names n line e loud none =
-    few names n line e ∙ ap (λ (v : Bool). by_tests false v (naming_of line) names n) loud ∙ ap (λ (o : Option Naming). by_tests false false o names n) none
 
 pub named : (names : NameLists) (n : ℕ) (line : List ℕ) (x : Naming) → nat_lt MAX_NAME_LINES n ≡ false → is_silent line ≡ false → naming_of line ≡ Some x → names_after names n line ≡ names_with names x n
 named names n line x e loud some =
@@ -39,26 +28,8 @@ named names n line x e loud some =
 abbrev wrong : NamesFault → Result (Unit {0}) NamesFault
 wrong fault = Err fault
 
-pub fault_on : (meaning whole : Result NameLists NamesFault) (a b : NameLists) (fault : NamesFault) → ((f : NamesFault) → meaning ≡ Err f → whole ≡ Err f) → AnswersAs meaning a (wrong fault) → AnswersAs whole b (wrong fault)
-fault_on meaning whole a b (BadLine n) h e = h (BadLine n) e
-fault_on meaning whole a b (NamedTwice n) h e = h (NamedTwice n) e
-fault_on meaning whole a b TooManyLines h e = h TooManyLines e
-fault_on meaning whole a b TooManyBytes h e = e
-fault_on meaning whole a b NotText h e = e
-fault_on meaning whole a b Memory h e = e
-
 pub line_wrong : (names : NameLists) (n : ℕ) (line : List ℕ) (others : List (List ℕ)) (f : NamesFault) → names_after names (n + 1) line ≡ Err f → names_from names n (line ∷ others) ≡ Err f
 line_wrong names n line others f e = ap (λ (r : Result NameLists NamesFault). and_then r (λ more. names_from more (n + 1) others)) e
 
 pub line_right : (names more : NameLists) (n : ℕ) (line : List ℕ) (others : List (List ℕ)) → names_after names (n + 1) line ≡ Ok more → names_from names n (line ∷ others) ≡ names_from more (n + 1) others
 line_right names more n line others e = ap (λ (r : Result NameLists NamesFault). and_then r (λ more. names_from more (n + 1) others)) e
-
--- ---- the whole
-
-pub fault_stands : (bytes : List ℕ) (a : NameLists) (fault : NamesFault) → IsText bytes → AnswersAs (names_in_text bytes) a (wrong fault) → ReadsAs bytes (Err fault)
-fault_stands bytes a (BadLine n) text e = (text, e)
-fault_stands bytes a (NamedTwice n) text e = (text, e)
-fault_stands bytes a TooManyLines text e = (text, e)
-fault_stands bytes a TooManyBytes text e = absurd e
-fault_stands bytes a NotText text e = absurd e
-fault_stands bytes a Memory text e = e

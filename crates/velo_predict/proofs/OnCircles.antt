@@ -1,8 +1,7 @@
 -- Rings, cycles, and who is in none.
-use Rattle.std.proofs.Common.{◌≡◌, ℕ, zero, suc, ◌<◌, ◌≤◌, Bool, true, false, List, [], ◌∷◌, ◌++◌, length, drop, Option, Some, refl, sym, ap, ◌∙◌, subst, arith, ⊎_elim, inl, inr}
+use Rattle.std.proofs.Common.{◌≡◌, ℕ, zero, suc, ◌<◌, ◌≤◌, Bool, true, false, List, [], ◌∷◌, ◌++◌, length, drop, Some, refl, sym, ap, ◌∙◌, subst, arith, ⊎_elim, inl, inr}
 use Rattle.std.specs.Prelude.{◌⊎◌, ◌||◌, ◌==◌, nat_eq, not, slice_get, Contains, IfOk, IsTrue, IsFalse, Result, Ok, Err}
 use Rattle.std.specs.List.{IsDistinct, list_any}
-use Rattle.std.specs.Option.{option_map_or}
 use Rattle.std.proofs.lemmas.Bool.{both_ways, eq-eqb, eqb-true, ne_eqb, false≢true, false_from_ne_true, or_cases, or_left, or_right}
 use Rattle.std.proofs.lemmas.Cmp.{nat_eq_equiv}
 use Rattle.std.proofs.lemmas.Map.Keys.{IsDistinct-push}
@@ -13,7 +12,7 @@ use Rattle.velo_events.specs.declared.thread_set.ThreadSet.{ThreadSet}
 use Rattle.velo_events.specs.Graph.{Path, IsCycle}
 use Rattle.velo_events.specs.ThreadSets.{has_thread}
 use Rattle.velo_events.proofs.OnWellFormed.{count_below, count_below-one_more}
-use Rattle.velo_predict.specs.Circles.{IsRing, IsChain, IsAmong, IsInRow, IsWalk, is_in_row}
+use Rattle.velo_predict.specs.Circles.{IsRing, IsChain, IsAmong, IsInRow, IsWalk}
 
 -- ---- chains and rings
 
@@ -78,9 +77,6 @@ pub row_within : (rows : List ThreadSet) (t u : ℕ) → IsInRow rows t u → t 
 row_within [] t u h = absurd (false≢true h)
 row_within (row ∷ rows) zero u h = omega arith
 row_within (row ∷ rows) (suc t) u h = omega (arith, row_within rows t u h)
-
-pub in_row-at : (rows : List ThreadSet) (t u : ℕ) (row : ThreadSet) → slice_get rows t ≡ Some row → is_in_row rows t u ≡ has_thread row u
-in_row-at rows t u row here = ap (λ (o : Option ThreadSet). option_map_or (λ row. has_thread row u) o false) here
 
 -- ---- those that are out
 

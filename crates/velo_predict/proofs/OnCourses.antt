@@ -34,10 +34,6 @@ pub own-drop_yes : (log : List Event) (t n : ℕ) (e : Event) → slice_get log 
 own-drop_yes log t n e at by =
     ap (own t) (here_at log n e at) ∙ ap (λ b. cond b (e ∷ own t (drop (n + 1) log)) (own t (drop (n + 1) log))) (eq-eqb (thread_of e) t by)
 
-pub own-drop_no : (log : List Event) (t n : ℕ) (e : Event) → slice_get log n ≡ Some e → thread_of e ≢ t → own t (drop n log) ≡ own t (drop (n + 1) log)
-own-drop_no log t n e at other =
-    ap (own t) (here_at log n e at) ∙ ap (λ b. cond b (e ∷ own t (drop (n + 1) log)) (own t (drop (n + 1) log))) (ne_eqb (thread_of e) t other)
-
 -- ---- events by their thread and kind
 
 event_of : ThreadId → Kind → Event

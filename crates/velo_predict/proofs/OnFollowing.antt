@@ -1,8 +1,7 @@
 -- Which event may follow, by what a heap answers.
-use Rattle.std.proofs.Common.{◌≡◌, ℕ, ◌<◌, ◌≤◌, Bool, List, length, Option, Some, None, refl, sym, ap, ◌∙◌, arith, ⊎_elim}
-use Rattle.std.specs.Prelude.{slice_get, slice_index_or, IfNone, IsTrue}
-use Rattle.std.proofs.lemmas.Bool.{cases_lt}
-use Rattle.std.proofs.lemmas.Option.{none-some, slice_get-get_or}
+use Rattle.std.proofs.Common.{◌≡◌, ℕ, ◌<◌, Bool, List, length, Some, None, refl, sym, ap, ◌∙◌}
+use Rattle.std.specs.Prelude.{slice_get, slice_index_or, IsTrue}
+use Rattle.std.proofs.lemmas.Option.{slice_get-get_or}
 use Rattle.velo_events.specs.declared.config.Bounds.{Bounds}
 use Rattle.velo_events.specs.declared.event.Event.{Event}
 use Rattle.velo_events.specs.declared.event.Kind.{Kind}
@@ -13,7 +12,6 @@ use Rattle.velo_events.specs.Heap.{value_in}
 use Rattle.velo_events.specs.Meaning.{refusal_of, has_its_value}
 use Rattle.velo_events.specs.WellFormed.{MayFollow, NamesKnown, IsWellFormed}
 use Rattle.velo_events.proofs.OnMeaning.{MayFollow-refusal_of, HasItsValue-true, has_its_value-true}
-use Rattle.velo_events.proofs.OnScans.{event_at}
 
 event_by : ThreadId → Kind → Event
 event_by t k = record { thread = t; kind = k }
@@ -42,14 +40,6 @@ pub refused_where : (bounds : Bounds) (trace : List Event) (e : Event) → IsWel
 refused_where bounds trace e well refused f = refused ((MayFollow-refusal_of bounds trace e well).0 f).0
 
 -- ---- look-ups
-
-pub if_none : {X : Type 0} (o : Option X) (P : Type 0) → P → IfNone o P
-if_none None P p = p
-if_none (Some x) P p = tt
-
-pub past_the_end : (log : List Event) (i : ℕ) → slice_get log i ≡ None → length log ≤ i
-past_the_end log i none =
-    ⊎_elim (λ below. let there = event_at log i below in absurd (none-some there.0 (sym none ∙ there.1))) (λ above. omega (arith, above)) (cases_lt i (length log))
 
 pub item_at : {X : Type 0} (xs : List X) (i : ℕ) (x : X) → i < length xs → x ≡ slice_index_or xs i x → slice_get xs i ≡ Some x
 item_at xs i x within is = slice_get-get_or xs i x within ∙ ap Some (sym is)

@@ -165,13 +165,6 @@ module _ (log trace : List Event) (t : ℕ) where
   waits-known bounds well some u (ForShare m next lives other has) = (live-known bounds trace well some t lives, (holder-known bounds trace well m.0 u has).0)
   waits-known bounds well some u (ForEnd v next lives same other) = (live-known bounds trace well some t lives, live-known bounds trace well some u other)
 
--- what hinders is known
-pub hinders-known : (bounds : Bounds) (trace : List Event) → IsWellFormed bounds trace → 0 < bounds.threads → (k : Kind) (t u : ℕ) → IsTrue (hinders trace k t u) → u < bounds.threads
-hinders-known bounds trace well some (Acquire m) t u h = (holds-known bounds trace well m.0 u (and_parts (not (t == u)) (holds trace u m.0) h).1).0
-hinders-known bounds trace well some (AcquireShared m) t u h = (holder-known bounds trace well m.0 u (are_same-some (holder_in trace m.0) u (and_parts (not (t == u)) (are_same (holder_in trace m.0) (Some u)) h).1)).0
-hinders-known bounds trace well some (Join v) t u h = live-known bounds trace well some u (is_Live (status_in trace u) (and_parts (v.0 == u) (is_live (status_in trace u)) h).1)
-hinders-known bounds trace well some _ t u h = absurd (false≢true h)
-
 -- ---- rows, one thread later
 
 pub row-with : (h : ℕ → Bool) (n : ℕ) (row wider : ThreadSet) → ((u : ℕ) → IsTrue (has_thread row u) ↔ ((u < n) × IsTrue (h u))) → IsTrue (h n) → ((u : ℕ) → has_thread wider u ≡ (n == u || has_thread row u)) → (u : ℕ) → IsTrue (has_thread wider u) ↔ ((u < n + 1) × IsTrue (h u))

@@ -5,8 +5,7 @@ use crate::growths::again;
 use crate::words::holds_for;
 use std::alloc::Global;
 use velo_bytes::{Bytes, Text, WriterSink};
-use velo_fate::{CheckFault, Fate};
-use velo_log_commands::{CarryFault, carry_run};
+use velo_check::{CarryFault, CheckFault, Fate, carry_run};
 use velo_logtext::LogFault;
 use velo_worker::Ending;
 

@@ -3,10 +3,10 @@ ghost use Rattle.std.specs.Prelude.{◌≡◌};
 
 use std::alloc::Global;
 use velo_events::{Config, Memory};
-use velo_explore::Finding;
-use velo_random::{BlamedLabel, DEFAULT_SEED, RunTally, try_all, try_by_chance};
+use velo_explore::{
+    BlamedLabel, DEFAULT_SEED, Finding, RunTally, Shrunk, shrink_findings, try_all, try_by_chance,
+};
 use velo_schedule_text::{append_turns, turns_of};
-use velo_shrink::{Shrunk, shrink_findings};
 use velo_workload::{Workload, parse};
 
 /// The tally of `runs` random runs of a workload.

@@ -10,9 +10,8 @@ use crate::words::holds_for;
 use std::alloc::Global;
 use std::process::Abort;
 use velo_bytes::{Bytes, Text};
+use velo_check::{CheckFault, Fate, Verdict, check_run, is_alarm};
 use velo_events::{MAX_EVENTS, MAX_NODES};
-use velo_fate::{CheckFault, Fate, Verdict, is_alarm};
-use velo_log_commands::check_run;
 use velo_worker::Ending;
 
 pub const LOST_UPDATE: &str = "vlog 1 2 1 0\n0 fork 1\n0 begin 7\n0 rd 0 0\n1 wr 0 5\n0 wr 0 1\n";

@@ -4,10 +4,9 @@ ghost use Rattle.std.specs.Prelude.{◌≡◌};
 use crate::words::holds_for;
 use std::alloc::Global;
 use velo_events::{Config, Memory, ThreadId};
-use velo_explore::{Finding, Findings, Quiet, explore};
+use velo_explore::{Finding, Findings, Quiet, Shrunk, explore, shrink_findings};
 use velo_filter::LeftOut;
 use velo_schedule_text::append_turns;
-use velo_shrink::{Shrunk, shrink_findings};
 use velo_workload::{Workload, parse};
 
 /// What all schedules of a workload show, by simple schedules.

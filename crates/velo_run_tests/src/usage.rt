@@ -1,7 +1,7 @@
 //! Faults of usage, on the matches of `command`.
 use crate::words::holds_for;
 use std::alloc::Global;
-use velo_arguments::{command, matches_of};
+use velo_cli::{command, matches_of};
 
 /// Words that are taken: each limit at its ends.
 static RIGHT: [&[&str]; 15] = [

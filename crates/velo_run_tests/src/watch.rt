@@ -2,12 +2,10 @@
 use crate::check::LOST_UPDATE;
 use std::alloc::Global;
 use velo_bytes::{Bytes, Text, WriterSink};
-use velo_delivery::Files;
+use velo_check::{CheckFault, Fate, Files, Limits, WatchOptions};
+use velo_cli::watch_file;
 use velo_events::MAX_EVENTS;
-use velo_fate::{CheckFault, Fate};
-use velo_log_commands::watch_file;
 use velo_logtext::LogFault;
-use velo_request::{Limits, WatchOptions};
 use velo_worker::Ending;
 
 /// The line of the alarm, and behind it the report and the certificate.

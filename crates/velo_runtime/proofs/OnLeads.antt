@@ -18,10 +18,9 @@ use Rattle.velo_events.proofs.OnThreadSets.{up-with}
 use Rattle.velo_events.proofs.OnWellFormed.{Facts-from, IsWellFormed-induct, holder_in-push}
 use Rattle.velo_heap.specs.Contents.{set_below}
 use Rattle.velo_heap.proofs.OnMasks.{is_in-mask_below}
-use Rattle.velo_runtime.specs.declared.wait.Wanted.{Wanted}
 use Rattle.velo_runtime.specs.declared.wait.Wanted.TheVariants.{Lock, LockShared, Thread}
 use Rattle.velo_runtime.specs.Waits.{Leads, has_exited}
-use Rattle.velo_runtime.specs.Leads.{set_of, AreLeads, AreNextLeads}
+use Rattle.velo_runtime.specs.Leads.{set_of, AreLeads}
 
 -- ---- one thread
 
@@ -98,22 +97,4 @@ pub AreLeads-thread : (log : List Event) (u : ThreadId) → u.0 < 64 → IsFalse
 AreLeads-thread log u few unfinished = record {
   each = λ t is. (sym (same_Some u.0 t ((set_of-is (Some u) few t).0 is)), unfinished);
   every = λ t lead. (set_of-is (Some u) few t).1 (ap Some (sym lead.0));
-}
-
-pub AreLeads-exited : (log : List Event) (u : ThreadId) → IsTrue (has_exited (status_in log u.0)) → AreLeads log (Thread u) no_threads
-AreLeads-exited log u exited = record {
-  each = λ t is. absurd (false≢true (sym (no_member t) ∙ is));
-  every = λ t lead. absurd (false≢true (sym lead.1 ∙ exited));
-}
-
-pub AreNextLeads-none : (log : List Event) → AreNextLeads log None no_threads
-AreNextLeads-none log = record {
-  each = λ t is. absurd (false≢true (sym (no_member t) ∙ is));
-  every = λ wanted t waiting lead. cc;
-}
-
-pub AreNextLeads-some : (log : List Event) (wanted : Wanted) (threads : ThreadSet) → AreLeads log wanted threads → AreNextLeads log (Some wanted) threads
-AreNextLeads-some log wanted threads leads = record {
-  each = λ t is. (wanted, refl, leads.each t is);
-  every = λ other t same lead. leads.every t (subst (λ w. Leads log w t) (sym (same_Some wanted other same)) lead);
 }

@@ -5,7 +5,6 @@ use Rattle.std.proofs.lemmas.Bool.{cases_eq, cases_Bool, eq-eqb, ne_eqb, false�
 use Rattle.std.proofs.lemmas.List.{set-set, set-get_or}
 use Rattle.std.proofs.lemmas.List.Elements.{All-nil, All-pop, All-push}
 use Rattle.std.proofs.lemmas.List.Sums.{sum_by_push, sum_by-set}
-use Rattle.std.proofs.lemmas.List.Folds.{sum_by-replicate}
 use Rattle.std.proofs.lemmas.Option.{slice_get_within, slice_get-get_or, get_or_from_slice_get, same_Some, none-some}
 use Rattle.velo_events.specs.declared.event.Status.{Status}
 use Rattle.velo_events.specs.declared.event.Status.TheVariants.{Unborn, Live, Exited, Joined}
@@ -36,9 +35,6 @@ AreSeatsOf-start w seats are = record {
   fit = are.fit;
   each = λ t lt. rw (slice_get-replicate {X = Option Holding} w.config.bounds.threads t None lt) at (are.each t lt);
 }
-
-pub events-start : (threads : ℕ) → events_in_all (replicate threads None) ≡ 0
-events-start threads = let zeros = sum_by-replicate events_in threads None in omega (arith, zeros)
 
 -- ---- one seat more
 

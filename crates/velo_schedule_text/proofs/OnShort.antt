@@ -1,5 +1,5 @@
 -- The longest stretches of turns of one thread.
-use Rattle.std.proofs.Common.{◌≡◌, ℕ, zero, suc, ◌+◌, ◌<◌, ◌≤◌, Bool, cond, List, [], ◌∷◌, ◌++◌, All, length, get_or, drop, replicate, ⊎_elim, refl, sym, ap, subst, ◌∙◌, append_assoc, arith}
+use Rattle.std.proofs.Common.{◌≡◌, ℕ, zero, suc, ◌+◌, ◌<◌, ◌≤◌, Bool, cond, List, [], ◌∷◌, ◌++◌, All, length, get_or, drop, replicate, ⊎_elim, refl, sym, ap, subst, ◌∙◌, arith}
 use Rattle.std.specs.Prelude.{⊤}
 use Rattle.std.proofs.lemmas.Bool.Decides.{eqb_tells}
 use Rattle.std.proofs.lemmas.List.{drop_more}
@@ -8,7 +8,7 @@ use Rattle.velo_events.specs.declared.event.ThreadId.{ThreadId}
 use Rattle.velo_events.specs.declared.limits.TheConstants.{MAX_THREADS}
 use Rattle.velo_schedule_text.specs.declared.limits.TheConstants.{MAX_TURNS}
 use Rattle.velo_schedule_text.specs.declared.turns.Turns.{Turns}
-use Rattle.velo_schedule_text.specs.Schedule.{in_order, spaced, turns_text, SaysTurns}
+use Rattle.velo_schedule_text.specs.Schedule.{in_order, SaysTurns}
 use Rattle.velo_schedule_text.specs.Short.{one_turn, with_turn, stretches_of, short_text}
 
 abbrev longer : ThreadId → ℕ → List Turns → List Turns
@@ -111,10 +111,6 @@ pub record IsFront (schedule : List ThreadId) (t : ThreadId) (n : ℕ) : Type 0 
   pub within : n ≤ length schedule
   pub words : stretches_of schedule ≡ with_turns t n (stretches_of (drop n schedule))
 
-pub front_of_one : (schedule : List ThreadId) (t d : ThreadId) → 0 < length schedule → t ≡ get_or schedule 0 d → IsFront schedule t 1
-front_of_one [] t d some e = absurd (omega (arith, some))
-front_of_one (u ∷ rest) t d some e = record { some = omega arith; within = omega arith; words = ap (λ (v : ThreadId). with_turn v (stretches_of rest)) (sym e) }
-
 pub front_more : (schedule : List ThreadId) (t d : ThreadId) (n : ℕ) → IsFront schedule t n → n < length schedule → t ≡ get_or schedule n d → IsFront schedule t (n + 1)
 front_more schedule t d n h lt e =
     let next : drop n schedule ≡ t ∷ drop (n + 1) schedule = drop_more schedule n d lt ∙ ap (λ (v : ThreadId). v ∷ drop (n + 1) schedule) (sym e) in
@@ -134,11 +130,3 @@ ends_here (u ∷ rest) t d (suc n) h = ends_here rest t d n (λ lt e. h (omega (
 pub first_stretch : (schedule : List ThreadId) (t d : ThreadId) (n : ℕ) → IsFront schedule t n → (n < length schedule → t.0 ≡ (get_or schedule n d).0 → ⊥) → stretches_of schedule ≡ record { thread = t; count = n } ∷ stretches_of (drop n schedule)
 first_stretch schedule t d zero f h = absurd (omega (arith, f.some))
 first_stretch schedule t d (suc n) f h = f.words ∙ stretch t n (stretches_of (drop (suc n) schedule)) (ends_here schedule t d (suc n) h)
-
--- ---- what is written
-
-pub word_written : (old so_far now : List ℕ) (whole rest : List Turns) (x : Turns) → so_far ++ spaced (x ∷ rest) ≡ old ++ spaced whole → now ≡ (so_far ++ 32 ∷ []) ++ turns_text x → now ++ spaced rest ≡ old ++ spaced whole
-word_written old so_far now whole rest x e is =
-    ap (λ (text : List ℕ). text ++ spaced rest) is
-    ∙ (append_assoc (so_far ++ 32 ∷ []) (turns_text x) (spaced rest)
-    ∙ (append_assoc so_far (32 ∷ []) (turns_text x ++ spaced rest) ∙ e))

@@ -103,9 +103,6 @@ pub record Reads (text : List ℕ) (k : ℕ) (schedule : List ThreadId) : Type 0
   pub turns : schedule ≡ in_order words
   pub few : length schedule ≤ MAX_TURNS
 
-pub nothing_read : (text : List ℕ) → Reads text 0 []
-nothing_read text = record { words = []; each = All-nil AreTurns; texts = refl; turns = refl; few = omega arith }
-
 in_order_push : (words : List Turns) (x : Turns) → in_order (words ++ x ∷ []) ≡ in_order words ++ replicate x.count x.thread
 in_order_push [] x = append-nil (replicate x.count x.thread)
 in_order_push (y ∷ rest) x =
@@ -139,10 +136,6 @@ all_read text k schedule h all = record {
   turns = h.turns;
   few = h.few;
 }
-
-pub empty_schedule : (text : List ℕ) → length text ≡ 0 → SaysTurns text []
-empty_schedule [] e = record { words = []; each = All-nil AreTurns; whole = refl; turns = refl; few = omega arith }
-empty_schedule (b ∷ bs) e = absurd (omega (arith, e))
 
 -- ---- why there is none
 

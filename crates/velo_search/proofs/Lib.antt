@@ -18,7 +18,6 @@ pub mod OnKept
 pub mod OnFaults
 pub mod OnTried
 pub mod OnTold
-pub mod OnSerial
 pub mod OnRunsOfScripts
 pub mod OnWanted
 pub mod OnOpenBlocks

@@ -1,13 +1,10 @@
 -- Smaller and larger bounds, and what operations name in them.
-use Rattle.std.proofs.Common.{◌<◌, refl, subst, ◌∙◌, arith}
+use Rattle.std.proofs.Common.{◌<◌, subst, ◌∙◌, arith}
 use Rattle.velo_events.specs.declared.config.Bounds.{Bounds}
 use Rattle.velo_events.specs.declared.event.Kind.{Kind}
 use Rattle.velo_events.specs.declared.event.Kind.TheVariants.{Read, Write, Acquire, Release, AcquireShared, ReleaseShared, Begin, End, Fork, Join, Exit}
 use Rattle.velo_events.specs.WellFormed.{NamesKnown}
 use Rattle.velo_search.specs.Fitting.{IsWithin}
-
-pub within-same : (bounds : Bounds) → IsWithin bounds bounds
-within-same bounds = record { threads = refl; variables = omega arith; locks = omega arith }
 
 pub within-also : (small middle large : Bounds) → IsWithin small middle → IsWithin middle large → IsWithin small large
 within-also small middle large one other = record {

@@ -1,9 +1,8 @@
 -- Two numbers of paired lists are exchanged, and the lists are paired.
-use Rattle.std.proofs.Common.{◌≡◌, ◌≢◌, ℕ, ◌<◌, List, [], ◌∷◌, ◌++◌, length, length-append, refl, sym, ap, ◌∙◌, subst, arith, ⊎_elim}
+use Rattle.std.proofs.Common.{◌≡◌, ◌≢◌, ℕ, ◌<◌, List, [], length, refl, sym, ap, ◌∙◌, subst, arith, ⊎_elim}
 use Rattle.std.specs.Prelude.{slice_set}
-use Rattle.std.proofs.lemmas.Bool.{cases_eq, cases_lt}
-use Rattle.std.proofs.Math.Seq.{get_or-append_seam}
-use Rattle.std.proofs.lemmas.List.{get_or-set_same, get_or-set_other, get_or_append_left, get_or_past, length-set}
+use Rattle.std.proofs.lemmas.Bool.{cases_eq}
+use Rattle.std.proofs.lemmas.List.{get_or-set_same, get_or-set_other, length-set}
 use Rattle.velo_search.specs.Exchanges.{number_in, ArePaired}
 
 -- ---- one number
@@ -13,30 +12,6 @@ set-same xs i v z within is = subst (λ k. number_in (slice_set xs i v) k ≡ v)
 
 set-other : (xs : List ℕ) (i v z : ℕ) → z ≢ i → number_in (slice_set xs i v) z ≡ number_in xs z
 set-other xs i v z differ = get_or-set_other xs i z v z differ
-
--- ---- the identity
-
-pub identity-nil : (x : ℕ) → number_in [] x ≡ x
-identity-nil x = get_or_past [] x x (omega arith)
-
-pub identity-next : (xs : List ℕ) (n : ℕ) → length xs ≡ n → ((x : ℕ) → number_in xs x ≡ x) → (x : ℕ) → number_in (xs ++ n ∷ []) x ≡ x
-identity-next xs n count each x = ⊎_elim
-    (λ below. get_or_append_left xs (n ∷ []) x x below ∙ each x)
-    (λ above. ⊎_elim
-    (λ is. subst (λ k. number_in (xs ++ n ∷ []) k ≡ k) (sym is) (get_or-append_seam xs n [] (length xs) ∙ sym count))
-    (λ differ. get_or_past (xs ++ n ∷ []) x x (let long = length-append xs (n ∷ []) in omega (arith, above, differ, long)))
-    (cases_eq x (length xs)))
-    (cases_lt x (length xs))
-
--- lists that are the identity are paired
-pub paired-identity : (to back : List ℕ) → length to ≡ length back → ((x : ℕ) → number_in to x ≡ x) → ((x : ℕ) → number_in back x ≡ x) → ArePaired to back
-paired-identity to back count one other = record {
-  count = sym count;
-  returns = λ x. other (number_in to x) ∙ one x;
-  gives = λ x. one (number_in back x) ∙ other x;
-  within = λ x l. subst (λ y. y < length to) (sym (one x)) l;
-  within_back = λ x l. subst (λ y. y < length to) (sym (other x)) l;
-}
 
 -- ---- an exchange
 

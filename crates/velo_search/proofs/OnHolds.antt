@@ -1,14 +1,13 @@
 -- The locks that a thread has, after one more operation.
-use Rattle.std.proofs.Common.{◌≡◌, ℕ, ◌+◌, ◌<◌, ◌≤◌, Bool, true, false, refl, List, [], ◌∷◌, ◌++◌, length, Some, sym, ap, ◌∙◌, subst, arith, ⊎_elim, get_or-set_same, get_or-set_other}
-use Rattle.std.specs.Prelude.{◌&&◌, slice_index_or, slice_set, IsFalse}
-use Rattle.std.proofs.lemmas.Bool.{cases_lt, or_from}
-use Rattle.std.proofs.lemmas.List.{get_or_past}
+use Rattle.std.proofs.Common.{◌≡◌, ℕ, ◌+◌, ◌<◌, ◌≤◌, List, [], ◌∷◌, ◌++◌, length, Some, sym, ap, ◌∙◌, subst, arith, ⊎_elim, get_or-set_same, get_or-set_other}
+use Rattle.std.specs.Prelude.{slice_index_or, slice_set}
+use Rattle.std.proofs.lemmas.Bool.{cases_lt}
 use Rattle.std.proofs.lemmas.Option.{slice_get-get_or}
 use Rattle.velo_events.specs.declared.event.Kind.{Kind}
 use Rattle.velo_heap.specs.Contents.{Tabulates}
 use Rattle.velo_heap.proofs.OnTables.{get_or-tabulated}
 use Rattle.velo_search.specs.declared.hold.Hold.{Hold}
-use Rattle.velo_search.specs.Free.{excludes, hold_after, hold_next, no_hold, AreHeld}
+use Rattle.velo_search.specs.Free.{hold_after, hold_next, no_hold, AreHeld}
 use Rattle.velo_search.proofs.OnNotes.{hold_after-push}
 
 -- one lock after another
@@ -39,18 +38,3 @@ Tabulates-taken old new k same done before table = record {
 pub held-taken : (old new : List Hold) (k : Kind) → length new ≡ length old → ((m : ℕ) → m < length new → slice_index_or new m no_hold ≡ hold_next m (slice_index_or old m no_hold) k) →
     (locks : ℕ) (before : List Kind) → AreHeld locks before old → AreHeld locks (before ++ k ∷ []) new
 held-taken old new k same done locks before held = record { count = same ∙ held.count; table = Tabulates-taken old new k same done before held.table }
-
--- a lock that only one of them knows keeps nobody apart
-excludes-none : (h : Hold) → IsFalse (excludes h no_hold)
-excludes-none h = or_from _ _ (and_false h.alone) (and_false h.shared)
-  where
-    and_false : (b : Bool) → IsFalse (b && false)
-    and_false true = refl
-    and_false false = refl
-
--- whether they exclude each other by a lock, if it is looked at where both know it
-pub excludes-here : (mine theirs : List Hold) (m : ℕ) (b : Bool) → (m < length theirs → b ≡ excludes (slice_index_or mine m no_hold) (slice_index_or theirs m no_hold)) → (length theirs ≤ m → b ≡ false) →
-    b ≡ excludes (slice_index_or mine m no_hold) (slice_index_or theirs m no_hold)
-excludes-here mine theirs m b here past = ⊎_elim here
-    (λ behind. past behind ∙ sym (ap (excludes (slice_index_or mine m no_hold)) (get_or_past theirs m no_hold behind) ∙ excludes-none (slice_index_or mine m no_hold)))
-    (cases_lt m (length theirs))

@@ -16,14 +16,6 @@ use Rattle.velo_search.proofs.OnNoting.{list-pushed_before, list-pushed_here}
 count-push : (outs : List Bool) (out : Bool) → count_by not (outs ++ out ∷ []) ≡ count_by not outs + count_by not (out ∷ [])
 count-push outs out = sum_by-append (λ (b : Bool). cond {A = ℕ} (not b) 1 0) outs (out ∷ [])
 
--- one more that is left out
-pub count-out : (outs : List Bool) → count_by not (outs ++ true ∷ []) ≡ count_by not outs
-count-out outs = let all = count-push outs true in let one : count_by not (true ∷ []) ≡ 0 = refl in omega (arith, all, one)
-
--- and one that stays
-pub count-stays : (outs : List Bool) → count_by not (outs ++ false ∷ []) ≡ count_by not outs + 1
-count-stays outs = let all = count-push outs false in let one : count_by not (false ∷ []) ≡ 1 = refl in omega (arith, all, one)
-
 -- some block stays
 pub any-count : (outs : List Bool) → list_any not (reverse outs) ≡ nat_lt 0 (count_by not outs)
 any-count [] = refl

@@ -9,11 +9,9 @@ use Rattle.velo_events.specs.Heap.{depth_in}
 use Rattle.velo_events.specs.WellFormed.{IsWellFormed, MayFollow}
 use Rattle.velo_events.specs.Graph.{HasCycle}
 use Rattle.velo_events.proofs.OnGraphs.{HasCycle-append}
-use Rattle.velo_events.proofs.OnOwners.{passes_at-within}
-use Rattle.velo_events.proofs.OnReaching.{HasCycle-on, Reaches-from_absent}
 use Rattle.velo_search.specs.declared.group.Group.{Group}
 use Rattle.velo_search.specs.Groups.{is_in, looks_at}
-use Rattle.velo_search.specs.Summary.{Reaching, ReachingAnother, Summary, IsSummaryOf, blank, alarm, is_inside, closes_cycle, is_behind, leads_to, reached_after, beyond_after, step}
+use Rattle.velo_search.specs.Summary.{Reaching, ReachingAnother, Summary, IsSummaryOf, alarm, is_inside, closes_cycle, is_behind, leads_to, reached_after, beyond_after, step}
 use Rattle.velo_search.proofs.OnAny.{any-some, any-at}
 use Rattle.velo_search.proofs.OnThreads.{outside-none}
 use Rattle.velo_search.proofs.OnReaching.{IsBehind, reaching-kept, reaching-new, reaching-through, reaching-from, reaching-own_kept, reaching-own_new, reaching-own_from}
@@ -208,16 +206,3 @@ module _ (bounds : Bounds) (trace : List Event) (e : Event) (well : IsWellFormed
           (λ closes. subst Goal (sym (or_right s.alarmed (closes_cycle s e) closes)) (alarm-stands (trace ++ e ∷ []) ((closes-cycle bounds trace e well follows few s stands h).0 closes)))
           (λ k. subst Goal (sym (or_from s.alarmed (closes_cycle s e) h k)) (clean h k))
           (cases_Bool (closes_cycle s e))
-
--- ---- the start
-
--- 48. no event: no cycle, and no group has a member
-pub IsSummaryOf-blank : IsSummaryOf [] blank
-IsSummaryOf-blank = record {
-  alarmed = ((λ h. absurd (false≢true h)), (λ c. absurd (no_edge c)));
-  reached = λ quiet g u. ((λ h. absurd (false≢true h)), (λ w. absurd (omega (arith, passes_at-within [] (λ f. is_in f g) w.at w.member))));
-  beyond = λ quiet g u. ((λ h. absurd (false≢true h)), (λ w. absurd (omega (arith, passes_at-within [] (λ f. is_in f g) w.reaching.at w.reaching.member))));
-}
-  where
-    no_edge : HasCycle [] → ⊥
-    no_edge c = let on = HasCycle-on [] c in on.1.differ (Reaches-from_absent [] on.0 on.1.other (omega arith) on.1.there)

@@ -17,7 +17,7 @@ use Rattle.velo_search.specs.declared.state.State.{State}
 use Rattle.velo_search.specs.declared.step.Step.{Step}
 use Rattle.velo_search.specs.Runs.{IsRunOf, IsNext}
 use Rattle.velo_search.specs.States.{IsStateOf}
-use Rattle.velo_search.specs.Steps.{AreEarlier, IsWay, IsLonger, Notes}
+use Rattle.velo_search.specs.Steps.{IsWay, IsLonger, Notes}
 use Rattle.velo_search.specs.declared.found.Found.{Found}
 use Rattle.velo_search.specs.declared.trail.Trail.{Trail}
 use Rattle.velo_search.specs.Faults.{Fault, Cycle, Stuck, Refusing, IsFault}
@@ -71,16 +71,6 @@ way-back steps place from i s turns pushed next here way is rest before =
     (append_assoc rest (s.thread ∷ []) (reverse turns) ∙ ap (λ ts. rest ++ ts) (sym (ap reverse is ∙ reverse-append turns (s.thread ∷ []))))
     (way (rest ++ s.thread ∷ []) (IsWay.more steps from i s rest (rest ++ s.thread ∷ []) next here before refl))
 
-pub earlier-push : (steps : List Step) (place : ℕ) (t : ThreadId) → AreEarlier steps → place ≤ length steps → AreEarlier (steps ++ record { before = place; thread = t } ∷ [])
-earlier-push steps place t earlier within i s h = ⊎_elim
-    (λ l. earlier i s (sym (slice_get-append steps (record { before = place; thread = t } ∷ []) i l) ∙ h))
-    (λ past.
-    let long = slice_get_within (steps ++ record { before = place; thread = t } ∷ []) i s h in
-    let last : i ≡ length steps = omega (arith, past, long, length-append steps (record { before = place; thread = t } ∷ [])) in
-    let is : record { before = place; thread = t } ≡ s = same_Some _ s (sym (slice_get-push steps (record { before = place; thread = t })) ∙ (ap (slice_get (steps ++ record { before = place; thread = t } ∷ [])) (sym last) ∙ h)) in
-    subst (λ (q : Step). q.before ≤ i) is (omega (arith, within, last)))
-    (cases_lt i (length steps))
-
 -- ---- longer lists
 
 pub longer-same : (steps now : List Step) → now ≡ steps → IsLonger steps now
@@ -91,9 +81,6 @@ longer-next first second third one other = record {
   more = one.more ++ other.more;
   is = other.is ∙ (ap (λ xs. xs ++ other.more) one.is ∙ append_assoc first one.more other.more);
 }
-
-pub longer-push : (steps now : List Step) (s : Step) → now ≡ steps ++ s ∷ [] → IsLonger steps now
-longer-push steps now s is = record { more = s ∷ []; is = is }
 
 -- ---- states
 

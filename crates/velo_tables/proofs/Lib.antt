@@ -6,3 +6,10 @@ pub mod OnCells
 pub mod OnForgotten
 pub mod OnSteps
 pub mod OnGraphLookUps
+pub mod OnLatest
+pub mod OnBeside
+pub mod OnClocks
+pub mod OnThreads
+pub mod OnRaised
+pub mod OnRows
+pub mod OnNoted

@@ -179,14 +179,6 @@ IsRecorded-inside kept e step room current =
     ap (with_thread kept (thread_of e)) (sym current) ∙ ap (λ threads. record { threads = threads; cells = kept.cells }) (set-get_or kept.threads (thread_of e) None) in
     subst (λ old. IsRecorded kept e (Some step) (kept_after_beside old (thread_of e) (access_of e.kind) (Some step))) same (IsRecorded-kept_after kept e (Some step) room)
 
-pub length-threads-kept_after : (kept : LastAccesses) (e : Event) (step : Option Step) → length (kept_after kept e step).threads ≡ length kept.threads
-unfolding kept_after
-length-threads-kept_after kept e step = go (access_of e.kind)
-  where
-    go : (a : Access) → length (kept_after_beside (with_thread kept (thread_of e) step) (thread_of e) a step).threads ≡ length kept.threads
-    go (Access.Fork u) = length-set (set kept.threads (thread_of e) step) u.0 step ∙ length-set kept.threads (thread_of e) step
-    go _ = length-set kept.threads (thread_of e) step
-
 -- ---- room that was made
 
 pub IsUnchanged-trans : (a b c : LastAccesses) → IsUnchanged a b → IsUnchanged b c → IsUnchanged a c

@@ -1,13 +1,12 @@
 -- The steps that are not of one slot, place by place.
-use Rattle.std.proofs.Common.{◌≡◌, ℕ, ◌≤◌, ◌++◌, List, [], ◌∷◌, Option, Some, None, refl, ap, ◌∙◌, get_or, length}
+use Rattle.std.proofs.Common.{◌≡◌, ℕ, ◌++◌, List, [], ◌∷◌, Option, Some, None, refl, ap, ◌∙◌, get_or}
 use Rattle.std.specs.Prelude.{map}
 use Rattle.std.specs.List.{filter_map, cons_option}
-use Rattle.std.proofs.lemmas.List.{get_or_past}
 use Rattle.std.specs.Option.{option_to_list}
 use Rattle.velo_arena.specs.declared.step.Step.{Step}
 use Rattle.velo_events.specs.Place.{LastWrite, LastRead, thread_numbers}
 use Rattle.velo_tables.specs.Readers.{AreReaders}
-use Rattle.velo_tables.specs.LastAccesses.{LastAccesses, entry, accesses_of, no_accesses}
+use Rattle.velo_tables.specs.LastAccesses.{LastAccesses, entry, accesses_of}
 use Rattle.velo_tables.specs.Others.{but_for, steps_of}
 use Rattle.velo_tables.proofs.OnReaders.{HaveBits, filter_map-cons}
 
@@ -23,10 +22,6 @@ filter_map-map : {X Y Z : Type 0} (f : Y → Option Z) (g : X → Y) (xs : List 
 filter_map-map f g [] = refl
 filter_map-map f g (x ∷ xs) = ap (cons_option (f (g x))) (filter_map-map f g xs)
 
-filter_map-none : {X Y : Type 0} (f : X → Option Y) (xs : List X) → ((x : X) → f x ≡ None) → filter_map f xs ≡ []
-filter_map-none f [] none = refl
-filter_map-none f (x ∷ xs) none = ap (λ o. cons_option o (filter_map f xs)) (none x) ∙ filter_map-none f xs none
-
 -- the steps of one cell's accesses
 abbrev pub accesses_of_places : Option ℕ → LastAccesses → ℕ → List Step
 accesses_of_places slot kept x = filter_map (λ p. but_for slot (entry kept p)) (LastWrite x ∷ map (LastRead x) thread_numbers)
@@ -35,11 +30,3 @@ pub steps_of_accesses : (slot : Option ℕ) (kept : LastAccesses) (x : ℕ) → 
 steps_of_accesses slot kept x =
     filter_map-cons (λ p. but_for slot (entry kept p)) (LastWrite x) (map (LastRead x) thread_numbers)
     ∙ ap (λ ys. option_to_list (but_for slot (accesses_of kept x).write) ++ ys) (filter_map-map (λ p. but_for slot (entry kept p)) (LastRead x) thread_numbers)
-
--- a cell beyond the room has none
-pub no_steps_past : (slot : Option ℕ) (kept : LastAccesses) (x : ℕ) → length kept.cells ≤ x → accesses_of_places slot kept x ≡ []
-no_steps_past slot kept x past =
-    steps_of_accesses slot kept x
-    ∙ (ap (steps_of slot) (get_or_past kept.cells x no_accesses past)
-    ∙ (ap (λ o. option_to_list o ++ filter_map (λ t. but_for slot None) thread_numbers) (but_for-none slot)
-    ∙ filter_map-none (λ t. but_for slot None) thread_numbers (λ t. but_for-none slot)))

@@ -21,22 +21,10 @@ use Rattle.velo_events.specs.Place.{thread_numbers}
 
 -- ---- the threads that have a read
 
-pub AreReaders-nil : {X : Type 0} → AreReaders {X = X} 0 []
-AreReaders-nil {X} = record { few = omega arith; covers = λ t h. refl }
-
 pub AreReaders-filled_up : {X : Type 0} (readers n : ℕ) (reads : List (Option X)) → n ≤ 64 → AreReaders readers reads → AreReaders readers (filled_up None n reads)
 AreReaders-filled_up readers n reads h are = record {
   few = omega (arith, length-filled_up None n reads, are.few);
   covers = λ t clear. get_or-filled_up None n reads t ∙ are.covers t clear;
-}
-
--- an entry without a step needs no bit
-pub AreReaders-set_none : {X : Type 0} (readers : ℕ) (reads : List (Option X)) (t : ℕ) → t < length reads → AreReaders readers reads → AreReaders readers (set reads t None)
-AreReaders-set_none readers reads t within are = record {
-  few = omega (arith, length-set reads t None, are.few);
-  covers = λ u clear.
-      ⊎_elim (λ at. subst (λ k. get_or (set reads t None) k None ≡ None) (sym at) (get_or-set_same reads t None None within))
-      (λ off. get_or-set_other reads t u None None off ∙ are.covers u clear) (cases_eq u t);
 }
 
 -- with its bit set, an entry may have a step
@@ -131,14 +119,6 @@ pub record IsWalked {X : Type 0} (readers : ℕ) (f : ℕ → Option X) (before 
   pub small : next ≤ 64
   pub few : length list ≤ length before + next
   pub listed : list ≡ before ++ filter_map f (range_with_len 0 next)
-
-pub IsWalked-start : {X : Type 0} (readers : ℕ) (f : ℕ → Option X) (before : List X) → IsWalked readers f before readers 0 before
-IsWalked-start readers f before = record {
-  shifted = omega arith;
-  small = omega arith;
-  few = omega arith;
-  listed = sym (append-nil before);
-}
 
 module _ {X : Type 0} (readers : ℕ) (f : ℕ → Option X) (before : List X) (rest next : ℕ) (list : List X) where
   bit_of_rest : IsWalked readers f before rest next list → (i : ℕ) → bit_at rest i ≡ bit_at readers (next + i)

@@ -4,3 +4,5 @@ pub mod LastAccesses
 pub mod Others
 pub mod Cells
 pub mod Recorded
+pub mod Clocks
+pub mod ClockRows

@@ -1,5 +1,5 @@
 -- What is read, and what is wrong with it.
-use Rattle.std.proofs.Common.{◌≡◌, ℕ, List, Option, Some, None, Ok, Err, refl}
+use Rattle.std.proofs.Common.{◌≡◌, ℕ, List, Option, Some, None, Ok, Err}
 use Rattle.std.specs.Prelude.{IfSome}
 use Rattle.velo_events.specs.declared.config.Bounds.{Bounds}
 use Rattle.velo_events.specs.declared.event.Event.{Event}
@@ -17,12 +17,6 @@ text_found None limit bounds log found = tt
 pub failed_by : (fault : LogFault) (after before : ℕ) → after ≡ failures_after {X = ℕ} (Err fault) before → after ≡ failures_by {X = ℕ} (Err (Log fault)) before
 failed_by log_fault.Read after before h = h
 failed_by fault after before h = h
-
-pub not_failed : (bounds : Bounds) (log : List Event) (fault : ThinFault) (count : ℕ) → IsFaultOfEvents bounds log fault → failures_by {X = ℕ} (Err fault) count ≡ count
-not_failed bounds log (Refused p refusal) count w = refl
-not_failed bounds log (WrongValue p) count w = refl
-not_failed bounds log Memory count w = refl
-not_failed bounds log (Log fault) count w = absurd w
 
 pub fault_found : (read : Option (List ℕ)) (bounds : Bounds) (log : List Event) (fault : ThinFault) → IsThinInput read bounds log → IsFaultOfEvents bounds log fault → IsFaultOf read fault
 fault_found read bounds log (Refused p refusal) text w = record { bounds = bounds; log = log; text = text; reason = w }

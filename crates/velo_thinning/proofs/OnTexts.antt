@@ -4,13 +4,13 @@ use Rattle.std.specs.Prelude.{⊤, Result, OnOk, OnErr}
 use Rattle.std.specs.Io.KnownBytes.{Appends}
 use Rattle.std.specs.Borrow.{Bor}
 use Rattle.velo_bytes.specs.Device.{AppendsBeginning, with_failure}
-use Rattle.velo_delivery.specs.declared.answer.Answer.{Answer}
-use Rattle.velo_delivery.specs.declared.answer.Save.{Save}
-use Rattle.velo_delivery.specs.declared.failure.Failure.{Failure}
-use Rattle.velo_delivery.specs.declared.failure.Failure.TheVariants.{PrintFailed}
-use Rattle.velo_delivery.specs.Answers.{IsAnswered, PrintsText}
-use Rattle.velo_delivery.specs.Disk.{Store}
-use Rattle.velo_delivery.specs.Writing.{Writing, Writes, BreaksOff, Delivers}
+use Rattle.velo_check.specs.declared.answer.Answer.{Answer}
+use Rattle.velo_check.specs.declared.answer.Save.{Save}
+use Rattle.velo_check.specs.declared.failure.Failure.{Failure}
+use Rattle.velo_check.specs.declared.failure.Failure.TheVariants.{PrintFailed}
+use Rattle.velo_check.specs.Answers.{IsAnswered, PrintsText}
+use Rattle.velo_check.specs.Disk.{Store}
+use Rattle.velo_check.specs.Writing.{Writing, Writes, BreaksOff, Delivers}
 use Rattle.velo_thinning.specs.declared.delivering.CountsText.{CountsText}
 use Rattle.velo_thinning.specs.declared.delivering.Outgoing.{Outgoing}
 use Rattle.velo_thinning.specs.Texts.{IsOutgoingText, IsCountsText, IsSent}

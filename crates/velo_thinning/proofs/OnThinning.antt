@@ -19,8 +19,8 @@ use Rattle.velo_laws.proofs.OnJudged.{judged_through_law}
 use Rattle.velo_laws.proofs.OnJudgedOperations.{judged_operations_law}
 use Rattle.velo_laws.proofs.OnJudgedRepeats.{judged_repeats_law}
 use Rattle.velo_laws.proofs.OnRepeatsRuns.{repeat_run_law}
-use Rattle.velo_races.specs.Races.{no_lock, IsThinned}
-use Rattle.velo_repeats.specs.Repeating.{IsWithoutRepeats}
+use Rattle.velo_thinning.specs.Races.{no_lock, IsThinned}
+use Rattle.velo_thinning.specs.Repeating.{IsWithoutRepeats}
 use Rattle.velo_thinning.proofs.OnAtOnce.{at_once}
 use Rattle.velo_thinning.specs.Thinning.{without_variables, place_in, IsThinnedLog}
 

@@ -1,4 +1,8 @@
-pub mod Thinning
 pub mod Counting
+pub mod Finding
+pub mod Races
 pub mod Reading
+pub mod Repeating
+pub mod Sweep
 pub mod Texts
+pub mod Thinning

@@ -4,13 +4,13 @@ use Rattle.std.specs.List.{flat_map}
 use Rattle.std.specs.Borrow.{Bor}
 use Rattle.velo_events.specs.Refusals.{GrowthRefused}
 use Rattle.velo_logtext.specs.Text.{log_text}
-use Rattle.velo_delivery.specs.declared.answer.Save.{Save}
-use Rattle.velo_delivery.specs.declared.failure.Failure.{Failure}
-use Rattle.velo_delivery.specs.declared.failure.Failure.TheVariants as failure_of
-use Rattle.velo_delivery.specs.declared.failure.Operand.TheVariants as operand
-use Rattle.velo_delivery.specs.Answers.{AreAllSaved, IsOneUnsaved}
-use Rattle.velo_delivery.specs.Disk.{Store}
-use Rattle.velo_delivery.specs.Writing.{Writing, Writes, BreaksOff, WritesNothing}
+use Rattle.velo_check.specs.declared.answer.Save.{Save}
+use Rattle.velo_check.specs.declared.failure.Failure.{Failure}
+use Rattle.velo_check.specs.declared.failure.Failure.TheVariants as failure_of
+use Rattle.velo_check.specs.declared.failure.Operand.TheVariants as operand
+use Rattle.velo_check.specs.Answers.{AreAllSaved, IsOneUnsaved}
+use Rattle.velo_check.specs.Disk.{Store}
+use Rattle.velo_check.specs.Writing.{Writing, Writes, BreaksOff, WritesNothing}
 use Rattle.velo_thinning.specs.declared.delivering.CountsText.{CountsText}
 use Rattle.velo_thinning.specs.declared.delivering.Targets.{Targets}
 use Rattle.velo_thinning.specs.declared.delivering.Outgoing.{Outgoing}

@@ -12,8 +12,8 @@ use Rattle.velo_filter.specs.declared.thinned.Thinned.{Thinned}
 use Rattle.velo_laws.specs.Ordered.{only}
 use Rattle.velo_laws.specs.Repeats.{without, place_with}
 use Rattle.velo_laws.specs.Judged.{IsJudgedBy}
-use Rattle.velo_races.specs.Races.{no_lock, IsFreeOfRaces}
-use Rattle.velo_repeats.specs.Repeating.{AreExactly}
+use Rattle.velo_thinning.specs.Races.{no_lock, IsFreeOfRaces}
+use Rattle.velo_thinning.specs.Repeating.{AreExactly}
 
 -- the log without the accesses to these variables
 abbrev pub without_variables : (ℕ → Bool) → List Event → List Event

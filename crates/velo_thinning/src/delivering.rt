@@ -1,13 +1,13 @@
 //! What goes out of a log that was thinned.
 ghost use Rattle.std.specs.Prelude.{◌≡◌, ◌++◌, IfOk, OnOk};
-ghost use Rattle.velo_delivery.specs.Disk.{store};
-ghost use Rattle.velo_delivery.specs.Writing.{writing};
+ghost use Rattle.velo_check.specs.Disk.{store};
+ghost use Rattle.velo_check.specs.Writing.{writing};
 ghost use Rattle.velo_thinning.specs.Texts.{count_line, counts_text, map_text, IsMapFor, IsOutgoingText, IsCountsText, IsSent, GoesOut};
 
 use crate::outcome::ThinnedLog;
 use std::alloc::Global;
 use velo_bytes::{Sink, WriteFault, append, append_number, write_all};
-use velo_delivery::{Answer, Failure, Files, Operand, Save, StreamedText, deliver};
+use velo_check::{Answer, Failure, Files, Operand, Save, StreamedText, deliver};
 use velo_events::Memory;
 use velo_logtext::write_log;
 

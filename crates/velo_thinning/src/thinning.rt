@@ -5,12 +5,11 @@ ghost use Rattle.velo_events.specs.WellFormed.{IsWellFormed};
 ghost use Rattle.velo_filter.specs.Tables.{left_of};
 ghost use Rattle.velo_thinning.specs.Thinning.{IsThinnedLog, IsThinnedRest};
 
+use crate::{thin_ordered, without_repeats};
 use std::alloc::Global;
 use velo_events::growth::with_capacity;
 use velo_events::{Config, Memory};
 use velo_filter::{LeftOut, Thinned, thin};
-use velo_races::thin_ordered;
-use velo_repeats::without_repeats;
 use velo_traces::Trace;
 
 /// For each place its place among others.

@@ -1,2 +1,10 @@
-pub mod Watch
+pub mod Alarm
+pub mod Endless
+pub mod Faults
+pub mod Kept
+pub mod Piece
+pub mod Reading
+pub mod RestUnderWay
 pub mod UnderWay
+pub mod Watch
+pub mod Whole

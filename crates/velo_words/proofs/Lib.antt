@@ -1,4 +1,1 @@
-mod OnEnded
-mod OnEvents
-mod OnIgnoring
-mod OnSaying
+mod OnWaits

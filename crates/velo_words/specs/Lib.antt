@@ -1,10 +1,2 @@
-pub mod Again
-pub mod Ended
-pub mod Events
-pub mod Failing
-pub mod Given
-pub mod Ignoring
-pub mod Refused
-pub mod Roles
-pub mod Saying
-pub mod Summaries
+pub mod Escaped
+pub mod Waits

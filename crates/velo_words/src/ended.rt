@@ -1,44 +1,32 @@
 //! What is said of a run of a workload: of turns of threads that it does not have, and of why it
 //! could not go on.
-ghost use Rattle.std.specs.Prelude.{◌≡◌, ◌++◌, List, ℕ, codes, map, IfSome, OnOk, OnSome};
-ghost use Rattle.std.specs.String.{string_bytes};
-ghost use Rattle.velo_deadlock.specs.Waits.{name_or_number, waits_text};
-ghost use Rattle.velo_fault_words.specs.Place.{whole_words};
-ghost use Rattle.velo_request.specs.declared.request.ScheduleSource.TheVariants.{File as FileOf};
-ghost use Rattle.velo_worker.specs.declared.ending.Ending.TheVariants.{Refused as RefusedOf, Stuck};
-ghost use Rattle.velo_words.specs.Ended.{IsScheduleAt, IsStuckReplay, IsWorkloadAt, SaysEnd, SaysOpen, SaysReplay, SaysRun, SaysStop, act_words, foreign_in, foreign_words, none_of_words, place_of, refused_act, refused_help, stuck_words};
 
 use crate::again::read_again;
+use crate::lines::{add_file, add_text};
+use crate::place::{Complaint, place_words};
+use crate::waits_of;
 use std::alloc::Global;
-use velo_deadlock::waits_of;
-use velo_delivery::Files;
+use velo_check::{Files, ReplayOptions, Request, RunOptions, ScheduleSource};
 use velo_events::{Config, Memory, Refusal, ThreadId};
 use velo_explain::{Page, Piece};
-use velo_fault_words::{Complaint, add_file, add_text, place_words};
-use velo_request::{ReplayOptions, Request, RunOptions, ScheduleSource};
 use velo_schedule_text::{MAX_SCHEDULE_BYTES, schedule_in, schedule_of, turns_of};
 use velo_worker::{Ending, replay};
 use velo_workload::{MAX_WORKLOAD_BYTES, Workload, parse, text_of};
 use velo_world::Closed;
 
 /// The first thread of a schedule that a workload with so many threads does not have.
-fn foreign_in(threads: u8, schedule: &[ThreadId]) -> Option<ThreadId>
-    ensures { result ≡ foreign_in threads schedule.now }
-{
+fn foreign_in(threads: u8, schedule: &[ThreadId]) -> Option<ThreadId> {
     schedule.iter().copied().find(|thread| thread.0 >= threads)
 }
 
 /// Adds that a thread is none of a workload with so many.
-#[tactic(auto, unfolding(crate::specs::Ended::none_of_words))]
 fn add_none_of(
     page: &mut Page,
     alloc: Global,
     place: &str,
     threads: u64,
     thread: u64,
-) -> Result<(), Memory>
-    ensures { OnOk result (page.new ≡ page.old ++ none_of_words place.now threads thread) }
-{
+) -> Result<(), Memory> {
     add_file(page, alloc, place)?;
     page.add(&[
         Piece::Text("thread "),
@@ -56,9 +44,7 @@ fn add_foreign(
     place: &str,
     threads: u8,
     foreign: Option<ThreadId>,
-) -> Result<(), Memory>
-    ensures { OnOk result (page.new ≡ page.old ++ foreign_words place.now threads foreign) }
-{
+) -> Result<(), Memory> {
     match foreign {
         Some(thread) => add_none_of(page, alloc, place, u64::from(threads), u64::from(thread.0)),
         None => Ok(()),
@@ -66,9 +52,7 @@ fn add_foreign(
 }
 
 /// Where a schedule is.
-fn place_of<'a>(source: ScheduleSource<'a>) -> &'a str
-    ensures { result.now ≡ place_of source.entry }
-{
+fn place_of<'a>(source: ScheduleSource<'a>) -> &'a str {
     match source {
         ScheduleSource::Text(_) => "--schedule",
         ScheduleSource::Turns(_) => "--turns",
@@ -77,9 +61,7 @@ fn place_of<'a>(source: ScheduleSource<'a>) -> &'a str
 }
 
 /// What a thread does that is refused.
-fn refused_act(refusal: Refusal) -> &'static str
-    ensures { result.now ≡ refused_act refusal }
-{
+fn refused_act(refusal: Refusal) -> &'static str {
     match refusal {
         Refusal::AlreadyHeld => "acquires a lock that it holds already",
         Refusal::NotHolder => "releases a lock that it does not hold in this way",
@@ -97,9 +79,7 @@ fn refused_act(refusal: Refusal) -> &'static str
 }
 
 /// What to do about a refusal.
-fn refused_help(refusal: Refusal) -> &'static str
-    ensures { result.now ≡ refused_help refusal }
-{
+fn refused_help(refusal: Refusal) -> &'static str {
     match refusal {
         Refusal::LogFull => "help: raise the limit with --events, up to 16777216\n",
         Refusal::GraphFull => "help: raise the limit with --nodes, up to 4096\n",
@@ -108,9 +88,7 @@ fn refused_help(refusal: Refusal) -> &'static str
 }
 
 /// Adds the name of a thread, or its number, where it has none.
-fn add_name(page: &mut Page, names: &[String], thread: ThreadId) -> Result<(), Memory>
-    ensures { OnOk result (page.new ≡ page.old ++ name_or_number (map string_bytes names.now) thread.0) }
-{
+fn add_name(page: &mut Page, names: &[String], thread: ThreadId) -> Result<(), Memory> {
     match names.get(usize::from(thread.0)) {
         Some(name) => add_text(page, name.as_str()),
         None => page.add(&[Piece::Number(u64::from(thread.0))]),
@@ -118,7 +96,6 @@ fn add_name(page: &mut Page, names: &[String], thread: ThreadId) -> Result<(), M
 }
 
 /// Adds what a thread does that is refused, and what to do about it.
-#[tactic(auto, unfolding(crate::specs::Ended::act_words))]
 fn add_act(
     page: &mut Page,
     alloc: Global,
@@ -126,9 +103,7 @@ fn add_act(
     names: &[String],
     thread: ThreadId,
     refusal: Refusal,
-) -> Result<(), Memory>
-    ensures { OnOk result (page.new ≡ page.old ++ act_words path.now (map string_bytes names.now) thread.0 refusal) }
-{
+) -> Result<(), Memory> {
     add_file(page, alloc, path)?;
     add_text(page, "thread ")?;
     add_name(page, names, thread)?;
@@ -141,10 +116,7 @@ fn add_act(
 }
 
 /// Adds which threads wait for one another.
-#[tactic(auto, unfolding(crate::specs::Ended::stuck_words))]
-fn add_stuck(page: &mut Page, alloc: Global, path: &str, waits: &str) -> Result<(), Memory>
-    ensures { OnOk result (page.new ≡ page.old ++ stuck_words path.now waits.now) }
-{
+fn add_stuck(page: &mut Page, alloc: Global, path: &str, waits: &str) -> Result<(), Memory> {
     add_file(page, alloc, path)?;
     page.add(&[
         Piece::Text("these threads wait for one another\n"),
@@ -153,18 +125,14 @@ fn add_stuck(page: &mut Page, alloc: Global, path: &str, waits: &str) -> Result<
 }
 
 /// The workload of the file at a path, which is read again.
-pub(crate) fn workload_at<F: Files>(alloc: Global, path: &str, files: &F) -> Option<Workload>
-    ensures { IfSome result (IsWorkloadAt (F.disk files.now) path.now) }
-{
+pub(crate) fn workload_at<F: Files>(alloc: Global, path: &str, files: &F) -> Option<Workload> {
     let bytes = read_again(alloc, path, MAX_WORKLOAD_BYTES, files)?;
     let text = text_of(&bytes).ok()?;
     parse(alloc, text).ok()
 }
 
 /// The schedule of the file at a path, which is read again.
-fn schedule_at<F: Files>(alloc: Global, path: &str, files: &F) -> Option<Vec<ThreadId>>
-    ensures { IfSome result (λ schedule. IsScheduleAt (F.disk files.now) (FileOf path.entry) schedule.items) }
-{
+fn schedule_at<F: Files>(alloc: Global, path: &str, files: &F) -> Option<Vec<ThreadId>> {
     let bytes = read_again(alloc, path, MAX_SCHEDULE_BYTES, files)?;
     schedule_in(alloc, &bytes).ok()
 }
@@ -174,9 +142,7 @@ fn schedule_of_source<F: Files>(
     alloc: Global,
     source: ScheduleSource,
     files: &F,
-) -> Option<Vec<ThreadId>>
-    ensures { IfSome result (λ schedule. IsScheduleAt (F.disk files.now) source.entry schedule.items) }
-{
+) -> Option<Vec<ThreadId>> {
     match source {
         ScheduleSource::Text(text) => schedule_of(alloc, text).ok(),
         ScheduleSource::Turns(text) => turns_of(alloc, text).ok(),
@@ -185,9 +151,7 @@ fn schedule_of_source<F: Files>(
 }
 
 /// Who waits for what in the world of a run that is stuck.
-fn waits_in(alloc: Global, workload: &Workload, closed: &Closed) -> Option<Vec<u8>>
-    ensures { IfSome result (λ waits. waits.items ≡ waits_text workload.now closed.now.log) }
-{
+fn waits_in(alloc: Global, workload: &Workload, closed: &Closed) -> Option<Vec<u8>> {
     if closed.bounds() != workload.bounds() {
         return None;
     }
@@ -195,10 +159,7 @@ fn waits_in(alloc: Global, workload: &Workload, closed: &Closed) -> Option<Vec<u
 }
 
 /// Who waits for what at the end of a run, if it is stuck.
-fn waits_of_ended(alloc: Global, workload: &Workload, ended: (Closed, Ending)) -> Option<Vec<u8>>
-    ensures stuck { OnSome result (ended.1 ≡ Stuck) }
-    ensures waits { IfSome result (λ waits. waits.items ≡ waits_text workload.now ended.0.log) }
-{
+fn waits_of_ended(alloc: Global, workload: &Workload, ended: (Closed, Ending)) -> Option<Vec<u8>> {
     let (closed, ending) = ended;
     let waits = match ending {
         Ending::Stuck => waits_in(alloc, workload, &closed),
@@ -214,9 +175,7 @@ fn waits_after(
     workload: &Workload,
     schedule: &[ThreadId],
     options: &RunOptions,
-) -> Option<Vec<u8>>
-    ensures { IfSome result (λ waits. IsStuckReplay workload.now schedule.now waits.items) }
-{
+) -> Option<Vec<u8>> {
     let limits = options.limits;
     let config = Config::new(
         0,
@@ -240,11 +199,7 @@ fn add_stop(
     schedule: &[ThreadId],
     options: &RunOptions,
     ending: Ending,
-) -> Option<()>
-    ensures { OnSome result ((stop : List ℕ)
-        × SaysStop options.now.input.now workload.now schedule.now ending stop
-        × (page.new ≡ page.old ++ stop)) }
-{
+) -> Option<()> {
     match ending {
         Ending::Stuck => {
             let waits = waits_after(alloc, workload, schedule, options)?;
@@ -278,12 +233,7 @@ fn replay_words(
     schedule: &[ThreadId],
     options: &ReplayOptions,
     ending: Ending,
-) -> Option<Page>
-    ensures { IfSome result (λ page. (stop : List ℕ)
-        × SaysStop options.now.run.input.now workload.now schedule.now ending stop
-        × (page ≡ foreign_words (place_of options.now.schedule) workload.now.bounds.threads
-        (foreign_in workload.now.bounds.threads schedule.now) ++ stop)) }
-{
+) -> Option<Page> {
     let threads = workload.bounds().threads;
     let foreign = foreign_in(threads, schedule);
     let mut page = Page::new(alloc);
@@ -299,9 +249,7 @@ fn words_of_replay<F: Files>(
     options: &ReplayOptions,
     ending: Ending,
     files: &F,
-) -> Option<Page>
-    ensures { IfSome result (SaysReplay (F.disk files.now) options.now ending) }
-{
+) -> Option<Page> {
     let schedule = schedule_of_source(alloc, options.schedule, files)?;
     let workload = workload_at(alloc, options.run.input, files)?;
     let page = replay_words(alloc, &workload, &schedule, options, ending);
@@ -316,9 +264,7 @@ fn words_of_act<F: Files>(
     thread: ThreadId,
     refusal: Refusal,
     files: &F,
-) -> Option<Page>
-    ensures { IfSome result (SaysRun (F.disk files.now) path.now (RefusedOf thread refusal)) }
-{
+) -> Option<Page> {
     let workload = workload_at(alloc, path, files)?;
     let mut page = Page::new(alloc);
     let names = workload.thread_names();
@@ -331,16 +277,14 @@ fn words_of_act<F: Files>(
 }
 
 /// What is said of a run that was not a replay.
-fn words_of_run<F: Files>(alloc: Global, path: &str, ending: Ending, files: &F) -> Option<Page>
-    ensures { IfSome result (SaysRun (F.disk files.now) path.now ending) }
-{
+fn words_of_run<F: Files>(alloc: Global, path: &str, ending: Ending, files: &F) -> Option<Page> {
     match ending {
         Ending::Refused(thread, refusal) => words_of_act(alloc, path, thread, refusal, files),
         Ending::Stuck => {
             let complaint = Complaint {
                 line: 0,
                 reason: "threads wait for one another",
-                help: "help: `velodrome explore` with nothing left out says which thread waits for which lock, held by whom\n",
+                help: "help: `velodrome explore` says which thread waits for which lock, held by whom\n",
             };
             place_words(alloc, path, &[], complaint).ok()
         }
@@ -354,9 +298,7 @@ pub(crate) fn words_of_end<F: Files>(
     request: &Request,
     ending: Ending,
     files: &F,
-) -> Option<Page>
-    ensures { IfSome result (SaysEnd (F.disk files.now) request.now ending) }
-{
+) -> Option<Page> {
     match (request, ending) {
         (Request::Replay(options), _) if options.run.why => {
             words_of_replay(alloc, options, ending, files)
@@ -367,18 +309,12 @@ pub(crate) fn words_of_end<F: Files>(
         (Request::Explore(options), Ending::Refused(thread, refusal)) => {
             words_of_act(alloc, options.input, thread, refusal, files)
         }
-        (Request::ExploreRest(options), _) => {
-            words_of_run(alloc, options.explore.input, ending, files)
-        }
         _ => None,
     }
 }
 
 /// What is said of a search of the workload at a path that is undecided, with what to do.
-fn undecided(alloc: Global, path: &str, help: &str) -> Option<Page>
-    ensures { IfSome result (λ page. page ≡ whole_words path.now
-        (codes "some findings are undecided") help.now) }
-{
+fn undecided(alloc: Global, path: &str, help: &str) -> Option<Page> {
     let complaint = Complaint {
         line: 0,
         reason: "some findings are undecided",
@@ -388,19 +324,12 @@ fn undecided(alloc: Global, path: &str, help: &str) -> Option<Page>
 }
 
 /// What is said of a search that is undecided.
-pub(crate) fn words_of_open(alloc: Global, request: &Request) -> Option<Page>
-    ensures { IfSome result (SaysOpen request.now) }
-{
+pub(crate) fn words_of_open(alloc: Global, request: &Request) -> Option<Page> {
     match request {
         Request::Explore(options) => undecided(
             alloc,
             options.input,
             "help: raise --states, --seconds, --events or --nodes; or make runs by chance: see --random\n",
-        ),
-        Request::ExploreRest(options) => undecided(
-            alloc,
-            options.explore.input,
-            "help: raise --states, --seconds, --events or --nodes\n",
         ),
         _ => None,
     }

@@ -1,16 +1,8 @@
 //! The events before one, in the bytes of a log, and the last of them that is sought.
-ghost use Rattle.std.specs.Prelude.{◌≡◌, ◌<◌, ◌≤◌, ◌++◌, ◌∷◌, [], IfSome, List, Option, Some, length, ℕ, if◌then◌else◌};
-ghost use Rattle.velo_events.specs.Event.{are_same, is_by, is_exit_by, is_fork_of, is_join_of, is_on_lock, is_write_of};
-ghost use Rattle.velo_events.specs.Place.{last_position};
-ghost use Rattle.velo_events.specs.declared.limits.TheConstants.{MAX_EVENTS};
-ghost use Rattle.velo_events.specs.declared.event.Event.{Event as EventOf};
-ghost use Rattle.velo_logtext.specs.Reader.{HasGiven};
-ghost use Rattle.velo_words.specs.Events.{HasEvent, is_sought, last_of};
 
 use std::alloc::Global;
 use velo_bytes::Source;
 use velo_events::{Bounds, Event, Kind, LockId, MAX_EVENTS, ThreadId, VarId};
-use velo_explain::line_of;
 use velo_logtext::LogReader;
 use velo_traces::Trace;
 
@@ -32,9 +24,7 @@ pub enum Sought {
 }
 
 /// Whether an event is sought.
-fn is_sought(sought: Sought, event: Event) -> bool
-    ensures { result ≡ is_sought sought event }
-{
+fn is_sought(sought: Sought, event: Event) -> bool {
     match (sought, event.kind) {
         (Sought::Write(x), Kind::Write(y, _)) => x.0 == y.0,
         (Sought::OnLock(m), Kind::Acquire(n) | Kind::Release(n)) => m.0 == n.0,
@@ -48,42 +38,19 @@ fn is_sought(sought: Sought, event: Event) -> bool
     }
 }
 
-/// The position where it passes, and else the one before.
-fn later(last: Option<usize>, at: usize, passes: bool) -> Option<usize>
-    ensures { result ≡ (if passes then Some at else last) }
-{
-    if passes { Some(at) } else { last }
-}
-
-/// The position of the last event that is sought, if there is one.
-fn last_position(events: &[Event], sought: Sought) -> Option<usize>
-    ensures place { result ≡ last_position (is_sought sought) events.now }
-    ensures within { IfSome result (λ k. k < length events.now) }
-{
+/// The line of the last event that is sought, and that event, if there is one.
+pub(crate) fn last_of(events: &[Event], sought: Sought) -> Option<(u64, Event)> {
     let mut last = None;
-    for at in 0..events.len() {
-        last = later(last, at, is_sought(sought, events[at]));
+    for (at, event) in events.iter().enumerate() {
+        if is_sought(sought, *event) {
+            last = Some(((at as u64).saturating_add(2), *event));
+        }
     }
     last
 }
 
-/// The line of the last event that is sought, and that event, if there is one.
-#[tactic(auto, unfolding(crate::specs::Events::last_of))]
-pub(crate) fn last_of(events: &[Event], sought: Sought) -> Option<(u64, Event)>
-    requires { length events.now ≤ MAX_EVENTS }
-    ensures { result ≡ last_of sought events.now }
-{
-    let at = last_position(events, sought)?;
-    Some((line_of(at), events[at]))
-}
-
 /// The next event of a log, if it has one.
-fn next_event<S: Source>(reader: &mut LogReader, source: &mut S) -> Option<Event>
-    ensures { (bytes : Option (List ℕ)) (events : List EventOf)
-        → HasGiven bytes events reader.old (S.remaining source.old)
-        → IfSome result (λ event. HasGiven bytes (events ++ event ∷ []) reader.new
-        (S.remaining source.new)) }
-{
+fn next_event<S: Source>(reader: &mut LogReader, source: &mut S) -> Option<Event> {
     match reader.next(source) {
         Ok(Some(event)) => Some(event),
         _ => None,
@@ -96,11 +63,7 @@ pub(crate) fn events_up_to<S: Source>(
     alloc: Global,
     source: &mut S,
     position: usize,
-) -> Option<(Bounds, Trace, Event)>
-    ensures there { IfSome (S.remaining source.old) (λ bytes.
-        IfSome result (λ r. HasEvent bytes position r.0 r.1.events r.2)) }
-    ensures few { IfSome result (λ r. length r.1.events ≤ MAX_EVENTS) }
-{
+) -> Option<(Bounds, Trace, Event)> {
     if position > MAX_EVENTS as usize {
         return None;
     }

@@ -1,17 +1,12 @@
 //! Which file could not be opened, read or written, in words.
-ghost use Rattle.std.specs.Prelude.{◌≡◌, ◌++◌, ⊤, ℕ, List, IfOk, IfSome, OnOk, option_map};
-ghost use Rattle.velo_words.specs.Failing.{IsFailure, SaysFailure, failure_text, reason_of, verb_of};
-ghost use Rattle.velo_words.specs.Roles.{word_of};
-ghost use Rattle.velo_words.specs.declared.failing.SystemReason.{SystemReason as ReasonOf};
 
-use crate::roles::{ROLES, Role, asks_for_words, path_of, summaries_of, word_of};
+use crate::lines::add_file;
+use crate::roles::{ROLES, Role, asks_for_words, path_of, word_of};
 use std::alloc::Global;
+use velo_check::{CheckFault, Fate, Request};
 use velo_events::Memory;
 use velo_explain::{Page, Piece};
-use velo_fate::{CheckFault, Fate};
-use velo_fault_words::add_file;
 use velo_logtext::LogFault;
-use velo_request::Request;
 
 /// Why a file could not be opened, read or written.
 #[derive(Clone, Copy, PartialEq, Eq)]
@@ -30,14 +25,9 @@ pub enum SystemReason {
 
 /// Files that recall which of them failed last.
 pub trait Recall {
-    /// What is said of a failure that is recalled: nothing, unless an implementation says more.
-    ghost failed: { Self → List ℕ → ReasonOf → Type 0 } = { λ files path reason. ⊤ };
-
     /// Why the file at a path could not be opened, read or written, if it is the one that failed
     /// last, and this is known.
-    fn failure_at(&self, path: &str) -> Option<SystemReason>
-        ensures { IfSome result (failed self.now path.now) }
-    {
+    fn failure_at(&self, _path: &str) -> Option<SystemReason> {
         None
     }
 }
@@ -51,9 +41,7 @@ struct Failed<'a> {
 }
 
 /// What was to be done with the file, where the fate is that it failed.
-fn verb_of(fate: Fate) -> Option<&'static str>
-    ensures { option_map (λ verb. verb.now) result ≡ verb_of fate }
-{
+fn verb_of(fate: Fate) -> Option<&'static str> {
     match fate {
         Fate::CannotOpen => Some("open"),
         Fate::ReadFailed | Fate::Check(CheckFault::Log(LogFault::Read)) => Some("read"),
@@ -63,9 +51,7 @@ fn verb_of(fate: Fate) -> Option<&'static str>
 }
 
 /// A reason in words.
-fn reason_of(reason: SystemReason) -> &'static str
-    ensures { result.now ≡ reason_of reason }
-{
+fn reason_of(reason: SystemReason) -> &'static str {
     match reason {
         SystemReason::NotFound => "there is no such file",
         SystemReason::Denied => "permission is denied",
@@ -76,44 +62,23 @@ fn reason_of(reason: SystemReason) -> &'static str
 }
 
 /// The failure of the file of a role, if the request has one and it failed.
-fn failure_of<'a, F: Recall>(role: Role, request: &Request<'a>, files: &F) -> Option<Failed<'a>>
-    ensures { IfSome result (λ it. IsFailure (F.failed files.now) request.now it.role it.path.now
-        it.reason) }
-{
+fn failure_of<'a, F: Recall>(role: Role, request: &Request<'a>, files: &F) -> Option<Failed<'a>> {
     let path = path_of(role, request)?;
     let reason = files.failure_at(path)?;
     Some(Failed { role, path, reason })
 }
 
-/// The failure of a summary of the request, if one failed.
-fn failed_summary_of<'a, F: Recall>(request: &Request<'a>, files: &F) -> Option<Failed<'a>>
-    ensures { IfSome result (λ it. IsFailure (F.failed files.now) request.now it.role it.path.now
-        it.reason) }
-{
-    for path in summaries_of(request) {
-        if let Some(reason) = files.failure_at(path) {
-            let role = Role::Summary;
-            return Some(Failed { role, path, reason });
-        }
-    }
-    None
-}
-
 /// The file of a request that failed, if it is known.
-fn failed_of<'a, F: Recall>(request: &Request<'a>, files: &F) -> Option<Failed<'a>>
-    ensures { IfSome result (λ it. IsFailure (F.failed files.now) request.now it.role it.path.now
-        it.reason) }
-{
+fn failed_of<'a, F: Recall>(request: &Request<'a>, files: &F) -> Option<Failed<'a>> {
     for role in &ROLES {
         if let Some(failed) = failure_of(*role, request, files) {
             return Some(failed);
         }
     }
-    failed_summary_of(request, files)
+    None
 }
 
 /// Adds what is said of a file, by what was to be done, its word and the reason.
-#[tactic(auto, unfolding(crate::specs::Failing::failure_text))]
 fn add_failure(
     page: &mut Page,
     alloc: Global,
@@ -121,10 +86,7 @@ fn add_failure(
     verb: &str,
     word: &str,
     reason: &str,
-) -> Result<(), Memory>
-    ensures { OnOk result (page.new
-        ≡ page.old ++ failure_text path.now verb.now word.now reason.now) }
-{
+) -> Result<(), Memory> {
     add_file(page, alloc, path)?;
     page.add(&[
         Piece::Text("cannot "),
@@ -138,10 +100,7 @@ fn add_failure(
 }
 
 /// What is said of a file that failed.
-fn failure_words(alloc: Global, verb: &str, failed: &Failed) -> Result<Page, Memory>
-    ensures { IfOk result (λ page. page ≡ failure_text failed.now.path.now verb.now
-        (word_of failed.now.role) (reason_of failed.now.reason)) }
-{
+fn failure_words(alloc: Global, verb: &str, failed: &Failed) -> Result<Page, Memory> {
     let mut page = Page::new(alloc);
     let word = word_of(failed.role);
     let reason = reason_of(failed.reason);
@@ -156,9 +115,7 @@ pub fn words_of_failure<F: Recall>(
     request: &Request,
     fate: Fate,
     files: &F,
-) -> Option<Page>
-    ensures { IfSome result (SaysFailure (F.failed files.now) request.now fate) }
-{
+) -> Option<Page> {
     if !asks_for_words(request) {
         return None;
     }

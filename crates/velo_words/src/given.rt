@@ -1,15 +1,10 @@
 //! Where the names and the schedule of a request are whose faults are said in words.
-ghost use Rattle.std.specs.Prelude.{◌≡◌};
-ghost use Rattle.velo_words.specs.Given.{names_explained_of, schedule_of};
-ghost use Rattle.velo_words.specs.Roles.{given};
 
 use crate::roles::{asks_for_words, names_of};
-use velo_request::{Request, ScheduleSource};
+use velo_check::{Request, ScheduleSource};
 
 /// The path of the names whose faults are said in words, if the request has one.
-pub fn names_explained_of<'a>(request: &Request<'a>) -> Option<&'a str>
-    ensures { given result ≡ names_explained_of request.now }
-{
+pub fn names_explained_of<'a>(request: &Request<'a>) -> Option<&'a str> {
     if asks_for_words(request) {
         names_of(request)
     } else {
@@ -18,9 +13,7 @@ pub fn names_explained_of<'a>(request: &Request<'a>) -> Option<&'a str>
 }
 
 /// Where the schedule is whose fault is said in words, if the request has one.
-pub fn schedule_of<'a>(request: &Request<'a>) -> Option<ScheduleSource<'a>>
-    ensures { result ≡ schedule_of request.now }
-{
+pub fn schedule_of<'a>(request: &Request<'a>) -> Option<ScheduleSource<'a>> {
     match request {
         Request::Replay(options) => {
             if options.run.why {

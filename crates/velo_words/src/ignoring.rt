@@ -1,26 +1,20 @@
 //! What is said of a word that was to be ignored and means nothing.
-ghost use Rattle.std.specs.Prelude.{◌≡◌, ◌==◌, IfOk, IfSome, Some, length};
-ghost use Rattle.velo_names.specs.Names.{meant_by, no_names};
-ghost use Rattle.velo_words.specs.declared.ignoring.NamesFrom.TheVariants.{Nowhere};
-ghost use Rattle.velo_words.specs.Ignoring.{SaysVain, SaysVainAt, SaysVainBy, SaysVainOf, SaysVainOfWork, first_in_vain, kind_of, option_of, own_names, vain_help, vain_reason, vain_words, words_of};
 
 use crate::again::read_again;
 use crate::ended::workload_at;
 use crate::given::names_explained_of;
+use crate::lines::{add_shown, add_text};
+use crate::place::{Complaint, place_words};
 use crate::roles::ignored_of;
 use std::alloc::Global;
-use velo_delivery::Files;
+use velo_check::{Files, Ignorable, Ignored, Request};
 use velo_events::Memory;
 use velo_explain::Page;
-use velo_fault_words::{Complaint, add_shown, add_text, place_words};
 use velo_names::{MAX_NAMES_BYTES, NameKind, Names, append_names};
-use velo_request::{Ignorable, Ignored, Request};
 use velo_workload::Workload;
 
 /// The option that takes these.
-fn option_of(what: Ignorable) -> &'static str
-    ensures { result.now ≡ option_of what }
-{
+fn option_of(what: Ignorable) -> &'static str {
     match what {
         Ignorable::Lock => "--ignore-lock",
         Ignorable::Variable => "--ignore-variable",
@@ -29,9 +23,7 @@ fn option_of(what: Ignorable) -> &'static str
 }
 
 /// The words of this option.
-fn words_of<'a>(what: Ignorable, ignored: Ignored<'a>) -> &'a [&'a str]
-    ensures { result.now ≡ words_of what ignored.entry }
-{
+fn words_of<'a>(what: Ignorable, ignored: Ignored<'a>) -> &'a [&'a str] {
     match what {
         Ignorable::Lock => ignored.locks,
         Ignorable::Variable => ignored.variables,
@@ -39,9 +31,7 @@ fn words_of<'a>(what: Ignorable, ignored: Ignored<'a>) -> &'a [&'a str]
     }
 }
 
-fn kind_of(what: Ignorable) -> NameKind
-    ensures { result ≡ kind_of what }
-{
+fn kind_of(what: Ignorable) -> NameKind {
     match what {
         Ignorable::Lock => NameKind::Lock,
         Ignorable::Variable => NameKind::Variable,
@@ -50,9 +40,7 @@ fn kind_of(what: Ignorable) -> NameKind
 }
 
 /// Whether a word means nothing of a kind.
-fn means_none(alloc: Global, names: &Names, kind: NameKind, word: &str) -> Option<bool>
-    ensures { IfSome result (λ none. none ≡ (length (meant_by names.now kind word.now) == 0)) }
-{
+fn means_none(alloc: Global, names: &Names, kind: NameKind, word: &str) -> Option<bool> {
     let meant = names.meant_by(alloc, kind, word.as_bytes()).ok()?;
     Some(meant.is_empty())
 }
@@ -63,9 +51,7 @@ fn first_in_vain<'a>(
     names: &Names,
     kind: NameKind,
     words: &'a [&'a str],
-) -> Option<&'a str>
-    ensures { IfSome result (λ word. first_in_vain names.now kind words.entry.now ≡ Some word) }
-{
+) -> Option<&'a str> {
     for word in words {
         let none = means_none(alloc, names, kind, word)?;
         if none {
@@ -76,9 +62,7 @@ fn first_in_vain<'a>(
 }
 
 /// What is wrong with such a word.
-fn vain_reason(what: Ignorable) -> &'static str
-    ensures { result.now ≡ vain_reason what }
-{
+fn vain_reason(what: Ignorable) -> &'static str {
     match what {
         Ignorable::Lock => "no lock has this name, and numbers go from 0 to 65535",
         Ignorable::Variable => "no variable has this name, and numbers go from 0 to 65535",
@@ -98,9 +82,7 @@ enum NamesFrom {
 }
 
 /// What to do about it.
-fn vain_help(from: NamesFrom) -> &'static str
-    ensures { result.now ≡ vain_help from }
-{
+fn vain_help(from: NamesFrom) -> &'static str {
     match from {
         NamesFrom::File => "help: names are those of --names; quote a word that has a star\n",
         NamesFrom::Workload => {
@@ -111,9 +93,7 @@ fn vain_help(from: NamesFrom) -> &'static str
 }
 
 /// What is said of such a word.
-fn vain_words(alloc: Global, what: Ignorable, word: &str, from: NamesFrom) -> Result<Page, Memory>
-    ensures { IfOk result (λ page. page ≡ vain_words what word.now from) }
-{
+fn vain_words(alloc: Global, what: Ignorable, word: &str, from: NamesFrom) -> Result<Page, Memory> {
     let complaint = Complaint {
         line: 0,
         reason: vain_reason(what),
@@ -132,9 +112,7 @@ fn words_by(
     what: Ignorable,
     ignored: Ignored,
     from: NamesFrom,
-) -> Option<Page>
-    ensures { IfSome result (SaysVainBy names.now what ignored.entry from) }
-{
+) -> Option<Page> {
     let word = first_in_vain(alloc, names, kind_of(what), words_of(what, ignored))?;
     vain_words(alloc, what, word, from).ok()
 }
@@ -146,9 +124,7 @@ fn words_by_names(
     what: Ignorable,
     ignored: Ignored,
     from: NamesFrom,
-) -> Option<Page>
-    ensures { IfSome result (SaysVainOf bytes.now what ignored.entry from) }
-{
+) -> Option<Page> {
     match Names::parse(alloc, bytes) {
         Ok(names) => words_by(alloc, &names, what, ignored, from),
         Err(_) => None,
@@ -162,46 +138,13 @@ fn words_by_file<F: Files>(
     what: Ignorable,
     ignored: Ignored,
     files: &F,
-) -> Option<Page>
-    ensures { IfSome result (SaysVainAt (F.disk files.now) path.now what ignored.entry) }
-{
+) -> Option<Page> {
     let bytes = read_again(alloc, path, MAX_NAMES_BYTES, files)?;
     words_by_names(alloc, &bytes, what, ignored, NamesFrom::File)
 }
 
-/// The text of the names that a workload has for these.
-fn own_names(alloc: Global, workload: &Workload, what: Ignorable) -> Result<Vec<u8>, Memory>
-    ensures { IfOk result (λ text. text.items ≡ own_names workload.now what) }
-{
-    let mut text = Vec::new(alloc);
-    let names = match what {
-        Ignorable::Lock => workload.lock_names(),
-        Ignorable::Variable => workload.variable_names(),
-        Ignorable::Label => workload.label_names(),
-    };
-    append_names(&mut text, kind_of(what), names)?;
-    Ok(text)
-}
-
-/// The same, by the names of the workload at a path, which is read again.
-fn words_by_workload<F: Files>(
-    alloc: Global,
-    path: &str,
-    what: Ignorable,
-    ignored: Ignored,
-    files: &F,
-) -> Option<Page>
-    ensures { IfSome result (SaysVainOfWork (F.disk files.now) path.now what ignored.entry) }
-{
-    let workload = workload_at(alloc, path, files)?;
-    let text = own_names(alloc, &workload, what).ok()?;
-    words_by_names(alloc, &text, what, ignored, NamesFrom::Workload)
-}
-
 /// The same, where there are no names.
-fn words_without_names(alloc: Global, what: Ignorable, ignored: Ignored) -> Option<Page>
-    ensures { IfSome result (SaysVainBy no_names what ignored.entry Nowhere) }
-{
+fn words_without_names(alloc: Global, what: Ignorable, ignored: Ignored) -> Option<Page> {
     let names = Names::new(alloc);
     words_by(alloc, &names, what, ignored, NamesFrom::Nowhere)
 }
@@ -212,13 +155,8 @@ pub(crate) fn words_in_vain<F: Files>(
     request: &Request,
     what: Ignorable,
     files: &F,
-) -> Option<Page>
-    ensures { IfSome result (SaysVain (F.disk files.now) request.now what) }
-{
+) -> Option<Page> {
     let ignored = ignored_of(request)?;
-    if let Request::ExploreRest(options) = request {
-        return words_by_workload(alloc, options.explore.input, what, ignored, files);
-    }
     match names_explained_of(request) {
         Some(path) => words_by_file(alloc, path, what, ignored, files),
         None => words_without_names(alloc, what, ignored),

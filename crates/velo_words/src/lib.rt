@@ -1,17 +1,32 @@
-//! How a command or a run ended, in words: which file has a fault or failed, and why a run did not go on.
+//! How a command or a run ended, in words: which file has a fault or failed, what stands there and what
+//! was expected, why a run did not go on, and who waits for whom in a deadlock. Text from elsewhere is
+//! escaped.
 #![tactic(auto)]
 
 mod again;
+mod beside;
 mod ended;
+mod escapes;
 mod events;
 mod failing;
+mod faults;
 mod given;
+mod header;
 mod ignoring;
+mod line;
+mod lines;
+mod log;
+mod place;
 mod reasons;
 mod refused;
 mod roles;
 mod saying;
-mod summaries;
+mod schedule;
+mod standing;
+mod waits;
+mod work;
 
+pub use escapes::{append_escaped, escaped, escaped_lines};
 pub use failing::{Recall, SystemReason};
 pub use saying::end_in_words;
+pub use waits::waits_of;

@@ -1,18 +1,12 @@
 //! Why an event of a log is refused, in words.
-ghost use Rattle.std.specs.Prelude.{◌≡◌, ◌≤◌, ◌++◌, OnOk, length};
-ghost use Rattle.velo_events.specs.declared.limits.TheConstants.{MAX_EVENTS};
-ghost use Rattle.velo_words.specs.Refused.{at_line, bound_words, by_acquire, by_line, forked_words, full_words, held_words, holder_words, joined_words, lock_acquired, not_holder_words, not_live_words, own_words, plain_refusal, reason, since_words, unheld, unheld_after};
 
 use crate::events::{Sought, last_of};
+use crate::lines::add_text;
 use velo_events::{Bounds, Event, Kind, LockId, Memory, Refusal, ThreadId};
 use velo_explain::{Page, Piece};
-use velo_fault_words::add_text;
 
 /// Adds how many of something the header has.
-#[tactic(auto, unfolding(crate::specs::Refused::bound_words))]
-fn add_bound(page: &mut Page, count: u64, what: &str) -> Result<(), Memory>
-    ensures { OnOk result (page.new ≡ page.old ++ bound_words count what.now) }
-{
+fn add_bound(page: &mut Page, count: u64, what: &str) -> Result<(), Memory> {
     page.add(&[
         Piece::Text(", but the header has "),
         Piece::Number(count),
@@ -22,15 +16,12 @@ fn add_bound(page: &mut Page, count: u64, what: &str) -> Result<(), Memory>
 }
 
 /// Adds words and a line, or those without one.
-#[tactic(auto, unfolding(crate::specs::Refused::at_line))]
 fn add_at_line(
     page: &mut Page,
     words: &str,
     last: Option<(u64, Event)>,
     without: &str,
-) -> Result<(), Memory>
-    ensures { OnOk result (page.new ≡ page.old ++ at_line words.now last without.now) }
-{
+) -> Result<(), Memory> {
     match last {
         Some((line, _)) => page.add(&[Piece::Text(words), Piece::Number(line)]),
         None => add_text(page, without),
@@ -38,15 +29,12 @@ fn add_at_line(
 }
 
 /// Adds what a line did, or the words without one.
-#[tactic(auto, unfolding(crate::specs::Refused::by_line))]
 fn add_by_line(
     page: &mut Page,
     last: Option<(u64, Event)>,
     words: &str,
     without: &str,
-) -> Result<(), Memory>
-    ensures { OnOk result (page.new ≡ page.old ++ by_line last words.now without.now) }
-{
+) -> Result<(), Memory> {
     match last {
         Some((line, _)) => page.add(&[
             Piece::Text(", which line "),
@@ -58,10 +46,7 @@ fn add_by_line(
 }
 
 /// Adds which thread holds a lock since when.
-#[tactic(auto, unfolding(crate::specs::Refused::since_words))]
-fn add_since(page: &mut Page, line: u64, thread: ThreadId) -> Result<(), Memory>
-    ensures { OnOk result (page.new ≡ page.old ++ since_words line thread) }
-{
+fn add_since(page: &mut Page, line: u64, thread: ThreadId) -> Result<(), Memory> {
     page.add(&[
         Piece::Text(", which thread "),
         Piece::Number(u64::from(thread.0)),
@@ -77,9 +62,7 @@ fn add_by_acquire(
     thread: ThreadId,
     kind: Kind,
     without: &str,
-) -> Result<(), Memory>
-    ensures { OnOk result (page.new ≡ page.old ++ by_acquire line thread kind without.now) }
-{
+) -> Result<(), Memory> {
     match kind {
         Kind::Acquire(_) => add_since(page, line, thread),
         _ => add_text(page, without),
@@ -87,9 +70,7 @@ fn add_by_acquire(
 }
 
 /// Adds who holds a lock since when, by the last operation on it, or the words where there is none.
-fn add_holder(page: &mut Page, last: Option<(u64, Event)>, without: &str) -> Result<(), Memory>
-    ensures { OnOk result (page.new ≡ page.old ++ holder_words last without.now) }
-{
+fn add_holder(page: &mut Page, last: Option<(u64, Event)>, without: &str) -> Result<(), Memory> {
     match last {
         Some((line, event)) => add_by_acquire(page, line, event.thread, event.kind, without),
         None => add_text(page, without),
@@ -97,16 +78,12 @@ fn add_holder(page: &mut Page, last: Option<(u64, Event)>, without: &str) -> Res
 }
 
 /// Adds why a thread is not running.
-#[tactic(auto, unfolding(crate::specs::Refused::not_live_words))]
 fn add_not_live(
     page: &mut Page,
     bounds: Bounds,
     before: &[Event],
     thread: ThreadId,
-) -> Result<(), Memory>
-    requires { length before.now ≤ MAX_EVENTS }
-    ensures { OnOk result (page.new ≡ page.old ++ not_live_words bounds before.now thread) }
-{
+) -> Result<(), Memory> {
     if bounds.threads <= thread.0 {
         return add_bound(page, u64::from(bounds.threads), "threads");
     }
@@ -120,10 +97,7 @@ fn add_not_live(
 }
 
 /// Adds who holds the lock that is acquired, or the words where nobody holds it alone.
-fn add_held(page: &mut Page, before: &[Event], kind: Kind, without: &str) -> Result<(), Memory>
-    requires { length before.now ≤ MAX_EVENTS }
-    ensures { OnOk result (page.new ≡ page.old ++ held_words before.now kind without.now) }
-{
+fn add_held(page: &mut Page, before: &[Event], kind: Kind, without: &str) -> Result<(), Memory> {
     match kind {
         Kind::Acquire(m) | Kind::AcquireShared(m) => {
             add_holder(page, last_of(before, Sought::OnLock(m)), without)
@@ -134,9 +108,7 @@ fn add_held(page: &mut Page, before: &[Event], kind: Kind, without: &str) -> Res
 
 /// What is said of a lock that a thread does not hold alone, by its last acquire of it. A share may
 /// still be held.
-fn unheld_after(kind: Kind) -> &'static str
-    ensures { result.now ≡ unheld_after kind }
-{
+fn unheld_after(kind: Kind) -> &'static str {
     match kind {
         Kind::AcquireShared(_) => ", which it does not hold alone",
         _ => ", which it does not hold",
@@ -144,9 +116,7 @@ fn unheld_after(kind: Kind) -> &'static str
 }
 
 /// The same, where a thread may have acquired it never.
-fn unheld(last: Option<(u64, Event)>) -> &'static str
-    ensures { result.now ≡ unheld last }
-{
+fn unheld(last: Option<(u64, Event)>) -> &'static str {
     match last {
         Some((_, event)) => unheld_after(event.kind),
         None => ", which it does not hold",
@@ -159,10 +129,7 @@ fn add_not_holder(
     before: &[Event],
     thread: ThreadId,
     kind: Kind,
-) -> Result<(), Memory>
-    requires { length before.now ≤ MAX_EVENTS }
-    ensures { OnOk result (page.new ≡ page.old ++ not_holder_words before.now thread kind) }
-{
+) -> Result<(), Memory> {
     match kind {
         Kind::Release(m) => {
             let own = last_of(before, Sought::Acquire(thread, m));
@@ -174,9 +141,7 @@ fn add_not_holder(
 }
 
 /// The lock that an operation acquires, if it acquires one.
-fn lock_acquired(kind: Kind) -> Option<LockId>
-    ensures { result ≡ lock_acquired kind }
-{
+fn lock_acquired(kind: Kind) -> Option<LockId> {
     match kind {
         Kind::Acquire(m) | Kind::AcquireShared(m) => Some(m),
         _ => None,
@@ -189,10 +154,7 @@ fn add_own(
     before: &[Event],
     thread: ThreadId,
     lock: Option<LockId>,
-) -> Result<(), Memory>
-    requires { length before.now ≤ MAX_EVENTS }
-    ensures { OnOk result (page.new ≡ page.old ++ own_words before.now thread lock) }
-{
+) -> Result<(), Memory> {
     match lock {
         Some(m) => {
             let last = last_of(before, Sought::Acquire(thread, m));
@@ -208,10 +170,7 @@ fn add_own(
 }
 
 /// Adds which line forks the thread of a fork.
-fn add_forked(page: &mut Page, before: &[Event], kind: Kind) -> Result<(), Memory>
-    requires { length before.now ≤ MAX_EVENTS }
-    ensures { OnOk result (page.new ≡ page.old ++ forked_words before.now kind) }
-{
+fn add_forked(page: &mut Page, before: &[Event], kind: Kind) -> Result<(), Memory> {
     match kind {
         Kind::Fork(u) => {
             let last = last_of(before, Sought::Fork(u));
@@ -222,10 +181,7 @@ fn add_forked(page: &mut Page, before: &[Event], kind: Kind) -> Result<(), Memor
 }
 
 /// Adds which line joins the thread of a join.
-fn add_joined(page: &mut Page, before: &[Event], kind: Kind) -> Result<(), Memory>
-    requires { length before.now ≤ MAX_EVENTS }
-    ensures { OnOk result (page.new ≡ page.old ++ joined_words before.now kind) }
-{
+fn add_joined(page: &mut Page, before: &[Event], kind: Kind) -> Result<(), Memory> {
     match kind {
         Kind::Join(u) => add_by_line(page, last_of(before, Sought::Join(u)), " joins", ""),
         _ => Ok(()),
@@ -233,10 +189,7 @@ fn add_joined(page: &mut Page, before: &[Event], kind: Kind) -> Result<(), Memor
 }
 
 /// Adds how many events the log may have.
-#[tactic(auto, unfolding(crate::specs::Refused::full_words))]
-fn add_full(page: &mut Page, count: usize) -> Result<(), Memory>
-    ensures { OnOk result (page.new ≡ page.old ++ full_words count) }
-{
+fn add_full(page: &mut Page, count: usize) -> Result<(), Memory> {
     page.add(&[
         Piece::Text(", but the log may have no more than "),
         Piece::Number(count as u64),
@@ -245,9 +198,7 @@ fn add_full(page: &mut Page, count: usize) -> Result<(), Memory>
 }
 
 /// The reason of a refusal that needs no other line.
-fn plain_refusal(refusal: Refusal) -> &'static str
-    ensures { result.now ≡ plain_refusal refusal }
-{
+fn plain_refusal(refusal: Refusal) -> &'static str {
     match refusal {
         Refusal::NoOpenBlock => ", but has no block open",
         Refusal::TooDeep => ", but has 32 blocks open, as many as there may be",
@@ -261,9 +212,7 @@ fn plain_refusal(refusal: Refusal) -> &'static str
 }
 
 /// Adds the reason of a refusal that needs no other line.
-fn add_plain_refusal(page: &mut Page, refusal: Refusal) -> Result<(), Memory>
-    ensures { OnOk result (page.new ≡ page.old ++ plain_refusal refusal) }
-{
+fn add_plain_refusal(page: &mut Page, refusal: Refusal) -> Result<(), Memory> {
     add_text(page, plain_refusal(refusal))?;
     Ok(())
 }
@@ -275,10 +224,7 @@ pub(crate) fn add_reason(
     before: &[Event],
     event: Event,
     refusal: Refusal,
-) -> Result<(), Memory>
-    requires { length before.now ≤ MAX_EVENTS }
-    ensures { OnOk result (page.new ≡ page.old ++ reason bounds before.now event refusal) }
-{
+) -> Result<(), Memory> {
     match refusal {
         Refusal::NotLive => add_not_live(page, bounds, before, event.thread),
         Refusal::NoSuchVariable => add_bound(page, u64::from(bounds.variables), "variables"),

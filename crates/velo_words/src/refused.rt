@@ -1,21 +1,14 @@
 //! What is said of an event of a log that is refused, or reads a wrong value.
-ghost use Rattle.std.specs.Prelude.{◌≡◌, ◌≤◌, ◌++◌, IfOk, OnOk, length};
-ghost use Rattle.velo_events.specs.Event.{value_of};
-ghost use Rattle.velo_events.specs.declared.limits.TheConstants.{MAX_EVENTS};
-ghost use Rattle.velo_words.specs.Refused.{help_after, kind_words, not_live_help, read_help, read_words, refusal_help, refused_words, shown_event, thread_words, value_words, wrong_value_words};
 
 use crate::events::{Sought, last_of};
+use crate::lines::{add_line, add_text};
 use crate::reasons::add_reason;
 use std::alloc::Global;
 use velo_events::{Bounds, Event, Kind, Memory, Refusal, ThreadId};
 use velo_explain::{Page, Piece};
-use velo_fault_words::{add_line, add_text};
 
 /// Adds what a thread does.
-#[tactic(auto, unfolding(crate::specs::Refused::kind_words))]
-fn add_kind(page: &mut Page, kind: Kind) -> Result<(), Memory>
-    ensures { OnOk result (page.new ≡ page.old ++ kind_words kind) }
-{
+fn add_kind(page: &mut Page, kind: Kind) -> Result<(), Memory> {
     match kind {
         Kind::Read(x, value) => page.add(&[
             Piece::Text("reads "),
@@ -61,10 +54,7 @@ fn add_kind(page: &mut Page, kind: Kind) -> Result<(), Memory>
 }
 
 /// Adds which thread it is.
-#[tactic(auto, unfolding(crate::specs::Refused::thread_words))]
-fn add_thread(page: &mut Page, thread: ThreadId) -> Result<(), Memory>
-    ensures { OnOk result (page.new ≡ page.old ++ thread_words thread) }
-{
+fn add_thread(page: &mut Page, thread: ThreadId) -> Result<(), Memory> {
     page.add(&[
         Piece::Text("thread "),
         Piece::Number(u64::from(thread.0)),
@@ -73,9 +63,7 @@ fn add_thread(page: &mut Page, thread: ThreadId) -> Result<(), Memory>
 }
 
 /// What to do about a refusal that needs no other line.
-fn refusal_help(refusal: Refusal) -> &'static str
-    ensures { result.now ≡ refusal_help refusal }
-{
+fn refusal_help(refusal: Refusal) -> &'static str {
     match refusal {
         Refusal::NoSuchVariable | Refusal::NoSuchLock | Refusal::NoSuchThread => {
             "help: the header is `vlog 2 THREADS VARIABLES LOCKS`\n"
@@ -88,10 +76,7 @@ fn refusal_help(refusal: Refusal) -> &'static str
 }
 
 /// What to do about a thread that is not running. One that exited has no help.
-fn not_live_help(bounds: Bounds, before: &[Event], thread: ThreadId) -> &'static str
-    requires { length before.now ≤ MAX_EVENTS }
-    ensures { result.now ≡ not_live_help bounds before.now thread }
-{
+fn not_live_help(bounds: Bounds, before: &[Event], thread: ThreadId) -> &'static str {
     if bounds.threads <= thread.0 {
         return "help: the header is `vlog 2 THREADS VARIABLES LOCKS`\n";
     }
@@ -102,10 +87,12 @@ fn not_live_help(bounds: Bounds, before: &[Event], thread: ThreadId) -> &'static
 }
 
 /// What to do about a refusal after these events.
-fn help_after(bounds: Bounds, before: &[Event], thread: ThreadId, refusal: Refusal) -> &'static str
-    requires { length before.now ≤ MAX_EVENTS }
-    ensures { result.now ≡ help_after bounds before.now thread refusal }
-{
+fn help_after(
+    bounds: Bounds,
+    before: &[Event],
+    thread: ThreadId,
+    refusal: Refusal,
+) -> &'static str {
     match refusal {
         Refusal::NotLive => not_live_help(bounds, before, thread),
         _ => refusal_help(refusal),
@@ -119,19 +106,13 @@ fn add_help(
     before: &[Event],
     thread: ThreadId,
     refusal: Refusal,
-) -> Result<(), Memory>
-    requires { length before.now ≤ MAX_EVENTS }
-    ensures { OnOk result (page.new ≡ page.old ++ help_after bounds before.now thread refusal) }
-{
+) -> Result<(), Memory> {
     add_text(page, help_after(bounds, before, thread, refusal))?;
     Ok(())
 }
 
 /// Adds the line of an event after four spaces.
-#[tactic(auto, unfolding(crate::specs::Refused::shown_event))]
-fn add_event(page: &mut Page, event: Event) -> Result<(), Memory>
-    ensures { OnOk result (page.new ≡ page.old ++ shown_event event) }
-{
+fn add_event(page: &mut Page, event: Event) -> Result<(), Memory> {
     page.add(&[
         Piece::Text("\n    "),
         Piece::Words(event),
@@ -148,12 +129,8 @@ fn add_refused(
     before: &[Event],
     event: Event,
     refusal: Refusal,
-) -> Result<(), Memory>
-    requires { length before.now ≤ MAX_EVENTS }
-    ensures { OnOk result
-        (page.new ≡ page.old ++ refused_words path.now bounds before.now event refusal) }
-{
-    add_line(page, alloc, path, before.len() + 2)?;
+) -> Result<(), Memory> {
+    add_line(page, alloc, path, before.len().saturating_add(2))?;
     add_thread(page, event.thread)?;
     add_kind(page, event.kind)?;
     add_reason(page, bounds, before, event, refusal)?;
@@ -173,19 +150,14 @@ pub fn refused_words(
     before: &[Event],
     event: Event,
     refusal: Refusal,
-) -> Result<Page, Memory>
-    requires { length before.now ≤ MAX_EVENTS }
-    ensures { IfOk result (λ page. page ≡ refused_words path.now bounds before.now event refusal) }
-{
+) -> Result<Page, Memory> {
     let mut page = Page::new(alloc);
     add_refused(&mut page, alloc, path, bounds, before, event, refusal)?;
     Ok(page)
 }
 
 /// The value that an operation reads or writes, or 0.
-fn value_of(kind: Kind) -> u64
-    ensures { result ≡ value_of kind }
-{
+fn value_of(kind: Kind) -> u64 {
     match kind {
         Kind::Read(_, value) | Kind::Write(_, value) => value,
         _ => 0,
@@ -193,10 +165,7 @@ fn value_of(kind: Kind) -> u64
 }
 
 /// Adds which value a variable has since when, by its last write.
-#[tactic(auto, unfolding(crate::specs::Refused::value_words))]
-fn add_value(page: &mut Page, last: Option<(u64, Event)>) -> Result<(), Memory>
-    ensures { OnOk result (page.new ≡ page.old ++ value_words last) }
-{
+fn add_value(page: &mut Page, last: Option<(u64, Event)>) -> Result<(), Memory> {
     match last {
         Some((line, event)) => page.add(&[
             Piece::Text(", but its value is "),
@@ -209,10 +178,7 @@ fn add_value(page: &mut Page, last: Option<(u64, Event)>) -> Result<(), Memory>
 }
 
 /// Adds the value that a variable has in place of the one that was read.
-fn add_read(page: &mut Page, before: &[Event], kind: Kind) -> Result<(), Memory>
-    requires { length before.now ≤ MAX_EVENTS }
-    ensures { OnOk result (page.new ≡ page.old ++ read_words before.now kind) }
-{
+fn add_read(page: &mut Page, before: &[Event], kind: Kind) -> Result<(), Memory> {
     match kind {
         Kind::Read(x, _) => add_value(page, last_of(before, Sought::Write(x))),
         _ => Ok(()),
@@ -220,10 +186,7 @@ fn add_read(page: &mut Page, before: &[Event], kind: Kind) -> Result<(), Memory>
 }
 
 /// Adds what to do about a wrong value.
-#[tactic(auto, unfolding(crate::specs::Refused::read_help))]
-fn add_read_help(page: &mut Page) -> Result<(), Memory>
-    ensures { OnOk result (page.new ≡ page.old ++ read_help) }
-{
+fn add_read_help(page: &mut Page) -> Result<(), Memory> {
     page.add(&[Piece::Text(
         "help: is a write missing, or do an access and its line stand in two holds of the recorder's lock?\n",
     )])
@@ -236,11 +199,8 @@ fn add_wrong_value(
     path: &str,
     before: &[Event],
     event: Event,
-) -> Result<(), Memory>
-    requires { length before.now ≤ MAX_EVENTS }
-    ensures { OnOk result (page.new ≡ page.old ++ wrong_value_words path.now before.now event) }
-{
-    add_line(page, alloc, path, before.len() + 2)?;
+) -> Result<(), Memory> {
+    add_line(page, alloc, path, before.len().saturating_add(2))?;
     add_thread(page, event.thread)?;
     add_kind(page, event.kind)?;
     add_read(page, before, event.kind)?;
@@ -259,10 +219,7 @@ pub fn wrong_value_words(
     path: &str,
     before: &[Event],
     event: Event,
-) -> Result<Page, Memory>
-    requires { length before.now ≤ MAX_EVENTS }
-    ensures { IfOk result (λ page. page ≡ wrong_value_words path.now before.now event) }
-{
+) -> Result<Page, Memory> {
     let mut page = Page::new(alloc);
     add_wrong_value(&mut page, alloc, path, before, event)?;
     Ok(page)

@@ -1,8 +1,6 @@
 //! The files of a request, by what each is for.
-ghost use Rattle.std.specs.Prelude.{◌≡◌, map, option_map};
-ghost use Rattle.velo_words.specs.Roles.{asks_for_words, drawing_of, ignored_of, known_of, list_of, log_path_of, map_of, names_of, path_of, picture_of, report_of, saved_log_of, saved_names_of, sites_of, summaries_of, turns_of, wide_list_of, word_of, work_path_of};
 
-use velo_request::{Ignored, Request, ScheduleSource};
+use velo_check::{Ignored, Request, ScheduleSource};
 
 /// What a file is for.
 #[derive(Clone, Copy, PartialEq, Eq)]
@@ -21,14 +19,8 @@ pub enum Role {
     Log,
     /// It is a report, with its certificate.
     Report,
-    /// It is a summary of logs.
-    Summary,
     /// It is a workload.
     Work,
-    /// A picture is saved there.
-    Picture,
-    /// A drawing is saved there.
-    Drawing,
     /// A log is saved there.
     SavedLog,
     /// The names of a workload are saved there.
@@ -38,7 +30,7 @@ pub enum Role {
 }
 
 /// The roles, in the order in which a command opens its files; but `verify` opens its report first.
-pub const ROLES: [Role; 14] = [
+pub const ROLES: [Role; 11] = [
     Role::Turns,
     Role::Names,
     Role::Known,
@@ -46,19 +38,14 @@ pub const ROLES: [Role; 14] = [
     Role::Sites,
     Role::Log,
     Role::Report,
-    Role::Summary,
     Role::Work,
-    Role::Picture,
-    Role::Drawing,
     Role::SavedLog,
     Role::SavedNames,
     Role::Map,
 ];
 
 /// The word of the command line that gives the path of a file of this role.
-pub fn word_of(role: Role) -> &'static str
-    ensures { result.now ≡ word_of role }
-{
+pub fn word_of(role: Role) -> &'static str {
     match role {
         Role::Turns => "--turns",
         Role::Names => "--names",
@@ -67,10 +54,7 @@ pub fn word_of(role: Role) -> &'static str
         Role::Sites => "--sites",
         Role::Log => "LOG",
         Role::Report => "REPORT",
-        Role::Summary => "SUMMARY",
         Role::Work => "FILE",
-        Role::Picture => "--dot",
-        Role::Drawing => "--svg",
         Role::SavedLog => "--log",
         Role::SavedNames => "--names-out",
         Role::Map => "--map",
@@ -78,12 +62,9 @@ pub fn word_of(role: Role) -> &'static str
 }
 
 /// Whether what is wrong with a file of the request is said in words.
-pub fn asks_for_words(request: &Request) -> bool
-    ensures { result ≡ asks_for_words request.now }
-{
+pub fn asks_for_words(request: &Request) -> bool {
     match request {
         Request::Check(options) => options.why,
-        Request::CheckRest(options) => options.check.why,
         Request::Carry(_) => false,
         Request::Run(options) => options.why,
         Request::Replay(options) => options.run.why,
@@ -91,9 +72,7 @@ pub fn asks_for_words(request: &Request) -> bool
     }
 }
 
-fn turns_of<'a>(request: &Request<'a>) -> Option<&'a str>
-    ensures { option_map (λ path. path.now) result ≡ turns_of request.now }
-{
+fn turns_of<'a>(request: &Request<'a>) -> Option<&'a str> {
     match request {
         Request::Replay(options) => match options.schedule {
             ScheduleSource::File(path) => Some(path),
@@ -104,12 +83,9 @@ fn turns_of<'a>(request: &Request<'a>) -> Option<&'a str>
 }
 
 /// The path of the names, if the request has one.
-pub fn names_of<'a>(request: &Request<'a>) -> Option<&'a str>
-    ensures { option_map (λ path. path.now) result ≡ names_of request.now }
-{
+pub fn names_of<'a>(request: &Request<'a>) -> Option<&'a str> {
     match request {
         Request::Check(options) => options.names,
-        Request::CheckRest(options) => options.check.names,
         Request::Explain(options) => options.names,
         Request::Watch(options) => options.names,
         Request::WatchEndless(options) => options.names,
@@ -122,16 +98,11 @@ pub fn names_of<'a>(request: &Request<'a>) -> Option<&'a str>
 }
 
 /// What is left out, if the request leaves something out.
-pub fn ignored_of<'a>(request: &Request<'a>) -> Option<Ignored<'a>>
-    ensures { result ≡ ignored_of request.now }
-{
+pub fn ignored_of<'a>(request: &Request<'a>) -> Option<Ignored<'a>> {
     match request {
-        Request::CheckRest(options) => Some(options.ignored),
         Request::Explain(options) => Some(options.ignored),
-        Request::ExploreRest(options) => Some(options.ignored),
         Request::WatchRest(options) => Some(options.ignored),
         Request::Audit(options) => Some(options.ignored),
-        Request::AuditMany(options) => Some(options.ignored),
         Request::Thin(options) => Some(options.ignored),
         Request::Predict(options) => Some(options.ignored),
         _ => None,
@@ -139,16 +110,12 @@ pub fn ignored_of<'a>(request: &Request<'a>) -> Option<Ignored<'a>>
 }
 
 /// The path of the list of what is left out, if the request has one.
-pub fn list_of<'a>(request: &Request<'a>) -> Option<&'a str>
-    ensures { option_map (λ path. path.now) result ≡ list_of request.now }
-{
+pub fn list_of<'a>(request: &Request<'a>) -> Option<&'a str> {
     ignored_of(request)?.known
 }
 
 /// The path of the list of known labels, if the request has one.
-fn known_of<'a>(request: &Request<'a>) -> Option<&'a str>
-    ensures { option_map (λ path. path.now) result ≡ known_of request.now }
-{
+fn known_of<'a>(request: &Request<'a>) -> Option<&'a str> {
     let ignored = ignored_of(request)?;
     if ignored.is_wide {
         return None;
@@ -157,9 +124,7 @@ fn known_of<'a>(request: &Request<'a>) -> Option<&'a str>
 }
 
 /// The path of the list of labels, locks and variables, if the request has one.
-fn wide_list_of<'a>(request: &Request<'a>) -> Option<&'a str>
-    ensures { option_map (λ path. path.now) result ≡ wide_list_of request.now }
-{
+fn wide_list_of<'a>(request: &Request<'a>) -> Option<&'a str> {
     let ignored = ignored_of(request)?;
     if !ignored.is_wide {
         return None;
@@ -168,9 +133,7 @@ fn wide_list_of<'a>(request: &Request<'a>) -> Option<&'a str>
 }
 
 /// The path of the sites, if the request has one.
-pub fn sites_of<'a>(request: &Request<'a>) -> Option<&'a str>
-    ensures { option_map (λ path. path.now) result ≡ sites_of request.now }
-{
+pub fn sites_of<'a>(request: &Request<'a>) -> Option<&'a str> {
     match request {
         Request::Explain(options) => options.sites,
         Request::WatchRest(options) => options.sites,
@@ -180,12 +143,9 @@ pub fn sites_of<'a>(request: &Request<'a>) -> Option<&'a str>
     }
 }
 
-fn log_path_of<'a>(request: &Request<'a>) -> Option<&'a str>
-    ensures { option_map (λ path. path.now) result ≡ log_path_of request.now }
-{
+fn log_path_of<'a>(request: &Request<'a>) -> Option<&'a str> {
     match request {
         Request::Check(options) => Some(options.input),
-        Request::CheckRest(options) => Some(options.check.input),
         Request::Explain(options) => Some(options.input),
         Request::Carry(options) => Some(options.input),
         Request::Watch(options) => Some(options.input),
@@ -200,58 +160,23 @@ fn log_path_of<'a>(request: &Request<'a>) -> Option<&'a str>
 }
 
 /// The path of the report, if the request has one.
-pub fn report_of<'a>(request: &Request<'a>) -> Option<&'a str>
-    ensures { option_map (λ path. path.now) result ≡ report_of request.now }
-{
+pub fn report_of<'a>(request: &Request<'a>) -> Option<&'a str> {
     match request {
         Request::Verify(options) => Some(options.report),
         _ => None,
     }
 }
 
-/// The paths of the summaries of the request.
-pub fn summaries_of<'a>(request: &Request<'a>) -> &'a [&'a str]
-    ensures { map (λ path. path.now) result.now ≡ summaries_of request.now }
-{
-    match request {
-        Request::MergeAudits(options) => options.inputs,
-        _ => &[],
-    }
-}
-
-fn work_path_of<'a>(request: &Request<'a>) -> Option<&'a str>
-    ensures { option_map (λ path. path.now) result ≡ work_path_of request.now }
-{
+fn work_path_of<'a>(request: &Request<'a>) -> Option<&'a str> {
     match request {
         Request::Replay(options) => Some(options.run.input),
         Request::Run(options) => Some(options.input),
         Request::Explore(options) => Some(options.input),
-        Request::ExploreRest(options) => Some(options.explore.input),
         _ => None,
     }
 }
 
-fn picture_of<'a>(request: &Request<'a>) -> Option<&'a str>
-    ensures { option_map (λ path. path.now) result ≡ picture_of request.now }
-{
-    match request {
-        Request::Explain(options) => options.target,
-        _ => None,
-    }
-}
-
-fn drawing_of<'a>(request: &Request<'a>) -> Option<&'a str>
-    ensures { option_map (λ path. path.now) result ≡ drawing_of request.now }
-{
-    match request {
-        Request::Explain(options) => options.drawing,
-        _ => None,
-    }
-}
-
-fn saved_log_of<'a>(request: &Request<'a>) -> Option<&'a str>
-    ensures { option_map (λ path. path.now) result ≡ saved_log_of request.now }
-{
+fn saved_log_of<'a>(request: &Request<'a>) -> Option<&'a str> {
     match request {
         Request::Carry(options) => Some(options.target),
         Request::Thin(options) => Some(options.target),
@@ -259,36 +184,28 @@ fn saved_log_of<'a>(request: &Request<'a>) -> Option<&'a str>
         Request::Replay(options) => options.run.target,
         Request::Run(options) => options.target,
         Request::Explore(options) => options.target,
-        Request::ExploreRest(options) => options.explore.target,
         _ => None,
     }
 }
 
-fn saved_names_of<'a>(request: &Request<'a>) -> Option<&'a str>
-    ensures { option_map (λ path. path.now) result ≡ saved_names_of request.now }
-{
+fn saved_names_of<'a>(request: &Request<'a>) -> Option<&'a str> {
     match request {
         Request::Replay(options) => options.run.names_target,
         Request::Run(options) => options.names_target,
         Request::Explore(options) => options.names_target,
-        Request::ExploreRest(options) => options.explore.names_target,
         _ => None,
     }
 }
 
-fn map_of<'a>(request: &Request<'a>) -> Option<&'a str>
-    ensures { option_map (λ path. path.now) result ≡ map_of request.now }
-{
+fn map_of<'a>(request: &Request<'a>) -> Option<&'a str> {
     match request {
         Request::Thin(options) => options.map,
         _ => None,
     }
 }
 
-/// The path of the file of a role, if the request has one. Of summaries a request has any number.
-pub fn path_of<'a>(role: Role, request: &Request<'a>) -> Option<&'a str>
-    ensures { option_map (λ path. path.now) result ≡ path_of role request.now }
-{
+/// The path of the file of a role, if the request has one.
+pub fn path_of<'a>(role: Role, request: &Request<'a>) -> Option<&'a str> {
     match role {
         Role::Turns => turns_of(request),
         Role::Names => names_of(request),
@@ -297,10 +214,7 @@ pub fn path_of<'a>(role: Role, request: &Request<'a>) -> Option<&'a str>
         Role::Sites => sites_of(request),
         Role::Log => log_path_of(request),
         Role::Report => report_of(request),
-        Role::Summary => None,
         Role::Work => work_path_of(request),
-        Role::Picture => picture_of(request),
-        Role::Drawing => drawing_of(request),
         Role::SavedLog => saved_log_of(request),
         Role::SavedNames => saved_names_of(request),
         Role::Map => map_of(request),

@@ -1,52 +1,35 @@
 //! What a command says of its end, before its last line.
-ghost use Rattle.std.specs.Prelude.{◌≡◌, ◌≤◌, ◌++◌, ◌⊎◌, IfOk, IfSome, None, Some, if◌then◌else◌, length, option_map};
-ghost use Rattle.velo_request.specs.declared.request.ScheduleSource.TheVariants.{File as FileOf};
-ghost use Rattle.velo_delivery.specs.Writing.{writing};
-ghost use Rattle.velo_events.specs.declared.limits.TheConstants.{MAX_EVENTS};
-ghost use Rattle.velo_fate.specs.Fate.{Closes, last_line_of, status_of};
-ghost use Rattle.velo_fault_words.specs.Beside.{other_sites_words};
-ghost use Rattle.velo_words.specs.Failing.{SaysFailure};
-ghost use Rattle.velo_words.specs.Saying.{EndsInWords, IsSaid, IsTextAt, SaysEvent, SaysFault, SaysSchedule, event_words, log_of, work_of};
 
 use crate::again::read_again;
+use crate::beside::other_sites_words;
 use crate::ended::{words_of_end, words_of_open};
 use crate::events::events_up_to;
 use crate::failing::{Recall, words_of_failure};
+use crate::faults::{FileFault, fault_words, most_bytes_for, most_up_to};
 use crate::given::{names_explained_of, schedule_of};
 use crate::ignoring::words_in_vain;
 use crate::refused::{refused_words, wrong_value_words};
 use crate::roles::{list_of, report_of, sites_of};
-use crate::summaries::words_of_no_summary;
+use crate::schedule::{numbers_words, schedule_words, turns_words};
 use std::alloc::Global;
 use velo_bytes::{Bytes, Sink, WriteFault, write_all};
+use velo_check::status::FAILED;
+use velo_check::{CheckFault, Fate, Files, Request, ScheduleSource, end_with};
 use velo_claims::ReportFault;
-use velo_delivery::Files;
 use velo_events::{Bounds, Event, Memory, Refusal};
 use velo_explain::Page;
-use velo_fate::{CheckFault, Fate, end_with};
-use velo_fault_words::{
-    FileFault, fault_words, most_bytes_for, most_up_to, numbers_words, other_sites_words,
-    schedule_words, turns_words,
-};
 use velo_names::NamesFault;
-use velo_request::status::FAILED;
-use velo_request::{Request, ScheduleSource};
 use velo_schedule_text::{MAX_SCHEDULE_BYTES, ScheduleFault};
-use velo_sites::SitesFault;
-use velo_suppressions::ListFault;
+use velo_sidecars::{ListFault, SitesFault};
 use velo_workload::WorkFault;
 
 /// The path where words are asked for.
-fn if_asked(why: bool, path: &str) -> Option<&str>
-    ensures { option_map (λ path. path.now) result ≡ (if why then Some path.now else None) }
-{
+fn if_asked(why: bool, path: &str) -> Option<&str> {
     if why { Some(path) } else { None }
 }
 
 /// The path of the log whose faults are said in words, if the request has one.
-fn log_of<'a>(request: &Request<'a>) -> Option<&'a str>
-    ensures { option_map (λ path. path.now) result ≡ log_of request.now }
-{
+fn log_of<'a>(request: &Request<'a>) -> Option<&'a str> {
     match request {
         Request::Explain(options) => Some(options.input),
         Request::Watch(options) => Some(options.input),
@@ -56,18 +39,14 @@ fn log_of<'a>(request: &Request<'a>) -> Option<&'a str>
         Request::Predict(options) => Some(options.input),
         Request::Verify(options) => Some(options.input),
         Request::Check(options) => if_asked(options.why, options.input),
-        Request::CheckRest(options) => if_asked(options.check.why, options.check.input),
         _ => None,
     }
 }
 
 /// The path of the workload whose faults are said in words, if the request has one.
-fn work_of<'a>(request: &Request<'a>) -> Option<&'a str>
-    ensures { option_map (λ path. path.now) result ≡ work_of request.now }
-{
+fn work_of<'a>(request: &Request<'a>) -> Option<&'a str> {
     match request {
         Request::Explore(options) => Some(options.input),
-        Request::ExploreRest(options) => Some(options.explore.input),
         Request::Run(options) => if_asked(options.why, options.input),
         Request::Replay(options) => if_asked(options.run.why, options.run.input),
         _ => None,
@@ -75,25 +54,19 @@ fn work_of<'a>(request: &Request<'a>) -> Option<&'a str>
 }
 
 /// What is said of a fault of the file at a path, whose bytes are read again.
-fn words_of_file<F: Files>(alloc: Global, path: &str, fault: FileFault, files: &F) -> Option<Page>
-    ensures { IfSome result (SaysFault (F.disk files.now) path.now fault) }
-{
+fn words_of_file<F: Files>(alloc: Global, path: &str, fault: FileFault, files: &F) -> Option<Page> {
     let bytes = read_again(alloc, path, most_bytes_for(fault), files)?;
     fault_words(alloc, path, &bytes, fault).ok()
 }
 
 /// What is said of the file at a path that says no turns, by its bytes, which are read again.
-fn words_of_turns_file<F: Files>(alloc: Global, path: &str, files: &F) -> Option<Page>
-    ensures { IfSome result (λ page. SaysSchedule (F.disk files.now) (FileOf path.entry) page) }
-{
+fn words_of_turns_file<F: Files>(alloc: Global, path: &str, files: &F) -> Option<Page> {
     let bytes = read_again(alloc, path, MAX_SCHEDULE_BYTES, files)?;
     schedule_words(alloc, path, &bytes).ok()
 }
 
 /// What is said of a text that is no schedule.
-fn words_of_schedule<F: Files>(alloc: Global, source: ScheduleSource, files: &F) -> Option<Page>
-    ensures { IfSome result (λ page. SaysSchedule (F.disk files.now) source.entry page) }
-{
+fn words_of_schedule<F: Files>(alloc: Global, source: ScheduleSource, files: &F) -> Option<Page> {
     match source {
         ScheduleSource::Text(text) => { numbers_words(alloc, "--schedule", text.as_bytes()).ok() }
         ScheduleSource::Turns(text) => turns_words(alloc, "--turns", text.as_bytes()).ok(),
@@ -102,9 +75,7 @@ fn words_of_schedule<F: Files>(alloc: Global, source: ScheduleSource, files: &F)
 }
 
 /// What is said of sites that are not those of the log, by the path of their file.
-fn words_of_other_sites(alloc: Global, path: &str) -> Option<Page>
-    ensures { IfSome result (λ page. page ≡ other_sites_words path.now) }
-{
+fn words_of_other_sites(alloc: Global, path: &str) -> Option<Page> {
     other_sites_words(alloc, path).ok()
 }
 
@@ -116,10 +87,7 @@ fn event_words(
     bounds: Bounds,
     before: &[Event],
     event: Event,
-) -> Result<Page, Memory>
-    requires { length before.now ≤ MAX_EVENTS }
-    ensures { IfOk result (λ page. page ≡ event_words path.now refusal bounds before.now event) }
-{
+) -> Result<Page, Memory> {
     match refusal {
         Some(refusal) => refused_words(alloc, path, bounds, before, event, refusal),
         None => wrong_value_words(alloc, path, before, event),
@@ -133,9 +101,7 @@ fn words_in(
     bytes: &[u8],
     position: usize,
     refusal: Option<Refusal>,
-) -> Option<Page>
-    ensures { IfSome result (IsTextAt path.now refusal position bytes.now) }
-{
+) -> Option<Page> {
     let mut source = Bytes::new(bytes);
     let (bounds, trace, event) = events_up_to(alloc, &mut source, position)?;
     match event_words(alloc, path, refusal, bounds, trace.as_slice(), event) {
@@ -151,17 +117,13 @@ fn words_of_event<F: Files>(
     position: usize,
     refusal: Option<Refusal>,
     files: &F,
-) -> Option<Page>
-    ensures { IfSome result (SaysEvent (F.disk files.now) path.now refusal position) }
-{
+) -> Option<Page> {
     let bytes = read_again(alloc, path, most_up_to(position.saturating_add(2)), files)?;
     words_in(alloc, path, &bytes, position, refusal)
 }
 
 /// What is said of a fate, if there is something to say.
-fn words_of<F: Files>(alloc: Global, request: &Request, fate: Fate, files: &F) -> Option<Page>
-    ensures { IfSome result (IsSaid (F.disk files.now) request.now fate) }
-{
+fn words_of<F: Files>(alloc: Global, request: &Request, fate: Fate, files: &F) -> Option<Page> {
     match fate {
         Fate::Finished { ending, .. } => words_of_end(alloc, request, ending, files),
         Fate::Check(CheckFault::Log(fault)) => {
@@ -200,7 +162,6 @@ fn words_of<F: Files>(alloc: Global, request: &Request, fate: Fate, files: &F) -
         }
         Fate::Ignored(what) => words_in_vain(alloc, request, what, files),
         Fate::Open => words_of_open(alloc, request),
-        Fate::NoSummary { file } => words_of_no_summary(alloc, request, file),
         Fate::List(ListFault::Memory) => None,
         Fate::List(fault) => {
             words_of_file(alloc, list_of(request)?, FileFault::List(fault), files)
@@ -215,10 +176,7 @@ fn said_of<F: Files + Recall>(
     request: &Request,
     fate: Fate,
     files: &F,
-) -> Option<Page>
-    ensures { IfSome result (λ page. IsSaid (F.disk files.now) request.now fate page
-        ⊎ SaysFailure (F.failed files.now) request.now fate page) }
-{
+) -> Option<Page> {
     match words_of_failure(alloc, request, fate, files) {
         Some(page) => Some(page),
         None => words_of(alloc, request, fate, files),
@@ -226,10 +184,7 @@ fn said_of<F: Files + Recall>(
 }
 
 /// Writes the words, and then reports how a run ended.
-fn end_after<E: Sink>(words: &[u8], fate: &Fate, err: &mut E) -> u8
-    ensures { Closes (status_of fate.now) (words.now ++ last_line_of fate.now)
-        (writing E.contents E.failures err.old err.new) result }
-{
+fn end_after<E: Sink>(words: &[u8], fate: &Fate, err: &mut E) -> u8 {
     match write_all(err, words) {
         Ok(()) => end_with(fate, err),
         Err(WriteFault) => FAILED,
@@ -245,10 +200,7 @@ pub fn end_in_words<F: Files + Recall, E: Sink>(
     fate: &Fate,
     files: &F,
     err: &mut E,
-) -> u8
-    ensures { EndsInWords (F.disk files.now) (F.failed files.now) request.now fate.now
-        (writing E.contents E.failures err.old err.new) result }
-{
+) -> u8 {
     match said_of(alloc, request, *fate, files) {
         Some(page) => end_after(page.as_slice(), fate, err),
         None => end_with(fate, err),

@@ -33,20 +33,6 @@ next ended n worker here P now before i other lt there = go (cases_eq i n)
     go (inl e) = let both : Some other ≡ Some worker = sym there ∙ ap (slice_get ended) e ∙ here in let same : other ≡ worker = cc in subst P (sym same) now
     go (inr ne) = before i other (omega (arith, lt, ne)) there
 
-pub Least-start : (ended : List WorkerEnd) → LeastUpTo ended 0 None
-Least-start ended i other lt there = absurd (omega (arith, lt))
-
-pub Least-pass : (ended : List WorkerEnd) (n : ℕ) (least : Option (ThreadId × Refusal)) (worker : WorkerEnd) → slice_get ended n ≡ Some worker → met worker.outcome ≡ None
-    → LeastUpTo ended n least → LeastUpTo ended (n + 1) least
-Least-pass ended n None worker here none before = next ended n worker here (λ other. met other.outcome ≡ None) none before
-Least-pass ended n (Some found) worker here none h =
-    let Beyond : WorkerEnd → Type 0 = λ other. (s : Refusal) → met other.outcome ≡ Some s → found.0.0 ≤ other.seat.thread.0 in
-    let all = next ended n worker here Beyond (λ s m. absurd (none_some (sym none ∙ m))) (λ i other lt there s m. h.least i other s lt there m) in
-    record { place = h.place; worker = h.worker; there = h.there; own = h.own; refused = h.refused; least = λ i other s lt there m. all i other lt there s m }
-  where
-    none_some : {s : Refusal} → None ≡ Some s → ⊥
-    none_some e = cc
-
 pub Least-first : (ended : List WorkerEnd) (n : ℕ) (worker : WorkerEnd) (r : Refusal) → slice_get ended n ≡ Some worker → met worker.outcome ≡ Some r
     → ((i : ℕ) (other : WorkerEnd) (s : Refusal) → i < n → slice_get ended i ≡ Some other → met other.outcome ≡ Some s → worker.seat.thread.0 ≤ other.seat.thread.0)
     → IsLeastUpTo ended (n + 1) worker.seat.thread r

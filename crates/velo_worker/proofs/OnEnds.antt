@@ -24,9 +24,6 @@ IsRepeatEnd-start body = record {
 pub AreRepeatEndsFrom-start : (body : List Statement) (ends : List ℕ) → AreRepeatEndsFrom body ends (length body)
 AreRepeatEndsFrom-start body ends = record { each = λ j a b. absurd (omega (arith, a, b)) }
 
-pub AreRepeatEnds-from : (body : List Statement) (ends : List ℕ) → length ends ≡ length body → AreRepeatEndsFrom body ends 0 → AreRepeatEnds body ends
-AreRepeatEnds-from body ends count from = record { count = count; each = λ i h. from.each i (omega arith) h }
-
 pub AreRepeatEndsFrom-next : (body : List Statement) (ends : List ℕ) (i end : ℕ) → length ends ≡ length body → i < length body → IsRepeatEnd body (i + 1) end → AreRepeatEndsFrom body ends (i + 1)
     → AreRepeatEndsFrom body (set ends i end) i
 AreRepeatEndsFrom-next body ends i end count within is from = record {

@@ -83,10 +83,6 @@ unfolding skip
 skip-nil zero = refl
 skip-nil (suc n) = skip-nil n
 
-skip-one : (n : ℕ) (l : List Statement) (ls : List (List Statement)) → skip (suc n) (l ∷ ls) ≡ skip n ls
-unfolding skip
-skip-one n l ls = refl
-
 levels-skip : (n : ℕ) (xs : List Statement) → levels (behind n xs) ≡ skip n (levels xs)
 unfolding behind levels skip
 levels-skip n [] = sym (skip-nil n)

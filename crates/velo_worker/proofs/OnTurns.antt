@@ -85,9 +85,6 @@ pub record LeadsOn (c0 : ReplayState) (ts0 : List ThreadId) (c : ReplayState) (t
   pub lead : (stop : Option Ending) (c' : ReplayState) → TurnsOf c ts stop c' → TurnsOf c0 ts0 stop c'
   pub kept : Kept c0 c
 
-pub LeadsOn-start : (c : ReplayState) (ts : List ThreadId) → LeadsOn c ts c ts
-LeadsOn-start c ts = record { lead = λ stop c' h. h; kept = Kept-same c c refl }
-
 pub LeadsOn-next : (c0 : ReplayState) (ts0 : List ThreadId) (c : ReplayState) (t : ThreadId) (ts : List ThreadId) (mid : ReplayState) → LeadsOn c0 ts0 c (t ∷ ts) → TurnOf c t None mid → LeadsOn c0 ts0 mid ts
 unfolding TurnsOf
 LeadsOn-next c0 ts0 c t ts mid leads turn = record {
@@ -116,9 +113,6 @@ threads_from-none n t h = let e : n - t ≡ 0 = omega arith in rw e refl
 
 pub record LeadsRounds (c0 c : ReplayState) : Type 0 where
   pub lead : (ending : Ending) (c' : ReplayState) → RoundsOf c ending c' → RoundsOf c0 ending c'
-
-pub LeadsRounds-start : (c : ReplayState) → LeadsRounds c c
-LeadsRounds-start c = record { lead = λ ending c' h. h }
 
 pub LeadsRounds-next : (c0 c mid : ReplayState) → LeadsRounds c0 c → ¬ AllIdle c → TurnsOf c (all_threads c) None mid → length c.world.log < length mid.world.log → LeadsRounds c0 mid
 LeadsRounds-next c0 c mid leads some turns more = record {

@@ -1,5 +1,5 @@
 -- What a parser answers is what the text means.
-use Rattle.std.proofs.Common.{◌≡◌, ℕ, List, [], ◌∷◌, length, Option, None, Result, Ok, Err, suc, refl, sym, ap, subst, ◌∙◌}
+use Rattle.std.proofs.Common.{◌≡◌, ℕ, List, [], ◌∷◌, length, Option, None, Ok, Err, suc, refl, sym, ap, subst, ◌∙◌}
 use Rattle.velo_workload.specs.declared.fault.WorkFault.{WorkFault}
 use Rattle.velo_workload.specs.declared.fault.WorkFault.TheVariants.{BadLine, Unknown, Twice, Unmatched, TooMany, Memory}
 use Rattle.velo_workload.specs.declared.statement.Statement.{Statement}
@@ -20,9 +20,6 @@ count_bodies names (Lock name ∷ ps) = count_bodies names ps
 count_bodies names (Body s ∷ ps) = count_bodies names ps
 
 -- ---- faults
-
-no_program : WorkFault → Result Program WorkFault
-no_program f = Err f
 
 answered : (g : Option WorkFault) (w : Program) (f : WorkFault) → Judges g (wrong f) → ParsesAs (unless_fault g w) (Err f)
 answered g w (BadLine n) h = ap (λ (g : Option WorkFault). unless_fault g w) h

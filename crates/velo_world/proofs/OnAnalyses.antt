@@ -7,11 +7,10 @@ use Rattle.velo_events.specs.declared.config.Bounds.{Bounds}
 use Rattle.velo_events.specs.declared.event.Event.{Event}
 use Rattle.velo_events.specs.Graph.{HasCycle}
 use Rattle.velo_events.proofs.OnGraphs.{IsClosing-unique, HasCycle-from_closing}
-use Rattle.velo_clocks.specs.Clocks.{AreClocksOf, AreClocksSince}
-use Rattle.velo_clocks.specs.Noted.{HasRoomToNote, IsOfThreads}
+use Rattle.velo_tables.specs.Clocks.{AreClocksOf, AreClocksSince, HasRoomToNote, IsOfThreads}
 use Rattle.velo_events.specs.Place.{Place}
 use Rattle.velo_tables.specs.LastAccesses.{entry, HasRoomFor}
-use Rattle.velo_clocks.proofs.OnThreads.{IsOfThreads-follows}
+use Rattle.velo_tables.proofs.OnThreads.{IsOfThreads-follows}
 use Rattle.velo_monitor.specs.Watched.{Watched, IsMonitorOf}
 use Rattle.velo_world.specs.declared.analysis.Alarm.{Alarm}
 use Rattle.velo_heap.specs.Contents.{Contents, bounds_of, IsHeapOf}
@@ -64,14 +63,6 @@ room-reserved old new trace e alarm nodes entries slot monitor clocks = record {
   monitor = monitor;
   slot = record { slot = λ none. HasSlot-reserved old.monitor new.monitor trace e nodes entries (slot.slot (sym alarm ∙ none)) };
   clocks = λ _. clocks;
-}
-
--- after an alarm nothing needs room
-pub room-alarmed : (analysis : Analysis) (trace : List Event) (e : Event) → IsTrue (is_some analysis.alarm) → HasRoomForNext analysis trace e
-room-alarmed analysis trace e some = record {
-  monitor = λ none. absurd (alarm-not_none analysis.alarm some none);
-  slot = record { slot = λ none. absurd (alarm-not_none analysis.alarm some none) };
-  clocks = λ none. absurd (alarm-not_none analysis.alarm some none);
 }
 
 -- the clocks know the threads of the event that may come next

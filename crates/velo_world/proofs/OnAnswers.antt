@@ -1,15 +1,14 @@
 -- The event that an action is may follow the log.
 use Rattle.std.proofs.Common.{◌≡◌, List, Bool, true, false, length, Option, Some, None, Ok, Err, refl, sym, subst}
 use Rattle.std.specs.Prelude.{◌<◌, ◌&&◌, not, if◌then◌else◌, nat_le, nat_lt, Result, IsTrue, IsFalse}
-use Rattle.std.proofs.lemmas.Bool.{leb-false, ltb-true, not_from_false, false≢true}
+use Rattle.std.proofs.lemmas.Bool.{leb-false, ltb-true, false≢true}
 use Rattle.velo_events.proofs.OnStatuses.{is_Live}
 use Rattle.velo_events.specs.declared.event.Action.{Action}
 use Rattle.velo_events.specs.declared.event.Event.{Event}
 use Rattle.velo_events.specs.declared.event.ThreadId.{ThreadId}
 use Rattle.velo_events.specs.declared.refusal.Refusal.{Refusal}
 use Rattle.velo_events.specs.declared.refusal.Refusal.TheVariants.{Halted, NotLive, LogFull}
-use Rattle.velo_events.specs.declared.event.Status.{Status}
-use Rattle.velo_events.specs.declared.event.Status.TheVariants.{Unborn, Live, Exited, Joined}
+use Rattle.velo_events.specs.declared.event.Status.TheVariants.{Live}
 use Rattle.velo_events.specs.Heap.{status_in}
 use Rattle.velo_events.specs.WellFormed.{MayFollow, IsWellFormed}
 use Rattle.velo_events.specs.Meaning.{action_of, kind_for, event_for, refusal_of, is_live}
@@ -54,35 +53,6 @@ meaning-room w t action e h = at (refusal_of w.config.bounds w.log t.0 (kind_for
     at : (o : Option Refusal) → refusal_of w.config.bounds w.log t.0 (kind_for w.log action) ≡ o → length w.log < w.config.events
     at (Some r) is = absurd (refused w.halted r e (rw is at h))
     at None is = leb-false _ _ (within w.halted (nat_le w.config.events (length w.log)) (event_for w.log t action) e (rw is at h))
-
--- a thread that is not live is refused so, in a world that is not halted
-pub meaning-not_live : (w : WorldState) (t : ThreadId) (action : Action) → IsFalse w.halted → ¬ IsLiveThread w t.0 → meaning w t action ≡ Err NotLive
-unfolding refusal_of
-meaning-not_live w t action going not_live =
-    let no = not_from_false _ (live_test (nat_lt t.0 w.config.bounds.threads) (status_in w.log t.0) (λ lt live. not_live (ltb-true _ _ lt, live))) in
-    rw (going, no) refl
-  where
-    live_test : (b : Bool) (s : Status) → (IsTrue b → s ≡ Live → ⊥) → IsFalse (b && is_live s)
-    live_test false s h = refl
-    live_test true Unborn h = refl
-    live_test true Live h = absurd (h refl refl)
-    live_test true Exited h = refl
-    live_test true Joined h = refl
-
-pub meaning-halted : (w : WorldState) (t : ThreadId) (action : Action) → IsTrue w.halted → meaning w t action ≡ Err Halted
-meaning-halted w t action h = rw h refl
-
--- where an event is due, the world is not halted
-going_by : (halted full : Bool) (x e : Event) → ◌≡◌ {A = Result Event Refusal} (if halted then Err Halted else (if full then Err LogFull else Ok x)) (Ok e) → IsFalse halted
-going_by true full x e h = cc
-going_by false full x e h = refl
-
-pub meaning-going : (w : WorldState) (t : ThreadId) (action : Action) (e : Event) → meaning w t action ≡ Ok e → IsFalse w.halted
-meaning-going w t action e h = at (refusal_of w.config.bounds w.log t.0 (kind_for w.log action)) refl
-  where
-    at : (o : Option Refusal) → refusal_of w.config.bounds w.log t.0 (kind_for w.log action) ≡ o → IsFalse w.halted
-    at (Some r) is = absurd (refused w.halted r e (rw is at h))
-    at None is = going_by w.halted (nat_le w.config.events (length w.log)) (event_for w.log t action) e (rw is at h)
 
 -- and its thread is live
 first_passed : (b : Bool) (rest : Option Refusal) → (if not b then Some NotLive else rest) ≡ None → IsTrue b

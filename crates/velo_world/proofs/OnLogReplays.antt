@@ -1,6 +1,6 @@
 -- A recorded log that comes about again, or does not.
 use Rattle.std.proofs.Common.{◌≡◌, ℕ, ◌+◌, ◌<◌, ◌≤◌, Bool, true, false, List, [], ◌∷◌, ◌++◌, length, take, Option, Some, None, Result, Ok, Err, refl, sym, ap, ◌∙◌, subst, arith, inl, inr}
-use Rattle.std.specs.Prelude.{slice_get, IsTrue, IsFalse, is_some, is_err, OnOk, OnErr}
+use Rattle.std.specs.Prelude.{slice_get, IsTrue, IsFalse, is_err, OnOk, OnErr}
 use Rattle.std.proofs.lemmas.Bool.{eqb-true, lt-leb, false≢true}
 use Rattle.std.proofs.lemmas.Option.{slice_get_within}
 use Rattle.velo_events.specs.declared.config.Bounds.{Bounds}
@@ -20,13 +20,9 @@ use Rattle.velo_traces.specs.Flaws.{flaw_by, flaw_of, IsFirstFlaw}
 use Rattle.velo_traces.proofs.OnFlaws.{flaw-not_MayFollow, MayFollow-from_no_flaw}
 use Rattle.velo_world.specs.declared.log_replay.LogReplayFault.{LogReplayFault}
 use Rattle.velo_world.specs.declared.log_replay.LogReplayFault.TheVariants.{Refused, WrongValue, Memory}
-use Rattle.velo_world.specs.declared.analysis.Alarm.{Alarm}
-use Rattle.velo_world.specs.declared.analysis.Reply.{Reply}
-use Rattle.velo_events.specs.Event.{value_read}
-use Rattle.velo_world.specs.World.{meaning, AlarmOf}
-use Rattle.velo_world.specs.LoggedRun.{AddsToLog}
+use Rattle.velo_world.specs.World.{meaning}
 use Rattle.velo_world.specs.Faults.{world_of, IsLimit, IsFaultAtEvent, IsRefusedAt, IsFaultOfLog}
-use Rattle.velo_world.proofs.OnAlarms.{AlarmOf-alarmed, length-before}
+use Rattle.velo_world.proofs.OnAlarms.{length-before}
 
 -- ---- the event that is asked for
 
@@ -103,19 +99,6 @@ meaning-flawless config log e flawless room =
     let parts = no_flaw (refusal_of config.bounds log e.thread.0 e.kind) (has_its_value log e.kind) flawless in
     let none : refusal_of config.bounds log e.thread.0 (kind_for log (action_of e.kind)) ≡ None = refusal_of-asked config.bounds log e.thread.0 e.kind ∙ parts.0 in
     rw (none, lt-leb config.events (length log) room, own_event log e.thread e.kind parts.1) refl
-
--- so it is the one event of a step of the world
-abbrev pub reply_to : List Event → Event → Option Alarm → ℕ → Reply
-reply_to log e alarm position = record { position = position; value = value_read e.kind; alarmed = is_some alarm }
-
-pub AddsToLog-flawless : (config : Config) (log : List Event) (e : Event) (alarm : Option Alarm) (position : ℕ) → config.stop ≡ false → flaw_of config.bounds log e ≡ None → length log < config.events → position ≡ length log → AlarmOf (log ++ e ∷ []) alarm → AddsToLog (world_of config log) e.thread (action_of e.kind) e (reply_to log e alarm position) (world_of config (log ++ e ∷ []))
-AddsToLog-flawless config log e alarm position goes_on flawless room here is = record {
-  due = meaning-flawless config log e flawless room;
-  config = refl;
-  log = refl;
-  halted = rw goes_on refl;
-  replies = record { position = here; value = refl; alarmed = AlarmOf-alarmed (log ++ e ∷ []) alarm is };
-}
 
 -- ---- the event that does not
 

@@ -13,7 +13,7 @@ use Rattle.velo_ledger.specs.Views.{Holding}
 use Rattle.velo_ledger.specs.Shares.{opening_share}
 use Rattle.velo_events.proofs.OnLists.{slice_get-set_same, slice_get-set_other, slice_get-replicate}
 use Rattle.velo_ledger.proofs.OnLogs.{tally_of-nil}
-use Rattle.velo_world.specs.World.{WorldState, opening, halted_world, HasShare, HoldsLiveShares, CompletesShares}
+use Rattle.velo_world.specs.World.{opening, HasShare, HoldsLiveShares, CompletesShares}
 use Rattle.velo_events.proofs.OnStatuses.{first-born, others-unborn, is_Unborn}
 
 -- thread 0's share is at its place, and every other place is empty
@@ -61,19 +61,3 @@ module _ (config : Config) where
         (λ first. (subst (λ n. n < config.bounds.threads) (sym first) config.some_thread, λ unborn. false≢true (sym (first-born t first) ∙ ap is_unborn unborn)))
         (λ other. absurd (none_there t share (sym (others-empty t other) ∙ is))) (cases_eq t 0);
   }
-
--- ---- a halt
-
-HasShare-halted : (w : WorldState) (places : List (Option Holding)) (t : ℕ) → HasShare w places t → HasShare (halted_world w) places t
-HasShare-halted w places t has = record {
-  share = has.share;
-  there = has.there;
-  own = has.own;
-  fits = record { run = has.fits.run; thread = has.fits.thread; tally = has.fits.tally };
-}
-
-pub HoldsLiveShares-halted : (w : WorldState) (places : List (Option Holding)) → HoldsLiveShares w places → HoldsLiveShares (halted_world w) places
-HoldsLiveShares-halted w places ready = record { live = λ t live. HasShare-halted w places t (ready.live t live); unborn = ready.unborn }
-
-pub CompletesShares-halted : (w : WorldState) (places : List (Option Holding)) → CompletesShares w places → CompletesShares (halted_world w) places
-CompletesShares-halted w places complete = record { born = λ t born. HasShare-halted w places t (complete.born t born); no_other = complete.no_other }

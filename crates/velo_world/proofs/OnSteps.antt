@@ -1,5 +1,5 @@
 -- What an event that was taken in makes of a world.
-use Rattle.std.proofs.Common.{◌≡◌, ℕ, ◌≤◌, Bool, List, [], ◌∷◌, ◌++◌, length, set, Option, Some, None, Ok, refl, sym, ap, ◌∙◌, subst, arith}
+use Rattle.std.proofs.Common.{◌≡◌, ℕ, ◌≤◌, Bool, List, [], ◌∷◌, ◌++◌, set, Option, Some, None, Ok, refl, sym, ap, ◌∙◌, subst, arith}
 use Rattle.std.specs.Prelude.{IsFalse}
 use Rattle.velo_events.specs.declared.event.Event.{Event}
 use Rattle.velo_events.specs.declared.event.Action.{Action}
@@ -35,10 +35,6 @@ own_event : (w : WorldState) (t : ThreadId) (action : Action) (e : Event) → me
 own_event w t action e due = ap (λ (f : Event). f.thread) (event-meaning w t action e due)
 
 -- ---- what the type keeps
-
-pub book-committed : (w : WorldState) (t : ThreadId) (action : Action) (e : Event) (halted : Bool) (log log' : List Event) (book book' : Accounts) (share : Holding) → IsWellFormed w.config.bounds w.log → meaning w t action ≡ Ok e → IsBookOf w book → FitsLog w share → t ≡ share.thread → log ≡ w.log → log' ≡ log ++ e ∷ [] → book' ≡ with_row book share.thread (with_event share.tally (length log) e) → IsBookOf (record { config = w.config; halted = halted; log = log' }) book'
-book-committed w t action e halted log log' book book' share well due is fits own log_is log'_is book'_is =
-    rw (log'_is, book'_is, log_is) (IsBookOf-next w e halted book share well (MayFollow-meaning w t action e well due) is fits (own_event w t action e due ∙ own))
 
 pub kept-committed : (w : WorldState) (t : ThreadId) (action : Action) (e : Event) (halted : Bool) (log log' : List Event) (kept : List (Option Holding)) → IsNoFork action → IsWellFormed w.config.bounds w.log → meaning w t action ≡ Ok e → KeepsUnborn w kept → log ≡ w.log → log' ≡ log ++ e ∷ [] → KeepsUnborn (record { config = w.config; halted = halted; log = log' }) kept
 kept-committed w t action e halted log log' kept no_fork well due keeps log_is log'_is =

@@ -5,9 +5,8 @@ use Rattle.velo_events.specs.declared.event.Event.{Event}
 use Rattle.velo_events.specs.declared.limits.TheConstants.{MAX_EVENTS}
 use Rattle.velo_events.specs.WellFormed.{MayFollow}
 use Rattle.velo_heap.specs.Contents.{bounds_of, IsHeapOf}
-use Rattle.velo_clocks.specs.Clocks.{AreClocksOf}
+use Rattle.velo_tables.specs.Clocks.{AreClocksOf, HasRoomToNote}
 use Rattle.velo_tables.specs.LastAccesses.{HasRoomFor}
-use Rattle.velo_clocks.specs.Noted.{HasRoomToNote}
 use Rattle.velo_monitor.specs.Watched.{IsMonitorOf}
 use Rattle.velo_world.specs.FirstCycle.{events_watched}
 use Rattle.velo_world.specs.NodeRoom.{HasSlot}

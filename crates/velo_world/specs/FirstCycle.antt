@@ -5,7 +5,7 @@ use Rattle.velo_events.specs.declared.event.Event.{Event}
 use Rattle.velo_events.specs.Block.{owner}
 use Rattle.velo_events.specs.Graph.{HasCycle, IsClosing}
 use Rattle.velo_blame.specs.Clocks.{RunClocks}
-use Rattle.velo_clocks.specs.Clocks.{AreClocksOf}
+use Rattle.velo_tables.specs.Clocks.{AreClocksOf}
 use Rattle.velo_world.specs.declared.analysis.Alarm.{Alarm}
 use Rattle.velo_world.specs.declared.first_cycle.Closing.{Closing}
 use Rattle.velo_world.specs.World.{AlarmOf}

@@ -6,7 +6,7 @@ ghost use Rattle.velo_events.specs.Graph.{HasCycle};
 ghost use Rattle.velo_events.specs.WellFormed.{IsWellFormed, MayFollow};
 ghost use Rattle.velo_arena.specs.Slots.{limit_of};
 ghost use Rattle.velo_heap.specs.Contents.{bounds_of};
-ghost use Rattle.velo_clocks.specs.Clocks.{AreClocksOf};
+ghost use Rattle.velo_tables.specs.Clocks.{AreClocksOf};
 ghost use Rattle.velo_world.specs.World.{FindsNoNode};
 ghost use Rattle.velo_world.specs.Analysis.{ComesNext, HasRoomForNext, FindsRoom, HasSlotFor, IsAnalysisOf, IsWatched, Raises};
 

@@ -2,7 +2,7 @@
 ghost use Rattle.std.specs.Prelude.{◌≡◌, ◌≤◌, IfOk, length, take};
 ghost use Rattle.velo_events.specs.declared.limits.TheConstants.{MAX_EVENTS};
 ghost use Rattle.velo_events.specs.WellFormed.{IsWellFormed};
-ghost use Rattle.velo_clocks.specs.Clocks.{AreClocksOf};
+ghost use Rattle.velo_tables.specs.Clocks.{AreClocksOf};
 ghost use Rattle.velo_world.specs.World.{AlarmOf, IsAlarm};
 ghost use Rattle.velo_world.specs.FirstCycle.{AreNoted, ClosesFirst, IsFirstClosing};
 

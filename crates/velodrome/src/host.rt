@@ -6,8 +6,7 @@ use crate::terminal::STANDARD_INPUT;
 use std::fs::{self, File, Metadata};
 use std::io::{self, Read, Stdin, Write};
 use velo_bytes::{ReaderSource, WriterSink};
-use velo_cli::{Recall, SystemReason};
-use velo_commands::Files;
+use velo_cli::{Files, Recall, SystemReason};
 
 /// A file, or standard input.
 #[derive(Drop)]
@@ -104,13 +103,6 @@ impl<'a> Files for HostFiles<'a> {
                 self.notes.fail_read(error.kind());
                 None
             }
-        }
-    }
-
-    fn open_regular(&self, path: &str) -> Option<ReaderSource<HostInput<'a>>> {
-        match fs::metadata(self.rt, path) {
-            Ok(found) if !found.is_file() => None,
-            _ => self.open(path),
         }
     }
 

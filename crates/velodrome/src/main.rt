@@ -1,7 +1,6 @@
 //! Checks whether the atomic blocks of an observed run can be serialized.
 #![tactic(auto)]
 
-mod colours;
 mod host;
 mod notes;
 mod place;
@@ -9,7 +8,6 @@ mod progress;
 mod terminal;
 mod why;
 
-use colours::{ColouredSink, are_wanted};
 use host::HostFiles;
 use notes::Notes;
 use progress::ProgressLine;
@@ -41,8 +39,7 @@ fn main(rt: HostRuntime) -> ExitCode {
         Ok(words) => words,
         Err(kind) => return ExitCode::from(end_without_words(kind, &mut err)),
     };
-    let in_colours = are_wanted(&rt, words.as_slice());
-    let mut out = ColouredSink::new(rt.alloc(), WriterSink::new(rt.stdout()), in_colours);
+    let mut out = WriterSink::new(rt.stdout());
     let status = match with_why(rt.alloc(), &words, is_terminal) {
         Ok(passed) => run(
             &rt,

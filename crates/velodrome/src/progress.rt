@@ -6,7 +6,7 @@ use std::alloc::Global;
 use std::cmp::max;
 use std::time::{Clock, Duration};
 use velo_bytes::{Sink, write_all};
-use velo_commands::{ExploreProgress, Progress};
+use velo_cli::{ExploreProgress, Progress};
 
 /// A search that takes no longer is not reported on a terminal, and lines that stay are no nearer
 /// to one another: in milliseconds.

@@ -1,12 +1,10 @@
-//! Where the system shows standard input and the outputs, and which of these is a terminal.
+//! Where the system shows standard input and standard error, and which of them is a terminal.
 
 use std::fs;
 use std::os::unix::fs::MetadataExt;
 
-/// Where the system shows standard input, standard output and standard error.
+/// Where the system shows standard input and standard error.
 pub const STANDARD_INPUT: &str = "/proc/self/fd/0";
-
-pub const STANDARD_OUTPUT: &str = "/proc/self/fd/1";
 
 pub const STANDARD_ERROR: &str = "/proc/self/fd/2";
 

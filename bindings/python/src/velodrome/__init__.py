@@ -53,7 +53,7 @@ __all__ = [
     "session",
     "switch",
 ]
-__version__ = "0.1.0"
+__version__ = "0.2.0"
 
 _Function = TypeVar("_Function", bound=Callable[..., Any])
 

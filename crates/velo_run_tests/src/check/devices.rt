@@ -1,9 +1,8 @@
 //! Sources and sinks that fail after each number of bytes.
 use super::{LOST_UPDATE, LOST_UPDATE_CERTIFIED};
 use velo_bytes::{Bytes, Text};
+use velo_check::{CheckFault, check_run};
 use velo_events::MAX_EVENTS;
-use velo_fate::CheckFault;
-use velo_log_commands::check_run;
 use velo_logtext::LogFault;
 
 #[test]

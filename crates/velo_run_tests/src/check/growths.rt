@@ -4,10 +4,8 @@ use super::{LOST_UPDATE, LOST_UPDATE_CERTIFIED};
 use crate::growths::again;
 use std::alloc::Global;
 use velo_bytes::{Bytes, WriterSink};
+use velo_check::{CheckFault, Verdict, check_run, config_of};
 use velo_events::{Action, Refusal, ThreadId, VarId};
-use velo_fate::{CheckFault, Verdict};
-use velo_inputs::config_of;
-use velo_log_commands::check_run;
 use velo_logtext::{LogFault, read_log};
 use velo_world::{LogReplayFault, World};
 

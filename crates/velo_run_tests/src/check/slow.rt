@@ -4,10 +4,10 @@ ghost use Rattle.std.specs.Prelude.{◌≤◌, ◌<◌, length};
 use std::alloc::{AllocError, Global};
 use std::process::Abort;
 use std::test::Fail;
+use velo_check::config_of;
 use velo_events::{
     Action, Bounds, Label, LockId, MAX_EVENTS, MAX_NODES, ThreadId, VarId, conflicts,
 };
-use velo_inputs::config_of;
 use velo_traces::Trace;
 use velo_world::World;
 

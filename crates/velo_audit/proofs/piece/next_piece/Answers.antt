@@ -3,7 +3,6 @@ use Rattle.velo_filter.specs.Marks.{AreMarks, IsShallow}
 use Rattle.velo_filter.specs.Tables.{left_of}
 use Rattle.velo_filter.proofs.OnThinned.{IsShallow-from}
 use Rattle.velo_audit.proofs.OnCuts.{GoesTo-none}
-use Rattle.velo_audit.proofs.OnVerdicts.{EndsAt-from}
 use Rattle.velo_audit.proofs.piece.next_piece.Goals as goal
 
 pub loop-position-init : goal.loop-position-init

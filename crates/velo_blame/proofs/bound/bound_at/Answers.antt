@@ -3,7 +3,7 @@ use Rattle.std.proofs.lemmas.Option.{slice_get-get_or, same_Some}
 use Rattle.velo_events.specs.Event.{thread_of}
 use Rattle.velo_events.specs.Conflict.{conflict}
 use Rattle.velo_traces.proofs.Past.{past}
-use Rattle.velo_conflicts.specs.Places.{HasPlaces}
+use Rattle.velo_traces.specs.Places.{HasPlaces}
 use Rattle.velo_blame.specs.Known.{IsEndOf, IsKnown, is_by_others}
 use Rattle.velo_blame.proofs.OnKnown.{KnowsUpTo-start, bound-start, bound-raised, bound-stays}
 use Rattle.velo_blame.proofs.bound.bound_at.Goals as goal

@@ -1,7 +1,7 @@
 use Rattle.std.proofs.Common.{◌≡◌}
 use Rattle.velo_events.specs.Conflict.{conflict}
 use Rattle.velo_events.specs.Event.{thread_of}
-use Rattle.velo_conflicts.specs.Places.{sizes}
+use Rattle.velo_traces.specs.Places.{sizes}
 use Rattle.velo_blame.specs.Known.{IsEndOf, IsKnown, is_by_others, KnowsUpTo}
 use Rattle.velo_blame.proofs.bound.bound_at.Given as goal
 

@@ -2,14 +2,14 @@ use Rattle.std.proofs.Common.{◌≡◌, ◌<◌, ◌++◌, ◌∷◌, [], lengt
 use Rattle.std.specs.Prelude.{slice_index}
 use Rattle.std.proofs.lemmas.List.{get_or_default}
 use Rattle.velo_certify.proofs.OnCycles.{WalksBack, WalksBack-next, IsShortestFrom-end}
-use Rattle.velo_certify.proofs.OnSearch.{reached-within}
+use Rattle.velo_certify.proofs.OnDistances.{reached-within}
 use Rattle.velo_certify.proofs.cycle.cycle_through.Goals as goal
 
 pub loop-present-preserved : goal.loop-present-preserved
 loop-present-preserved c =
     let distance = c.args.reached.now.distance.items in let next = c.args.reached.now.next.items in let present = c.loop-present.present in
     let reached = c.loop-present.invariant.there in
-    let inside : present < length next = let within = reached-within distance present reached in let count = c.args.reached.now.count in omega (arith, within, count) in
+    let inside : present < length next = let within = reached-within distance present reached in let count = c.args.reached.now.same in omega (arith, within, count) in
     let is : c.index-present.result.now ≡ slice_index next present = c.index-present.ensures ∙ get_or_default next present c.index-present.result.now 0 inside in
     record {
       there = subst (λ a. 0 < slice_index distance a) (sym is) (c.requires.nearer.each present reached c.loop-present-test.true).0;

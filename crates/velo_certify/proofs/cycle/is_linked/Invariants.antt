@@ -1,5 +1,5 @@
 use Rattle.std.proofs.Common.{length}
-use Rattle.velo_conflicts.specs.Places.{AllHavePlaces, sizes}
+use Rattle.velo_traces.specs.Places.{AllHavePlaces, sizes}
 use Rattle.velo_certify.specs.Cycle.{IsLinked}
 use Rattle.velo_certify.proofs.cycle.is_linked.Given as goal
 

@@ -1,5 +1,5 @@
 use Rattle.std.proofs.Common.{◌+◌, length, sym, subst, arith}
-use Rattle.velo_conflicts.specs.Places.{AllHavePlaces}
+use Rattle.velo_traces.specs.Places.{AllHavePlaces}
 use Rattle.velo_certify.specs.Edges.{ShowEdgesSoFar}
 use Rattle.velo_certify.proofs.OnEdges.{ShowEdgesSoFar-next}
 use Rattle.velo_certify.proofs.edges.all_edge_events.Goals as goal

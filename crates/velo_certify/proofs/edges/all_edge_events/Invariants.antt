@@ -1,6 +1,6 @@
 use Rattle.std.proofs.Common.{◌≤◌, length}
 use Rattle.std.specs.Prelude.{vec_capacity}
-use Rattle.velo_conflicts.specs.Places.{AllHavePlaces, sizes}
+use Rattle.velo_traces.specs.Places.{AllHavePlaces, sizes}
 use Rattle.velo_certify.specs.Edges.{ShowEdgesSoFar}
 use Rattle.velo_certify.proofs.edges.all_edge_events.Given as goal
 

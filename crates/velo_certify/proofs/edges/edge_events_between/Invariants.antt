@@ -1,7 +1,7 @@
 use Rattle.std.proofs.Common.{◌≡◌, ◌≢◌, ℕ, ◌<◌}
 use Rattle.velo_events.specs.Block.{owner}
-use Rattle.velo_conflicts.specs.Numbers.{HasNumbers}
-use Rattle.velo_conflicts.specs.Places.{sizes}
+use Rattle.velo_traces.specs.Numbers.{HasNumbers}
+use Rattle.velo_traces.specs.Places.{sizes}
 use Rattle.velo_certify.specs.Table.{numbers_before}
 use Rattle.velo_certify.specs.Edges.{own_places}
 use Rattle.velo_certify.specs.Nearest.{LeadsInto}

@@ -1,6 +1,6 @@
 use Rattle.std.proofs.Common.{sym, subst, arith, length}
 use Rattle.velo_certify.specs.Links.{counted, IsBefore}
-use Rattle.velo_conflicts.specs.Places.{AllHavePlaces}
+use Rattle.velo_traces.specs.Places.{AllHavePlaces}
 use Rattle.velo_certify.proofs.OnNumbered.{HasNumbers-first}
 use Rattle.velo_certify.proofs.OnCovering.{AreShown-none}
 use Rattle.velo_certify.proofs.OnLinks.{HasLinks-turn}

@@ -1,6 +1,6 @@
 use Rattle.std.proofs.Common.{sym, subst, arith, length}
 use Rattle.velo_certify.specs.Links.{counted_back, IsBehind}
-use Rattle.velo_conflicts.specs.Places.{AllHavePlaces}
+use Rattle.velo_traces.specs.Places.{AllHavePlaces}
 use Rattle.velo_certify.proofs.OnNumbered.{HasNumbers-last}
 use Rattle.velo_certify.proofs.OnCovering.{AreShown-none}
 use Rattle.velo_certify.proofs.links.link_all_on.Goals as goal

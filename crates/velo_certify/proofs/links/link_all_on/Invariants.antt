@@ -1,7 +1,7 @@
 use Rattle.std.proofs.Common.{◌≤◌, length}
-use Rattle.velo_conflicts.specs.Numbers.{HasNumbers}
+use Rattle.velo_traces.specs.Numbers.{HasNumbers}
 use Rattle.velo_certify.specs.Links.{counted_back, IsBehind, AreShown, HasLinks}
-use Rattle.velo_conflicts.specs.Places.{sizes, AllHavePlaces}
+use Rattle.velo_traces.specs.Places.{sizes, AllHavePlaces}
 use Rattle.velo_certify.specs.Table.{numbers_from}
 use Rattle.velo_certify.proofs.links.link_all_on.Given as goal
 

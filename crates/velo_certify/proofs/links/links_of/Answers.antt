@@ -1,5 +1,5 @@
 use Rattle.std.proofs.Common.{length, sym, subst}
-use Rattle.velo_conflicts.specs.Places.{AllHavePlaces}
+use Rattle.velo_traces.specs.Places.{AllHavePlaces}
 use Rattle.velo_certify.proofs.OnLinks.{HasLinks-start}
 use Rattle.velo_certify.proofs.links.links_of.Goals as goal
 

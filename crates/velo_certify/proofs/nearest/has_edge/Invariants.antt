@@ -1,7 +1,7 @@
 use Rattle.std.proofs.Common.{◌≡◌, ◌≢◌, ℕ, ◌<◌}
 use Rattle.velo_events.specs.Block.{owner}
-use Rattle.velo_conflicts.specs.Numbers.{HasNumbers}
-use Rattle.velo_conflicts.specs.Places.{sizes}
+use Rattle.velo_traces.specs.Numbers.{HasNumbers}
+use Rattle.velo_traces.specs.Places.{sizes}
 use Rattle.velo_certify.specs.Table.{numbers_before}
 use Rattle.velo_certify.specs.Nearest.{own_positions, LeadsInto}
 use Rattle.velo_certify.proofs.nearest.has_edge.Given as goal

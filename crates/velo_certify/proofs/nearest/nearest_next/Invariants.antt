@@ -1,6 +1,6 @@
 use Rattle.std.proofs.Common.{◌≡◌}
-use Rattle.velo_conflicts.specs.Numbers.{HasNumbers}
-use Rattle.velo_conflicts.specs.Places.{sizes}
+use Rattle.velo_traces.specs.Numbers.{HasNumbers}
+use Rattle.velo_traces.specs.Places.{sizes}
 use Rattle.velo_certify.specs.Table.{numbers_before}
 use Rattle.velo_certify.specs.Nearest.{own_positions}
 use Rattle.velo_certify.proofs.OnNearest.{IsNearestSoFar}

@@ -1,8 +1,8 @@
 use Rattle.std.proofs.Common.{ℕ, ◌<◌, length}
 use Rattle.std.specs.Prelude.{slice_index, IsTrue}
 use Rattle.velo_events.specs.Graph.{conflict_at}
-use Rattle.velo_conflicts.specs.Numbers.{HasNumbers}
-use Rattle.velo_conflicts.specs.Places.{AllHavePlaces, sizes}
+use Rattle.velo_traces.specs.Numbers.{HasNumbers}
+use Rattle.velo_traces.specs.Places.{AllHavePlaces, sizes}
 use Rattle.velo_certify.specs.Table.{numbers_before}
 use Rattle.velo_certify.proofs.order.keeps_conflicts.Given as goal
 

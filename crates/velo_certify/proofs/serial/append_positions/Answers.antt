@@ -1,9 +1,9 @@
-use Rattle.std.proofs.Common.{◌≡◌, ◌++◌, ◌∷◌, [], sym, ap, ◌∙◌, append_assoc, arith, rules}
+use Rattle.std.proofs.Common.{◌≡◌, ◌++◌, ◌∷◌, [], sym, ap, ◌∙◌, append_assoc, arith}
 use Rattle.std.specs.Prelude.{slice_index}
 use Rattle.std.proofs.lemmas.List.{append-nil}
 use Rattle.velo_events.specs.Block.{owner}
 use Rattle.velo_certify.proofs.OnSerial.{positions_below, below-own, below-first}
-use Rattle.velo_certify.proofs.OnThreads.{Follows-start, Follows-next, below-next, Follows-end, below-end}
+use Rattle.velo_certify.proofs.OnThreads.{Follows-start, Follows-next, below-next, below-end}
 use Rattle.velo_certify.proofs.serial.append_positions.Goals as goal
 use Rattle.velo_certify.proofs.serial.append_positions.Goals.{then-loop-at-test+else-owner_of-a, else-loop-at-test}
 

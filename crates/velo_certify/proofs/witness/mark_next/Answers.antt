@@ -2,7 +2,7 @@ use Rattle.std.proofs.Common.{◌++◌, ◌∷◌, [], length, get_or, sym, subs
 use Rattle.std.specs.Prelude.{slice_get, slice_index}
 use Rattle.std.proofs.lemmas.Option.{slice_get-get_or}
 use Rattle.velo_traces.proofs.Past.{past}
-use Rattle.velo_conflicts.specs.Numbers.{HasNumbers}
+use Rattle.velo_traces.specs.Numbers.{HasNumbers}
 use Rattle.velo_certify.specs.Witness.{AreMarks}
 use Rattle.velo_certify.proofs.OnWitness.{marks-greatest, marks-numbered, AreMarks-next}
 use Rattle.velo_certify.proofs.witness.mark_next.Goals as goal

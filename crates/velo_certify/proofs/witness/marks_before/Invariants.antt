@@ -1,7 +1,7 @@
 use Rattle.std.proofs.Common.{◌≡◌, ◌≤◌, length}
 use Rattle.std.specs.Prelude.{slice_index, vec_capacity}
-use Rattle.velo_conflicts.specs.Numbers.{HasNumbers}
-use Rattle.velo_conflicts.specs.Places.{AllHavePlaces, sizes}
+use Rattle.velo_traces.specs.Numbers.{HasNumbers}
+use Rattle.velo_traces.specs.Places.{AllHavePlaces, sizes}
 use Rattle.velo_certify.specs.Witness.{AreMarks}
 use Rattle.velo_certify.proofs.witness.marks_before.Given as goal
 

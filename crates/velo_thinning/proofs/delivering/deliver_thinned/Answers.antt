@@ -1,6 +1,6 @@
 use Rattle.std.proofs.Common.{inr, sym, ◌∙◌, subst}
-use Rattle.velo_delivery.specs.Disk.{store}
-use Rattle.velo_delivery.specs.Writing.{writing}
+use Rattle.velo_check.specs.Disk.{store}
+use Rattle.velo_check.specs.Writing.{writing}
 use Rattle.velo_thinning.specs.Texts.{IsMapFor, IsSent, saves_of}
 use Rattle.velo_thinning.proofs.delivering.deliver_thinned.Goals as goal
 

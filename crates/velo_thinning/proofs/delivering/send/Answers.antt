@@ -1,5 +1,5 @@
-use Rattle.velo_delivery.specs.Disk.{store}
-use Rattle.velo_delivery.specs.Writing.{writing}
+use Rattle.velo_check.specs.Disk.{store}
+use Rattle.velo_check.specs.Writing.{writing}
 use Rattle.velo_thinning.proofs.OnTexts.{sent}
 use Rattle.velo_thinning.proofs.delivering.send.Goals as goal
 

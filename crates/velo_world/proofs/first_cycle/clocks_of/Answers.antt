@@ -6,9 +6,8 @@ use Rattle.velo_events.specs.declared.event.Event.{Event}
 use Rattle.velo_events.specs.WellFormed.{IsWellFormed}
 use Rattle.velo_events.proofs.OnScans.{take-next}
 use Rattle.velo_events.proofs.OnWellFormed.{IsWellFormed-take}
-use Rattle.velo_clocks.specs.Clocks.{AreClocksOf}
-use Rattle.velo_clocks.specs.Noted.{HasRoomToNote, IsOfThreads}
-use Rattle.velo_clocks.proofs.OnThreads.{IsOfThreads-follows}
+use Rattle.velo_tables.specs.Clocks.{AreClocksOf, HasRoomToNote, IsOfThreads}
+use Rattle.velo_tables.proofs.OnThreads.{IsOfThreads-follows}
 use Rattle.velo_world.proofs.OnAlarms.{length-before}
 use Rattle.velo_world.proofs.first_cycle.clocks_of.Goals.{then-not-has_room_for+in_ok-reserve_for, else-not-has_room_for}
 use Rattle.velo_world.proofs.first_cycle.clocks_of.Goals as goal

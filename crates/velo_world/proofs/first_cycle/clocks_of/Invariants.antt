@@ -1,5 +1,5 @@
 use Rattle.std.proofs.Common.{◌≡◌, take}
-use Rattle.velo_clocks.specs.Clocks.{AreClocksOf}
+use Rattle.velo_tables.specs.Clocks.{AreClocksOf}
 use Rattle.velo_world.proofs.first_cycle.clocks_of.Given as goal
 
 abbrev pub invariant-loop-position : goal.invariant-loop-position

@@ -1,4 +1,4 @@
-use Rattle.velo_clocks.proofs.OnClocks.{opens}
+use Rattle.velo_tables.proofs.OnClocks.{opens}
 use Rattle.velo_blame.proofs.clocks.Clocks.new.Goals as goal
 
 pub returns-clause-start : goal.returns-clause-start

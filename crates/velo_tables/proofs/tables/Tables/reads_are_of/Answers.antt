@@ -1,4 +1,4 @@
-use Rattle.std.proofs.Common.{◌≡◌, Some, sym, ◌∙◌, ap, subst}
+use Rattle.std.proofs.Common.{◌≡◌, Some, sym, ◌∙◌, subst}
 use Rattle.std.specs.Option.{option_to_list}
 use Rattle.velo_tables.specs.LastAccesses.{LastAccesses, accesses_of}
 use Rattle.velo_tables.specs.Others.{accesses_but_for, but_for, steps_of}

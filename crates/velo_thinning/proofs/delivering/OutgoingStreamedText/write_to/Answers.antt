@@ -1,5 +1,5 @@
 use Rattle.std.proofs.Common.{refl}
-use Rattle.velo_delivery.specs.Writing.{writing}
+use Rattle.velo_check.specs.Writing.{writing}
 use Rattle.velo_logtext.specs.Text.{log_text}
 use Rattle.velo_thinning.proofs.OnTexts.{delivers}
 use Rattle.velo_thinning.proofs.delivering.OutgoingStreamedText.write_to.Goals as goal

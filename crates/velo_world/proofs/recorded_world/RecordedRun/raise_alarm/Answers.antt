@@ -1,7 +1,7 @@
 use Rattle.std.proofs.Common.{subst, arith}
 use Rattle.velo_events.proofs.OnWellFormed.{IsWellFormed-push}
 use Rattle.velo_traces.proofs.OnFlaws.{MayFollow-from_no_flaw}
-use Rattle.velo_clocks.specs.Clocks.{AreClocksOf}
+use Rattle.velo_tables.specs.Clocks.{AreClocksOf}
 use Rattle.velo_world.specs.World.{IsAlarm}
 use Rattle.velo_world.proofs.OnAnalyses.{take-before}
 use Rattle.velo_world.proofs.OnLogReplays.{well_formed-by}

@@ -1,2 +1,0 @@
-pub mod OnLatest
-pub mod OnPairs

@@ -1,5 +1,0 @@
-use Rattle.velo_seal.specs.Seal.{refused}
-use Rattle.velo_arguments.proofs.growth.with_subcommand.Goals as goal
-
-pub invariant_of-result : goal.invariant_of-result
-invariant_of-result c = refused

@@ -1,2 +1,0 @@
-mod OnAuditing
-mod OnPredicting

@@ -1,3 +1,0 @@
-pub mod Auditing
-pub mod Commands
-pub mod Predicting

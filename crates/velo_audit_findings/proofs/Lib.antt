@@ -1,2 +1,0 @@
-mod OnResults
-mod OnTexts

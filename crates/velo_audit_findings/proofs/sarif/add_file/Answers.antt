@@ -1,7 +1,0 @@
-use Rattle.velo_json.proofs.OnChain.{then}
-use Rattle.velo_audit_findings.specs.Sarif.{file_json}
-use Rattle.velo_audit_findings.proofs.sarif.add_file.Goals as goal
-
-pub returns : goal.returns
-unfolding file_json
-returns c = then c.end_object.result c.args.json _ _ _ c.in_ok-begin_object.ensures (then c.end_object.result c.in_ok-begin_object.field-0 _ _ _ c.in_ok-add_uri.ensures c.end_object.ensures)

@@ -1,7 +1,0 @@
-use Rattle.std.proofs.Common.{◌≡◌, ◌++◌, take}
-use Rattle.std.specs.List.{flat_map}
-use Rattle.velo_audit_findings.specs.Sarif.{uri_byte}
-use Rattle.velo_audit_findings.proofs.uri.add_bytes.Given as goal
-
-abbrev pub invariant-loop-byte : goal.invariant-loop-byte
-invariant-loop-byte l = l.page ≡ l.fn.page ++ flat_map uri_byte (take l.byte-index l.path)

@@ -1,4 +1,0 @@
-pub mod Findings
-pub mod Sources
-pub mod Sarif
-pub mod Junit

@@ -1,7 +1,0 @@
-use Rattle.velo_json.proofs.OnChain.{then}
-use Rattle.velo_audit_forms.specs.Witness.{reason_json}
-use Rattle.velo_audit_forms.proofs.witness.BlameElement.add.Goals as goal
-
-pub returns : goal.returns
-unfolding reason_json
-returns c = then c.end_object.result c.args.json _ _ _ c.in_ok-begin_object.ensures (then c.end_object.result c.in_ok-begin_object.field-0 _ _ _ c.in_ok-json.ensures (then c.end_object.result c.in_ok-json.json _ _ _ c.in_ok-add_block.ensures (then c.end_object.result c.in_ok-add_block.field-0 _ _ _ c.in_ok-json-2.ensures (then c.end_object.result c.in_ok-json-2.json _ _ _ c.in_ok-add_event_at.ensures c.end_object.ensures))))

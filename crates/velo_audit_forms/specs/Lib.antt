@@ -1,4 +1,0 @@
-pub mod Events
-pub mod Witness
-pub mod Alarms
-pub mod Answer

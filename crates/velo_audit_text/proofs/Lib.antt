@@ -1,4 +1,0 @@
-pub mod OnPieces
-pub mod OnOpen
-pub mod OnLabels
-mod OnEntries

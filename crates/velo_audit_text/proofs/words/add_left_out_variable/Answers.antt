@@ -1,6 +1,0 @@
-use Rattle.velo_audit_text.specs.Words.{left_out_variable_text}
-use Rattle.velo_audit_text.proofs.words.add_left_out_variable.Goals as goal
-
-pub returns : goal.returns
-unfolding left_out_variable_text
-returns c = rw (c.from.ensures, c.name_of.ensures, c.from-2.ensures) at c.add.ensures

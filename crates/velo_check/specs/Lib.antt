@@ -1,0 +1,16 @@
+pub mod Answers
+pub mod Barred
+pub mod Carrying
+pub mod Check
+pub mod Delivery
+pub mod Disk
+pub mod Failures
+pub mod Fate
+pub mod Faults
+pub mod Format
+pub mod Input
+pub mod Reading
+pub mod Saving
+pub mod Steps
+pub mod Verdict
+pub mod Writing

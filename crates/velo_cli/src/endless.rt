@@ -1,0 +1,111 @@
+//! `velodrome watch --endless`: a log of any length that is checked as it comes.
+ghost use Rattle.std.specs.Prelude.{◌-◌};
+ghost use Rattle.velo_watch.specs.Endless.{CanGoOn};
+ghost use Rattle.velo_watch.specs.declared.long.TheConstants.{MAX_WATCHED};
+
+use crate::asked::Command;
+use crate::given_names::{names_given, shown_of};
+use crate::naming::{ByNames, do_by_names};
+use crate::watching::{AskedWatch, watch_named};
+use std::alloc::Global;
+use velo_bytes::{Sink, Source, WriteFault};
+use velo_check::{CheckFault, EndlessOptions, Fate, Files, Verdict};
+use velo_names::Names;
+use velo_watch::{EndlessWatch, WatchFault};
+
+impl AskedWatch for EndlessOptions<'_> {
+    type State = EndlessWatch;
+
+    ghost can_go_on = { λ asked watch. CanGoOn watch };
+
+    ghost left = { λ watch. MAX_WATCHED - watch.reader.given };
+
+    fn input(&self) -> &str {
+        self.input
+    }
+
+    fn stops(&self) -> bool {
+        self.stop
+    }
+
+    fn open<I: Source>(&self, alloc: Global, log: &mut I) -> Result<EndlessWatch, WatchFault> {
+        EndlessWatch::open(alloc, log, self.limits.events, self.limits.nodes)
+    }
+
+    fn step<I: Source, O: Sink>(
+        &self,
+        alloc: Global,
+        watch: &mut EndlessWatch,
+        log: &mut I,
+        out: &mut O,
+    ) -> Result<bool, WatchFault> {
+        watch.step(alloc, log, out)
+    }
+
+    fn fits_sites(&self, _watch: &EndlessWatch) -> bool {
+        true
+    }
+
+    fn has_told(&self, watch: &EndlessWatch) -> bool {
+        watch.has_told()
+    }
+
+    fn show<O: Sink>(
+        &self,
+        _alloc: Global,
+        watch: EndlessWatch,
+        names: Option<&Names>,
+        out: &mut O,
+    ) -> Result<Verdict, CheckFault> {
+        let shown = shown_of(names);
+        let answer = report_of(&watch, &shown, out);
+        drop(watch);
+        answer
+    }
+}
+
+/// The verdict of the events that a watch has seen.
+fn verdict_of(watch: &EndlessWatch) -> Verdict {
+    if watch.has_told() {
+        Verdict::Alarm
+    } else {
+        Verdict::Clean
+    }
+}
+
+/// Writes the report of the events that a watch has seen, and returns their verdict.
+fn report_of<O: Sink>(
+    watch: &EndlessWatch,
+    names: &velo_report::Names,
+    out: &mut O,
+) -> Result<Verdict, CheckFault>
+    requires { CanGoOn watch.now }
+{
+    match watch.report(names, out) {
+        Ok(()) => Ok(verdict_of(watch)),
+        Err(WriteFault) => Err(CheckFault::Write),
+    }
+}
+
+impl ByNames for Command<'_, EndlessOptions<'_>> {
+    fn do_by<F: Files, O: Sink>(
+        &self,
+        alloc: Global,
+        names: &Names,
+        files: &mut F,
+        out: &mut O,
+    ) -> Fate {
+        let given = names_given(self.options.names, names);
+        watch_named(alloc, self.options, given, files, out)
+    }
+}
+
+/// Watches the log that was asked for, of any length. The names are read first.
+pub fn watch_endless_file<F: Files, O: Sink>(
+    alloc: Global,
+    options: &EndlessOptions,
+    files: &mut F,
+    out: &mut O,
+) -> Fate {
+    do_by_names(alloc, &Command { options }, options.names, files, out)
+}

@@ -1,4 +1,0 @@
-mod OnVerifying
-mod OnCauses
-mod OnRefusals
-mod OnThinning

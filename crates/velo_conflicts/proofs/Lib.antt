@@ -1,2 +1,0 @@
-pub mod OnGreatest
-pub mod OnRows

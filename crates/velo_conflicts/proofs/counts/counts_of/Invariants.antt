@@ -1,5 +1,0 @@
-use Rattle.velo_conflicts.specs.Places.{sizes_of, AllHavePlaces}
-use Rattle.velo_conflicts.proofs.counts.counts_of.Given as goal
-
-abbrev pub invariant-loop-i : goal.invariant-loop-i
-invariant-loop-i l = AllHavePlaces (sizes_of l.counts.threads l.counts.cells) l.events l.i

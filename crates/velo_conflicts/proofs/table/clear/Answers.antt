@@ -1,5 +1,0 @@
-use Rattle.std.proofs.Common.{arith}
-use Rattle.velo_conflicts.proofs.table.clear.Goals as goal
-
-pub returns-clause-blank : goal.returns-clause-blank
-returns-clause-blank c = record { each = λ x l. c.loop-number.invariant x (omega (arith, l)) }

@@ -1,3 +1,0 @@
-pub mod OnReplays
-mod OnWaits
-mod OnExamples

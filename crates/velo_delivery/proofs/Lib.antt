@@ -1,2 +1,0 @@
-pub mod OnAnswers
-pub mod OnReading

@@ -1,6 +1,0 @@
-use Rattle.std.proofs.Common.{drop}
-use Rattle.velo_delivery.proofs.OnAnswers.{Leads}
-use Rattle.velo_delivery.proofs.answer.save_all.Given as goal
-
-abbrev pub invariant-loop-one : goal.invariant-loop-one
-invariant-loop-one g l = Leads g.T.StreamedText.is_text g.F.Files.disk l.fn.files l.files l.saves (drop l.one-index l.saves)

@@ -1,5 +1,0 @@
-use Rattle.std.proofs.Common.{rules}
-use Rattle.velo_delivery.proofs.files.is_standard_input.Goals as goal
-
-pub returns : goal.returns
-returns c = search rules

@@ -1,4 +1,0 @@
-pub mod Answers
-pub mod Disk
-pub mod Reading
-pub mod Writing

@@ -1,5 +1,0 @@
-pub mod OnReading
-pub mod OnAlarms
-pub mod OnPieces
-pub mod OnWholes
-pub mod OnWatches

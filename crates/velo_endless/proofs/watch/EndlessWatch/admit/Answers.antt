@@ -1,4 +1,0 @@
-use Rattle.velo_endless.proofs.watch.EndlessWatch.admit.Goals as goal
-
-pub returns-in-None-clause-judges : goal.returns-in-None-clause-judges
-returns-in-None-clause-judges c = λ log h at count. c.judge.ensures.judges log h count

@@ -1,9 +1,0 @@
-use Rattle.std.proofs.Common.{◌≡◌, ◌++◌, length}
-use Rattle.velo_escapes.specs.Escaped.{escaped_after}
-use Rattle.velo_escapes.proofs.append_with.Given as goal
-
-abbrev pub invariant-loop-byte : goal.invariant-loop-byte
-invariant-loop-byte l = l.text.items ++ escaped_after l.newline l.before l.rest ≡ l.fn.text.items ++ escaped_after l.newline 0 l.bytes
-
-abbrev pub decreases-loop-byte : goal.decreases-loop-byte
-decreases-loop-byte l = length l.rest

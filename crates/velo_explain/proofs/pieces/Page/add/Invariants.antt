@@ -1,6 +1,0 @@
-use Rattle.std.proofs.Common.{◌≡◌, ◌++◌, take}
-use Rattle.velo_explain.specs.Pieces.{pieces_text}
-use Rattle.velo_explain.proofs.pieces.Page.add.Given as goal
-
-abbrev pub invariant-loop-piece : goal.invariant-loop-piece
-invariant-loop-piece l = l.self ≡ l.fn.self ++ pieces_text (take l.piece-index l.pieces)

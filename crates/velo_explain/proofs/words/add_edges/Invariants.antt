@@ -1,6 +1,0 @@
-use Rattle.std.proofs.Common.{◌≡◌, ◌++◌, length, take}
-use Rattle.velo_explain.specs.Text.{numbered, edge_text}
-use Rattle.velo_explain.proofs.words.add_edges.Given as goal
-
-abbrev pub invariant-loop-k : goal.invariant-loop-k
-invariant-loop-k l = l.page ≡ (l.fn.page) ++ numbered (edge_text l.names l.events (length l.edges)) 0 (take l.k l.edges)

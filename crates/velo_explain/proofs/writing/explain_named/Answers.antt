@@ -1,8 +1,0 @@
-use Rattle.std.proofs.Common.{length, sym, subst}
-use Rattle.velo_explain.specs.Evidence.{IsWithin}
-use Rattle.velo_explain.proofs.writing.explain_named.Goals as goal
-
-pub explanation-requires-clause-within : goal.explanation-requires-clause-within
-explanation-requires-clause-within c =
-    subst (λ events. IsWithin (length events) c.args.position c.args.evidence.now) (sym c.as_slice.ensures)
-    c.requires.within

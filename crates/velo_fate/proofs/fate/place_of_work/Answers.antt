@@ -1,5 +1,0 @@
-use Rattle.std.proofs.Common.{rules}
-use Rattle.velo_fate.proofs.fate.place_of_work.Goals as goal
-
-pub returns-in-Unmatched : goal.returns-in-Unmatched
-returns-in-Unmatched c = search rules

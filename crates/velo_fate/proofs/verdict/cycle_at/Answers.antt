@@ -1,6 +1,0 @@
-use Rattle.velo_certify.proofs.OnClosing.{closing_cycle}
-use Rattle.velo_fate.proofs.verdict.cycle_at.Goals as goal
-
-pub unreachable-requires : goal.unreachable-requires
-unreachable-requires c =
-    closing_cycle c.args.log.now.events c.args.position c.requires (rw c.in-Err-NoCycle.field-0-is at c.in-Err-NoCycle.ensures.fault)

@@ -1,3 +1,0 @@
-mod OnLines
-pub mod OnPages
-mod OnWords

@@ -1,9 +1,0 @@
-pub mod Beside
-pub mod Faults
-pub mod Header
-pub mod Line
-pub mod Lines
-pub mod Log
-pub mod Place
-pub mod Schedule
-pub mod Work

@@ -1,0 +1,4 @@
+pub mod OnLists
+pub mod OnWriter
+pub mod OnLabels
+pub mod OnEntries

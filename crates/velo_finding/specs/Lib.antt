@@ -1,0 +1,3 @@
+pub mod Writing
+pub mod Entries
+pub mod Forks

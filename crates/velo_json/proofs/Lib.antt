@@ -1,4 +1,0 @@
-pub mod OnLists
-pub mod OnChain
-pub mod OnTree
-mod OnWriter

@@ -1,7 +1,0 @@
-use Rattle.std.proofs.Common.{sym, ap, ◌∙◌}
-use Rattle.json.specs.Print.{print}
-use Rattle.velo_json.proofs.OnWriter.{text_printed}
-use Rattle.velo_json.proofs.writer.JsonWriter.into_text.Goals as goal
-
-pub returns : goal.returns
-returns c = text_printed c.self.inside c.self.invariant ∙ ap print c.self.view_is

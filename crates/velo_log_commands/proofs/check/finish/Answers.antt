@@ -1,5 +1,0 @@
-use Rattle.std.proofs.Common.{rules}
-use Rattle.velo_log_commands.proofs.check.finish.Goals as goal
-
-pub returns : goal.returns
-returns g c = search rules

@@ -1,2 +1,0 @@
-mod OnKeys
-mod OnListing

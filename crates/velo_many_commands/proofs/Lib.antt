@@ -1,4 +1,0 @@
-mod OnBatch
-mod OnJudging
-mod OnLists
-mod OnMerging

@@ -1,6 +1,0 @@
-mod OnFaults
-mod OnItems
-mod OnLineEnd
-mod OnMembers
-pub mod OnReadingBack
-mod OnWritten

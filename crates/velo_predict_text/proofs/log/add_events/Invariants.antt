@@ -1,7 +1,0 @@
-use Rattle.std.proofs.Common.{◌≡◌, ◌++◌, take}
-use Rattle.std.specs.List.{flat_map}
-use Rattle.velo_logtext.specs.Text.{event_line}
-use Rattle.velo_predict_text.proofs.log.add_events.Given as goal
-
-abbrev pub invariant-loop-event : goal.invariant-loop-event
-invariant-loop-event l = l.page ≡ l.fn.page ++ flat_map event_line (take l.event-index l.events)

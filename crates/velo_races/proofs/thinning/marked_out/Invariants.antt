@@ -1,6 +1,0 @@
-use Rattle.velo_filter.specs.Tables.{left_of}
-use Rattle.velo_races.proofs.OnMarkedOut.{IsMarkedOut}
-use Rattle.velo_races.proofs.thinning.marked_out.Given as goal
-
-abbrev pub invariant-loop-variable : goal.invariant-loop-variable
-invariant-loop-variable l = record { out : IsMarkedOut l.marks l.variable (left_of l.left) }

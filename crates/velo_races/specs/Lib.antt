@@ -1,2 +1,0 @@
-pub mod Races
-pub mod Sweep

@@ -1,3 +1,0 @@
-pub mod OnCounts
-pub mod OnRuns
-pub mod OnDrawing

@@ -1,9 +1,0 @@
-use Rattle.std.proofs.Common.{◌≡◌, map, take}
-use Rattle.velo_random.specs.Tallies.{IsTriedBy}
-use Rattle.velo_random.proofs.running.try_all.Given as goal
-
-abbrev pub invariant-loop-place : goal.invariant-loop-place
-invariant-loop-place l = record {
-  tried : IsTriedBy l.fn.workload l.fn.config (map (λ schedule. schedule.items) (take l.place l.fn.schedules)) l.tally;
-  runs : l.tally.runs ≡ l.place;
-}

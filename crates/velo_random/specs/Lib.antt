@@ -1,4 +1,0 @@
-pub mod Drawing
-pub mod Runs
-pub mod Tallies
-pub mod Counting

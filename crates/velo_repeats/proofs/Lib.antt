@@ -1,4 +1,0 @@
-pub mod OnConflicts
-pub mod OnRepeating
-pub mod OnFinding
-pub mod OnLeaving

@@ -1,5 +1,0 @@
-mod OnMore
-mod OnFaults
-mod OnTelling
-mod OnRests
-pub mod OnWatches

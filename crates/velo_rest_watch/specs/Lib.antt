@@ -1,3 +1,0 @@
-pub mod Alarm
-pub mod Faults
-pub mod UnderWay

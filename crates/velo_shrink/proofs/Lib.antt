@@ -1,2 +1,0 @@
-pub mod OnShown
-pub mod OnStrangers

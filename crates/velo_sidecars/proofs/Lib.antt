@@ -1,0 +1,3 @@
+pub mod OnKnown
+pub mod OnReadingLists
+pub mod OnReadingSites

@@ -1,0 +1,9 @@
+pub mod Known
+pub mod List
+pub mod ListAnswers
+pub mod ListFault
+pub mod ListLine
+pub mod SiteAnswers
+pub mod SiteFault
+pub mod SiteLine
+pub mod Sites

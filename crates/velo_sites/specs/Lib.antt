@@ -1,4 +1,0 @@
-pub mod Fault
-pub mod Line
-pub mod Sites
-pub mod Answers

@@ -1,5 +1,0 @@
-pub mod File
-pub mod Line
-pub mod Place
-pub mod Shown
-pub mod Text

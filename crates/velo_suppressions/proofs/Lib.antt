@@ -1,2 +1,0 @@
-pub mod OnKnown
-pub mod OnReading

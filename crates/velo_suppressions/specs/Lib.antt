@@ -1,5 +1,0 @@
-pub mod Fault
-pub mod Line
-pub mod Known
-pub mod List
-pub mod Answers

@@ -1,5 +1,0 @@
-mod OnOpen
-mod OnReach
-mod OnBlame
-mod OnMarks
-mod OnTally

@@ -1,2 +1,0 @@
-pub mod Verifying
-pub mod Commands

@@ -1,0 +1,175 @@
+#!/usr/bin/env bash
+# Makes a Debian package and a tarball of all that a user needs, or tries a package in a bare Debian.
+#
+#     tools/package.sh                   out/package/velodrome_VERSION_amd64.deb and velodrome-VERSION-x86_64.tar.gz
+#     tools/package.sh --unproved        the same, of a checker that is built without its proof
+#     tools/package.sh --built           the same, of the checker that is there
+#     tools/package.sh --try DEB         installs DEB into a Debian made by debootstrap, and runs README's example there
+#
+# In them are the checker, the recorder, the report, headers, libraries, what CMake and pkg-config read, the wheel, man pages and
+# completions. The checker is built by tools/build.sh, the recorder by make; of the libraries what tools/bindings.sh left is taken,
+# and it is called where there is nothing; of the recorder for Java what make left. The version is the checker's. The file BUILD, which `velodrome-report --version` prints,
+# has version, commit, toolchain, and whether the checker was proved.
+#
+# It needs cmake, dpkg-dev and Python 3.11; --try needs debootstrap, root and a mirror (MIRROR).
+set -euo pipefail
+top=$(cd "$(dirname "$0")/.." && pwd)
+checker=$top/crates/velodrome/out/velodrome
+library=$top/bindings/out/libvelodrome.a
+to=$top/out/package
+suite=bookworm # the oldest Debian that the package is for
+
+needs() {
+    local command
+    for command in "$@"; do
+        command -v "$command" >/dev/null || { echo "package: it needs $command" >&2; exit 2; }
+    done
+}
+
+build() {
+    case $proof in
+        proved) "$top/tools/build.sh" ;;
+        'not proved') "$top/tools/build.sh" --unproved ;;
+    esac
+    make -s -C "$top/recorder"
+    [ -f "$library" ] || "$top/tools/bindings.sh"
+}
+
+# what the package was made of
+build_file() {
+    echo "version $version"
+    echo "commit $(git -C "$top" rev-parse HEAD)$(git -C "$top" diff --quiet HEAD || echo ', with changes')"
+    echo "toolchain $(rt version 2>/dev/null || echo unknown), $(gcc --version | head -n 1)"
+    echo "checker $proof"
+}
+
+# stage ROOT: the files as they lie below a prefix. The commands find one another where they really are, in lib/velodrome/bin
+stage() {
+    local root=$1 command home=$1/lib/velodrome
+    mkdir -p "$root"/{bin,include,lib} "$root"/share/{velodrome,man/man1,doc/velodrome/docs,bash-completion/completions} \
+        "$root"/share/{zsh/vendor-completions,fish/vendor_completions.d}
+    make -s -C "$top/recorder" install PREFIX="$home" DESTDIR=
+    install -s "$checker" "$home/bin/velodrome"
+    [ ! -f "$top/recorder/java/out/velodrome.jar" ] || install -m 644 "$top"/recorder/java/out/*.jar "$home/lib/"
+    strip --strip-unneeded "$home/bin/velodrome-log" "$home/lib/libvelodrome_recorder.so"
+    build_file >"$home/BUILD"
+    for command in "$home"/bin/*; do
+        ln -s "../lib/velodrome/bin/$(basename "$command")" "$root/bin/"
+    done
+    cmake -S "$top/bindings" -B "$work/cmake" -DVELODROME_LIBRARIES="$(dirname "$library")" >/dev/null
+    DESTDIR='' cmake --install "$work/cmake" --prefix "$root" >/dev/null
+    cp "$top/recorder/include/velodrome_atomic.h" "$root/include/"
+    python3 "$top/bindings/python/make_wheel.py" "$library" "$root/share/velodrome" >/dev/null
+    cp "$top"/docs/man/*.1 "$root/share/man/man1/"
+    gzip -9n "$root"/share/man/man1/*.1
+    cp "$top/docs/completions/velodrome.bash" "$root/share/bash-completion/completions/velodrome"
+    cp "$top/docs/completions/_velodrome" "$root/share/zsh/vendor-completions/"
+    cp "$top/docs/completions/velodrome.fish" "$root/share/fish/vendor_completions.d/"
+    cp "$top/README.md" "$top/CHANGELOG.md" "$root/share/doc/velodrome/"
+    cp "$top"/docs/*.md "$top"/docs/*.json "$top"/docs/*.png "$root/share/doc/velodrome/docs/"
+    find "$root" -name __pycache__ -prune -exec rm -r {} +
+    chmod -R u=rwX,go=rX "$root"
+    find "$root" -exec touch -hd "@$SOURCE_DATE_EPOCH" {} +
+}
+
+# the packages that the binaries want, by the symbols in them
+wanted() {
+    mkdir -p "$work/wanted/debian"
+    echo 'Source: velodrome' >"$work/wanted/debian/control"
+    (cd "$work/wanted" && dpkg-shlibdeps -O --ignore-missing-info "$@" 2>/dev/null) | sed -n 's/^shlibs:Depends=//p'
+}
+
+make_deb() {
+    local root=$work/deb
+    mkdir -p "$root/DEBIAN"
+    cp -a "$work/tree" "$root/usr"
+    cat >"$root/DEBIAN/control" <<CONTROL
+Package: velodrome
+Version: $version
+Architecture: amd64
+Maintainer: $(git -C "$top" log -1 --format='%an <%ae>')
+Section: devel
+Priority: optional
+Installed-Size: $(du -sk "$root/usr" | cut -f 1)
+Depends: $(wanted "$root"/usr/lib/velodrome/bin/velodrome{,-log} "$root"/usr/lib/velodrome/lib/libvelodrome_recorder.so), python3 (>= 3.9), binutils, g++ | clang
+Description: finds code that was meant to be atomic and was not
+ A recorder for C and C++ programs as they are, a proved checker of what their
+ threads did, a report of what is wrong, and libraries for C, C++, Rust and
+ Python.
+CONTROL
+    dpkg-deb -Zxz --root-owner-group --build "$root" "$to/velodrome_${version}_amd64.deb" >/dev/null
+}
+
+make_tarball() {
+    local name=velodrome-$version-x86_64
+    mv "$work/tree" "$work/$name"
+    tar -C "$work" --sort=name --owner=0 --group=0 --numeric-owner --mtime="@$SOURCE_DATE_EPOCH" -c "$name" | gzip -9n >"$to/$name.tar.gz"
+}
+
+package() {
+    needs cmake dpkg-deb dpkg-shlibdeps gcc make python3
+    build
+    version=$("$checker" --version | cut -d ' ' -f 2)
+    SOURCE_DATE_EPOCH=$(git -C "$top" log -1 --format=%ct)
+    export SOURCE_DATE_EPOCH
+    mkdir -p "$to"
+    stage "$work/tree"
+    make_deb
+    make_tarball
+    ls "$to/velodrome_${version}_amd64.deb" "$to/velodrome-$version-x86_64.tar.gz"
+}
+
+# try_package DEB: README's sessions, run by golden.py over the installed commands, and one program for each library
+try_package() {
+    local room=$work/debian
+    needs debootstrap chroot
+    debootstrap --variant=minbase "$suite" "$room" ${MIRROR:+"$MIRROR"} >"$work/debootstrap.log" || { tail "$work/debootstrap.log" >&2; exit 1; }
+    mkdir -p "$room/try/tools" "$room/try/recorder/out"
+    ln -s /usr/bin "$room/try/recorder/out/bin"
+    cp "$1" "$room/try/velodrome.deb"
+    cp "$top/README.md" "$room/try/"
+    cp "$top/tools/golden.py" "$room/try/tools/"
+    cp "$top/bindings/examples/cpp/lost_update.cpp" "$room/try/"
+    cat >"$room/try/try.sh" <<'SCRIPT'
+set -e
+cd /try
+export DEBIAN_FRONTEND=noninteractive
+apt-get -qq update
+apt-get -qq --no-install-recommends install ./velodrome.deb pkgconf python3-pip >/dev/null
+velodrome-report --version | tee built
+grep -q "^commit " built
+velodrome --version
+test -s /usr/share/man/man1/velodrome-check.1.gz
+python3 tools/golden.py /usr/bin/velodrome README.md
+g++ -std=c++17 lost_update.cpp $(pkg-config --cflags --libs velodrome) -o lost_update
+./lost_update >lost_update.said || test $? = 3
+pip3 -q install --break-system-packages --no-index /usr/share/velodrome/velodrome-*.whl 2>/dev/null
+python3 -c 'import velodrome; print("wheel", velodrome.__version__)'
+apt-get -qq remove velodrome >/dev/null
+test ! -e /usr/lib/velodrome
+SCRIPT
+    mount -t proc proc "$room/proc"
+    chroot "$room" bash /try/try.sh || { echo "package: $1 failed" >&2; return 1; }
+    echo "package: $1 passed"
+}
+
+clean() {
+    umount "$work/debian/proc" 2>/dev/null || true
+    rm -rf "$work"
+}
+
+asked=package proof=proved
+case ${1:-} in
+    '') ;;
+    --unproved) proof="not proved" ;;
+    --built) proof="as it was found" ;;
+    --try) asked=try_package ;;
+    *) sed -n '4,7s/^# *//p' "$0" >&2; exit 2 ;;
+esac
+if [ "$asked" = try_package ] && [ ! -f "${2:-}" ]; then
+    echo "package: --try wants a package" >&2
+    exit 2
+fi
+work=$(mktemp -d)
+trap clean EXIT
+"$asked" ${2:+"$2"}
