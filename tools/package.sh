@@ -1,21 +1,24 @@
 #!/usr/bin/env bash
-# Makes a Debian package and a tarball of all that a user needs, or tries a package in a bare Debian.
+# Makes a Debian package and a tarball of all that a user needs, or tries one of them in a bare Debian.
 #
 #     tools/package.sh                   out/package/velodrome_VERSION_amd64.deb and velodrome-VERSION-x86_64.tar.gz
 #     tools/package.sh --unproved        the same, of a checker that is built without its proof
-#     tools/package.sh --built           the same, of the checker that is there
-#     tools/package.sh --try DEB         installs DEB into a Debian made by debootstrap, and runs README's example there
+#     tools/package.sh --built           the same, of the checker that is there, or of CHECKER
+#     tools/package.sh --try FILE        puts FILE, a package or a tarball, into a Debian made by debootstrap, and runs there
+#                                        the sessions of its own pages, and a program with each of its libraries
 #
 # In them are the checker, the recorder, the report, headers, libraries, what CMake and pkg-config read, the wheel, man pages and
 # completions. The checker is built by tools/build.sh, the recorder by make; of the libraries what tools/bindings.sh left is taken,
-# and it is called where there is nothing; of the recorder for Java what make left. The version is the checker's. The file BUILD, which `velodrome-report --version` prints,
-# has version, commit, toolchain, and whether the checker was proved.
+# or what lies in the folder LIBRARIES, and bindings.sh is called where there is nothing; of the recorder for Java what make left.
+# The version is the checker's. The file BUILD, which `velodrome-report --version` prints, has version, commit and toolchain, and
+# whether the checker was proved: of one that was built before, that is not known.
 #
-# It needs cmake, dpkg-dev and Python 3.11; --try needs debootstrap, root and a mirror (MIRROR).
+# It needs cmake, dpkg-dev and Python 3.11; --try needs debootstrap, root and a mirror (MIRROR), or a folder that debootstrap made
+# before (DEBIAN), of which it takes a copy.
 set -euo pipefail
 top=$(cd "$(dirname "$0")/.." && pwd)
 checker=$top/crates/velodrome/out/velodrome
-library=$top/bindings/out/libvelodrome.a
+libraries=${LIBRARIES:-$top/bindings/out}
 to=$top/out/package
 suite=bookworm # the oldest Debian that the package is for
 
@@ -30,9 +33,18 @@ build() {
     case $proof in
         proved) "$top/tools/build.sh" ;;
         'not proved') "$top/tools/build.sh" --unproved ;;
+        *) checker=${CHECKER:-$checker} ;;
     esac
     make -s -C "$top/recorder"
-    [ -f "$library" ] || "$top/tools/bindings.sh"
+    [ -f "$libraries/libvelodrome.a" ] || "$top/tools/bindings.sh"
+}
+
+# the checker has one version with the libraries
+version_of_all() {
+    local version
+    version=$("$checker" --version | cut -d ' ' -f 2)
+    grep -q "VERSION $version " "$top/bindings/CMakeLists.txt" || { echo "package: the libraries are not of version $version" >&2; exit 1; }
+    echo "$version"
 }
 
 # what the package was made of
@@ -56,10 +68,10 @@ stage() {
     for command in "$home"/bin/*; do
         ln -s "../lib/velodrome/bin/$(basename "$command")" "$root/bin/"
     done
-    cmake -S "$top/bindings" -B "$work/cmake" -DVELODROME_LIBRARIES="$(dirname "$library")" >/dev/null
+    cmake -S "$top/bindings" -B "$work/cmake" -DVELODROME_LIBRARIES="$libraries" >/dev/null
     DESTDIR='' cmake --install "$work/cmake" --prefix "$root" >/dev/null
     cp "$top/recorder/include/velodrome_atomic.h" "$root/include/"
-    python3 "$top/bindings/python/make_wheel.py" "$library" "$root/share/velodrome" >/dev/null
+    python3 "$top/bindings/python/make_wheel.py" "$libraries/libvelodrome.a" "$root/share/velodrome" >/dev/null
     cp "$top"/docs/man/*.1 "$root/share/man/man1/"
     gzip -9n "$root"/share/man/man1/*.1
     cp "$top/docs/completions/velodrome.bash" "$root/share/bash-completion/completions/velodrome"
@@ -109,7 +121,7 @@ make_tarball() {
 package() {
     needs cmake dpkg-deb dpkg-shlibdeps gcc make python3
     build
-    version=$("$checker" --version | cut -d ' ' -f 2)
+    version=$(version_of_all)
     SOURCE_DATE_EPOCH=$(git -C "$top" log -1 --format=%ct)
     export SOURCE_DATE_EPOCH
     mkdir -p "$to"
@@ -119,37 +131,111 @@ package() {
     ls "$to/velodrome_${version}_amd64.deb" "$to/velodrome-$version-x86_64.tar.gz"
 }
 
-# try_package DEB: README's sessions, run by golden.py over the installed commands, and one program for each library
-try_package() {
-    local room=$work/debian
-    needs debootstrap chroot
-    debootstrap --variant=minbase "$suite" "$room" ${MIRROR:+"$MIRROR"} >"$work/debootstrap.log" || { tail "$work/debootstrap.log" >&2; exit 1; }
-    mkdir -p "$room/try/tools" "$room/try/recorder/out"
+# put FILE ROOM: what is tried, and what tries it, in a room that debootstrap makes
+put() {
+    local file=$1 room=$2
+    if [ -n "${DEBIAN:-}" ]; then
+        cp -a "$DEBIAN" "$room"
+    else
+        needs debootstrap
+        debootstrap --variant=minbase "$suite" "$room" ${MIRROR:+"$MIRROR"} >"$work/debootstrap.log" || { tail "$work/debootstrap.log" >&2; exit 1; }
+    fi
+    mkdir -p "$room/try/tools" "$room/try/recorder/out" # golden.py looks for the recorder there
     ln -s /usr/bin "$room/try/recorder/out/bin"
-    cp "$1" "$room/try/velodrome.deb"
-    cp "$top/README.md" "$room/try/"
+    cp "$file" "$room/try/"
     cp "$top/tools/golden.py" "$room/try/tools/"
     cp "$top/bindings/examples/cpp/lost_update.cpp" "$room/try/"
+    cat >"$room/try/CMakeLists.txt" <<'CMAKE'
+cmake_minimum_required(VERSION 3.16)
+project(try LANGUAGES CXX)
+find_package(velodrome REQUIRED)
+foreach(way velodrome shared)
+    add_executable(by_${way} lost_update.cpp)
+    target_link_libraries(by_${way} PRIVATE velodrome::${way})
+endforeach()
+CMAKE
+    cat >"$room/try/atomic.c" <<'SOURCE'
+#include <velodrome_atomic.h>
+int main(void) {
+    VELODROME_ATOMIC("all of it");
+    return 0;
+}
+SOURCE
     cat >"$room/try/try.sh" <<'SCRIPT'
 set -e
 cd /try
 export DEBIAN_FRONTEND=noninteractive
+step() { echo "-- $*"; }
 apt-get -qq update
-apt-get -qq --no-install-recommends install ./velodrome.deb pkgconf python3-pip >/dev/null
+case $1 in
+    *.deb)
+        step "apt install ./$1"
+        prefix=/usr
+        apt-get -qq --no-install-recommends install "./$1" >/dev/null
+        ;;
+    *)
+        step "tar, as docs/IN_CI.md has it"
+        prefix=/root/velodrome
+        apt-get -qq --no-install-recommends install python3 binutils g++ >/dev/null
+        tar xz -C /root --one-top-level=velodrome --strip-components=1 <"$1"
+        ln -sfn $prefix/bin recorder/out/bin
+        export PATH=$prefix/bin:$PATH PKG_CONFIG_PATH=$prefix/lib/pkgconfig CMAKE_PREFIX_PATH=$prefix
+        ;;
+esac
+step "velodrome-report --version"
 velodrome-report --version | tee built
-grep -q "^commit " built
-velodrome --version
-test -s /usr/share/man/man1/velodrome-check.1.gz
-python3 tools/golden.py /usr/bin/velodrome README.md
-g++ -std=c++17 lost_update.cpp $(pkg-config --cflags --libs velodrome) -o lost_update
-./lost_update >lost_update.said || test $? = 3
-pip3 -q install --break-system-packages --no-index /usr/share/velodrome/velodrome-*.whl 2>/dev/null
-python3 -c 'import velodrome; print("wheel", velodrome.__version__)'
-apt-get -qq remove velodrome >/dev/null
-test ! -e /usr/lib/velodrome
+grep -q "^commit [0-9a-f]" built
+grep -q "^toolchain ." built
+grep -qx "version $(velodrome --version | cut -d ' ' -f 2)" built
+step "man pages, completions, the other commands"
+gzip -t $prefix/share/man/man1/velodrome{,-check}.1.gz
+bash -c "source $prefix/share/bash-completion/completions/velodrome; complete -p velodrome" >/dev/null
+velodrome-log --help >/dev/null
+velodrome-import --help >/dev/null
+step "the sessions of its pages"
+doc=$prefix/share/doc/velodrome
+python3 tools/golden.py "$(command -v velodrome)" $doc/README.md $doc/docs/{QUICK_START,IN_CI,FORMATS}.md
+step "velodrome_atomic.h"
+gcc -I$prefix/include atomic.c -o atomic
+./atomic
+apt-get -qq --no-install-recommends install pkgconf cmake make python3-pip >/dev/null
+step "pkg-config"
+g++ -std=c++17 lost_update.cpp $(pkg-config --cflags --libs velodrome) -o by_pkg_config
+step "CMake"
+cmake -S . -B build >/dev/null
+cmake --build build >/dev/null
+for program in by_pkg_config build/by_velodrome build/by_shared; do
+    status=0
+    ./$program >said || status=$?
+    [ $status = 3 ]
+    grep -q "not atomic: transfer" said
+done
+step "the wheel"
+pip3 -q install --break-system-packages --no-index $prefix/share/velodrome/velodrome-*.whl 2>/dev/null
+python3 - <<'PYTHON'
+import velodrome
+with velodrome.session() as run:
+    velodrome.Var(1, "x").set(2)
+print(velodrome.__version__, run.outcome)
+assert run.outcome.clean
+PYTHON
+case $1 in
+    *.deb)
+        step "apt remove"
+        apt-get -qq remove velodrome >/dev/null
+        test ! -e /usr/lib/velodrome
+        test ! -e /usr/bin/velodrome-record
+        ;;
+esac
 SCRIPT
+}
+
+try_file() {
+    local room=$work/debian
+    needs chroot
+    put "$1" "$room"
     mount -t proc proc "$room/proc"
-    chroot "$room" bash /try/try.sh || { echo "package: $1 failed" >&2; return 1; }
+    chroot "$room" bash /try/try.sh "$(basename "$1")" || { echo "package: $1 failed" >&2; return 1; }
     echo "package: $1 passed"
 }
 
@@ -163,11 +249,11 @@ case ${1:-} in
     '') ;;
     --unproved) proof="not proved" ;;
     --built) proof="as it was found" ;;
-    --try) asked=try_package ;;
-    *) sed -n '4,7s/^# *//p' "$0" >&2; exit 2 ;;
+    --try) asked=try_file ;;
+    *) sed -n '4,8s/^# *//p' "$0" >&2; exit 2 ;;
 esac
-if [ "$asked" = try_package ] && [ ! -f "${2:-}" ]; then
-    echo "package: --try wants a package" >&2
+if [ "$asked" = try_file ] && [ ! -f "${2:-}" ]; then
+    echo "package: --try wants a package or a tarball" >&2
     exit 2
 fi
 work=$(mktemp -d)

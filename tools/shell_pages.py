@@ -219,21 +219,39 @@ def fish(commands):
 
 # the table of options
 
+# the page says it once for all options
+STANDARD_INPUT = "; - is standard input"
 BEGIN, END = "<!-- written by tools/shell_pages.py -->\n", "<!-- end of the options -->\n"
 
 
 def option_rows(commands):
-    """Returns a row for each option: those of one name, value and text together."""
-    users = collections.defaultdict(list)
-    for command in commands:
-        for flag in command.flags:
-            if flag.long != "--help":
-                users[flag.long, flag.value, flag.text].append(command.name)
+    """Returns a row for each option: those of one name, value and text together, in the order of the help, where `the same` means the
+    option before."""
+    uses = [(flag, command.name) for command in commands for flag in command.flags]
+    names = list(dict.fromkeys(flag.long for flag, _ in uses if flag.long != "--help"))
+    users = collections.defaultdict(lambda: collections.defaultdict(list))
+    for flag, command in sorted(
+        (it for it in uses if it[0].long in names), key=lambda it: names.index(it[0].long)
+    ):
+        text, _, default = flag.text.partition(" [default: ")
+        users[flag.long, flag.value, text][default.rstrip("]")].append(command)
     yield "| Option | Commands | Meaning |"
     yield "|---|---|---|"
-    for (long, value, text), names in sorted(users.items(), key=lambda it: it[0][0]):
-        of = "all" if len(names) == len(commands) else ", ".join(f"`{it}`" for it in names)
-        yield f"| `{long}{' ' + value if value else ''}` | {of} | {text.replace('|', chr(92) + '|')} |"
+    for (long, value, text), by_default in users.items():
+        of = listed(command for commands in by_default.values() for command in commands)
+        means = (text.replace(STANDARD_INPUT, "") + defaults(by_default)).replace("|", r"\|")
+        yield f"| `{long}{' ' + value if value else ''}` | {of} | {means} |"
+
+
+def listed(names):
+    return ", ".join(f"`{it}`" for it in names)
+
+
+def defaults(by_default):
+    """Returns what an option has if it is not given: the first commands' value, and who has another one."""
+    first, *others = by_default.items()
+    told = [first[0], *(f"of {listed(commands)} {default}" for default, commands in others)]
+    return f" [default: {'; '.join(told)}]" if any(by_default) else ""
 
 
 def reference_of(commands):
