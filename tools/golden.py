@@ -2,7 +2,7 @@
 
     python3 tools/golden.py [--update] [--jobs N] PROGRAM [PAGE..]
 
-PROGRAM is the built `velodrome`; without pages, README.md and all pages below docs/ and tests/ are read. Of each page's
+PROGRAM is the built `velodrome`; without pages, those at the top and below docs/, recorder/, report/ and tests/ are read. Of each page's
 fenced blocks
 
 - one that begins with "```KIND NAME", where NAME has a dot, is the file NAME;
@@ -48,10 +48,10 @@ SECONDS = 300
 
 
 def pages() -> List[str]:
-    below = [
-        glob.glob(os.path.join(TOP, it, "**", "*.md"), recursive=True) for it in ("docs", "tests")
+    below = ("*.md", "docs/**/*.md", "recorder/*.md", "report/*.md", "tests/*.md")
+    return [
+        page for it in below for page in sorted(glob.glob(os.path.join(TOP, it), recursive=True))
     ]
-    return [os.path.join(TOP, "README.md")] + sorted(below[0]) + sorted(below[1])
 
 
 def commands(session: str) -> Iterator[Tuple[str, str]]:
