@@ -2,9 +2,9 @@
 
     python3 tools/words.py [--pages]
 
-A word is what stands between blanks and has a letter or a digit, in prose, tables and blocks of code alike. Of each group it prints
-how many there are and how many there may be; with --pages of each page, too. All pages are counted but those of tests/, which are
-run and not read, and what evaluation/run.py writes. The status is 1 where a group has too many, or a page is in no group.
+A word is what stands between blanks and has a letter or a digit, in prose, tables and blocks of code alike. It prints how many there
+are in all and may be, and how many of each group; with --pages of each page, too. All pages are counted but those of tests/, which
+are run and not read, and what evaluation/run.py writes. The status is 1 where there are too many, or a page is in no group.
 """
 
 import argparse
@@ -17,7 +17,7 @@ from typing import Dict, List, Tuple
 ROOT = os.path.dirname(os.path.dirname(os.path.abspath(__file__)))
 WORD = re.compile(r"\S*\w\S*")
 USERS, MAINTAINERS = "for whoever has a bug", "for whoever carries it on"
-MOST = {USERS: 15_000, MAINTAINERS: 11_500}
+MOST = 25_000
 # the first pattern that fits a page decides
 GROUPS = (
     (r"tests/|docs/EVALUATION\.md", None),
@@ -43,7 +43,7 @@ def words_in(page: str) -> int:
 
 def counted() -> Tuple[Dict[str, Dict[str, int]], List[str]]:
     """The words of each page, by group; and the pages that are in none."""
-    groups: Dict[str, Dict[str, int]] = {group: {} for group in MOST}
+    groups: Dict[str, Dict[str, int]] = {USERS: {}, MAINTAINERS: {}}
     strangers = []
     for page in pages():
         fitting = [group for pattern, group in GROUPS if re.match(pattern, page)]
@@ -64,11 +64,12 @@ def main() -> int:
     for group, found in groups.items():
         for page, words in sorted(found.items(), key=lambda it: -it[1]) if asked.pages else ():
             print(f"{words:7,}  {page}")
-        print(f"{sum(found.values()):7,}  of at most {MOST[group]:,} {group}")
+        print(f"{sum(found.values()):7,}  {group}")
     for page in strangers:
         print(f"{page} is in no group of tools/words.py")
-    too_many = any(sum(found.values()) > MOST[group] for group, found in groups.items())
-    return 1 if too_many or strangers else 0
+    words = sum(sum(found.values()) for found in groups.values())
+    print(f"{words:7,}  of at most {MOST:,}")
+    return 1 if words > MOST or strangers else 0
 
 
 if __name__ == "__main__":
