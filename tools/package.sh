@@ -7,11 +7,11 @@
 #     tools/package.sh --try FILE        puts FILE, a package or a tarball, into a Debian made by debootstrap, and runs there
 #                                        the sessions of its own pages, and a program with each of its libraries
 #
-# In them are the checker, the recorder, the report, headers, libraries, what CMake and pkg-config read, the wheel, man pages and
-# completions. The checker is built by tools/build.sh, the recorder by make; of the libraries what tools/bindings.sh left is taken,
-# or what lies in the folder LIBRARIES, and bindings.sh is called where there is nothing; of the recorder for Java what make left.
-# The version is the checker's. The file BUILD, which `velodrome-report --version` prints, has version, commit and toolchain, and
-# whether the checker was proved: of one that was built before, that is not known.
+# In them are the checker, the recorder, the report, headers, libraries, what CMake and pkg-config read, the wheel, the crates for
+# Rust, man pages, completions and documents. The checker is built by tools/build.sh, the recorder by make; of the libraries what
+# tools/bindings.sh left is taken, or what lies in the folder LIBRARIES, and bindings.sh is called where there is nothing; of the
+# recorder for Java what make left. The version is the checker's. The file BUILD, which `velodrome-report --version` prints, has
+# version, commit and toolchain, and whether the checker was proved: of one that was built before, that is not known.
 #
 # It needs cmake, dpkg-dev and Python 3.11; --try needs debootstrap, root and a mirror (MIRROR), or a folder that debootstrap made
 # before (DEBIAN), of which it takes a copy.
@@ -55,10 +55,17 @@ build_file() {
     echo "checker $proof"
 }
 
+# copy_of FOLDER TO PATTERN..: what git has of a folder, by the same paths
+copy_of() {
+    local folder=$1 to=$2
+    shift 2
+    (cd "$folder" && git ls-files -z "$@" | xargs -0 cp --parents -t "$to")
+}
+
 # stage ROOT: the files as they lie below a prefix. The commands find one another where they really are, in lib/velodrome/bin
 stage() {
     local root=$1 command home=$1/lib/velodrome
-    mkdir -p "$root"/{bin,include,lib} "$root"/share/{velodrome,man/man1,doc/velodrome/docs,bash-completion/completions} \
+    mkdir -p "$root"/{bin,include,lib} "$root"/share/{velodrome,man/man1,doc/velodrome,bash-completion/completions} \
         "$root"/share/{zsh/vendor-completions,fish/vendor_completions.d}
     make -s -C "$top/recorder" install PREFIX="$home" DESTDIR=
     install -s "$checker" "$home/bin/velodrome"
@@ -77,8 +84,10 @@ stage() {
     cp "$top/docs/completions/velodrome.bash" "$root/share/bash-completion/completions/velodrome"
     cp "$top/docs/completions/_velodrome" "$root/share/zsh/vendor-completions/"
     cp "$top/docs/completions/velodrome.fish" "$root/share/fish/vendor_completions.d/"
-    cp "$top/README.md" "$top/CHANGELOG.md" "$root/share/doc/velodrome/"
-    cp "$top"/docs/*.md "$top"/docs/*.json "$top"/docs/*.png "$root/share/doc/velodrome/docs/"
+    # the pages as they lie here, so that their links hold; of tests/ they have links to one
+    copy_of "$top" "$root/share/doc/velodrome" '*.md' 'docs/*.json' 'docs/*.png' ':!tests'
+    copy_of "$top" "$root/share/doc/velodrome" tests/explain.md
+    copy_of "$top/bindings" "$root/share/velodrome" rust
     find "$root" -name __pycache__ -prune -exec rm -r {} +
     chmod -R u=rwX,go=rX "$root"
     find "$root" -exec touch -hd "@$SOURCE_DATE_EPOCH" {} +
@@ -194,7 +203,7 @@ velodrome-log --help >/dev/null
 velodrome-import --help >/dev/null
 step "the sessions of its pages"
 doc=$prefix/share/doc/velodrome
-python3 tools/golden.py "$(command -v velodrome)" $doc/README.md $doc/docs/{QUICK_START,IN_CI,FORMATS}.md
+python3 tools/golden.py "$(command -v velodrome)" $doc/README.md $doc/report/README.md $doc/docs/{QUICK_START,IN_CI,FORMATS}.md
 step "velodrome_atomic.h"
 gcc -I$prefix/include atomic.c -o atomic
 ./atomic
