@@ -10,8 +10,8 @@
 # In them are the checker, the recorder, the report, headers, libraries, what CMake and pkg-config read, the wheel, the crates for
 # Rust, man pages, completions and documents. The checker is built by tools/build.sh, the recorder by make; of the libraries what
 # tools/bindings.sh left is taken, or what lies in the folder LIBRARIES, and bindings.sh is called where there is nothing; of the
-# recorder for Java what make left. The version is the checker's. The file BUILD, which `velodrome-report --version` prints, has
-# version, commit and toolchain, and whether the checker was proved: of one that was built before, that is not known.
+# recorder for Java what make left. The version is the checker's. The file BUILD, which `velodrome-report --version` prints, has it,
+# commit and toolchain, and whether the checker was proved: of one that was built before, that is not known.
 #
 # It needs cmake, dpkg-dev and Python 3.11; --try needs debootstrap, root and a mirror (MIRROR), or a folder that debootstrap made
 # before (DEBIAN), of which it takes a copy.
@@ -49,7 +49,7 @@ version_of_all() {
 
 # what the package was made of
 build_file() {
-    echo "version $version"
+    echo "velodrome $version"
     echo "commit $(git -C "$top" rev-parse HEAD)$(git -C "$top" diff --quiet HEAD || echo ', with changes')"
     echo "toolchain $(rt version 2>/dev/null || echo unknown), $(gcc --version | head -n 1)"
     echo "checker $proof"
@@ -175,17 +175,18 @@ set -e
 cd /try
 export DEBIAN_FRONTEND=noninteractive
 step() { echo "-- $*"; }
+get() { apt-get -qq -o Dpkg::Use-Pty=0 --no-install-recommends install "$@" >/dev/null; }
 apt-get -qq update
 case $1 in
     *.deb)
         step "apt install ./$1"
         prefix=/usr
-        apt-get -qq --no-install-recommends install "./$1" >/dev/null
+        get "./$1"
         ;;
     *)
         step "tar, as docs/IN_CI.md has it"
         prefix=/root/velodrome
-        apt-get -qq --no-install-recommends install python3 binutils g++ >/dev/null
+        get python3 binutils g++
         tar xz -C /root --one-top-level=velodrome --strip-components=1 <"$1"
         ln -sfn $prefix/bin recorder/out/bin
         export PATH=$prefix/bin:$PATH PKG_CONFIG_PATH=$prefix/lib/pkgconfig CMAKE_PREFIX_PATH=$prefix
@@ -195,7 +196,7 @@ step "velodrome-report --version"
 velodrome-report --version | tee built
 grep -q "^commit [0-9a-f]" built
 grep -q "^toolchain ." built
-grep -qx "version $(velodrome --version | cut -d ' ' -f 2)" built
+grep -qx "$(velodrome --version)" built
 step "man pages, completions, the other commands"
 gzip -t $prefix/share/man/man1/velodrome{,-check}.1.gz
 bash -c "source $prefix/share/bash-completion/completions/velodrome; complete -p velodrome" >/dev/null
@@ -207,7 +208,7 @@ python3 tools/golden.py "$(command -v velodrome)" $doc/README.md $doc/report/REA
 step "velodrome_atomic.h"
 gcc -I$prefix/include atomic.c -o atomic
 ./atomic
-apt-get -qq --no-install-recommends install pkgconf cmake make python3-pip >/dev/null
+get pkgconf cmake make python3-pip
 step "pkg-config"
 g++ -std=c++17 lost_update.cpp $(pkg-config --cflags --libs velodrome) -o by_pkg_config
 step "CMake"
@@ -231,7 +232,7 @@ PYTHON
 case $1 in
     *.deb)
         step "apt remove"
-        apt-get -qq remove velodrome >/dev/null
+        apt-get -qq -o Dpkg::Use-Pty=0 remove velodrome >/dev/null
         test ! -e /usr/lib/velodrome
         test ! -e /usr/bin/velodrome-record
         ;;
