@@ -200,8 +200,8 @@ grep -qx "$(velodrome --version)" built
 step "man pages, completions, the other commands"
 gzip -t $prefix/share/man/man1/velodrome{,-check}.1.gz
 bash -c "source $prefix/share/bash-completion/completions/velodrome; complete -p velodrome" >/dev/null
-velodrome-log --help >/dev/null
 velodrome-import --help >/dev/null
+velodrome-record --help >/dev/null
 step "the sessions of its pages"
 doc=$prefix/share/doc/velodrome
 python3 tools/golden.py "$(command -v velodrome)" $doc/README.md $doc/report/README.md $doc/docs/{QUICK_START,IN_CI,FORMATS}.md
