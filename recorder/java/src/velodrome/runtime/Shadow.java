@@ -32,8 +32,11 @@ final class Shadow extends WeakReference<Object> {
 
   private volatile Shadow whole;
 
+  /** Of a variable handle or a field updater. */
+  private volatile Handles.Variables variables;
+
   /** Of a thread: what it writes. */
-  volatile ThreadStream stream;
+  volatile ThreadStream ofThread;
 
   // ---- while one thread alone has touched it
   private ThreadStream owner;
@@ -86,6 +89,15 @@ final class Shadow extends WeakReference<Object> {
     whole = lock;
   }
 
+  /** What a handle is for; null where that is not known. */
+  Handles.Variables variables() {
+    return variables;
+  }
+
+  void setVariables(Handles.Variables of) {
+    variables = of;
+  }
+
   boolean isHeld() {
     return held;
   }
@@ -110,6 +122,12 @@ final class Shadow extends WeakReference<Object> {
     if (touch(t)) {
       madeIn = t.outermost;
     }
+  }
+
+  /** What the current thread writes: it is at hand where that thread was the first one here. */
+  ThreadStream stream() {
+    ThreadStream first = owner;
+    return first != null && first.thread == Thread.currentThread() ? first : Recorder.stream();
   }
 
   /** Whether this thread alone has touched it. */

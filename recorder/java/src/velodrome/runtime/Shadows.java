@@ -12,6 +12,11 @@ final class Shadows {
   private static final int SEGMENT_SHIFT = 6;
   private static final int FIRST_SIZE = 256;
 
+  /** Sites whose last objects are kept in mind. Two that share a place are slower, not wrong. */
+  private static final int MET = 1 << 14;
+
+  private static final Shadow[] met = new Shadow[MET];
+
   private static final Segment[] segments = new Segment[SEGMENTS];
 
   static {
@@ -21,6 +26,15 @@ final class Shadows {
   }
 
   private Shadows() {}
+
+  /** The same; the object is often the one that the site met before. */
+  static Shadow of(Object o, int site) {
+    Shadow before = met[site & MET - 1];
+    if (before != null && before.get() == o) {
+      return before;
+    }
+    return met[site & MET - 1] = of(o);
+  }
 
   static Shadow of(Object o) {
     int hash = System.identityHashCode(o);
