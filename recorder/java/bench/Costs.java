@@ -19,6 +19,9 @@ public class Costs {
 
   private static volatile long sink;
 
+  /** What is here is an object that the compiler cannot do without. */
+  private static volatile Object published;
+
   interface Kernel {
     long run(int accesses);
   }
@@ -32,6 +35,7 @@ public class Costs {
 
   static long fields(int accesses) {
     Account a = new Account();
+    published = a;
     for (int i = 0; i < accesses / 4; i++) {
       if ((i & 3) != 0) {
         a.balance += i;

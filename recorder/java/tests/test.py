@@ -6,6 +6,7 @@ import argparse
 import concurrent.futures
 import difflib
 import glob
+import json
 import os
 import re
 import shutil
@@ -158,25 +159,22 @@ def cases(room: Room, mode: str) -> Optional[str]:
 
 
 # ---- planted mistakes, and their repairs
-MISTAKES = {
-    "Counter.increment",
-    "Lazy.get",
-    "Bank.transfer",
-    "Range.set",
-    "Tickets.sell",
-    "Cache.refresh",
-    "Stack.popIfAny",
-    "Once.begin",
-}
-CLASSICS = {
-    "cases.Classics$StringBuffer.append",
-    "cases.Classics.elements",
-    "copied.Vector.containsAll",
-    "copied.AbstractCollection.containsAll",
-    "copied.Collections$SynchronizedCollection.containsAll",
-}
+# What is wrong in each program: the methods that the checker lists, and nothing else.
+PLANTED = os.path.join(HERE, "mistakes.json")
 # What only calls them.
-AROUND = ["Mistakes.guarded", "Mistakes.run", "Classics.guarded", "Classics.with", "Classics.ask"]
+AROUND = [
+    "cases.Mistakes.guarded",
+    "cases.Mistakes.run",
+    "cases.Classics.guarded",
+    "cases.Classics.with",
+    "cases.Classics.ask",
+]
+
+
+def planted(program: str) -> Set[str]:
+    with open(PLANTED, encoding="utf-8") as f:
+        all_mistakes = json.load(f)
+    return {method for m in all_mistakes if m["program"] == program for method in m["methods"]}
 
 
 def found(room: Room, program: str, how: str, mode: str) -> Set[str]:
@@ -184,17 +182,17 @@ def found(room: Room, program: str, how: str, mode: str) -> Set[str]:
     folder = room.folder(f"{program}-{how}-{mode}")
     words = [f"cases.{program}", how]
     run = Run(room, folder, words, {"VELODROME_MODE": mode}, java=COPIED)
-    around = AROUND + [f"Mistakes${mistake.split('.')[0]}.first" for mistake in MISTAKES]
+    around = AROUND + [method.rpartition(".")[0] + ".first" for method in planted("Mistakes")]
     no_blocks = os.path.join(folder, "no-blocks")
     with open(no_blocks, "w", encoding="ascii") as f:
-        f.writelines(f"cases.{name}\n" for name in around)
+        f.writelines(f"{name}\n" for name in around)
     run.make_log("--not-blocks", no_blocks)
     return set(re.findall(r"^not atomic \d+ (\S+)", run.audit(), re.M))
 
 
 def mistakes(room: Room, program: str, mode: str) -> Optional[str]:
     """Each planted mistake is found, and nothing else; and nothing once they are repaired."""
-    want = CLASSICS if program == "Classics" else {f"cases.Mistakes${name}" for name in MISTAKES}
+    want = planted(program)
     got = found(room, program, "broken", mode)
     if got != want:
         return f"it found {sorted(got)}"

@@ -11,6 +11,9 @@ final class Shadow extends WeakReference<Object> {
   private static final int FIELD_BITS = 64;
   private static final int ELEMENTS_MOST = 1 << 20;
 
+  /** A site takes one in so many of the objects that it has to look for: a store is not cheap. */
+  private static final int SOUGHT = 16;
+
   final int hash;
   final Layout layout;
 
@@ -23,6 +26,7 @@ final class Shadow extends WeakReference<Object> {
   /** In the chain of its place in {@link Shadows}. */
   Shadow next;
 
+  private int sought;
   private volatile int number;
   private boolean isNamed;
   private int madeAt;
@@ -61,6 +65,10 @@ final class Shadow extends WeakReference<Object> {
 
   long element(int index) {
     return address(1 + layout.slots + index);
+  }
+
+  boolean isOftenSought() {
+    return (++sought & SOUGHT - 1) == 0;
   }
 
   int madeAt() {

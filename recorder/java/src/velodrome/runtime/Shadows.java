@@ -12,7 +12,7 @@ final class Shadows {
   private static final int SEGMENT_SHIFT = 6;
   private static final int FIRST_SIZE = 256;
 
-  /** Sites whose last objects are kept in mind. Two that share a place are slower, not wrong. */
+  /** Sites that have an object in mind. Two that share a place are slower, not wrong. */
   private static final int MET = 1 << 14;
 
   private static final Shadow[] met = new Shadow[MET];
@@ -27,13 +27,18 @@ final class Shadows {
 
   private Shadows() {}
 
-  /** The same; the object is often the one that the site met before. */
+  /** The same; the object is often one that the site met before. */
   static Shadow of(Object o, int site) {
-    Shadow before = met[site & MET - 1];
+    int place = site & MET - 1;
+    Shadow before = met[place];
     if (before != null && before.get() == o) {
       return before;
     }
-    return met[site & MET - 1] = of(o);
+    Shadow s = of(o);
+    if (before == null || s.isOftenSought()) {
+      met[place] = s;
+    }
+    return s;
   }
 
   static Shadow of(Object o) {

@@ -9,11 +9,14 @@ import org.objectweb.asm.tree.InsnList;
 import org.objectweb.asm.tree.InsnNode;
 import org.objectweb.asm.tree.MethodInsnNode;
 
-/** Calls of the JDK that order threads. */
+/** Calls of the JDK that order threads, or access a variable atomically. */
 final class CallChanger {
   private static final String CALLS = "velodrome/runtime/Calls";
   private static final String LOCKS = "velodrome/runtime/Locks";
   private static final String ATOMICS = "velodrome/runtime/Atomics";
+  private static final String HANDLES = "velodrome/runtime/Handles";
+  private static final String HANDLE = "java/lang/invoke/VarHandle";
+  private static final String LOOKUP = "java/lang/invoke/MethodHandles";
   private static final String THREAD = "java/lang/Thread";
   private static final String CONDITION = "java/util/concurrent/locks/Condition";
   private static final String STAMPED = "java/util/concurrent/locks/StampedLock";
@@ -21,10 +24,6 @@ final class CallChanger {
   private static final String ATOMIC = "java/util/concurrent/atomic/Atomic";
   private static final String OBJECT = "Ljava/lang/Object;";
   private static final Set<String> WAITS = Set.of("()V", "(J)V", "(JI)V");
-
-  private static final String HANDLES = "velodrome/runtime/Handles";
-  private static final String HANDLE = "java/lang/invoke/VarHandle";
-  private static final String LOOKUP = "java/lang/invoke/MethodHandles";
 
   private static final String[] VALUES = {
     "Integer", "Long", "Boolean", "Reference", "IntegerArray", "LongArray", "ReferenceArray"

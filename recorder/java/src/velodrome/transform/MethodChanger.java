@@ -23,8 +23,8 @@ import velodrome.runtime.Settings;
 import velodrome.runtime.Sites;
 
 /**
- * Gives one method hooks. No hook needs a local variable or changes the flow, so that the frames of
- * the class file stay right; one handler at the end closes the block where an exception leaves it.
+ * Gives one method hooks. None changes the flow, and what one leaves in a local variable is used
+ * before the next label, so that the frames of the class file stay right; one handler at the end closes the block where an exception leaves it.
  */
 final class MethodChanger {
   private static final String HOOKS = "velodrome/runtime/Hooks";
@@ -315,7 +315,7 @@ final class MethodChanger {
     return hook(name, "(" + arguments + ")Ljava/lang/Object;");
   }
 
-  /** What the hook gave stays in a local variable behind the method's own, for this access alone. */
+  /** What the hook gave stays in a local variable of its own, used for this access alone. */
   private void done(AbstractInsnNode n, boolean needed) {
     if (needed) {
       before(n, new VarInsnNode(Opcodes.ASTORE, method.maxLocals));
