@@ -8,14 +8,25 @@ public final class Hooks {
   private Hooks() {}
 
   // ---- accesses. Each hook gives what `done` takes behind the access; null if there is no need.
+  // What is often so stands in the hook itself, which is small enough to be compiled into the program.
   /** The field of this object is read next. */
   public static Object read(Object o, int site) {
-    return Recorder.on && o != null ? field(o, site, false) : null;
+    if (!Recorder.on || o == null) {
+      return null;
+    }
+    Shadow s = Shadows.known(o, site);
+    boolean covers = s != null && s.surelyCoversField(Sites.knownSlot(site), false);
+    return covers ? null : field(o, site, false);
   }
 
   /** The field of this object is written next. */
   public static Object write(Object o, int site) {
-    return Recorder.on && o != null ? field(o, site, true) : null;
+    if (!Recorder.on || o == null) {
+      return null;
+    }
+    Shadow s = Shadows.known(o, site);
+    boolean covers = s != null && s.surelyCoversField(Sites.knownSlot(site), true);
+    return covers ? null : field(o, site, true);
   }
 
   private static Object field(Object o, int site, boolean write) {
@@ -70,12 +81,22 @@ public final class Hooks {
 
   /** The element of this array is read next. */
   public static Object readElement(Object array, int index, int site) {
-    return Recorder.on && array != null ? element(array, index, site, false) : null;
+    if (!Recorder.on || array == null) {
+      return null;
+    }
+    Shadow s = Shadows.known(array, site);
+    boolean covers = s != null && s.surelyCoversElement(index, false);
+    return covers ? null : element(array, index, site, false);
   }
 
   /** The element of this array is written next. */
   public static Object writeElement(Object array, int index, int site) {
-    return Recorder.on && array != null ? element(array, index, site, true) : null;
+    if (!Recorder.on || array == null) {
+      return null;
+    }
+    Shadow s = Shadows.known(array, site);
+    boolean covers = s != null && s.surelyCoversElement(index, true);
+    return covers ? null : element(array, index, site, true);
   }
 
   private static Object element(Object array, int index, int site, boolean write) {

@@ -174,6 +174,39 @@ final class Shadow extends WeakReference<Object> {
     return touch(t) && (isNew(t) || repeatsElement(t, index, write));
   }
 
+  // ---- the same, where it is quickly told: false says nothing
+  private ThreadStream ownerHere() {
+    ThreadStream t = owner;
+    return t != null && !shared && t.thread == Thread.currentThread() ? t : null;
+  }
+
+  /** Whether an access of the current thread adds nothing, by the slot that its site has. */
+  boolean surelyCoversField(int slotOfSite, boolean write) {
+    ThreadStream t = ownerHere();
+    if (t == null || slotOfSite <= 0 || (slotOfSite & 1) != 0) {
+      return false;
+    }
+    long done = write ? writes : reads | writes;
+    int slot = slotOfSite >> 1;
+    return isNew(t) || position == t.position && slot < FIELD_BITS && (done >>> slot & 1) != 0;
+  }
+
+  /** Likewise of an element. */
+  boolean surelyCoversElement(int index, boolean write) {
+    ThreadStream t = ownerHere();
+    if (t == null) {
+      return false;
+    }
+    long[] all = elements;
+    boolean isKnown = all != null && index >= 0 && index < all.length;
+    return isNew(t) || isKnown && isDoneAt(all[index], t, write);
+  }
+
+  private static boolean isDoneAt(long last, ThreadStream t, boolean write) {
+    long now = t.position << 1 | (write ? 1 : 0);
+    return last == now || last == (now | 1);
+  }
+
   private boolean repeatsField(ThreadStream t, int slot, boolean write) {
     if (slot >= FIELD_BITS) {
       return false;
@@ -202,12 +235,10 @@ final class Shadow extends WeakReference<Object> {
     if (elements == null) {
       elements = new long[length];
     }
-    long last = elements[index];
-    long now = t.position << 1 | (write ? 1 : 0);
-    if (last == now || last == (now | 1)) {
+    if (isDoneAt(elements[index], t, write)) {
       return true;
     }
-    elements[index] = now;
+    elements[index] = t.position << 1 | (write ? 1 : 0);
     return false;
   }
 }

@@ -27,16 +27,21 @@ final class Shadows {
 
   private Shadows() {}
 
-  /** The same; the object is often one that the site met before. */
+  /** That of the object that the site has in mind; null where it is another one. */
+  static Shadow known(Object o, int site) {
+    Shadow s = met[site & MET - 1];
+    return s != null && s.get() == o ? s : null;
+  }
+
+  /** The same, and the site may have this object in mind from here on. */
   static Shadow of(Object o, int site) {
-    int place = site & MET - 1;
-    Shadow before = met[place];
-    if (before != null && before.get() == o) {
-      return before;
+    Shadow s = known(o, site);
+    if (s != null) {
+      return s;
     }
-    Shadow s = of(o);
-    if (before == null || s.isOftenSought()) {
-      met[place] = s;
+    s = of(o);
+    if (met[site & MET - 1] == null || s.isOftenSought()) {
+      met[site & MET - 1] = s;
     }
     return s;
   }

@@ -115,6 +115,11 @@ public final class Sites {
     return slot != 0 ? slot : resolve(o, site);
   }
 
+  /** Likewise; 0 where it is not known yet. */
+  static int knownSlot(int site) {
+    return slots[site];
+  }
+
   private static int resolve(Object o, int site) {
     Field f = field(site);
     Class<?> type = o.getClass();
