@@ -8,7 +8,7 @@ public final class Hooks {
   private Hooks() {}
 
   // ---- accesses. Each hook gives what `done` takes behind the access; null if there is no need.
-  // What is often so stands in the hook itself, which is small enough to be compiled into the program.
+  // What is often so stands in the hook itself, so that it can be compiled into the program.
   /** The field of this object is read next. */
   public static Object read(Object o, int site) {
     if (!Recorder.on || o == null) {
