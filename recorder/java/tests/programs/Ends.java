@@ -119,6 +119,17 @@ public class Ends {
 
   /** All that a thread's class can say itself, which no hook may ask for. */
   static class Own extends Thread {
+    private boolean asked;
+
+    /** Only the second call starts it. */
+    @Override
+    public void start() {
+      if (asked) {
+        super.start();
+      }
+      asked = true;
+    }
+
     @Override
     public void run() {
       touch();
@@ -163,6 +174,9 @@ public class Ends {
   static void own() throws Exception {
     Thread t = new Own();
     t.start();
+    if (!t.isAlive()) {
+      t.start();
+    }
     t.join();
     touch();
     synchronized (t) {

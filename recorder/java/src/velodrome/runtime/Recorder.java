@@ -148,9 +148,10 @@ public final class Recorder {
     child.seen(parent.clock());
   }
 
+  /** A `start` is over. One of the program's own may not have started the thread yet. */
   static void started(Thread thread) {
     ThreadStream child = Shadows.of(thread).ofThread;
-    if (child != null) {
+    if (child != null && thread.isAlive()) {
       child.setStarted();
     }
   }
