@@ -6,6 +6,7 @@ import argparse
 import concurrent.futures
 import difflib
 import glob
+import json
 import os
 import re
 import shutil
@@ -19,7 +20,9 @@ HERE = os.path.dirname(os.path.realpath(__file__))
 JAVA = os.path.dirname(HERE)
 AGENT = os.path.join(JAVA, "out", "velodrome.jar")
 ATOMIC = os.path.join(JAVA, "out", "velodrome-atomic.jar")
-LOG_MAKER = os.path.join(os.path.dirname(JAVA), "out", "bin", "velodrome-log")
+BIN = os.path.join(os.path.dirname(JAVA), "out", "bin")
+LOG_MAKER = os.path.join(BIN, "velodrome-log")
+RECORD = os.path.join(BIN, "velodrome-record")
 CHECKER = os.environ.get("VELODROME") or shutil.which("velodrome")
 MODES = ("exact", "free")
 LONG = "--long" in sys.argv
@@ -156,24 +159,22 @@ def cases(room: Room, mode: str) -> Optional[str]:
 
 
 # ---- planted mistakes, and their repairs
-MISTAKES = {
-    "Counter.increment",
-    "Lazy.get",
-    "Bank.transfer",
-    "Range.set",
-    "Tickets.sell",
-    "Cache.refresh",
-    "Stack.popIfAny",
-    "Once.begin",
-}
-CLASSICS = {
-    "cases.Classics$StringBuffer.append",
-    "copied.Vector.containsAll",
-    "copied.AbstractCollection.containsAll",
-    "copied.Collections$SynchronizedCollection.containsAll",
-}
+# What is wrong in each program: the methods that the checker lists, and nothing else.
+PLANTED = os.path.join(HERE, "mistakes.json")
 # What only calls them.
-AROUND = ["Mistakes.guarded", "Mistakes.run", "Classics.guarded", "Classics.with", "Classics.ask"]
+AROUND = [
+    "cases.Mistakes.guarded",
+    "cases.Mistakes.run",
+    "cases.Classics.guarded",
+    "cases.Classics.with",
+    "cases.Classics.ask",
+]
+
+
+def planted(program: str) -> Set[str]:
+    with open(PLANTED, encoding="utf-8") as f:
+        all_mistakes = json.load(f)
+    return {method for m in all_mistakes if m["program"] == program for method in m["methods"]}
 
 
 def found(room: Room, program: str, how: str, mode: str) -> Set[str]:
@@ -181,22 +182,44 @@ def found(room: Room, program: str, how: str, mode: str) -> Set[str]:
     folder = room.folder(f"{program}-{how}-{mode}")
     words = [f"cases.{program}", how]
     run = Run(room, folder, words, {"VELODROME_MODE": mode}, java=COPIED)
-    around = AROUND + [f"Mistakes${mistake.split('.')[0]}.first" for mistake in MISTAKES]
+    around = AROUND + [method.rpartition(".")[0] + ".first" for method in planted("Mistakes")]
     no_blocks = os.path.join(folder, "no-blocks")
     with open(no_blocks, "w", encoding="ascii") as f:
-        f.writelines(f"cases.{name}\n" for name in around)
+        f.writelines(f"{name}\n" for name in around)
     run.make_log("--not-blocks", no_blocks)
     return set(re.findall(r"^not atomic \d+ (\S+)", run.audit(), re.M))
 
 
 def mistakes(room: Room, program: str, mode: str) -> Optional[str]:
     """Each planted mistake is found, and nothing else; and nothing once they are repaired."""
-    want = CLASSICS if program == "Classics" else {f"cases.Mistakes${name}" for name in MISTAKES}
+    want = planted(program)
     got = found(room, program, "broken", mode)
     if got != want:
         return f"it found {sorted(got)}"
     got = found(room, program, "repaired", mode)
     return f"repaired, it found {sorted(got)}" if got else None
+
+
+REPORTED = (
+    "cases.Mistakes$Cache.refresh is not atomic",
+    "Mistakes$Cache.version of Mistakes$Cache#1 (made at Mistakes.java:",
+    "begun = true;",
+)
+
+
+def reported(room: Room) -> Optional[str]:
+    """velodrome-record prints what the report says, with names and lines of the source."""
+    folder = room.folder("reported")
+    os.makedirs(os.path.join(folder, "cases"))
+    shutil.copy2(f"{HERE}/programs/Mistakes.java", os.path.join(folder, "cases"))
+    program = ["java", f"-javaagent:{AGENT}", *QUICK, "-cp", room.classes, "cases.Mistakes"]
+    done = subprocess.run(
+        [RECORD, *program, "broken"], cwd=folder, capture_output=True, text=True, check=False
+    )
+    if done.returncode != 3:
+        return f"status {done.returncode}: {done.stdout}{done.stderr}"
+    missing_words = [word for word in REPORTED if word not in done.stdout]
+    return f"no {missing_words} in {done.stdout}" if missing_words else None
 
 
 # ---- whole programs
@@ -292,6 +315,20 @@ def keeps_trace_of_stack(room: Room) -> Optional[str]:
     return said(run, "odd 0 late 0 lost 0", "threads 2", "locks 1")
 
 
+def own_methods(room: Room) -> Optional[str]:
+    """No hook calls what a thread's class says of itself."""
+    run = Run(room, room.folder("own"), ["cases.Ends", "own"], {})
+    return run.done.stderr or said(run, "odd 0 late 0 lost 0", "threads 2", "locks 2")
+
+
+def interrupted(room: Room) -> Optional[str]:
+    """A thread that is interrupted is recorded on, and stays interrupted."""
+    run = Run(room, room.folder("interrupted"), ["cases.Ends", "interrupted"], {})
+    if run.done.stdout != "true\n" or run.done.stderr:
+        return f"it printed {run.done.stdout}{run.done.stderr}"
+    return said(run, "odd 0 late 0 lost 0", "threads 2")
+
+
 def left_as_it_is(room: Room) -> Optional[str]:
     """A class that cannot take hooks, since a method gets too long, runs as it was."""
     folder = room.folder("left")
@@ -307,6 +344,14 @@ def left_as_it_is(room: Room) -> Optional[str]:
     run = Run(room, folder, ["-cp", folder, "Long"], {})
     told = "1 classes, 1 left as they are" in run.done.stderr
     return None if run.done.stdout == "6999\n1\n" and told else run.done.stderr
+
+
+def hidden_hooks(room: Room) -> Optional[str]:
+    """A class whose loader does not find the hooks runs as it was."""
+    run = Run(room, room.folder("hiding"), ["cases.Ends", "hiding"], {})
+    if run.done.stdout != "hidden 1\n" or "1 left as they are" not in run.done.stderr:
+        return f"it printed {run.done.stdout}{run.done.stderr}"
+    return said(run, "odd 0 late 0 lost 0", "threads 2", "locks 1")
 
 
 MODULE = """package inside; public class Main { static int x; static synchronized void touch() { x++; }
@@ -378,6 +423,7 @@ def all_tests(room: Room) -> Dict[str, Test]:
     if CHECKER:
         for program in ("Mistakes", "Classics"):
             tests[f"mistakes {program}"] = lambda p=program: mistakes(room, p, "exact")
+        tests["reported"] = lambda: reported(room)
     tests["ends many"] = lambda: ends(room, "many", 0, "threads 121")
     tests["ends deadlock"] = lambda: ends(
         room, "deadlock", 7, "deadlock", "thread 1 first waits for the mutex Object#"
@@ -387,7 +433,18 @@ def all_tests(room: Room) -> Dict[str, Test]:
         tests["maven validate"] = lambda: maven(room, "validate", *validate)
     elif shutil.which("mvn"):
         tests["maven"] = lambda: maven(room, "version", "-v")
-    whole = (tells_names, killed, full, unrecorded, keeps_trace_of_stack, left_as_it_is, module)
+    whole = (
+        tells_names,
+        killed,
+        full,
+        unrecorded,
+        own_methods,
+        interrupted,
+        keeps_trace_of_stack,
+        left_as_it_is,
+        hidden_hooks,
+        module,
+    )
     for body in whole:
         tests[body.__name__] = lambda b=body: b(room)
     return tests

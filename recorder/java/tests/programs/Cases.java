@@ -1,15 +1,20 @@
 package cases;
 
+import java.lang.invoke.MethodHandles;
+import java.lang.invoke.VarHandle;
 import java.util.concurrent.ExecutorService;
 import java.util.concurrent.Executors;
 import java.util.concurrent.TimeUnit;
 import java.util.concurrent.atomic.AtomicBoolean;
 import java.util.concurrent.atomic.AtomicInteger;
 import java.util.concurrent.atomic.AtomicIntegerArray;
+import java.util.concurrent.atomic.AtomicIntegerFieldUpdater;
 import java.util.concurrent.atomic.AtomicLong;
 import java.util.concurrent.atomic.AtomicLongArray;
+import java.util.concurrent.atomic.AtomicLongFieldUpdater;
 import java.util.concurrent.atomic.AtomicReference;
 import java.util.concurrent.atomic.AtomicReferenceArray;
+import java.util.concurrent.atomic.AtomicReferenceFieldUpdater;
 import java.util.concurrent.locks.Condition;
 import java.util.concurrent.locks.Lock;
 import java.util.concurrent.locks.ReadWriteLock;
@@ -575,6 +580,121 @@ public class Cases {
 
     public void g() {
       more();
+    }
+  }
+
+  // ---- variables by their handles
+  static class Handled implements Case {
+    static long total;
+    int x;
+    final int[] ints = new int[2];
+    final VarHandle number;
+    final VarHandle sum;
+    final VarHandle element = MethodHandles.arrayElementVarHandle(int[].class);
+
+    Handled() throws ReflectiveOperationException {
+      number = MethodHandles.lookup().findVarHandle(Handled.class, "x", int.class);
+      sum = MethodHandles.lookup().findStaticVarHandle(Handled.class, "total", long.class);
+    }
+
+    public void f() {
+      number.setVolatile(this, 1);
+      sum.getAndAdd(2L);
+      element.set(ints, 1, 3);
+    }
+
+    public void g() {
+      boolean done = number.compareAndSet(this, 1, 2);
+      done &= !number.weakCompareAndSetPlain(this, 1, 2);
+      long found = (long) sum.compareAndExchange(2L, 4L);
+      found += (long) sum.compareAndExchange(2L, 5L);
+      element.getAndBitwiseOr(ints, 1, 4);
+      try {
+        element.get(ints, 2);
+      } catch (IndexOutOfBoundsException e) {
+        found += (int) element.get(ints, 1);
+      }
+      if (!done || found != 13 || (int) number.getAcquire(this) != x) {
+        throw new AssertionError(found);
+      }
+    }
+  }
+
+  /** Of types that take two words, or are no numbers; what was there is not looked at. */
+  static class OddlyHandled implements Case {
+    double real;
+    String word;
+    byte small;
+    final VarHandle reals;
+    final VarHandle words;
+    final VarHandle smalls;
+
+    OddlyHandled() throws ReflectiveOperationException {
+      MethodHandles.Lookup lookup = MethodHandles.lookup();
+      reals = lookup.unreflectVarHandle(OddlyHandled.class.getDeclaredField("real"));
+      words = lookup.findVarHandle(OddlyHandled.class, "word", String.class);
+      smalls = lookup.findVarHandle(OddlyHandled.class, "small", byte.class);
+    }
+
+    public void f() {
+      reals.set(this, 1.0);
+      words.compareAndExchange(this, null, "word");
+      smalls.setOpaque(this, (byte) 1);
+    }
+
+    public void g() {
+      double before = (double) reals.compareAndExchange(this, 1.0, 2.0);
+      String found = (String) words.compareAndExchange(this, "other", "more");
+      byte small = (byte) smalls.compareAndExchange(this, (byte) 2, (byte) 3);
+      if (before != 1 || !found.equals("word") || small != 1) {
+        throw new AssertionError(before + found + small);
+      }
+    }
+  }
+
+  static class Updaters implements Case {
+    volatile int x;
+    volatile long wide;
+    volatile String word;
+    final AtomicIntegerFieldUpdater<Updaters> number =
+        AtomicIntegerFieldUpdater.newUpdater(Updaters.class, "x");
+    final AtomicLongFieldUpdater<Updaters> wides =
+        AtomicLongFieldUpdater.newUpdater(Updaters.class, "wide");
+    final AtomicReferenceFieldUpdater<Updaters, String> words =
+        AtomicReferenceFieldUpdater.newUpdater(Updaters.class, String.class, "word");
+
+    public void f() {
+      number.incrementAndGet(this);
+      wides.set(this, 2);
+      words.compareAndSet(this, null, "word");
+    }
+
+    public void g() {
+      boolean done = number.compareAndSet(this, 1, 2) && !number.compareAndSet(this, 1, 3);
+      if (!done || wides.updateAndGet(this, n -> n + 1) != 3 || words.get(this) == null) {
+        throw new AssertionError();
+      }
+    }
+  }
+
+  // ---- initialization
+  static class Holder {
+    static final Cell CELL = new Cell();
+    final int own = 1;
+
+    static int two() {
+      return 2;
+    }
+  }
+
+  /** Who runs the initializer has it alone, and who comes later shares it once. */
+  static class Initializes implements Case {
+    public void f() {
+      Holder.CELL.x = Holder.two();
+    }
+
+    public void g() {
+      Holder.CELL.x = Holder.two() + new Holder().own;
     }
   }
 

@@ -64,6 +64,13 @@ public class Classics {
     }
   }
 
+  /** As java.util.Vector(Collection) of Java 1.4: the size is asked for before the elements. */
+  static Object[] elements(Vector<Key> of) {
+    Object[] all = new Object[of.size()];
+    Turns.give(3);
+    return of.toArray(all);
+  }
+
   static void guarded(Object lock, Runnable body) {
     if (repaired) {
       synchronized (lock) {
@@ -125,5 +132,7 @@ public class Classics {
     ask(new Vector<>(first), first, 1);
     Vector<Key> second = keys(2);
     ask(synchronizedList(new Vector<>(second)), second, 2);
+    Vector<Key> third = keys(4);
+    with(3, () -> guarded(third, () -> elements(third)), () -> third.add(new Key(4)));
   }
 }

@@ -1,5 +1,7 @@
 package cases;
 
+import java.io.IOException;
+import java.io.InputStream;
 import java.util.ArrayList;
 import java.util.List;
 import velodrome.tests.Turns;
@@ -72,6 +74,122 @@ public class Ends {
     }
   }
 
+  /** A loader that knows nothing but the JDK and what it defines. */
+  static class Hiding extends ClassLoader {
+    Hiding() {
+      super(null);
+    }
+
+    @Override
+    protected Class<?> loadClass(String name, boolean resolve) throws ClassNotFoundException {
+      if (name.startsWith("velodrome")) {
+        throw new ClassNotFoundException(name);
+      }
+      return super.loadClass(name, resolve);
+    }
+
+    @Override
+    protected Class<?> findClass(String name) throws ClassNotFoundException {
+      String file = "/" + name.replace('.', '/') + ".class";
+      try (InputStream in = Ends.class.getResourceAsStream(file)) {
+        byte[] bytes = in.readAllBytes();
+        return defineClass(name, bytes, 0, bytes.length);
+      } catch (IOException e) {
+        throw new ClassNotFoundException(name, e);
+      }
+    }
+  }
+
+  /** What is defined by such a loader. */
+  public static class Hidden implements Runnable {
+    private int x;
+
+    @Override
+    public void run() {
+      x++;
+      System.out.println("hidden " + x);
+    }
+  }
+
+  static void hiding() throws Exception {
+    Class<?> type = new Hiding().loadClass("cases.Ends$Hidden");
+    ((Runnable) type.getDeclaredConstructor().newInstance()).run();
+    two();
+  }
+
+  /** All that a thread's class can say itself, which no hook may ask for. */
+  static class Own extends Thread {
+    private boolean asked;
+
+    /** Only the second call starts it. */
+    @Override
+    public void start() {
+      if (asked) {
+        super.start();
+      }
+      asked = true;
+    }
+
+    @Override
+    public void run() {
+      touch();
+    }
+
+    @Override
+    public State getState() {
+      throw new IllegalStateException();
+    }
+
+    @Override
+    public long getId() {
+      throw new IllegalStateException();
+    }
+
+    @Override
+    public String toString() {
+      throw new IllegalStateException();
+    }
+
+    @Override
+    public int hashCode() {
+      throw new IllegalStateException();
+    }
+
+    @Override
+    public boolean equals(Object other) {
+      throw new IllegalStateException();
+    }
+
+    @Override
+    public boolean isInterrupted() {
+      throw new IllegalStateException();
+    }
+
+    @Override
+    public void interrupt() {
+      throw new IllegalStateException();
+    }
+  }
+
+  static void own() throws Exception {
+    Thread t = new Own();
+    t.start();
+    if (!t.isAlive()) {
+      t.start();
+    }
+    t.join();
+    touch();
+    synchronized (t) {
+      shared++;
+    }
+  }
+
+  static void work(int times) {
+    for (int i = 0; i < times; i++) {
+      touch();
+    }
+  }
+
   public static void main(String[] arguments) throws Exception {
     switch (arguments[0]) {
       case "two":
@@ -79,6 +197,18 @@ public class Ends {
         break;
       case "many":
         many();
+        break;
+      case "hiding":
+        hiding();
+        break;
+      case "own":
+        own();
+        break;
+      case "interrupted":
+        two();
+        Thread.currentThread().interrupt();
+        work(100_000);
+        System.out.println(Thread.interrupted());
         break;
       case "names":
         names();
@@ -103,9 +233,7 @@ public class Ends {
         Thread.sleep(600_000);
         break;
       default:
-        for (int i = 0; i < 1_000_000; i++) {
-          touch();
-        }
+        work(1_000_000);
         System.out.println(shared);
     }
   }

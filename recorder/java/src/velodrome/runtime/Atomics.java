@@ -64,6 +64,16 @@ public final class Atomics {
   }
 
   /** Likewise. */
+  public static void exchanged(float found, float expected, int site) {
+    swapped(Float.floatToRawIntBits(found) == Float.floatToRawIntBits(expected), site);
+  }
+
+  /** Likewise. */
+  public static void exchanged(double found, double expected, int site) {
+    swapped(Double.doubleToRawLongBits(found) == Double.doubleToRawLongBits(expected), site);
+  }
+
+  /** Likewise. */
   public static void exchanged(Object found, Object expected, int site) {
     swapped(found == expected, site);
   }

@@ -81,11 +81,22 @@ public final class Calls {
     try {
       Thread thread = (Thread) o;
       Shadow s = Shadows.of(thread);
-      if (s.stream == null && thread.getState() == Thread.State.NEW) {
+      if (s.ofThread == null && !thread.isAlive()) {
         Recorder.fork(thread, s, site);
       }
     } catch (Throwable e) {
       Recorder.failed(e);
+    }
+  }
+
+  /** This object, which may be a thread, was started. */
+  public static void started(Object o, int site) {
+    if (Recorder.on && o instanceof Thread) {
+      try {
+        Recorder.started((Thread) o);
+      } catch (Throwable e) {
+        Recorder.failed(e);
+      }
     }
   }
 

@@ -18,20 +18,31 @@ public final class Declared {
   private final long[] statics;
   private final int instances;
 
-  private Declared(ClassLoader loader, List<String> names, int[] access, Declared next) {
+  /** The number of the class's initializer; 0 where it has none. */
+  final int initializer;
+
+  private Declared(
+      ClassLoader loader, List<String> names, int[] access, int initializer, Declared next) {
     this.loader = new WeakReference<>(loader);
     this.names = List.copyOf(names);
     this.access = access.clone();
+    this.initializer = initializer;
     this.next = next;
     this.statics = new long[access.length];
     this.instances =
         (int) IntStream.of(access).filter(flags -> !Modifier.isStatic(flags)).count();
   }
 
-  /** Notes a class by its internal name; a field is `name:descriptor`. */
-  public static void note(ClassLoader loader, String type, List<String> names, int[] access) {
+  /**
+   * Notes a class by its internal name.
+   *
+   * @param names of its fields, each as `name:descriptor`
+   * @param initializer its number, or 0
+   */
+  public static void note(
+      ClassLoader loader, String type, List<String> names, int[] access, int initializer) {
     synchronized (byName) {
-      byName.put(type, new Declared(loader, names, access, byName.get(type)));
+      byName.put(type, new Declared(loader, names, access, initializer, byName.get(type)));
     }
   }
 

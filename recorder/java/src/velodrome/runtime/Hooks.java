@@ -7,106 +7,116 @@ package velodrome.runtime;
 public final class Hooks {
   private Hooks() {}
 
-  // ---- fields
+  // ---- accesses. Each hook gives what `done` takes behind the access; null if there is no need.
+  // What is often so stands in the hook itself, so that it can be compiled into the program.
   /** The field of this object is read next. */
-  public static void read(Object o, int site) {
-    if (Recorder.on && o != null) {
-      field(o, site, false);
+  public static Object read(Object o, int site) {
+    if (!Recorder.on || o == null) {
+      return null;
     }
+    Shadow s = Shadows.known(o, site);
+    boolean covers = s != null && s.surelyCoversField(Sites.knownSlot(site), false);
+    return covers ? null : field(o, site, false);
   }
 
   /** The field of this object is written next. */
-  public static void write(Object o, int site) {
-    if (Recorder.on && o != null) {
-      field(o, site, true);
+  public static Object write(Object o, int site) {
+    if (!Recorder.on || o == null) {
+      return null;
     }
+    Shadow s = Shadows.known(o, site);
+    boolean covers = s != null && s.surelyCoversField(Sites.knownSlot(site), true);
+    return covers ? null : field(o, site, true);
   }
 
-  private static void field(Object o, int site, boolean write) {
+  private static Object field(Object o, int site, boolean write) {
     try {
       int slot = Sites.slot(o, site);
       if (slot < 0) {
-        return;
+        return null;
       }
-      ThreadStream t = Recorder.stream();
-      Shadow s = Shadows.of(o);
+      Shadow s = Shadows.of(o, site);
+      ThreadStream t = s.stream();
       if ((slot & 1) != 0) {
         s.touch(t);
-        t.atomic(!write, write, s.address(slot >> 1), site);
-      } else if (!s.coversField(t, slot >> 1, write)) {
-        t.access(write, s.address(slot >> 1), site);
+        return t.atomic(!write, write, s.address(slot >> 1), site);
       }
+      return s.coversField(t, slot >> 1, write)
+          ? null
+          : t.access(write, s.address(slot >> 1), site);
     } catch (Throwable e) {
-      Recorder.failed(e);
+      return Recorder.failed(e);
     }
   }
 
   /** A static field is read next. */
-  public static void readStatic(int site) {
-    if (Recorder.on) {
-      staticField(site, false);
-    }
+  public static Object readStatic(int site) {
+    return Recorder.on ? staticField(site, false) : null;
   }
 
   /** A static field is written next. */
-  public static void writeStatic(int site) {
-    if (Recorder.on) {
-      staticField(site, true);
-    }
+  public static Object writeStatic(int site) {
+    return Recorder.on ? staticField(site, true) : null;
   }
 
-  private static void staticField(int site, boolean write) {
+  private static Object staticField(int site, boolean write) {
     try {
       long address = Sites.staticAddress(site);
-      if (address < 0) {
-        return;
+      int initializer = Sites.initializer(site);
+      if (address < 0 && initializer == 0) {
+        return null;
       }
       ThreadStream t = Recorder.stream();
-      if ((address & 1) != 0) {
-        t.atomic(!write, write, address & -8, site);
-      } else {
-        t.access(write, address, site);
+      Initializers.use(t, initializer, site);
+      if (address < 0) {
+        return null;
       }
+      return (address & 1) != 0
+          ? t.atomic(!write, write, address & -8, site)
+          : t.access(write, address, site);
     } catch (Throwable e) {
-      Recorder.failed(e);
+      return Recorder.failed(e);
     }
   }
 
-  // ---- arrays
   /** The element of this array is read next. */
-  public static void readElement(Object array, int index, int site) {
-    if (Recorder.on && array != null) {
-      element(array, index, site, false);
+  public static Object readElement(Object array, int index, int site) {
+    if (!Recorder.on || array == null) {
+      return null;
     }
+    Shadow s = Shadows.known(array, site);
+    boolean covers = s != null && s.surelyCoversElement(index, false);
+    return covers ? null : element(array, index, site, false);
   }
 
   /** The element of this array is written next. */
-  public static void writeElement(Object array, int index, int site) {
-    if (Recorder.on && array != null) {
-      element(array, index, site, true);
+  public static Object writeElement(Object array, int index, int site) {
+    if (!Recorder.on || array == null) {
+      return null;
     }
+    Shadow s = Shadows.known(array, site);
+    boolean covers = s != null && s.surelyCoversElement(index, true);
+    return covers ? null : element(array, index, site, true);
   }
 
-  private static void element(Object array, int index, int site, boolean write) {
+  private static Object element(Object array, int index, int site, boolean write) {
     try {
-      Shadow s = Shadows.of(array);
+      Shadow s = Shadows.of(array, site);
       if (index < 0 || index >= s.length) {
-        return;
+        return null;
       }
-      ThreadStream t = Recorder.stream();
-      if (!s.coversElement(t, index, write)) {
-        t.access(write, s.element(index), site);
-      }
+      ThreadStream t = s.stream();
+      return s.coversElement(t, index, write) ? null : t.access(write, s.element(index), site);
     } catch (Throwable e) {
-      Recorder.failed(e);
+      return Recorder.failed(e);
     }
   }
 
   /** The access is done. */
-  public static void done() {
-    if (Recorder.on) {
+  public static void done(Object held) {
+    if (held != null) {
       try {
-        Recorder.stream().settle();
+        ((ThreadStream) held).settle();
       } catch (Throwable e) {
         Recorder.failed(e);
       }

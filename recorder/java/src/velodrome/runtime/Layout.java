@@ -86,7 +86,7 @@ final class Layout {
   int slotOf(String field) {
     for (Layout l = this; l != null; l = l.outer) {
       int index = l.declared == null ? -1 : l.declared.indexOf(field);
-      if (index >= 0) {
+      if (index >= 0 && index < l.declared.count()) {
         return 1 + l.inherited + index;
       }
     }

@@ -21,6 +21,7 @@ public final class Recorder {
   private static boolean ended;
   private static final List<ThreadStream> live = new ArrayList<>();
   private static final ThreadLocal<ThreadStream> current = new ThreadLocal<>();
+
   private static final AtomicLong lost = new AtomicLong();
   private static final AtomicLong left = new AtomicLong();
   private static final AtomicLong changed = new AtomicLong();
@@ -71,11 +72,12 @@ public final class Recorder {
   }
 
   /** A fault of the recorder itself, or no memory or stack left for it: the program goes on. */
-  static void failed(Throwable e) {
+  static Object failed(Throwable e) {
     lost.incrementAndGet();
     if (!(e instanceof StackOverflowError)) {
       stop("the recorder failed: " + e);
     }
+    return null;
   }
 
   /** The program's shutdown begins, or it is halted: what comes then is not recorded. */
@@ -120,10 +122,10 @@ public final class Recorder {
 
   private static ThreadStream adopt(Thread thread) {
     Shadow s = Shadows.of(thread);
-    if (s.stream == null) {
+    if (s.ofThread == null) {
       create(thread, s, 0);
     }
-    ThreadStream t = s.stream;
+    ThreadStream t = s.ofThread;
     t.start(Sites.label(thread.getName()));
     current.set(t);
     return t;
@@ -131,12 +133,12 @@ public final class Recorder {
 
   /** Gives a thread its number; a thread that nobody is seen to start gets it by itself. */
   static synchronized ThreadStream create(Thread thread, Shadow s, long clock) {
-    if (s.stream == null) {
+    if (s.ofThread == null) {
       endThreads();
-      s.stream = new ThreadStream(threads++, thread, clock);
-      live.add(s.stream);
+      s.ofThread = new ThreadStream(threads++, thread, clock);
+      live.add(s.ofThread);
     }
-    return s.stream;
+    return s.ofThread;
   }
 
   static void fork(Thread thread, Shadow s, int site) {
@@ -146,16 +148,24 @@ public final class Recorder {
     child.seen(parent.clock());
   }
 
+  /** A `start` is over. One of the program's own may not have started the thread yet. */
+  static void started(Thread thread) {
+    ThreadStream child = Shadows.of(thread).ofThread;
+    if (child != null && thread.isAlive()) {
+      child.setStarted();
+    }
+  }
+
   static void waitForEnd(Thread thread, boolean ends, int site) {
-    ThreadStream other = Shadows.of(thread).stream;
+    ThreadStream other = Shadows.of(thread).ofThread;
     if (other != null) {
       stream().waitFor(Kind.FOR_THREAD, ends, other.id + 1, site);
     }
   }
 
   static void joined(Thread thread, int site) {
-    ThreadStream other = Shadows.of(thread).stream;
-    if (other != null && thread.getState() == Thread.State.TERMINATED) {
+    ThreadStream other = Shadows.of(thread).ofThread;
+    if (other != null && other.isOver()) {
       other.finish();
       stream().join(other, site);
     }
@@ -165,7 +175,7 @@ public final class Recorder {
   private static synchronized void endThreads() {
     for (Iterator<ThreadStream> i = live.iterator(); i.hasNext(); ) {
       ThreadStream t = i.next();
-      if (t.thread.getState() == Thread.State.TERMINATED) {
+      if (t.isOver()) {
         t.finish();
         i.remove();
       }

@@ -11,6 +11,9 @@ final class Shadow extends WeakReference<Object> {
   private static final int FIELD_BITS = 64;
   private static final int ELEMENTS_MOST = 1 << 20;
 
+  /** A site takes one in so many of the objects that it has to look for: a store is not cheap. */
+  private static final int SOUGHT = 16;
+
   final int hash;
   final Layout layout;
 
@@ -23,6 +26,7 @@ final class Shadow extends WeakReference<Object> {
   /** In the chain of its place in {@link Shadows}. */
   Shadow next;
 
+  private int sought;
   private volatile int number;
   private boolean isNamed;
   private int madeAt;
@@ -32,8 +36,11 @@ final class Shadow extends WeakReference<Object> {
 
   private volatile Shadow whole;
 
+  /** Of a variable handle or a field updater. */
+  private volatile Handles.Variables variables;
+
   /** Of a thread: what it writes. */
-  volatile ThreadStream stream;
+  volatile ThreadStream ofThread;
 
   // ---- while one thread alone has touched it
   private ThreadStream owner;
@@ -58,6 +65,10 @@ final class Shadow extends WeakReference<Object> {
 
   long element(int index) {
     return address(1 + layout.slots + index);
+  }
+
+  boolean isOftenSought() {
+    return (++sought & SOUGHT - 1) == 0;
   }
 
   int madeAt() {
@@ -86,6 +97,15 @@ final class Shadow extends WeakReference<Object> {
     whole = lock;
   }
 
+  /** What a handle is for; null where that is not known. */
+  Handles.Variables variables() {
+    return variables;
+  }
+
+  void setVariables(Handles.Variables of) {
+    variables = of;
+  }
+
   boolean isHeld() {
     return held;
   }
@@ -110,6 +130,12 @@ final class Shadow extends WeakReference<Object> {
     if (touch(t)) {
       madeIn = t.outermost;
     }
+  }
+
+  /** What the current thread writes: it is at hand where that thread was the first one here. */
+  ThreadStream stream() {
+    ThreadStream first = owner;
+    return first != null && first.thread == Thread.currentThread() ? first : Recorder.stream();
   }
 
   /** Whether this thread alone has touched it. */
@@ -148,6 +174,39 @@ final class Shadow extends WeakReference<Object> {
     return touch(t) && (isNew(t) || repeatsElement(t, index, write));
   }
 
+  // ---- the same, where it is quickly told: false says nothing
+  private ThreadStream ownerHere() {
+    ThreadStream t = owner;
+    return t != null && !shared && t.thread == Thread.currentThread() ? t : null;
+  }
+
+  /** Whether an access of the current thread adds nothing, by the slot that its site has. */
+  boolean surelyCoversField(int slotOfSite, boolean write) {
+    ThreadStream t = ownerHere();
+    if (t == null || slotOfSite <= 0 || (slotOfSite & 1) != 0) {
+      return false;
+    }
+    long done = write ? writes : reads | writes;
+    int slot = slotOfSite >> 1;
+    return isNew(t) || position == t.position && slot < FIELD_BITS && (done >>> slot & 1) != 0;
+  }
+
+  /** Likewise of an element. */
+  boolean surelyCoversElement(int index, boolean write) {
+    ThreadStream t = ownerHere();
+    if (t == null) {
+      return false;
+    }
+    long[] all = elements;
+    boolean isKnown = all != null && index >= 0 && index < all.length;
+    return isNew(t) || isKnown && isDoneAt(all[index], t, write);
+  }
+
+  private static boolean isDoneAt(long last, ThreadStream t, boolean write) {
+    long now = t.position << 1 | (write ? 1 : 0);
+    return last == now || last == (now | 1);
+  }
+
   private boolean repeatsField(ThreadStream t, int slot, boolean write) {
     if (slot >= FIELD_BITS) {
       return false;
@@ -176,12 +235,10 @@ final class Shadow extends WeakReference<Object> {
     if (elements == null) {
       elements = new long[length];
     }
-    long last = elements[index];
-    long now = t.position << 1 | (write ? 1 : 0);
-    if (last == now || last == (now | 1)) {
+    if (isDoneAt(elements[index], t, write)) {
       return true;
     }
-    elements[index] = now;
+    elements[index] = t.position << 1 | (write ? 1 : 0);
     return false;
   }
 }

@@ -12,6 +12,11 @@ final class Shadows {
   private static final int SEGMENT_SHIFT = 6;
   private static final int FIRST_SIZE = 256;
 
+  /** Sites that have an object in mind. Two that share a place are slower, not wrong. */
+  private static final int MET = 1 << 14;
+
+  private static final Shadow[] met = new Shadow[MET];
+
   private static final Segment[] segments = new Segment[SEGMENTS];
 
   static {
@@ -21,6 +26,25 @@ final class Shadows {
   }
 
   private Shadows() {}
+
+  /** That of the object that the site has in mind; null where it is another one. */
+  static Shadow known(Object o, int site) {
+    Shadow s = met[site & MET - 1];
+    return s != null && s.get() == o ? s : null;
+  }
+
+  /** The same, and the site may have this object in mind from here on. */
+  static Shadow of(Object o, int site) {
+    Shadow s = known(o, site);
+    if (s != null) {
+      return s;
+    }
+    s = of(o);
+    if (met[site & MET - 1] == null || s.isOftenSought()) {
+      met[site & MET - 1] = s;
+    }
+    return s;
+  }
 
   static Shadow of(Object o) {
     int hash = System.identityHashCode(o);

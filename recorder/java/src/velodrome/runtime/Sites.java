@@ -1,5 +1,6 @@
 package velodrome.runtime;
 
+import java.lang.ref.WeakReference;
 import java.util.Arrays;
 
 /**
@@ -29,6 +30,9 @@ public final class Sites {
   /** Of an access to a static field: its address, and 1 if it is volatile; 0 not known, -1 none. */
   private static long[] statics = new long[FIRST_SIZE];
 
+  /** Of an access to a static field of another class: that class's initializer, or 0. */
+  private static int[] initializers = new int[FIRST_SIZE];
+
   /** A piece of places that belongs to one method. */
   static final class Method {
     final String name;
@@ -46,12 +50,12 @@ public final class Sites {
 
   /** What a site's field is called in the class file. */
   private static final class Field {
-    final ClassLoader loader;
+    final WeakReference<ClassLoader> loader;
     final String owner;
     final String field;
 
     Field(ClassLoader loader, String owner, String field) {
-      this.loader = loader;
+      this.loader = new WeakReference<>(loader);
       this.owner = owner;
       this.field = field;
     }
@@ -75,6 +79,7 @@ public final class Sites {
       fields = Arrays.copyOf(fields, room);
       slots = Arrays.copyOf(slots, room);
       statics = Arrays.copyOf(statics, room);
+      initializers = Arrays.copyOf(initializers, room);
     }
     methods[first] = new Method(name, file, first, size);
     Names.changed();
@@ -110,6 +115,11 @@ public final class Sites {
     return slot != 0 ? slot : resolve(o, site);
   }
 
+  /** Likewise; 0 where it is not known yet. */
+  static int knownSlot(int site) {
+    return slots[site];
+  }
+
   private static int resolve(Object o, int site) {
     Field f = field(site);
     Class<?> type = o.getClass();
@@ -139,19 +149,38 @@ public final class Sites {
   private static long resolveStatic(int site) {
     Field f = field(site);
     long found = -1;
+    int initializer = 0;
     try {
-      Class<?> type = Class.forName(f.owner.replace('/', '.'), false, f.loader);
+      Class<?> type = Class.forName(f.owner.replace('/', '.'), false, f.loader.get());
       found = addressIn(type, f.field);
+      initializer = initializerOf(type);
     } catch (ClassNotFoundException | LinkageError e) {
       // It is not recorded.
     }
     synchronized (Sites.class) {
       statics[site] = found;
+      initializers[site] = initializer;
     }
     return found;
   }
 
-  private static long addressIn(Class<?> type, String field) {
+  private static int initializerOf(Class<?> type) {
+    for (Class<?> c = type; c != null; c = c.getSuperclass()) {
+      Declared d = Declared.of(c);
+      if (d != null && d.initializer != 0) {
+        return d.initializer;
+      }
+    }
+    return 0;
+  }
+
+  /** The initializer that an access to a static field waits for, once its address is known. */
+  static int initializer(int site) {
+    return initializers[site];
+  }
+
+  /** The address of a static field, and 1 if it is volatile; -1 where it is not recorded. */
+  static long addressIn(Class<?> type, String field) {
     for (Class<?> c = type; c != null; c = c.getSuperclass()) {
       Declared d = Declared.of(c);
       int index = d == null ? -1 : d.indexOf(field);

@@ -27,6 +27,7 @@ final class ThreadStream {
   private long clock;
   private ByteBuffer chunk;
   private int at;
+  private volatile boolean started;
   private boolean finished;
   private int heldStripe = NONE;
 
@@ -51,6 +52,9 @@ final class ThreadStream {
   private int enteredCount;
   private long[] held = new long[16];
   private int heldCount;
+
+  /** Bits: classes whose initialization this thread has seen. */
+  private long[] used = new long[4];
 
   // ---- noise
   private long chance;
@@ -174,8 +178,9 @@ final class ThreadStream {
     }
   }
 
-  // ---- accesses. In `exact` the stripe is held until the access is done.
-  void access(boolean write, long address, int site) {
+  // ---- accesses
+  /** In `exact` the stripe is held until the access is done: this, or null if nothing is held. */
+  ThreadStream access(boolean write, long address, int site) {
     begin();
     int flags = 0;
     if (Settings.EXACT) {
@@ -184,12 +189,14 @@ final class ThreadStream {
       stamp();
     }
     event(write ? Kind.WR : Kind.RD, flags, 8, address, site);
+    return Settings.EXACT ? this : null;
   }
 
-  /** An access to a volatile field, which is done right after it. */
-  void atomic(boolean reads, boolean writes, long address, int site) {
+  /** An access to a volatile field, which is done right after it: this. */
+  ThreadStream atomic(boolean reads, boolean writes, long address, int site) {
     holdAtomic(address);
     atomicHeld(reads, writes, address, site);
+    return this;
   }
 
   /** An atomic access comes next; address 0: to nothing. */
@@ -273,6 +280,17 @@ final class ThreadStream {
     return times;
   }
 
+  /** Whether the thread uses the class of this initializer for the first time. */
+  boolean usesFirst(int initializer) {
+    int word = initializer / Long.SIZE;
+    if (word >= used.length) {
+      used = Arrays.copyOf(used, 2 * word);
+    }
+    long before = used[word];
+    used[word] = before | 1L << initializer;
+    return used[word] != before;
+  }
+
   void contended(long lock, int what, boolean ends, int site) {
     begin();
     stamp();
@@ -308,7 +326,17 @@ final class ThreadStream {
   }
 
   // ---- threads
+  void setStarted() {
+    started = true;
+  }
+
+  /** Whether the thread is no more. `getState` may be the program's own; `isAlive` is final. */
+  boolean isOver() {
+    return started && !thread.isAlive();
+  }
+
   void start(int name) {
+    setStarted();
     stamp();
     if (hasRoom()) {
       write(Kind.word(Kind.START, 0, 0, 0), clock << 32 | Sites.label(name));

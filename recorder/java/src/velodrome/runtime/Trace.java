@@ -32,9 +32,16 @@ final class Trace {
   private final FileChannel file;
   private final ByteBuffer head;
   private final long most = Settings.MOST * RECORD / CHUNK;
+  private final Object mapping = new Object();
   private ByteBuffer segment;
   private long chunks;
   private boolean stopped;
+
+  /** The segment that comes next; null until it is mapped. */
+  private ByteBuffer next;
+
+  /** Why there is no next one; null if all is well. */
+  private String trouble;
 
   Trace(Path path) throws IOException {
     file =
@@ -49,6 +56,40 @@ final class Trace {
     head.putLong(AT_MODE, Settings.EXACT ? 1 : 0);
     head.putLong(AT_SEED, Settings.SEED);
     head.putLong(AT_MOST, most * CHUNK / RECORD);
+    Thread mapper = new Thread(this::mapAhead, "velodrome-trace");
+    mapper.setDaemon(true);
+    mapper.start();
+  }
+
+  /** In a thread of its own: where an interrupted one does this, the file is closed. */
+  private void mapAhead() {
+    synchronized (mapping) {
+      for (long from = HEAD; trouble == null; from += SEGMENT) {
+        try {
+          next = map(from, SEGMENT);
+          while (next != null) {
+            mapping.wait();
+          }
+        } catch (IOException | OutOfMemoryError | InterruptedException e) {
+          trouble = String.valueOf(e.getMessage());
+        }
+      }
+    }
+  }
+
+  /** Null if there is none. It waits for a monitor alone, which no interrupt ends. */
+  private ByteBuffer nextSegment() {
+    while (true) {
+      synchronized (mapping) {
+        ByteBuffer mapped = next;
+        if (mapped != null || trouble != null) {
+          next = null;
+          mapping.notifyAll();
+          return mapped;
+        }
+      }
+      Thread.yield();
+    }
   }
 
   private ByteBuffer map(long from, int bytes) throws IOException {
@@ -69,12 +110,11 @@ final class Trace {
       return null;
     }
     int at = (int) (chunks * CHUNK % SEGMENT);
-    try {
-      if (at == 0) {
-        segment = map(HEAD + chunks * CHUNK, SEGMENT);
-      }
-    } catch (IOException | OutOfMemoryError e) {
-      stop(NO_SPACE, "the trace cannot grow: " + e.getMessage());
+    if (at == 0) {
+      segment = nextSegment();
+    }
+    if (segment == null) {
+      stop(NO_SPACE, "the trace cannot grow: " + trouble);
       return null;
     }
     ByteBuffer chunk = slice(segment, at);

@@ -1,37 +1,51 @@
 package velodrome.transform;
 
-/** What the methods of atomic values do, and so which hook tells of it. */
-final class Access {
+/** What the methods of atomic values, field updaters and variable handles do. */
+enum Access {
+  READ("read"),
+  WRITE("wrote"),
+  CHANGE("changed"),
+  /** A change by a function of the program. */
+  UPDATE("changed"),
+  /** A compare-and-set: it tells whether it was done. */
+  SWAP("swapped"),
+  /** A compare-and-exchange: it tells what was there. */
+  EXCHANGE("exchanged");
+
   private static final String CHANGES =
-      "getAndSet getAndAdd addAndGet getAndIncrement incrementAndGet getAndDecrement decrementAndGet";
+      "addAndGet getAndIncrement incrementAndGet getAndDecrement decrementAndGet";
 
   private static final String UPDATES =
       "getAndUpdate updateAndGet getAndAccumulate accumulateAndGet";
 
-  private Access() {}
+  /** The hook behind the call. */
+  final String hook;
+
+  Access(String hook) {
+    this.hook = hook;
+  }
 
   private static boolean has(String words, String name) {
     return (" " + words + " ").contains(" " + name + " ");
   }
 
-  /** The hook behind a call of this method; null if it accesses nothing. */
-  static String of(String name, String descriptor) {
+  /** What a method of this name does; null if it accesses nothing. */
+  static Access of(String name) {
     if (name.startsWith("compareAndSet") || name.startsWith("weakCompareAndSet")) {
-      return "swapped";
+      return SWAP;
     }
     if (name.startsWith("compareAndExchange")) {
-      return "exchanged";
+      return EXCHANGE;
     }
     if (has(UPDATES, name)) {
-      return "updated";
+      return UPDATE;
     }
     if (has(CHANGES, name) || name.startsWith("getAnd")) {
-      return "changed";
+      return CHANGE;
     }
-    boolean returns = !descriptor.endsWith("V");
     if (name.startsWith("get") || name.endsWith("Value")) {
-      return returns ? "read" : null;
+      return READ;
     }
-    return name.startsWith("set") || name.equals("lazySet") ? "wrote" : null;
+    return name.startsWith("set") || name.equals("lazySet") ? WRITE : null;
   }
 }

@@ -14,6 +14,7 @@ import org.objectweb.asm.tree.ClassNode;
 import org.objectweb.asm.tree.FieldNode;
 import org.objectweb.asm.tree.MethodNode;
 import velodrome.runtime.Declared;
+import velodrome.runtime.Initializers;
 
 /** Gives one class hooks. Its shape stays: no member is added, and no modifier changed. */
 final class ClassChanger {
@@ -23,6 +24,9 @@ final class ClassChanger {
   private final ClassReader reader;
   private final ClassNode node = new ClassNode();
   private final Map<String, Integer> methodsOfName = new HashMap<>();
+
+  /** The number of the class's initializer; 0 where it has none. */
+  private int initializer;
 
   ClassChanger(ClassLoader loader, byte[] bytes) {
     this.loader = loader;
@@ -57,6 +61,9 @@ final class ClassChanger {
 
   /** Fields of objects first, then static ones; final ones are not written. */
   private void noteFields() {
+    if (node.methods.stream().anyMatch(m -> m.name.equals("<clinit>"))) {
+      initializer = Initializers.reserve(node.name);
+    }
     List<String> names = new ArrayList<>();
     List<Integer> access = new ArrayList<>();
     for (int isStatic = 0; isStatic < 2; isStatic++) {
@@ -67,7 +74,12 @@ final class ClassChanger {
         }
       }
     }
-    Declared.note(loader, node.name, names, access.stream().mapToInt(i -> i).toArray());
+    int[] modifiers = access.stream().mapToInt(i -> i).toArray();
+    Declared.note(loader, node.name, names, modifiers, initializer);
+  }
+
+  int initializer() {
+    return initializer;
   }
 
   ClassLoader loader() {

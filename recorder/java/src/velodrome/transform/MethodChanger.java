@@ -23,11 +23,12 @@ import velodrome.runtime.Settings;
 import velodrome.runtime.Sites;
 
 /**
- * Gives one method hooks. No hook needs a local variable or changes the flow, so that the frames of
- * the class file stay right; one handler at the end closes the block where an exception leaves it.
+ * Gives one method hooks. None changes the flow, and what one leaves in a local variable is used
+ * before the next label, so that the frames of the class file stay right; one handler at the end closes the block where an exception leaves it.
  */
 final class MethodChanger {
   private static final String HOOKS = "velodrome/runtime/Hooks";
+  private static final String INITIALIZERS = "velodrome/runtime/Initializers";
 
   private final ClassChanger type;
   private final MethodNode method;
@@ -72,8 +73,12 @@ final class MethodChanger {
       change(n);
     }
     boolean isSynchronized = isSynchronized();
-    if (isBlock || isSynchronized) {
+    if (isBlock || isSynchronized || isInitializer()) {
       wrap(all, isBlock, isSynchronized);
+    }
+    if (needsInitializer()) {
+      code.insert(initialization("use"));
+      hooks++;
     }
     return hooks > 0;
   }
@@ -90,6 +95,25 @@ final class MethodChanger {
     boolean isStatic = Modifier.isStatic(method.access);
     return Modifier.isSynchronized(method.access)
         && (!isStatic || type.version() >= Opcodes.V1_5);
+  }
+
+  // ---- the initialization of the class
+  private boolean isInitializer() {
+    return method.name.equals("<clinit>");
+  }
+
+  /** Whether who calls it waits until the class is initialized. */
+  private boolean needsInitializer() {
+    boolean uses = isConstructor || Modifier.isStatic(method.access);
+    boolean isInner = (method.access & Opcodes.ACC_SYNTHETIC) != 0;
+    return type.initializer() != 0 && uses && !isInner && !isInitializer();
+  }
+
+  private InsnList initialization(String hook) {
+    return list(
+        number(type.initializer()),
+        number(entry),
+        new MethodInsnNode(Opcodes.INVOKESTATIC, INITIALIZERS, hook, "(II)V", false));
   }
 
   // ---- which methods are blocks
@@ -136,6 +160,9 @@ final class MethodChanger {
   // ---- the method as a whole
   private void wrap(AbstractInsnNode[] all, boolean isBlock, boolean isSynchronized) {
     InsnList begin = new InsnList();
+    if (isInitializer()) {
+      begin.add(initialization("begin"));
+    }
     if (isBlock) {
       begin.add(number(isAtomic ? -entry : entry));
       begin.add(hook("open", "(I)V"));
@@ -176,6 +203,9 @@ final class MethodChanger {
     }
     if (isBlock) {
       end.add(hook("close", "()V"));
+    }
+    if (isInitializer()) {
+      end.add(initialization("end"));
     }
     return end;
   }
@@ -241,7 +271,7 @@ final class MethodChanger {
   private void changePlain(AbstractInsnNode n) {
     int op = n.getOpcode();
     if (op >= Opcodes.IALOAD && op <= Opcodes.SALOAD) {
-      before(n, Opcodes.DUP2, number(newSite()), hook("readElement", "(Ljava/lang/Object;II)V"));
+      before(n, Opcodes.DUP2, number(newSite()), access("readElement", "Ljava/lang/Object;II"));
       done(n, Settings.isExact());
     } else if (op >= Opcodes.IASTORE && op <= Opcodes.SASTORE) {
       storeElement(n, op == Opcodes.LASTORE || op == Opcodes.DASTORE);
@@ -277,13 +307,24 @@ final class MethodChanger {
         drop,
         copy,
         number(newSite()),
-        hook("writeElement", "(Ljava/lang/Object;II)V"));
+        access("writeElement", "Ljava/lang/Object;II"));
     done(n, Settings.isExact());
   }
 
+  private static AbstractInsnNode access(String name, String arguments) {
+    return hook(name, "(" + arguments + ")Ljava/lang/Object;");
+  }
+
+  /** What the hook gave stays in a local variable of its own, used for this access alone. */
   private void done(AbstractInsnNode n, boolean needed) {
     if (needed) {
-      after(n, hook("done", "()V"));
+      before(n, new VarInsnNode(Opcodes.ASTORE, method.maxLocals));
+      after(
+          n,
+          new VarInsnNode(Opcodes.ALOAD, method.maxLocals),
+          hook("done", "(Ljava/lang/Object;)V"));
+    } else {
+      before(n, Opcodes.POP);
     }
   }
 
@@ -301,12 +342,12 @@ final class MethodChanger {
     if (f.getOpcode() == Opcodes.GETSTATIC || f.getOpcode() == Opcodes.PUTSTATIC) {
       changeStatic(f, own, isWide, site);
     } else if (f.getOpcode() == Opcodes.GETFIELD) {
-      before(f, Opcodes.DUP, number(site), hook("read", "(Ljava/lang/Object;I)V"));
+      before(f, Opcodes.DUP, number(site), access("read", "Ljava/lang/Object;I"));
     } else if (isWide) {
       before(f, Opcodes.DUP2_X1, Opcodes.POP2, Opcodes.DUP_X2);
-      before(f, number(site), hook("write", "(Ljava/lang/Object;I)V"));
+      before(f, number(site), access("write", "Ljava/lang/Object;I"));
     } else {
-      before(f, Opcodes.DUP2, Opcodes.POP, number(site), hook("write", "(Ljava/lang/Object;I)V"));
+      before(f, Opcodes.DUP2, Opcodes.POP, number(site), access("write", "Ljava/lang/Object;I"));
     }
     done(f, Settings.isExact() || maybeVolatile(f, access));
   }
@@ -318,7 +359,7 @@ final class MethodChanger {
       before(f, isWide ? Opcodes.POP2 : Opcodes.POP);
     }
     boolean reads = f.getOpcode() == Opcodes.GETSTATIC;
-    before(f, number(site), hook(reads ? "readStatic" : "writeStatic", "(I)V"));
+    before(f, number(site), access(reads ? "readStatic" : "writeStatic", "I"));
   }
 
   private boolean maybeVolatile(FieldInsnNode f, int access) {
