@@ -45,6 +45,15 @@ class OfALog(support.InFolder):
         self.assertEqual(found.seen, {})
         self.assertEqual(found.possible[(False, 0)].tier, Tier.CARRIED)
 
+    def test_nobody_else_writes_what_could_be_interrupted(self) -> None:
+        log = Log().add(("1 begin 0", ""), *hold(1, "rd 0 0", 1, "f"), *hold(1, "wr 0 0", 2, "f"))
+        found = self.scan(log.add(("1 end", ""), *hold(2, "rd 0 0", 9, "g")), 0).gaps[0]
+        self.assertEqual(found.possible, {})
+
+    def test_what_is_written_once(self) -> None:
+        log = Log(variables=2).add(("1 wr 0 0", ""), ("1 wr 1 0", ""), ("2 wr 1 0", ""))
+        self.assertEqual(self.scan(log).once, {0})
+
     def test_one_hold_is_no_gap(self) -> None:
         found = self.scan(support.right(), 0).gaps[0]
         self.assertEqual((found.seen, found.possible), ({}, {}))

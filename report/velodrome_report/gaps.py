@@ -198,6 +198,10 @@ class Scan:
         self._acquires, self._alone = _Others(), _Others()
         # the only thread that used a variable, -1 if there are two
         self._owner: Dict[int, int] = {}
+        # the only thread that wrote a variable, -1 if there are two
+        self._writer: Dict[int, int] = {}
+        self._written: Set[int] = set()
+        self._again: Set[int] = set()
         self._changed: Set[int] = set()
         self._plainly: Set[int] = set()
         self._atomic = frozenset(atomic or ())
@@ -211,7 +215,14 @@ class Scan:
         shared = {variable for variable, owner in self._owner.items() if owner < 0}
         counters = (self._changed - self._plainly) | self._atomic
         self.found.counters = frozenset(counters & shared)
+        self.found.once = frozenset(self._written - self._again)
+        for gaps in self.found.gaps.values():
+            gaps.possible = {key: gap for key, gap in gaps.possible.items() if self._can_come(gap)}
         return self.found
+
+    def _can_come(self, gap: Gap) -> bool:
+        """Whether some other thread than that of a possible gap writes its variable."""
+        return self._writer.get(gap.number, -1) < 0
 
     def event(self, position: int, words: List[str], site: int) -> None:
         """The next event of the log, by the words of its line."""
@@ -280,6 +291,9 @@ class Scan:
     def _write(self, position: int, thread: _Thread, variable: int, site: int) -> None:
         number = thread.number
         self._use(variable, number)
+        if self._writer.setdefault(variable, number) != number:
+            self._writer[variable] = -1
+        (self._again if variable in self._written else self._written).add(variable)
         written = self._writes.of(variable, number)
         since = _changes_since(thread, variable, site, written)
         whole = since >= 0
