@@ -145,11 +145,12 @@ class OfALog(support.InFolder):
         self.assertFalse(self.scan(log, 0).gaps[0].seen[(False, 0)].counts)
 
     def test_what_is_changed_and_later_read_is_no_count(self) -> None:
-        for atomic, change in ((None, changed_in_a_hold), ([0], changed)):
+        guarded = [*changed_in_a_hold(1), *changed_in_a_hold(2), *hold(1, "rd 0 0", 3, "f")]
+        at_once = [*changed(1), *changed(2), ("1 rd 0 0", "a.c:3 f")]
+        for events, atomic in ((guarded, None), (at_once, [0])):
             with self.subTest(atomic):
-                log = Log().add(("1 begin 0", ""), *change(1), *change(2))
-                last = hold(1, "rd 0 0", 3, "f") if atomic is None else [("1 rd 0 0", "a.c:3 f")]
-                found = self.scan(log.add(*last, ("1 end", "")), 0, atomic=atomic)
+                log = Log().add(("1 begin 0", ""), *events, ("1 end", ""))
+                found = self.scan(log, 0, atomic=atomic)
                 gap = found.gaps[0].seen[(False, 0)]
                 self.assertEqual(found.counters, {0})
                 self.assertEqual((gap.tier, gap.counts), (Tier.SEEN_TWICE, False))

@@ -383,7 +383,8 @@ def _only_counts(alarm: Alarm, looked: Looked) -> bool:
     set_up = {
         step.target.number
         for step in steps
-        if step.action is Action.WRITES and step.thread.number == mine
+        if step.action is Action.WRITES
+        and step.thread.number == mine
+        and step.target.number in looked.scanned.once
     }
-    known = looked.scanned.counters | (looked.scanned.once & set_up)
-    return bool(numbers) and numbers <= known
+    return bool(numbers) and numbers <= looked.scanned.counters | set_up
