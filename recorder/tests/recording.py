@@ -70,6 +70,33 @@ def names(room, cc):
     test(f"{cc} names on stacks and the heap", body)
 
 
+def containers(room, cc):
+    """Links that the library changes, in code without hooks, are written by who calls it."""
+    made = program(room, cc, "containers")
+
+    def body():
+        log = log_of(room, made.run("exact"), "--all-variables")[0]
+        said = names_in(room)
+        label = dict(re.findall(r"^label (\d+) (\w+)\(\)$", said, re.M))
+        variable = dict(re.findall(r"^variable (\d+) (\S+)", said.replace("[abi:cxx11]", ""), re.M))
+        stacks, found = {}, set()
+        for thread, word, *rest in (line.split() for line in log.splitlines()[1:]):
+            stack = stacks.setdefault(thread, [])
+            if word == "begin":
+                stack.append(label.get(rest[0], ""))
+            elif word == "end":
+                stack.pop()
+            elif word in ("rd", "wr"):
+                found.add((stack[-1] if stack else "", word, variable.get(rest[0])))
+        # a tree's root stands at +16, a list's first node in front
+        wanted = {("look", "rd", link) for link in ("ids+16", "names+16", "jobs")}
+        wanted |= {("put", "wr", "ids+16"), ("move", "wr", "jobs")}
+        wanted |= {("drop", "wr", "names+16"), ("drop", "wr", "jobs")}
+        return True if wanted <= found else f"{sorted(wanted - found)} in {said}{log}"
+
+    test(f"{cc} links of containers", body)
+
+
 def old_values(room, cc):
     made = program(room, cc, "holds")
 
@@ -468,6 +495,7 @@ def main(words):
         for cc in words or ["gcc", "clang"]:
             for part in (
                 names,
+                containers,
                 old_values,
                 starts,
                 routines,

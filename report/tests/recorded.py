@@ -97,6 +97,16 @@ class Programs(Recorded):
         self.assertEqual((kind, function), ("not_atomic", "Cache::get_or_load(..)"))
         self.assertIn("cache", variable)
 
+    def test_registry(self) -> None:
+        answer = self.recorded("registry", "-n", "3", "--noise", "5")
+        (kind, function, _), *_ = self.likely(answer)
+        self.assertEqual((kind, function), ("not_atomic", "Registry::id_of(..)"))
+        self.assertIn(16, self.lines(answer))
+
+    def test_handle(self) -> None:
+        answer = self.recorded("handle", "-n", "3", "--noise", "5")
+        self.assertEqual(self.likely(answer)[:1], [("not_atomic", "read_it()", "data")])
+
     def test_a_deadlock_that_can_happen(self) -> None:
         kinds = {kind for kind, _, _ in self.likely(self.recorded("deadlock"))}
         self.assertLessEqual(kinds, {"deadlock", "deadlock_possible"})
@@ -108,7 +118,7 @@ class Programs(Recorded):
         self.assertIn(11, self.lines(answer))
 
     def test_programs_that_are_right(self) -> None:
-        for name in ("buffer", "config", "steal"):
+        for name in ("buffer", "config", "steal", "scoped"):
             with self.subTest(name):
                 self.assertEqual(self.likely(self.recorded(name, "-n", "2")), [])
 

@@ -2,7 +2,7 @@
 
 import os
 import unittest
-from typing import List
+from typing import List, Optional
 
 import support
 from support import Line, Log, hold
@@ -11,11 +11,24 @@ from velodrome_report.gap import Gap, Scanned, Tier
 from velodrome_report.sites import Sites
 
 
+def changed(thread: int, site: str = "a.c:9 g") -> List[Line]:
+    """Variable 0 is changed by an operation that cannot be interrupted."""
+    return [(f"{thread} rd 0 0", site), (f"{thread} wr 0 0", site)]
+
+
+def changed_in_a_hold(thread: int) -> List[Line]:
+    """Variable 0 is changed under lock 0."""
+    read, write = changed(thread)
+    return [(f"{thread} acq 0", ""), read, (write[0], "a.c:10 g"), (f"{thread} rel 0", "")]
+
+
 class OfALog(support.InFolder):
-    def scan(self, log: Log, *wanted: int, left_out: int = -1) -> Scanned:
+    def scan(
+        self, log: Log, *wanted: int, left_out: int = -1, atomic: Optional[List[int]] = None
+    ) -> Scanned:
         path = log.write(self.path("run.log"))
         sites = Sites(path + ".sites", gaps.MOST_EVENTS)
-        return gaps.scan(path, sites, set(wanted), {left_out})
+        return gaps.scan(path, sites, set(wanted), {left_out}, atomic)
 
     def seen(self, log: Log, label: int = 0, number: int = 0, is_lock: bool = False) -> Gap:
         return self.scan(log, label).gaps[label].seen[(is_lock, number)]
@@ -31,6 +44,15 @@ class OfALog(support.InFolder):
         found = self.scan(support.lost_update(interrupted=False), 0).gaps[0]
         self.assertEqual(found.seen, {})
         self.assertEqual(found.possible[(False, 0)].tier, Tier.CARRIED)
+
+    def test_nobody_else_writes_what_could_be_interrupted(self) -> None:
+        log = Log().add(("1 begin 0", ""), *hold(1, "rd 0 0", 1, "f"), *hold(1, "wr 0 0", 2, "f"))
+        found = self.scan(log.add(("1 end", ""), *hold(2, "rd 0 0", 9, "g")), 0).gaps[0]
+        self.assertEqual(found.possible, {})
+
+    def test_what_is_written_once(self) -> None:
+        log = Log(variables=2).add(("1 wr 0 0", ""), ("1 wr 1 0", ""), ("2 wr 1 0", ""))
+        self.assertEqual(self.scan(log).once, {0})
 
     def test_one_hold_is_no_gap(self) -> None:
         found = self.scan(support.right(), 0).gaps[0]
@@ -121,6 +143,39 @@ class OfALog(support.InFolder):
         log.add(("1 rd 0 0", "a.c:1 f"), ("2 rd 0 0", "a.c:9 g"), ("2 wr 0 0", "a.c:9 g"))
         log.add(("1 rd 0 0", "a.c:2 f"), ("1 wr 0 0", "a.c:2 f"), ("1 end", ""))
         self.assertFalse(self.scan(log, 0).gaps[0].seen[(False, 0)].counts)
+
+    def test_what_is_changed_and_later_read_is_no_count(self) -> None:
+        guarded = [*changed_in_a_hold(1), *changed_in_a_hold(2), *hold(1, "rd 0 0", 3, "f")]
+        at_once = [*changed(1), *changed(2), ("1 rd 0 0", "a.c:3 f")]
+        for events, atomic in ((guarded, None), (at_once, [0])):
+            with self.subTest(atomic):
+                log = Log().add(("1 begin 0", ""), *events, ("1 end", ""))
+                found = self.scan(log, 0, atomic=atomic)
+                gap = found.gaps[0].seen[(False, 0)]
+                self.assertEqual(found.counters, {0})
+                self.assertEqual((gap.tier, gap.counts), (Tier.SEEN_TWICE, False))
+
+    def test_what_is_looked_at_twice_under_a_lock_is_no_count(self) -> None:
+        log = Log().add(("1 begin 0", ""), *hold(1, "rd 0 0", 1, "f"), *changed_in_a_hold(2))
+        found = self.scan(log.add(*hold(1, "rd 0 0", 2, "f"), ("1 end", "")), 0)
+        self.assertEqual(found.counters, {0})
+        self.assertFalse(found.gaps[0].seen[(False, 0)].counts)
+
+    def test_a_flag_is_looked_at_twice(self) -> None:
+        log = Log().add(("1 begin 0", ""), ("1 rd 0 0", "a.c:1 f"), *changed(2))
+        found = self.scan(log.add(("1 rd 0 0", "a.c:2 f"), ("1 end", "")), 0, atomic=[0])
+        self.assertTrue(found.gaps[0].seen[(False, 0)].counts)
+
+    def test_a_look_just_before_a_change_is_part_of_it(self) -> None:
+        log = Log().add(("1 begin 0", ""), *changed(1), *changed(2), ("1 rd 0 0", "a.c:3 f"))
+        found = self.scan(log.add(*changed(1), ("1 end", "")), 0)
+        self.assertTrue(found.gaps[0].seen[(False, 0)].counts)
+
+    def test_a_lock_that_is_held_shared_and_later_alone(self) -> None:
+        log = Log(variables=0).add(("1 begin 0", ""), ("1 acqs 0", "a.c:1 f"))
+        log.add(("1 rels 0", "a.c:2 f"), ("2 acq 0", ""), ("2 rel 0", ""))
+        log.add(("1 acq 0", "a.c:3 f"), ("1 rel 0", ""), ("1 end", ""))
+        self.assertEqual(self.seen(log, is_lock=True).tier, Tier.SEEN_TWICE)
 
     def test_blocks_that_are_left_out(self) -> None:
         log = support.lost_update()

@@ -60,6 +60,19 @@ class Lists(support.InFolder):
         support.put(self.path("run.log.tried"), f"{tried}\n")
         self.assertEqual(self.answer("run.log")["findings"], [])
 
+    def test_who_sets_up_what_others_wait_for(self) -> None:
+        """Thread 1 writes `once` alone; both change a count under a lock."""
+        change = [("acq 0", ""), ("rd 1 0", "o.c:3 f"), ("wr 1 0", "o.c:4 f"), ("rel 0", "")]
+        one, two = ([(f"{thread} {text}", site) for text, site in change] for thread in (1, 2))
+        log = Log(variables=2).named(label_0="f", variable_0="once", variable_1="used")
+        log.add(("1 begin 0", ""), ("1 wr 0 0", "o.c:2 f"), ("2 begin 0", ""))
+        log.add(("2 rd 0 0", "o.c:2 f"), *two, ("2 end", ""), *one, ("1 end", ""))
+        log.notes = {"all_variables": True}
+        log.write(self.path("run.log"))
+        self.assertEqual(
+            [one["section"] for one in self.answer("run.log")["findings"]], ["by_design"]
+        )
+
     def test_locks_of_one_array_are_one_deadlock(self) -> None:
         ids = []
         for first, second in (("locks+8", "locks+16"), ("locks+40", "locks[3]")):

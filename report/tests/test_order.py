@@ -140,6 +140,13 @@ class Order(unittest.TestCase):
         (one,) = ranking.ranked([unknown])
         self.assertEqual(one.section, Section.LIKELY)
 
+    def test_a_lock_that_is_held_shared_and_later_alone(self) -> None:
+        gap = GapTrait(tier=SEEN_TWICE, target="m")
+        locks = witness(targets=("m", "m", "m"), kind=TargetKind.LOCK)
+        (one,) = ranking.ranked([replace(found("f", gap), witness=locks)])
+        self.assertEqual(one.section, Section.LIKELY)
+        self.assertIn("m is held shared and later alone", one.why)
+
     def test_the_more_telling_gap(self) -> None:
         best = GapTrait(tier=CARRIED)
         for other in (

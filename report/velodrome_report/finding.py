@@ -373,13 +373,18 @@ def _trait(gap: Gap, seen: bool, looked: Looked, counters: "frozenset[int]") -> 
 
 
 def _only_counts(alarm: Alarm, looked: Looked) -> bool:
-    """Whether each variable of a cycle is a count."""
+    """Whether each variable of a cycle is a count, or is set up by the block to blame, once."""
     if alarm.cycle is None:
         return False
-    numbers = {
-        end.step.target.number
-        for edge in alarm.cycle.edges
-        for end in edge
-        if end.step.target.kind is TargetKind.VARIABLE
+    mine = alarm.closing.thread.number
+    ends = [end.step for edge in alarm.cycle.edges for end in edge]
+    steps = [step for step in ends if step.target.kind is TargetKind.VARIABLE]
+    numbers = {step.target.number for step in steps}
+    set_up = {
+        step.target.number
+        for step in steps
+        if step.action is Action.WRITES
+        and step.thread.number == mine
+        and step.target.number in looked.scanned.once
     }
-    return bool(numbers) and numbers <= looked.scanned.counters
+    return bool(numbers) and numbers <= looked.scanned.counters | set_up

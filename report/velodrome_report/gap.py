@@ -67,6 +67,8 @@ class Scanned:
     calls: Dict[int, int] = field(default_factory=dict)
     # the variables that are only changed at once, by who has just read them
     counters: FrozenSet[int] = frozenset()
+    # the variables that were written once
+    once: FrozenSet[int] = frozenset()
     events: int = 0
     threads: int = 0
     # whether all of the log was read

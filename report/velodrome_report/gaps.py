@@ -12,6 +12,7 @@ of a lock and written under a later hold of it.
 from __future__ import annotations
 
 from bisect import bisect_left, bisect_right
+from dataclasses import replace
 from typing import Dict, List, Optional, Sequence, Set, Tuple
 
 from .gap import BEST, Gap, Gaps, Scanned, Tier
@@ -23,6 +24,10 @@ MOST_EVENTS = 4_000_000
 MOST_KEPT = 128
 # so often a possible gap of one function and one variable is looked at
 MOST_POSSIBLE = 32
+
+
+# the gaps of one function, by whether the target is a lock and its number
+_Found = Dict[Tuple[bool, int], Gap]
 
 
 class _Block:
@@ -54,7 +59,7 @@ class _Own:
         self.block = block
         # of each lock that is held the position of its acquire
         self.holds = holds
-        # whether what it read is changed at once
+        # whether it is part of a change at once: a read that is written back, or that write
         self.whole = False
 
 
@@ -89,7 +94,7 @@ class _Owns:
         for own in reversed(self.events):
             if own.position < since:
                 break
-            own.whole = not own.is_write
+            own.whole = own.whole or not own.is_write
 
     def last_read(self) -> int:
         """The position of the latest read, -1 if there is none."""
@@ -135,7 +140,9 @@ class _Thread:
         "waits",
         "owns",
         "last",
+        "first",
         "reads",
+        "undecided",
     )
 
     def __init__(self, number: int) -> None:
@@ -154,14 +161,30 @@ class _Thread:
         self.owns: Dict[Tuple[bool, int], _Owns] = {}
         # the latest event if it is a read: its variable, its site and its position
         self.last: Tuple[int, int, int] = (-1, -1, -1)
+        # the position of the first one of its row of reads of this variable
+        self.first = -1
         # of each variable the position of the latest read
         self.reads: Dict[int, int] = {}
+        # gaps that end at a read of which it is not known yet whether it is changed at once
+        self.undecided: List[_Undecided] = []
 
     def add(self, target: Tuple[bool, int], own: _Own) -> None:
         owns = self.owns.get(target)
         if owns is None:
             owns = self.owns[target] = _Owns()
         owns.add(own)
+
+
+class _Undecided:
+    """A gap that ends at a read: what it is depends on what the thread does next."""
+
+    __slots__ = ("gaps", "gap", "kept", "own")
+
+    def __init__(self, gaps: "_Found", gap: Gap, kept: _Own, own: _Own) -> None:
+        self.gaps = gaps
+        self.gap = gap
+        self.kept = kept
+        self.own = own
 
 
 class Scan:
@@ -175,6 +198,10 @@ class Scan:
         self._acquires, self._alone = _Others(), _Others()
         # the only thread that used a variable, -1 if there are two
         self._owner: Dict[int, int] = {}
+        # the only thread that wrote a variable, -1 if there are two
+        self._writer: Dict[int, int] = {}
+        self._written: Set[int] = set()
+        self._again: Set[int] = set()
         self._changed: Set[int] = set()
         self._plainly: Set[int] = set()
         self._atomic = frozenset(atomic or ())
@@ -182,11 +209,20 @@ class Scan:
 
     def ended(self) -> Scanned:
         """What was found."""
+        for thread in self._threads.values():
+            self._decide(thread)
         self.found.threads = len(self._threads)
         shared = {variable for variable, owner in self._owner.items() if owner < 0}
         counters = (self._changed - self._plainly) | self._atomic
         self.found.counters = frozenset(counters & shared)
+        self.found.once = frozenset(self._written - self._again)
+        for gaps in self.found.gaps.values():
+            gaps.possible = {key: gap for key, gap in gaps.possible.items() if self._can_come(gap)}
         return self.found
+
+    def _can_come(self, gap: Gap) -> bool:
+        """Whether some other thread than that of a possible gap writes its variable."""
+        return self._writer.get(gap.number, -1) < 0
 
     def event(self, position: int, words: List[str], site: int) -> None:
         """The next event of the log, by the words of its line."""
@@ -207,8 +243,10 @@ class Scan:
         elif word in ("acq", "acqs"):
             self._acquire(position, thread, int(words[2]), site, word == "acq")
         elif word in ("rel", "rels"):
-            self._release(position, thread, int(words[2]), site)
+            self._release(position, thread, int(words[2]), site, word == "rel")
         thread.last = (-1, -1, -1)
+        if thread.undecided:
+            self._decide(thread, min(thread.holds.values(), default=position + 1))
 
     def _begin(self, position: int, thread: _Thread, label: int, site: int) -> None:
         if label in self._left_out:
@@ -237,6 +275,10 @@ class Scan:
     def _read(self, position: int, thread: _Thread, variable: int, site: int) -> None:
         number = thread.number
         self._use(variable, number)
+        if thread.last[0] != variable:
+            thread.first = position
+            if thread.undecided and not thread.holds:
+                self._decide(thread)
         if thread.wanted and thread.top is not None:
             own = _Own(position, False, site, thread.top, thread.holds)
             between = self._writes.of(variable, number)
@@ -249,6 +291,9 @@ class Scan:
     def _write(self, position: int, thread: _Thread, variable: int, site: int) -> None:
         number = thread.number
         self._use(variable, number)
+        if self._writer.setdefault(variable, number) != number:
+            self._writer[variable] = -1
+        (self._again if variable in self._written else self._written).add(variable)
         written = self._writes.of(variable, number)
         since = _changes_since(thread, variable, site, written)
         whole = since >= 0
@@ -257,6 +302,7 @@ class Scan:
         if thread.wanted and thread.top is not None:
             target = (False, variable)
             own = _Own(position, True, site, thread.top, thread.holds)
+            own.whole = whole
             owns = thread.owns.get(target)
             if owns is not None:
                 if whole:
@@ -275,16 +321,16 @@ class Scan:
             thread.waits.append((released[0], position))
         if thread.wanted and thread.top is not None:
             between = (self._acquires if alone else self._alone).of(lock, thread.number)
-            own = _Own(position, True, site, thread.top, thread.holds)
+            own = _Own(position, alone, site, thread.top, thread.holds)
             self._told(thread, (True, lock), between, own, Tier.LOCK)
         self._acquires.put(lock, position, thread.number)
         if alone:
             self._alone.put(lock, position, thread.number)
         thread.holds = {**thread.holds, lock: position}
 
-    def _release(self, position: int, thread: _Thread, lock: int, site: int) -> None:
+    def _release(self, position: int, thread: _Thread, lock: int, site: int, alone: bool) -> None:
         if thread.wanted and thread.top is not None:
-            thread.add((True, lock), _Own(position, False, site, thread.top, thread.holds))
+            thread.add((True, lock), _Own(position, alone, site, thread.top, thread.holds))
         thread.holds = {held: since for held, since in thread.holds.items() if held != lock}
         thread.released[lock] = (position, site)
 
@@ -312,8 +358,42 @@ class Scan:
                     for kept in owns.between(block.begin, between):
                         if tier is None and not kept.is_write:
                             continue
-                        _note(gaps, _gap(thread, block, target, kept, between, own, tier))
+                        gap = _gap(thread, block, target, kept, between, own, tier)
+                        if own.is_write or target[0]:
+                            self._note(gaps, gap, kept, own)
+                        else:
+                            thread.undecided.append(_Undecided(gaps, gap, kept, own))
             block = block.parent
+
+    def _decide(self, thread: _Thread, since: Optional[int] = None) -> None:
+        """Notes the gaps that end at a read before `since`: it is not changed at once any more."""
+        left: List[_Undecided] = []
+        for one in thread.undecided:
+            if since is not None and one.own.position > since:
+                left.append(one)
+            else:
+                self._note(one.gaps, one.gap, one.kept, one.own)
+        thread.undecided = left
+
+    def _note(self, gaps: _Found, gap: Gap, kept: _Own, own: _Own) -> None:
+        """Keeps the more telling one of two gaps of one target."""
+        gap = replace(gap, counts=self._counts(gap, kept, own))
+        key = (gap.is_lock, gap.number)
+        known = gaps.get(key)
+        if known is None or gap.key() < known.key():
+            gaps[key] = gap
+
+    def _counts(self, gap: Gap, kept: _Own, own: _Own) -> bool:
+        """Whether this is how a count is used: what is changed at once is changed at once again.
+
+        What is changed and later only read is a value that is used. But an atomic variable that
+        is looked at twice is mostly a flag.
+        """
+        if kept.whole and own.whole:
+            return True
+        if gap.is_lock or gap.number not in self._atomic:
+            return False
+        return (kept.whole or gap.tier is Tier.SEEN_TWICE) and not (kept.whole and not own.is_write)
 
     def _could(self, thread: _Thread, variable: int, owns: _Owns, own: _Own) -> None:
         """Notes the gaps of all open blocks where a lock was let go between a read and a write."""
@@ -329,7 +409,7 @@ class Scan:
                 for kept in owns.between(block.begin, newest):
                     if not kept.is_write and _let_go(kept, own):
                         gap = _gap(thread, block, (False, variable), kept, newest, own, tier)
-                        _note(self.found.gaps[block.label].possible, gap)
+                        self._note(self.found.gaps[block.label].possible, gap, kept, own)
             block = block.parent
 
     def _may_look(self, label: int, variable: int) -> bool:
@@ -346,7 +426,7 @@ def _changes_since(thread: _Thread, variable: int, site: int, written: int) -> i
     written does not come of what was just read.
     """
     if thread.last[:2] == (variable, site) and written < thread.last[2]:
-        return thread.last[2]
+        return thread.first if written < thread.first else thread.last[2]
     if thread.holds:
         since = min(thread.holds.values())
         if thread.reads.get(variable, -1) > since:
@@ -390,13 +470,16 @@ def _gap(
     inside = first is not None and first is second
     if tier is None or (tier < Tier.SEEN_TWICE and kept.is_write):
         tier = Tier.SEEN_TWICE
+    elif target[0] and own.is_write and not kept.is_write:
+        # what was read under a shared hold is followed by a hold of the lock alone
+        tier = Tier.SEEN_TWICE
     low = kept.position
     return Gap(
         inside_callee=inside,
         in_wait=any(low <= start and start <= between <= end for start, end in thread.waits),
         in_loop=not inside and _line(first, kept) == _line(second, own),
         tier=tier,
-        counts=kept.whole or tier is Tier.SEEN_TWICE,
+        counts=False,
         is_lock=target[0],
         number=target[1],
         before=kept.position,
@@ -404,14 +487,6 @@ def _gap(
         after=own.position,
         callee=first.label if inside and first is not None else -1,
     )
-
-
-def _note(gaps: Dict[Tuple[bool, int], Gap], gap: Gap) -> None:
-    """Keeps the more telling one of two gaps of one target."""
-    key = (gap.is_lock, gap.number)
-    known = gaps.get(key)
-    if known is None or gap.key() < known.key():
-        gaps[key] = gap
 
 
 def scan(

@@ -13,6 +13,7 @@ SAID = {
     LOOKED_AT_AGAIN: "is read, and later read again and written",
 }
 
+UPGRADED = "is held shared and later alone: what was read before may have changed"
 UNORDERED = "no lock is held, and nothing orders the other thread's write: it can come in between"
 
 
@@ -43,10 +44,14 @@ def why(finding: Finding) -> str:
     gap = finding.traits.gap
     if finding.kind is Kind.STALE_WRITE and not finding.seen:
         return UNORDERED
-    if finding.kind is not Kind.NOT_ATOMIC or gap is None or gap.tier not in SAID:
+    if finding.kind is not Kind.NOT_ATOMIC or gap is None:
         return ""
     targets = finding.witness.targets()
     variables = [target for target in targets if target.kind is TargetKind.VARIABLE]
+    if gap.tier == SEEN_TWICE and not variables:
+        return f"{gap.target} {UPGRADED}"
+    if gap.tier not in SAID:
+        return ""
     if not variables:
         return f"{gap.target} {SAID[gap.tier]}"
     own = [event.action for event in finding.witness.events if not event.interrupts]
