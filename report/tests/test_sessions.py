@@ -33,6 +33,21 @@ class Kept(support.InFolder):
             ],
         )
 
+    def test_one_statement_is_no_loop(self) -> None:
+        """A read and a write have one place in `balance += amount`."""
+        source = support.put(self.path("bank.py"), support.lines_of(["balance += amount"]))
+        log = support.Log(threads=3, variables=4, locks=0)
+        log.named(variable_0="balance", label_0="deposit (bank.py:1)")
+        place = f"{source}:1 -"
+        for thread in (1, 2):
+            log.add((f"{thread} begin 0", ""), (f"{thread} rd 0 0", place))
+        for thread in (2, 1):
+            log.add((f"{thread} wr 0 0", place), (f"{thread} end", ""))
+        log.write(self.path("test_bank.vlog"))
+        lines = self.run_command("test_bank.vlog").stdout.splitlines()
+        self.assertTrue(lines[0].startswith("deposit (bank.py:1) is not atomic: seen in 1"), lines)
+        self.assertEqual(lines[3], "  > thread 2  bank.py:1  balance += amount  writes balance")
+
 
 if __name__ == "__main__":
     unittest.main()

@@ -23,11 +23,13 @@ import threading
 import time
 import types
 import unittest
+import unittest.mock
 import warnings
 import weakref
 
 import velodrome
 from velodrome import Lock, RLock, Thread, Var, atomic
+from velodrome._finding import finding
 
 
 class Account:
@@ -320,6 +322,28 @@ class Tasks(Case):
             warnings.simplefilter("error")
             self.assertEqual(self.watch("clean", lambda: asyncio.run(main())), [0, 0.001])
             gc.collect()
+
+    def test_more_tasks_than_numbers(self):
+        """They are used again once no block is open; who is in one never waits for another task."""
+
+        def body(tasks, at_once):
+            async def one(gate):
+                async with gate:
+                    with atomic("one"):
+                        x = Var(0)
+                        x.set(1)
+                        await asyncio.sleep(0)
+                        x.set(2)
+
+            async def main():
+                gate = asyncio.Semaphore(at_once)
+                await asyncio.gather(*(one(gate) for _ in range(tasks)))
+
+            return lambda: asyncio.run(main())
+
+        self.watch("clean", body(500, 1))
+        self.watch("clean", body(60, 60))
+        self.watch("incomplete", body(100, 100), "more than 63 threads while a block was open")
 
     def test_generators_are_refused(self):
         def generator():
@@ -903,6 +927,25 @@ while x.get() < 100: pass
         owner.nosy = 2
         self.assertEqual(seen, [(int, type(None)), (int, int)])
 
+    @unittest.skipUnless(importlib.util.find_spec("_testcapi"), "no _testcapi")
+    def test_interpreters_that_share_the_gil(self):
+        import _testcapi
+
+        program = """
+import velodrome
+
+class Account:
+    balance = velodrome.field(0)
+
+account = Account()
+with velodrome.session() as run, velodrome.patched(), velodrome.atomic('deposit'):
+    account.balance += 1
+assert run.outcome.clean and account.balance == 1, run.outcome
+"""
+        for _ in range(3):
+            self.assertEqual(_testcapi.run_in_subinterp(program), 0)
+        self.watch("clean", lambda: Account().deposit(1))
+
     def test_noise_lets_others_run(self):
         x, turns, together = Var(0), [], threading.Barrier(2)
 
@@ -1406,8 +1449,15 @@ class Types(Case):
                     self.assertEqual(run.outcome.text, f"not atomic: b\n{rows}\n{command}")
                 else:
                     self.assertIn("closes a cycle", run.outcome.text)
+            report.write_text(f"#!/bin/sh\nsleep 600 &\necho $! >'{folder}/started'\nwait\n")
+            with unittest.mock.patch("velodrome._finding.MOST_SECONDS", 3):
+                self.assertEqual(finding(str(log), "not atomic: b"), "")
+            started = pathlib.Path("/proc", (folder / "started").read_text().strip(), "stat")
+            with contextlib.suppress(FileNotFoundError, ProcessLookupError):
+                while started.read_text().rsplit(")", 1)[1].split()[0] != "Z":
+                    time.sleep(0.01)  # it ends, or the test does by its time
             report.unlink()
-            self.assertEqual(velodrome.finding(str(log), "not atomic: b"), "")
+            self.assertEqual(finding(str(log), "not atomic: b"), "")
         finally:
             os.environ["PATH"] = path
 

@@ -34,8 +34,7 @@ import typing
 import warnings
 from typing import Any, Callable, Iterable, Iterator, Literal, TypeVar, overload
 
-from velodrome import _session
-from velodrome._finding import finding
+from velodrome import _finding, _session
 from velodrome._session import Actor, Lock, RLock, Var, field, switch
 
 __all__ = [
@@ -229,7 +228,7 @@ class Session:
 
     def _show_finding(self, path: str) -> None:
         if self._outcome and self._outcome.verdict == "alarm":
-            shown = finding(path, self._outcome.text.partition("\n")[0])
+            shown = _finding.finding(path, self._outcome.text.partition("\n")[0])
             self._outcome = Outcome("alarm", shown or self._outcome.text)
 
     def _add(self, words: str) -> None:
@@ -437,7 +436,6 @@ def patched(*, library_locks: bool = False) -> Iterator[None]:
     finally:
         vars(threading).update(before)
         _session.tell_library(told)
-
 
 
 @contextlib.contextmanager

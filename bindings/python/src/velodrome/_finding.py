@@ -1,7 +1,10 @@
 """What velodrome-report says of an alarm, where it is installed: the lines of source that came between each other."""
 from __future__ import annotations
 
+import contextlib
+import os
 import shutil
+import signal
 import subprocess
 
 PROGRAM = "velodrome-report"
@@ -15,15 +18,7 @@ def finding(log: str, headline: str) -> str:
     if not program or not name:
         return ""
     try:
-        report = subprocess.run(
-            [program, log],
-            stdin=subprocess.DEVNULL,
-            stdout=subprocess.PIPE,
-            stderr=subprocess.DEVNULL,
-            encoding="utf-8",
-            errors="replace",
-            timeout=MOST_SECONDS,
-        ).stdout
+        report = _said(program, log)
     except (OSError, subprocess.SubprocessError):
         return ""
     for paragraph in report.split("\n\n"):
@@ -31,3 +26,22 @@ def finding(log: str, headline: str) -> str:
         if rows and claim.startswith(f"{name} is not atomic: "):
             return f"{headline}\n{rows.rstrip()}\n"
     return ""
+
+
+def _said(program: str, log: str) -> str:
+    """What the program prints. It goes with all that it started."""
+    with subprocess.Popen(
+        [program, log],
+        stdin=subprocess.DEVNULL,
+        stdout=subprocess.PIPE,
+        stderr=subprocess.DEVNULL,
+        encoding="utf-8",
+        errors="replace",
+        start_new_session=True,
+    ) as report:
+        try:
+            return report.communicate(timeout=MOST_SECONDS)[0]
+        except BaseException:
+            with contextlib.suppress(OSError):
+                os.killpg(report.pid, signal.SIGKILL)
+            raise
