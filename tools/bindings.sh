@@ -355,6 +355,13 @@ if wants python && have python3; then
         step "python: tests of the pytest plugin" "${pytest[@]}" "$python/tests/test_pytest_plugin.py"
         step "examples: python, careful: a hundred times without an alarm" "${pytest[@]}" --velodrome-noise 4 "$bank" -k careful
         step "examples: python, careless: repeated until it fails" says 'not atomic: Account.deposit_carelessly (bank.py:' "${pytest[@]}" --velodrome-noise 4 "$bank" -k careless
+        checker=$top/crates/velodrome/out/velodrome
+        if [ -x "$checker" ]; then
+            shows_lines=(in_time env PATH="$top/report/bin:$PATH" VELODROME="$checker" "${pytest[@]:1}")
+            step "examples: python, careless: with its lines of source" says '^  > thread .*bank.py:.*balance' "${shows_lines[@]}" --velodrome-noise 4 "$bank" -k careless
+        else
+            echo "left out: no program, which velodrome-report asks"
+        fi
         step "examples: python, its log is kept" kept "$out"/logs/*test_careless.vlog
         incomplete=(in_time env VELODROME_EVENTS=2 "${pytest[@]:1}" "$bank" -k careful)
         step "examples: python, incomplete: it fails" says 'too many events while a block was open' "${incomplete[@]}"

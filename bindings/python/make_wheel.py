@@ -24,7 +24,7 @@ import zipfile
 HERE = pathlib.Path(__file__).resolve().parent
 PLATFORM, GLIBC = "manylinux_2_17_x86_64", (2, 17)
 TAG = f"cp39-abi3-{PLATFORM}"
-PACKAGE = ("__init__.py", "_session.pyi", "py.typed", "pytest_plugin.py")
+PACKAGE = ("__init__.py", "_finding.py", "_session.pyi", "py.typed", "pytest_plugin.py")
 
 
 def project() -> dict:

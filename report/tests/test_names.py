@@ -19,6 +19,8 @@ class Short(unittest.TestCase):
             ("main::{lambda(int)#1}::operator()(int) const", "main::{lambda#1}"),
             ("operator new(unsigned long)", "operator new(..)"),
             ("v(void (*)(int))", "v(..)"),
+            ("Account.deposit (bank.py:8)", "Account.deposit (bank.py:8)"),
+            ("move money (my bank.c:8)", "move money (my bank.c:8)"),
         ):
             with self.subTest(whole):
                 self.assertEqual(names.without_parameters(whole), short)

@@ -457,6 +457,11 @@ def _line(call: Optional[_Block], own: _Own) -> Tuple[str, int]:
     return ("call", call.site) if call.site else ("callee", call.label)
 
 
+def _is_one_change(thread: _Thread, kept: _Own, own: _Own) -> bool:
+    """Whether a read is followed by a write as in `x += 1`: one place, but no two passes of a loop."""
+    return own.is_write and not kept.is_write and thread.last[2] == kept.position
+
+
 def _gap(
     thread: _Thread,
     block: _Block,
@@ -477,7 +482,8 @@ def _gap(
     return Gap(
         inside_callee=inside,
         in_wait=any(low <= start and start <= between <= end for start, end in thread.waits),
-        in_loop=not inside and _line(first, kept) == _line(second, own),
+        in_loop=not (inside or _is_one_change(thread, kept, own))
+        and _line(first, kept) == _line(second, own),
         tier=tier,
         counts=False,
         is_lock=target[0],

@@ -20,6 +20,8 @@ DEFAULTS = (
 )
 LAMBDA = re.compile(r"\{lambda\(.*?\)#(\d+)\}(?:::operator\(\))?")
 OPENING, CLOSING = "<({[", ">)}]"
+# how the libraries name a section: by its function and where that stands
+WITH_PLACE = re.compile(r" \([^()]+:\d+\)$")
 
 
 def plain(name: str) -> str:
@@ -78,6 +80,8 @@ def _end_of_argument(name: str, start: int) -> Optional[int]:
 
 def _parameters(name: str) -> Optional[int]:
     """Where the list of parameters opens, None if the name has none."""
+    if WITH_PLACE.search(name):
+        return None
     ending = re.search(r"\)(?: const| volatile| &&?| noexcept)*$", name)
     if ending is None:
         return None

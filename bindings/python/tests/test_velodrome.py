@@ -23,11 +23,13 @@ import threading
 import time
 import types
 import unittest
+import unittest.mock
 import warnings
 import weakref
 
 import velodrome
 from velodrome import Lock, RLock, Thread, Var, atomic
+from velodrome._finding import finding
 
 
 class Account:
@@ -38,7 +40,7 @@ class Account:
         self.balance = self.balance + amount
 
 
-_Thread = threading.Thread  # also where it is patched
+_Thread, _Lock = threading.Thread, threading.Lock  # also where they are patched
 
 
 def elsewhere(body):
@@ -320,6 +322,28 @@ class Tasks(Case):
             warnings.simplefilter("error")
             self.assertEqual(self.watch("clean", lambda: asyncio.run(main())), [0, 0.001])
             gc.collect()
+
+    def test_more_tasks_than_numbers(self):
+        """They are used again once no block is open; who is in one never waits for another task."""
+
+        def body(tasks, at_once):
+            async def one(gate):
+                async with gate:
+                    with atomic("one"):
+                        x = Var(0)
+                        x.set(1)
+                        await asyncio.sleep(0)
+                        x.set(2)
+
+            async def main():
+                gate = asyncio.Semaphore(at_once)
+                await asyncio.gather(*(one(gate) for _ in range(tasks)))
+
+            return lambda: asyncio.run(main())
+
+        self.watch("clean", body(500, 1))
+        self.watch("clean", body(60, 60))
+        self.watch("incomplete", body(100, 100), "more than 63 threads while a block was open")
 
     def test_generators_are_refused(self):
         def generator():
@@ -903,6 +927,25 @@ while x.get() < 100: pass
         owner.nosy = 2
         self.assertEqual(seen, [(int, type(None)), (int, int)])
 
+    @unittest.skipUnless(importlib.util.find_spec("_testcapi"), "no _testcapi")
+    def test_interpreters_that_share_the_gil(self):
+        import _testcapi
+
+        program = """
+import velodrome
+
+class Account:
+    balance = velodrome.field(0)
+
+account = Account()
+with velodrome.session() as run, velodrome.patched(), velodrome.atomic('deposit'):
+    account.balance += 1
+assert run.outcome.clean and account.balance == 1, run.outcome
+"""
+        for _ in range(3):
+            self.assertEqual(_testcapi.run_in_subinterp(program), 0)
+        self.watch("clean", lambda: Account().deposit(1))
+
     def test_noise_lets_others_run(self):
         x, turns, together = Var(0), [], threading.Barrier(2)
 
@@ -1370,6 +1413,145 @@ class Types(Case):
             self.assertEqual((run.finish("none"), run.finish("none")), (True, False))
         finally:
             del os.environ["VELODROME_LOGS"], os.environ["VELODROME_INCOMPLETE"]
+
+    def lose(self):
+        """An update of x that another thread writes between."""
+        x = Var(0, "x")
+        with atomic("b"):
+            before = x.get()
+            elsewhere(lambda: x.set(1))
+            x.set(before)
+
+    def test_the_finding_of_velodrome_report(self):
+        folder = pathlib.Path(tempfile.mkdtemp())
+        report = folder / "velodrome-report"
+        path, os.environ["PATH"] = os.environ["PATH"], f"{folder}:{os.environ['PATH']}"
+        rows = "    thread 1  x.py:1  before = x  reads x"
+        other = "a is not atomic: possible in 1 of 1 run\n    of another\n\n"
+        of_b = f"b is not atomic: seen in 1 of 1 run, possible in 1\n{rows}\n\n"
+        try:
+            for said, shown in (
+                (f"{other}{of_b}2 calls of 2 functions\n", True),
+                (other, False),
+                (f"{rows}\n", False),
+                ("", False),
+            ):
+                report.write_text(f"#!/bin/sh\necho \"$@\" >'{folder}/asked'\nprintf '{said}'\n")
+                report.chmod(0o755)
+                with velodrome.session() as run:
+                    self.lose()
+                    self.assertTrue(run.finish("lost", folder=str(folder)))
+                log = folder / "lost.vlog"
+                self.assertEqual((folder / "asked").read_text(), f"{log}\n")
+                command = f"velodrome explain {log} --names {log}.names --sites {log}.sites\n"
+                self.assertTrue(run.outcome.text.endswith(command))
+                if shown:
+                    self.assertEqual(run.outcome.text, f"not atomic: b\n{rows}\n{command}")
+                else:
+                    self.assertIn("closes a cycle", run.outcome.text)
+            report.write_text(f"#!/bin/sh\nsleep 600 &\necho $! >'{folder}/started'\nwait\n")
+            with unittest.mock.patch("velodrome._finding.MOST_SECONDS", 3):
+                self.assertEqual(finding(str(log), "not atomic: b"), "")
+            started = pathlib.Path("/proc", (folder / "started").read_text().strip(), "stat")
+            with contextlib.suppress(FileNotFoundError, ProcessLookupError):
+                while started.read_text().rsplit(")", 1)[1].split()[0] != "Z":
+                    time.sleep(0.01)  # it ends, or the test does by its time
+            report.unlink()
+            self.assertEqual(finding(str(log), "not atomic: b"), "")
+        finally:
+            os.environ["PATH"] = path
+
+    def test_check(self):
+        folder = tempfile.mkdtemp()
+        run = velodrome.session()
+        self.lose()
+        with self.assertRaisesRegex(velodrome.Alarm, "not atomic: b"):
+            run.check("lost", folder=folder)
+        with self.assertRaises(velodrome.Alarm):
+            run.check("lost")  # though it has ended
+        with self.assertRaisesRegex(velodrome.Incomplete, "recorded(.|\n)*VELODROME_INCOMPLETE"):
+            velodrome.session().check("none", folder=folder)
+        with self.assertWarnsRegex(velodrome.IncompleteWarning, "nothing was recorded"):
+            velodrome.session().check("none", folder=folder, incomplete="warn")
+        with warnings.catch_warnings(), velodrome.session() as run:
+            warnings.simplefilter("error")
+            Var(0).get()
+            self.assertTrue(run.check("fine", folder=folder).clean)
+
+    def test_watched_tests_of_unittest(self):
+        lose, case = self.lose, self
+
+        @velodrome.watched()
+        class Bank(unittest.IsolatedAsyncioTestCase):
+            def test_lost(self):
+                case.assertIs(threading.Lock, Lock)
+                lose()
+
+            async def test_lost_by_a_coroutine(self):
+                lose()
+
+            def test_fine(self):
+                Var(0).get()
+
+            def test_nothing(self):
+                pass
+
+            def test_skipped(self):
+                self.skipTest("later")
+
+            def test_fails(self):
+                self.fail("its own")
+
+            def test_both(self):
+                lose()
+                self.fail("its own")
+
+        folder = tempfile.mkdtemp()
+        os.environ["VELODROME_LOGS"] = folder
+        try:
+            result = unittest.TestResult()
+            with contextlib.redirect_stderr(io.StringIO()) as said:
+                unittest.defaultTestLoader.loadTestsFromTestCase(Bank).run(result)
+        finally:
+            del os.environ["VELODROME_LOGS"]
+        told = {test.id().split(".")[-1]: words for test, words in result.failures}
+        expected = {
+            "test_both": "its own",
+            "test_fails": "its own",
+            "test_lost": "not atomic: b",
+            "test_lost_by_a_coroutine": "not atomic: b",
+            "test_nothing": "nothing was recorded",
+        }
+        self.assertEqual(sorted(told), sorted(expected))
+        for name, words in expected.items():
+            self.assertIn(words, told[name])
+        self.assertIn("not atomic: b", told["test_both"] + said.getvalue())
+        self.assertEqual((result.errors, len(result.skipped), result.testsRun), ([], 1, 7))
+        self.assertIs(threading.Lock, _Lock)
+        kept = [name for name in os.listdir(folder) if name.endswith(".vlog")]
+        self.assertEqual(len([name for name in kept if ".Bank.test_" in name]), 3)
+
+    def test_watched_statements_and_functions(self):
+        folder = tempfile.mkdtemp()
+        os.environ["VELODROME_LOGS"] = folder
+        try:
+            with self.assertRaises(velodrome.Alarm):
+                with velodrome.watched("lost"):
+                    self.lose()
+
+            @velodrome.watched(incomplete="warn")
+            def test_nothing():
+                """Its own."""
+                return 7
+
+            with self.assertWarns(velodrome.IncompleteWarning):
+                self.assertEqual((test_nothing(), test_nothing.__doc__), (7, "Its own."))
+            with self.assertRaises(ValueError):
+                with velodrome.watched(incomplete="Fail"):
+                    self.fail("it began")
+        finally:
+            del os.environ["VELODROME_LOGS"]
+        self.assertIn("lost.vlog", os.listdir(folder))
 
 
 if __name__ == "__main__":

@@ -27,12 +27,14 @@ import functools
 import inspect
 import os
 import shlex
+import sys
 import sysconfig
 import threading
 import typing
+import warnings
 from typing import Any, Callable, Iterable, Iterator, Literal, TypeVar, overload
 
-from velodrome import _session
+from velodrome import _finding, _session
 from velodrome._session import Actor, Lock, RLock, Var, field, switch
 
 __all__ = [
@@ -40,6 +42,7 @@ __all__ = [
     "Alarm",
     "Block",
     "Incomplete",
+    "IncompleteWarning",
     "Lock",
     "Outcome",
     "RLock",
@@ -52,18 +55,24 @@ __all__ = [
     "patched",
     "session",
     "switch",
+    "watched",
 ]
 __version__ = "0.2.0"
 
 _Function = TypeVar("_Function", bound=Callable[..., Any])
+_Decorated = TypeVar("_Decorated")  # a function or a class
 
 
 class Alarm(AssertionError):
-    """Blocks that were not atomic, for whoever wants to raise it."""
+    """Blocks that were not atomic."""
 
 
 class Incomplete(AssertionError):
-    """A run that was not watched to its end, or of which nothing was recorded, for whoever wants to raise it."""
+    """A run that was not watched to its end, or of which nothing was recorded."""
+
+
+class IncompleteWarning(UserWarning):
+    """The same, where it is to be a warning only."""
 
 
 _Verdict = Literal["clean", "alarm", "incomplete"]
@@ -110,6 +119,7 @@ def incomplete_setting(asked: str | None = None) -> Literal["fail", "warn"]:
     raise ValueError(f"{source} is {word!r}: it is 'fail' or 'warn'")
 
 
+_LETS_IT_PASS = "set VELODROME_INCOMPLETE=warn to let it pass with a warning"
 _LONGEST_NAME = 200  # bytes of a log's name, which a file system takes with what comes behind it
 
 
@@ -179,7 +189,8 @@ class Session:
         """Ends it as a test. Returns whether the test fails: at an alarm, or where it is incomplete and that is no warning only.
 
         The log of a test that fails is kept in the folder (else VELODROME_LOGS, else the working directory) under this name, and the
-        text says so. incomplete: 'fail' or 'warn' (else VELODROME_INCOMPLETE, else 'fail').
+        text says so. Where velodrome-report is on the path, the text of an alarm is what that says, with the lines of source.
+        incomplete: 'fail' or 'warn' (else VELODROME_INCOMPLETE, else 'fail'). Raises ValueError for another word.
         """
         if self._outcome is not None:
             return False
@@ -192,11 +203,33 @@ class Session:
         self._outcome = self._judged(verdict, text)
         fails = self._outcome.verdict == "alarm" or (strict and not self._outcome.clean)
         if saved:
+            self._show_finding(path)
             quoted = shlex.quote(path)
             self._add(f"velodrome explain {quoted} --names {quoted}.names --sites {quoted}.sites\n")
         elif fails and self._outcome.verdict == "alarm":
             self._add(f"the log could not be written to {path}\n")
         return fails
+
+    def check(
+        self, name: str, *, folder: str | None = None, incomplete: str | None = None
+    ) -> Outcome:
+        """The same, and raises Alarm or Incomplete where the test fails; where incomplete is a warning only, it is IncompleteWarning.
+        A session that has ended is judged, and no log is kept."""
+        strict = incomplete_setting(incomplete) == "fail"
+        self.finish(name, folder=folder, incomplete=incomplete)
+        outcome = self.outcome
+        if outcome.verdict == "alarm":
+            raise Alarm(outcome.text)
+        if strict and not outcome.clean:
+            raise Incomplete(f"{outcome.text.rstrip()}\n{_LETS_IT_PASS}")
+        if not outcome.clean:
+            warnings.warn(IncompleteWarning(outcome.text), stacklevel=2)
+        return outcome
+
+    def _show_finding(self, path: str) -> None:
+        if self._outcome and self._outcome.verdict == "alarm":
+            shown = _finding.finding(path, self._outcome.text.partition("\n")[0])
+            self._outcome = Outcome("alarm", shown or self._outcome.text)
 
     def _add(self, words: str) -> None:
         if self._outcome:
@@ -403,3 +436,97 @@ def patched(*, library_locks: bool = False) -> Iterator[None]:
     finally:
         vars(threading).update(before)
         _session.tell_library(told)
+
+
+@contextlib.contextmanager
+def _watching(
+    name: str, incomplete: str | None, library_locks: bool, options: dict[str, Any]
+) -> Iterator[Session]:
+    incomplete_setting(incomplete)  # a wrong one is told before a session is open
+    run = session(**options)
+    try:
+        with patched(library_locks=library_locks):
+            yield run
+    except BaseException as failure:
+        run.finish(name, incomplete=incomplete)
+        if run.outcome.verdict == "alarm":
+            _note(failure, run.outcome.text)
+        raise
+    run.check(name, incomplete=incomplete)
+
+
+def _note(failure: BaseException, text: str) -> None:
+    """Before Python 3.11 an exception has no notes."""
+    add_note = getattr(failure, "add_note", None)
+    if add_note:
+        add_note(text)
+    else:
+        print(text, file=sys.stderr)
+
+
+class Watched:
+    """What `watched` gives."""
+
+    def __init__(
+        self,
+        name: str | None,
+        incomplete: str | None,
+        library_locks: bool,
+        options: dict[str, Any],
+    ) -> None:
+        self._name = name
+        self._how = incomplete, library_locks, options
+        self._entered = contextlib.ExitStack()
+
+    def _watch(self, name: str) -> contextlib.AbstractContextManager[Session]:
+        return _watching(self._name or name, *self._how)
+
+    def __enter__(self) -> Session:
+        return self._entered.enter_context(self._watch("velodrome"))
+
+    def __exit__(self, *failure: Any) -> None:
+        self._entered.__exit__(*failure)
+
+    def __call__(self, what: _Decorated) -> _Decorated:
+        if isinstance(what, type):
+            for name in [name for name in dir(what) if name.startswith("test")]:
+                setattr(what, name, self(getattr(what, name)))
+            return typing.cast(_Decorated, what)
+        function = typing.cast(Callable[..., Any], what)
+        if inspect.iscoroutinefunction(function):
+
+            @functools.wraps(function)
+            async def coroutine(*args: Any, **keywords: Any) -> Any:
+                with self._watch(_name_of(function, args)):
+                    return await function(*args, **keywords)
+
+            return typing.cast(_Decorated, coroutine)
+
+        @functools.wraps(function)
+        def test(*args: Any, **keywords: Any) -> Any:
+            with self._watch(_name_of(function, args)):
+                return function(*args, **keywords)
+
+        return typing.cast(_Decorated, test)
+
+
+def _name_of(function: Callable[..., Any], args: tuple[Any, ...]) -> str:
+    """unittest has names of its own."""
+    id_of = getattr(args[0], "id", None) if args else None
+    return str(id_of()) if callable(id_of) else function.__qualname__
+
+
+def watched(
+    name: str | None = None,
+    *,
+    incomplete: str | None = None,
+    library_locks: bool = False,
+    **options: Any,
+) -> Watched:
+    """A test: a `with` statement, a function or coroutine that it decorates, or all tests of a unittest.TestCase that it decorates.
+
+    At its end it raises Alarm or Incomplete, as `Session.check` does, and keeps the log under the name, else that of the test. What
+    the test raises stays what it is, with an alarm as its note. The options are those of `session`; `patched` is in effect meanwhile.
+    Raises ValueError as `session` and `Session.finish` do, before the test begins.
+    """
+    return Watched(name, incomplete, library_locks, options)

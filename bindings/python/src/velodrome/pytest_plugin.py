@@ -20,10 +20,6 @@ import velodrome
 _HOW = "\nset --velodrome-incomplete warn, or mark the test velodrome(incomplete='warn'), to let it pass with a warning"
 
 
-class IncompleteWarning(pytest.PytestWarning):
-    """A test was not watched to its end, or nothing was recorded of it."""
-
-
 @dataclasses.dataclass
 class _Plugin:
     """What was chosen for all tests, and which were watched."""
@@ -199,7 +195,7 @@ def _run(item: pytest.Item, body: Callable[[], None]) -> None:
     if fails:
         raise velodrome.Incomplete(run.outcome.text.rstrip() + _HOW)
     if not run.outcome.clean:
-        item.warn(IncompleteWarning(run.outcome.text))
+        item.warn(velodrome.IncompleteWarning(run.outcome.text))
 
 
 def _counts(item: pytest.Item, run: velodrome.Session) -> bool:
