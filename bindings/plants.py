@@ -33,7 +33,7 @@ PLANTS = [
         "threads of two monitors are one",
         SESSION,
         [
-            ("if (me->seat[i].id == id) return", "if (me->seat[i].id) return"),
+            ("if (me->seat[i].id == id)", "if (me->seat[i].id)"),
             ("child.who = ++s->born;", "child.who = s->born = s->born ? s->born + 1 : 2;"),
         ],
         {"cpp": ["a_thread_of_another_session_is_itself"]},
@@ -159,7 +159,7 @@ PLANTS = [
         "a stranger is thread 0",
         SESSION,
         [
-            ("if (me->seat[i].id == id) return", "if (me->seat[i].in == slot_of(id)) return"),
+            ("if (me->seat[i].id == id)", "if (me->seat[i].in == slot_of(id))"),
         ],
         {"rust": ["who_opened_an_earlier_session_is_another_thread"]},
     ),
@@ -192,8 +192,8 @@ PLANTS = [
             ("make_room(s, s->variable.count, s->variables);", "(void)s;"),
             ("    if (s->variable.count >= s->variables) {", "    if (false) {"),
             (
-                "? number_in(tag) : new_variable(s, o, tag);",
-                "? (uint16_t)number_in(tag) : (uint16_t)new_variable(s, o, tag);",
+                "? number_in(tag) : new_variable(s, o, tag, place);",
+                "? (uint16_t)number_in(tag) : (uint16_t)new_variable(s, o, tag, place);",
             ),
         ],
         {"cpp": ["more_objects_than_numbers"]},
@@ -284,8 +284,8 @@ PLANTS = [
         HPP,
         [
             (
-                "~atomic_block() { vs_end(); }",
-                "~atomic_block() {\n        vs_end();\n        if (vs_so_far(vs_current()) == VS_INCOMPLETE) throw 1;\n    }",
+                "            vs_end_block(block_);",
+                "            vs_end_block(block_);\n        if (vs_so_far(vs_current()) == VS_INCOMPLETE) throw 1;",
             ),
         ],
         {"cpp": ["a_block_that_is_too_long", "a_thread_full_of_events_ends"]},
@@ -345,8 +345,8 @@ PLANTS = [
         SESSION,
         [
             (
-                "    if (!take_held(s, &list, &count)) return false;",
-                "    if (*s->words->text || !take_held(s, &list, &count)) return false;",
+                "    if (!held)\n        return;",
+                "    if (true)\n        return;",
             ),
         ],
         {
@@ -360,7 +360,7 @@ PLANTS = [
         "a cut where a block is open",
         SESSION,
         [
-            ("    if (!s->open) renew(s);\n    else if (", "    renew(s);\n    if ("),
+            ("    if (!s->open)\n        renew(s);\n    else if (", "    renew(s);\n    if ("),
         ],
         {"fuzz": ["2000"]},
     ),
@@ -368,7 +368,7 @@ PLANTS = [
         "a cut forgets the locks that are held",
         SESSION,
         [
-            ("hold_again(s, &list[i].hold, (uint16_t)lock);", ""),
+            ("        if (!is_held(h)) {\n", "        *h = (hold){0};\n        if (!is_held(h)) {\n"),
         ],
         {"fuzz": ["2000"], "cpp": ["an_alarm_through_a_lock_that_was_held_across_a_cut"]},
     ),
@@ -429,8 +429,8 @@ PLANTS = [
         SESSION,
         [
             (
-                "if (self()->current == session) self()->current = s->outer;",
-                "if (self()->current == session) self()->current = 0;",
+                "self()->current = s->outer;",
+                "self()->current = 0;",
             ),
         ],
         {"session": ["sessions_nest"], "rust": ["two_runs_of_one_thread"]},
@@ -440,8 +440,8 @@ PLANTS = [
         SESSION,
         [
             (
-                "if (self()->current == session) self()->current = s->outer;",
-                "if (self()->current == session) self()->current = 0;",
+                "self()->current = s->outer;",
+                "self()->current = 0;",
             ),
             (
                 "atomic_compare_exchange_strong(&everywhere, &all, s->outer_everywhere);",
@@ -466,8 +466,8 @@ PLANTS = [
         SESSION,
         [
             (
-                "if (!s->open && s->recording && is_nearly_full(s, used, limit)) renew(s);",
-                "(void)s, (void)used, (void)limit, (void)is_nearly_full;",
+                "    if (!s->open)\n        renew(s);\n    else\n",
+                "    if (s->open)\n",
             ),
         ],
         {
@@ -577,7 +577,7 @@ PLANTS = [
         "names that spoil their file",
         SESSION,
         [
-            ("(unsigned char)name[n] < 32 || name[n] == 127 ? ' ' : name[n]", "name[n]"),
+            ("        if (*c < 32 || *c == 127)\n", "        if (false)\n"),
         ],
         {"cpp": ["names_of_any_kind"], "python": ["test_names_of_all_kinds"]},
     ),
@@ -585,7 +585,7 @@ PLANTS = [
         "one lock hides schedules",
         SESSION,
         [
-            ("if (drawn % noise == 0) pause_for", "if (drawn % noise == noise) pause_for"),
+            ("if (drawn % noise == 0)", "if (drawn % noise == noise)"),
         ],
         {"python": ["test_noise_lets_others_run"]},
     ),

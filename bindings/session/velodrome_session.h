@@ -175,6 +175,7 @@ void vs_tell_at(vs_object *object, vs_kind kind, const vs_place *place);
  * Where a try for another lock fails before that, which vs_try_failed reports, and the lock is
  * released then, neither is an event: so whatever std::lock tries is one acquire. */
 void vs_acquired(vs_object *lock, vs_kind kind);
+void vs_acquired_at(vs_object *lock, vs_kind kind, const vs_place *place);
 void vs_try_failed(void);
 
 /* A block of who acts that is meant to be atomic. It is recorded once an event is in it. The label

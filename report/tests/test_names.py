@@ -19,6 +19,7 @@ class Short(unittest.TestCase):
             ("main::{lambda(int)#1}::operator()(int) const", "main::{lambda#1}"),
             ("operator new(unsigned long)", "operator new(..)"),
             ("v(void (*)(int))", "v(..)"),
+            ("deposit (bank_test.cpp:6)", "deposit (bank_test.cpp:6)"),
         ):
             with self.subTest(whole):
                 self.assertEqual(names.without_parameters(whole), short)

@@ -19,6 +19,8 @@ DEFAULTS = (
     "std::less<",
 )
 LAMBDA = re.compile(r"\{lambda\(.*?\)#(\d+)\}(?:::operator\(\))?")
+# behind the name of a section of a library: its place
+SECTION = re.compile(r" \([^()]+:\d+\)$")
 OPENING, CLOSING = "<({[", ">)}]"
 
 
@@ -79,7 +81,7 @@ def _end_of_argument(name: str, start: int) -> Optional[int]:
 def _parameters(name: str) -> Optional[int]:
     """Where the list of parameters opens, None if the name has none."""
     ending = re.search(r"\)(?: const| volatile| &&?| noexcept)*$", name)
-    if ending is None:
+    if ending is None or SECTION.search(name):
         return None
     depth = 0
     for place in range(ending.start(), -1, -1):
