@@ -179,9 +179,9 @@ private:
     unsigned token_;
 };
 
-inline void tell(vs_object &object, vs_kind kind) noexcept {
+inline void tell(vs_object &object, vs_kind kind, const vs_place *at = nullptr) noexcept {
     if (!vs_idle())
-        vs_tell(&object, kind);
+        vs_tell_at(&object, kind, at);
 }
 inline void tell(vs_object &object, vs_kind kind, place at) noexcept {
     if (vs_idle())

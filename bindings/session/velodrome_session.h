@@ -116,7 +116,9 @@ vs_verdict vs_close(vs_session session, char **report);
  * could not be watched to its end, or nothing was recorded, unless VELODROME_INCOMPLETE is `warn`;
  * or by a setting of the environment that is wrong. The log of a test that fails is kept as
  * NAME.vlog, NAME.vlog.names and NAME.vlog.sites in the folder VELODROME_LOGS (or here), which is
- * made if need be, and the report says how to read it. */
+ * made if need be, and the report says how to read it. The report of an alarm is the first finding
+ * of `velodrome-report` on this log, where that is on the path, or VELODROME_REPORT names it, and
+ * answers within 20 seconds; else it is the explanation. */
 vs_verdict vs_finish(vs_session session, const char *name, char **report, bool *fails);
 
 /* The verdict so far, while the session goes on. */
