@@ -295,8 +295,8 @@ PLANTS = [
         HPP,
         [
             (
-                "tell(object_, VS_RELEASE);\n        inner_.unlock();",
-                "tell(object_, VS_RELEASE);\n"
+                "tell(object_, VS_RELEASE, at);\n        inner_.unlock();",
+                "tell(object_, VS_RELEASE, at);\n"
                 "        inner_.unlock();\n"
                 "        if (vs_so_far(vs_current()) == VS_INCOMPLETE) throw 1;",
             ),
@@ -308,8 +308,8 @@ PLANTS = [
         HPP,
         [
             (
-                "tell(object_, VS_RELEASE);\n        inner_.unlock();",
-                "tell(object_, VS_RELEASE);\n        if (vs_so_far(vs_current()) != VS_INCOMPLETE) inner_.unlock();",
+                "tell(object_, VS_RELEASE, at);\n        inner_.unlock();",
+                "tell(object_, VS_RELEASE, at);\n        if (vs_so_far(vs_current()) != VS_INCOMPLETE) inner_.unlock();",
             ),
         ],
         {"cpp": ["locks_work_where_nothing_is_told", "a_block_that_is_too_long"]},
@@ -368,7 +368,10 @@ PLANTS = [
         "a cut forgets the locks that are held",
         SESSION,
         [
-            ("        if (!is_held(h)) {\n", "        *h = (hold){0};\n        if (!is_held(h)) {\n"),
+            (
+                "        if (!is_held(h)) {\n",
+                "        *h = (hold){0};\n        if (!is_held(h)) {\n",
+            ),
         ],
         {"fuzz": ["2000"], "cpp": ["an_alarm_through_a_lock_that_was_held_across_a_cut"]},
     ),
@@ -580,6 +583,91 @@ PLANTS = [
             ("        if (*c < 32 || *c == 127)\n", "        if (false)\n"),
         ],
         {"cpp": ["names_of_any_kind"], "python": ["test_names_of_all_kinds"]},
+    ),
+    Plant(
+        "the number of a held lock is given again",
+        SESSION,
+        [
+            ("    s->lock.at[c->lock] = (named){(uint32_t)(w - s->words), c->nth};\n", ""),
+        ],
+        {"session": ["a_held_lock_keeps_its_number"]},
+    ),
+    Plant(
+        "a block ends by nesting alone",
+        SESSION,
+        [
+            ("    if (block.who == me->id)\n", "    if (true)\n"),
+        ],
+        {"session": ["an_end_of_anothers_block_is_not_that_of_ones_own"]},
+    ),
+    Plant(
+        "a block outlives its session",
+        SESSION,
+        [
+            ("b->since < t->since ? IGNORED :", "false ? IGNORED :"),
+            ("        forget_old(me, since);", "        (void)forget_old;"),
+        ],
+        {
+            "session": ["a_jump_out_of_a_block"],
+            "rust": ["a_forgotten_block_ends_with_its_run"],
+        },
+    ),
+    Plant(
+        "tries of std::lock are events",
+        SESSION,
+        [
+            ("i >= 0 && me->tried; i--)", "i >= 0 && false; i--)"),
+        ],
+        {
+            "session": ["tries_that_back_off_are_no_events"],
+            "cpp": ["std_lock_is_one_acquire"],
+        },
+    ),
+    Plant(
+        "a copy under the session's lock",
+        HPP,
+        [
+            (
+                "is_copied_in_hold = std::is_trivially_copyable_v<T>;",
+                "is_copied_in_hold = true;",
+            ),
+        ],
+        {"cpp": ["a_copy_may_wait_for_another_thread"]},
+    ),
+    Plant(
+        "nobody waits for room",
+        SESSION,
+        [
+            ("    if (!s->crowded || (t && t->told))\n", "    if (true)\n"),
+        ],
+        {"session": ["who_is_crowded_waits"]},
+    ),
+    Plant(
+        "a setting that means nothing is not told",
+        SESSION,
+        [
+            ("        any |= is_wrong(i);", "        (void)is_wrong;"),
+        ],
+        {
+            "session": ["wrong_settings_are_told"],
+            "cpp": ["settings_of_the_environment"],
+        },
+    ),
+    Plant(
+        "the report is not asked",
+        SESSION,
+        [
+            ("        put_finding(text, log);", "        (void)put_finding;"),
+        ],
+        {"session": ["an_alarm_is_told_by_the_report"]},
+    ),
+    Plant(
+        "a place in the library is told",
+        SESSION,
+        [
+            ("is_of_library(path), path};", "false, path};"),
+        ],
+        {"cpp": ["calls_of_locks_have_their_place"]},
     ),
     Plant(
         "one lock hides schedules",

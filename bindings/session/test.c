@@ -839,6 +839,29 @@ static void names_of_any_bytes(void) {
     EXPECT_END(s, VS_CLEAN, NULL);
 }
 
+static void use_lock(vs_object *lock) {
+    vs_tell(lock, VS_ACQUIRE);
+    vs_tell(lock, VS_RELEASE);
+}
+static void a_held_lock_keeps_its_number(void) { /* and all others may be given anew at a cut */
+    static vs_object held = VS_OBJECT("held"), lock[100];
+    vs_options few = {.locks = 8};
+    vs_session s = vs_open(&few, true);
+    for (int i = 0; i < 7; i++)
+        use_lock(&lock[i]);
+    vs_tell(&held, VS_ACQUIRE);
+    for (int i = 7; i < 100; i++)
+        use_lock(&lock[i]);
+    EXPECT(vs_save(s, "held.vlog"));
+    EXPECT(strstr(read_whole("held.vlog.names"), "lock 7 held\n"));
+    remove("held.vlog");
+    remove("held.vlog.names");
+    remove("held.vlog.sites");
+    vs_tell(&held, VS_RELEASE);
+    use_lock(&held);
+    EXPECT_END(s, VS_CLEAN, NULL);
+}
+
 static void sites_stand_beside_a_log(void) {
     vs_object x = VS_OBJECT("x");
     vs_session s = vs_open(NULL, true);
@@ -1013,6 +1036,7 @@ int main(void) {
         T(a_test_ends_while_threads_are_at_work),
         T(places_are_copied),
         T(names_of_any_bytes),
+        T(a_held_lock_keeps_its_number),
         T(sites_stand_beside_a_log),
         T(names_that_go),
         T(what_is_left_out_makes_no_alarm),
