@@ -271,6 +271,10 @@ PLANTS = [
                 '        stop(s, "%s", reason(status));\n        return false;',
                 "        return false;",
             ),
+            (
+                '        stop(s, "%s", reason(VELODROME_LOG_FULL));',
+                "        end_recording(s);",
+            ),
         ],
         {
             "session": ["a_full_log_is_told_and_nothing_else"],

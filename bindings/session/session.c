@@ -154,6 +154,7 @@ typedef struct slot {
     uint32_t word_count, word_room, *word_table, table_room;
     placed *places; /* each place once; the first is none */
     uint32_t place_count, place_room, *place_table, place_table_room;
+    const char *library;   /* the last file of these, as nearly all locks are taken there */
     uint32_t *event_place; /* by position; nothing from event_places on */
     uint32_t event_places, event_room;
 
@@ -759,7 +760,7 @@ static char *path_of(const vs_place *p) {
 }
 
 COLD void note_place(slot *s, uint32_t position, const vs_place *p) {
-    if (!p || !p->file || !grow_places(s))
+    if (!p || !p->file || p->file == s->library || !grow_places(s))
         return;
     while (position >= s->event_room)
         if (!has_room(&s->event_place, &s->event_room, s->event_room, sizeof *s->event_place))
@@ -772,8 +773,10 @@ COLD void note_place(slot *s, uint32_t position, const vs_place *p) {
         *place = s->place_count;
         s->places[s->place_count++] = (placed){p->file, p->line, is_of_library(path), path};
     }
-    if (s->places[*place].is_of_library)
+    if (s->places[*place].is_of_library) {
+        s->library = p->file;
         return;
+    }
     while (s->event_places < position)
         s->event_place[s->event_places++] = 0;
     s->event_place[position] = *place;
@@ -1114,6 +1117,7 @@ static void clear_names(slot *s) {
         free(s->places[i].path);
     s->word_count = s->variable.count = s->label.count = 0;
     s->place_count = s->event_places = 0;
+    s->library = NULL;
     if (s->word_table)
         memset(s->word_table, 0, s->table_room * sizeof *s->word_table);
     if (s->place_table)
