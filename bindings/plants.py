@@ -476,6 +476,11 @@ PLANTS = [
                 "    if (!s->open)\n        renew(s);\n    else\n",
                 "    if (s->open)\n",
             ),
+            (
+                "        if (s->recording && s->crowded && !s->open)\n            renew(s);\n",
+                "",
+            ),
+            ("s->threads >= REUSED_FROM; i++)", "false; i++)"),
         ],
         {
             "long": [""],
