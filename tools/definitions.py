@@ -79,8 +79,7 @@ PARTS = [
     (
         "Laws of logs",
         {
-            "velo_laws": "Cut* Restart* Renumber Ordered* Repeats*",
-            "velo_renew": "Renewal*",
+            "velo_laws": "Cut* Restart* Renumber Ordered* Repeats* Renewal*",
             "velo_thinning": "Races*",
         },
     ),

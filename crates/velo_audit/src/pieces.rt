@@ -17,7 +17,7 @@ use crate::told::Told as RoundTold;
 use std::alloc::Global;
 use velo_events::{Config, Memory, ThreadId};
 use velo_filter::{LeftOut, Thinned};
-use velo_renew::prologue;
+use velo_laws::prologue;
 use velo_traces::Trace;
 use velo_world::{Closed, LogReplayFault};
 

@@ -11,7 +11,7 @@ use Rattle.velo_audit.specs.Rounds.{AreFound, AreTheOnlyRounds, Rounds, labels_l
 use Rattle.velo_audit.specs.Tells.{numbers_of}
 use Rattle.velo_delays.specs.Deadlock.{AreDeadlocksIn}
 use Rattle.velo_delays.specs.Found.{AreFoundIn}
-use Rattle.velo_text.specs.declared.findings.PredictedFindings.{PredictedFindings}
+use Rattle.velo_finding.specs.declared.findings.PredictedFindings.{PredictedFindings}
 use Rattle.velo_cli.specs.Auditing.{AreRoundsOf}
 use Rattle.velo_cli.specs.Predicting.{ArePredictionsOf, IsSearched}
 

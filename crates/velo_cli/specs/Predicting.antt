@@ -6,7 +6,7 @@ use Rattle.velo_filter.specs.Left.{Omitted}
 use Rattle.velo_delays.specs.Anew.{IsRenewed}
 use Rattle.velo_delays.specs.Deadlock.{AreDeadlocksIn}
 use Rattle.velo_delays.specs.Found.{AreFoundIn}
-use Rattle.velo_text.specs.declared.findings.PredictedFindings.{PredictedFindings}
+use Rattle.velo_finding.specs.declared.findings.PredictedFindings.{PredictedFindings}
 
 -- The log that is searched: as read, where its values are those of the program; and else with values
 -- by which two reads have the same one where they read from the same write.

@@ -20,9 +20,9 @@ use velo_bytes::{Sink, Source};
 use velo_check::{AuditOptions, CheckFault, Fate, Files, Operand, do_input, open_input};
 use velo_events::{Bounds, Config, Memory, Refusal};
 use velo_filter::LeftOut;
+use velo_finding::Asked;
 use velo_names::Names;
 use velo_sidecars::Sites;
-use velo_text::Asked;
 use velo_traces::Trace;
 use velo_world::Closed;
 

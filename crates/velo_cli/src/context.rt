@@ -7,9 +7,9 @@ use crate::siting::sites_in;
 use std::alloc::Global;
 use velo_bytes::Sink;
 use velo_check::{Beside, Fate, Files, Ignored, Operand, list_beside};
+use velo_finding::Asked;
 use velo_names::{MAX_NAMES_BYTES, Names};
 use velo_sidecars::{MAX_SITES_BYTES, Sites};
-use velo_text::Asked;
 
 /// What was asked for of all that a command knows before it opens its log.
 #[derive(Clone, Copy)]

@@ -17,10 +17,9 @@ use velo_check::{ExplainOptions, Fate, Files, Limits, Operand, TextOrJson, do_in
 use velo_events::{Bounds, MAX_EVENTS, MAX_NODES, Memory};
 use velo_explain::{Evidence, Page, evidence_of, explain_clean, explain_named, explain_sited};
 use velo_filter::{LeftOut, thin};
-use velo_finding::{Shown, explanation_json};
+use velo_finding::{Asked, Background, Shown, add_accesses, add_asked, explanation_json};
 use velo_names::Names;
 use velo_sidecars::Sites;
-use velo_text::{Asked, Background, add_accesses, add_asked};
 use velo_traces::Trace;
 use velo_world::Closed;
 

@@ -1,9 +1,9 @@
 //! By what a log is told of.
 
 use std::alloc::Global;
+use velo_finding::Asked;
 use velo_names::Names;
 use velo_sidecars::Sites;
-use velo_text::Asked;
 
 /// By which names, with which sites, without what, and by which options a log is told of.
 #[derive(Clone, Copy)]

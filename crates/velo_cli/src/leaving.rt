@@ -5,7 +5,7 @@ use std::alloc::Global;
 use velo_check::Limits;
 use velo_events::{Config, Label, LockId, MAX_LOCKS, Memory, VarId};
 use velo_filter::LeftOut;
-use velo_text::Asked;
+use velo_finding::Asked;
 use velo_world::Closed;
 
 /// Leaves out the labels.

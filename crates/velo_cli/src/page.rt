@@ -15,8 +15,10 @@ use velo_check::{AuditOptions, PredictOptions, TextOrJson};
 use velo_events::{Bounds, Memory};
 use velo_explain::Page;
 use velo_filter::{LeftOut, thin};
-use velo_finding::{Entry, audit_json, entries_of, predictions_json};
-use velo_text::{Background, PredictedFindings, audit_text, predictions_text};
+use velo_finding::{
+    Background, Entry, PredictedFindings, audit_json, audit_text, entries_of, predictions_json,
+    predictions_text,
+};
 use velo_traces::Trace;
 
 /// The labels that the rounds found, with the counts of their blocks in what is left of the log.

@@ -23,9 +23,9 @@ use velo_check::{Beside, Fate, Files, Operand, PredictOptions, do_input, open_ap
 use velo_delays::{Deadlock, Draws, PredictedCycle, search, search_deadlocks, with_lines};
 use velo_events::{Bounds, Config, Event, Memory};
 use velo_filter::LeftOut;
+use velo_finding::{Asked, PredictedFindings, is_something_told};
 use velo_names::Names;
 use velo_sidecars::Sites;
-use velo_text::{Asked, PredictedFindings, is_something_told};
 use velo_traces::Trace;
 use velo_world::Closed;
 

@@ -10,9 +10,9 @@ use velo_check::{
 };
 use velo_events::Memory;
 use velo_filter::LeftOut;
+use velo_finding::Asked;
 use velo_names::Names;
 use velo_sidecars::Sites;
-use velo_text::Asked;
 use velo_thinning::{Targets, ThinFault, ThinnedLog, deliver_thinned, read_thinned};
 use velo_worker::Ending;
 

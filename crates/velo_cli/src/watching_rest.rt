@@ -17,9 +17,9 @@ use velo_check::{CheckFault, Fate, Files, Verdict, WatchOptions, WatchRestOption
 use velo_events::Memory;
 use velo_explain::Page;
 use velo_filter::LeftOut;
+use velo_finding::Asked;
 use velo_names::Names;
 use velo_sidecars::Sites;
-use velo_text::Asked;
 use velo_watch::{ClosedRest, RestWatch, WatchFault};
 use velo_world::Closed;
 

@@ -1,8 +1,8 @@
 -- A run that goes on in a new log, and why it does not.
 use Rattle.std.specs.Prelude.{◌≡◌, ◌⊎◌, ℕ, Option, Some, None}
-use Rattle.velo_renew.specs.declared.renewal.NotRenewed.{NotRenewed}
-use Rattle.velo_renew.specs.declared.renewal.NotRenewed.TheVariants.{Alarm, BlockOpen, LogFull, Memory}
-use Rattle.velo_renew.specs.Renewal.{IsReasonAgainst, Renews}
+use Rattle.velo_laws.specs.declared.renewal.NotRenewed.{NotRenewed}
+use Rattle.velo_laws.specs.declared.renewal.NotRenewed.TheVariants.{Alarm, BlockOpen, LogFull, Memory}
+use Rattle.velo_laws.specs.Renewal.{IsReasonAgainst, Renews}
 use Rattle.velo_ffi.specs.declared.answers.TheConstants.{ALARMED, CLOSED, DONE, IN_BLOCK, NO_MEMORY}
 use Rattle.velo_ffi.specs.Watch.{WatchState}
 

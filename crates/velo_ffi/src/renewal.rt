@@ -8,7 +8,7 @@ use crate::monitor::Monitor;
 use crate::watch::Watch;
 use std::alloc::Global;
 use velo_events::Refusal;
-use velo_renew::NotRenewed;
+use velo_laws::NotRenewed;
 
 /// The status of a reason.
 fn status_of(reason: NotRenewed) -> u32

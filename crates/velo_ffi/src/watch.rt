@@ -1,13 +1,13 @@
 //! A world with the shares of its threads.
 ghost use Rattle.std.specs.Prelude.{◌≡◌, false, IfOk, IfErr, OnOk, OnErr};
-ghost use Rattle.velo_renew.specs.Renewal.{IsReasonAgainst, Renews};
+ghost use Rattle.velo_laws.specs.Renewal.{IsReasonAgainst, Renews};
 ghost use Rattle.velo_world.specs.World.{StepsTo, opening};
 
 use std::alloc::Global;
 use std::marker::Model;
 use velo_events::{Action, Config, Memory, Refusal, ThreadId};
+use velo_laws::{NotRenewed, renew};
 use velo_ledger::Shares;
-use velo_renew::{NotRenewed, renew};
 use velo_traces::Trace;
 use velo_world::{LogReplayFault, Reply, World};
 

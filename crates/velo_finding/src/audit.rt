@@ -1,16 +1,17 @@
 //! The answer of an audit.
 
+use crate::background::Background;
 use crate::common::{add_asked, add_log, line_of};
 use crate::elements::{Element, add_array};
 use crate::entries::Entry;
 use crate::events::{add_event_at, add_named};
+use crate::text::Asked;
 use crate::witness::add_witness;
 use crate::writer::JsonWriter;
 use velo_audit::Told;
 use velo_events::Memory;
 use velo_explain::{Evidence, Page};
 use velo_names::NameKind;
-use velo_text::{Asked, Background};
 
 /// Adds the witness of a round, or null.
 fn add_witness_or_null(

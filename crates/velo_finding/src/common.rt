@@ -1,13 +1,14 @@
 //! What all answers on a log have.
 
+use crate::background::Background;
 use crate::elements::{Element, add_array};
 use crate::events::add_named;
+use crate::text::Asked;
 use crate::writer::JsonWriter;
 use std::alloc::Global;
 use velo_events::{Event, Label, LockId, Memory, VarId};
 use velo_explain::Page;
 use velo_names::NameKind;
-use velo_text::{Asked, Background};
 
 impl Element for Label {
     fn add(&self, json: JsonWriter, background: &Background) -> Result<JsonWriter, Memory> {

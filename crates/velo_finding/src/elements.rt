@@ -1,8 +1,8 @@
 //! Arrays.
 
+use crate::background::Background;
 use crate::writer::JsonWriter;
 use velo_events::Memory;
-use velo_text::Background;
 
 /// What an array is of.
 pub(crate) trait Element {

@@ -1,12 +1,12 @@
 //! Events and blocks.
 
+use crate::background::Background;
 use crate::writer::JsonWriter;
 use std::alloc::Global;
 use velo_events::{Event, Kind, Memory, ThreadId};
 use velo_explain::{Page, Piece, line_of};
 use velo_names::{NameKind, Names};
 use velo_sidecars::{Sites, place_in};
-use velo_text::Background;
 use velo_traces::Block;
 
 /// Adds a number with its name.

@@ -1,7 +1,9 @@
 //! The answer of an explanation.
 
+use crate::background::Background;
 use crate::common::{add_asked, add_log, add_size, line_of};
 use crate::events::add_event_at;
+use crate::text::Asked;
 use crate::witness::add_witness;
 use crate::writer::JsonWriter;
 use std::alloc::Global;
@@ -10,7 +12,6 @@ use velo_events::{Event, Memory};
 use velo_explain::{Evidence, Page, transactions_of};
 use velo_names::Names;
 use velo_sidecars::Sites;
-use velo_text::{Asked, Background};
 use velo_traces::Trace;
 
 /// What a log, or what is left of it, shows.

@@ -1,9 +1,12 @@
 //! The answer of predictions.
 
 use crate::audit::{add_alarm, add_alarms};
+use crate::background::Background;
 use crate::common::{add_asked, add_log, add_size, line_of};
 use crate::elements::{Element, add_array, add_elements};
 use crate::events::{add_about, add_event_at, add_site, add_thread, add_words};
+use crate::findings::PredictedFindings;
+use crate::text::{Asked, is_something_told};
 use crate::writer::JsonWriter;
 use std::alloc::Global;
 use velo_certify::owners_of;
@@ -12,7 +15,6 @@ use velo_events::Memory;
 use velo_explain::Page;
 use velo_names::Names;
 use velo_sidecars::{Sites, seen_from};
-use velo_text::{Asked, Background, PredictedFindings, is_something_told};
 use velo_traces::Trace;
 
 /// A read that has another value than in the log, by what describes its trace.

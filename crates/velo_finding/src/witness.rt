@@ -1,12 +1,13 @@
 //! What explains an alarm.
 
+use crate::background::Background;
 use crate::elements::{Element, add_array};
 use crate::events::{add_block, add_event, add_event_at};
+use crate::text::blocks_around;
 use crate::writer::JsonWriter;
 use velo_certify::EdgeEvents;
 use velo_events::{Event, Memory};
 use velo_explain::{Blame, Evidence, Span};
-use velo_text::{Background, blocks_around};
 use velo_traces::Block;
 
 impl Element for Block {

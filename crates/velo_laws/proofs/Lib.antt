@@ -30,3 +30,4 @@ pub mod OnEitherOrder
 pub mod OnJudged
 pub mod OnJudgedRepeats
 pub mod OnJudgedOperations
+pub mod OnRenewals

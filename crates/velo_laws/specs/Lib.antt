@@ -6,3 +6,5 @@ pub mod Renumber
 pub mod Ordered
 pub mod Repeats
 pub mod Judged
+pub mod Renewal
+pub mod Opening

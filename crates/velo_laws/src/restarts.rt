@@ -8,7 +8,7 @@ ghost use Rattle.velo_laws.specs.Cut.{NoBlockOpen, IsQuiet};
 ghost use Rattle.velo_laws.specs.Restart.{HasNoBegin, IsPrologueOf, StandsFor, IsAboutNoJoined, IsJudgedTheSame, GoesOnAfresh};
 
 /// After two cuts with no cycle before them a run is judged the same, whatever was before.
-pub fn restart()
+pub fn judged_the_same()
     ensures { (before prologue after : List Event) → IsQuiet before → IsQuiet prologue
         → ¬ HasCycle before → ¬ HasCycle prologue → IsJudgedTheSame before prologue after }
 {}
@@ -31,7 +31,7 @@ pub fn goes_back()
 {}
 
 /// A log in which no block begins has no open block and no cycle.
-pub fn prologue()
+pub fn quiet_prologue()
     ensures { (prologue : List Event) → HasNoBegin prologue
         → NoBlockOpen prologue × IsQuiet prologue × (¬ HasCycle prologue) }
 {}

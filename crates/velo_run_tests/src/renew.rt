@@ -3,7 +3,7 @@ use std::alloc::Global;
 use std::process::Abort;
 use velo_events::{Bounds, Config, Event, Kind, Label, LockId, ThreadId, VarId};
 use velo_ledger::Shares;
-use velo_renew::{NotRenewed, renew};
+use velo_laws::{NotRenewed, renew};
 use velo_traces::Trace;
 use velo_world::World;
 

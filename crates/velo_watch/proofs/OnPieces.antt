@@ -24,9 +24,9 @@ use Rattle.velo_laws.specs.Restart.{HasNoBegin, IsPrologueOf}
 use Rattle.velo_laws.proofs.OnCut.{IsQuiet-from}
 use Rattle.velo_laws.proofs.OnCutCycles.{HasCycle-cut}
 use Rattle.velo_laws.proofs.OnRestart.{goes_on_law, prologue_law}
-use Rattle.velo_renew.specs.declared.renewal.NotRenewed.{NotRenewed}
-use Rattle.velo_renew.specs.declared.renewal.NotRenewed.TheVariants as not_renewed
-use Rattle.velo_renew.specs.Renewal.{Restarts, StandsInTheWay}
+use Rattle.velo_laws.specs.declared.renewal.NotRenewed.{NotRenewed}
+use Rattle.velo_laws.specs.declared.renewal.NotRenewed.TheVariants as not_renewed
+use Rattle.velo_laws.specs.Renewal.{Restarts, StandsInTheWay}
 use Rattle.velo_world.specs.declared.analysis.Alarm.{Alarm}
 use Rattle.velo_world.specs.declared.log_replay.LogReplayFault.{LogReplayFault}
 use Rattle.velo_world.specs.declared.log_replay.LogReplayFault.TheVariants.{Refused, WrongValue, Memory}

@@ -6,7 +6,7 @@ ghost use Rattle.velo_events.specs.Refusals.{GrowthRefused};
 ghost use Rattle.velo_events.specs.WellFormed.{IsWellFormed};
 ghost use Rattle.velo_heap.specs.Contents.{bounds_of, ForItsTraces, IsHeapOf};
 ghost use Rattle.velo_world.specs.declared.log_replay.LogReplayFault.TheVariants as log_replay_fault;
-ghost use Rattle.velo_renew.specs.declared.renewal.NotRenewed.TheVariants as not_renewed;
+ghost use Rattle.velo_laws.specs.declared.renewal.NotRenewed.TheVariants as not_renewed;
 ghost use Rattle.velo_watch.specs.declared.long.TheConstants.{MAX_WATCHED};
 ghost use Rattle.velo_watch.specs.Piece.{AllLieBehind, CanFollow, Follows, IsCutInTime, CannotBeCutWhereLate, IsInWhole, IsJudged, IsLate, IsPieceOf, LiesBehind, block_in_whole, in_whole, moved_fault};
 
@@ -15,8 +15,8 @@ use std::alloc::Global;
 use velo_events::growth::with_capacity;
 use velo_events::{Config, Event, Memory};
 use velo_heap::Heap;
+use velo_laws::{NotRenewed, restart};
 use velo_ledger::Shares;
-use velo_renew::{NotRenewed, restart};
 use velo_traces::{Block, Trace};
 use velo_world::{Alarm, LogReplayFault, World};
 

@@ -3,7 +3,7 @@ use Rattle.velo_events.specs.declared.config.Bounds.{Bounds}
 use Rattle.velo_events.specs.WellFormed.{IsWellFormed}
 use Rattle.velo_events.specs.Heap.{depth_in}
 use Rattle.velo_laws.proofs.OnCut.{IsQuiet-from}
-use Rattle.velo_renew.proofs.OnRenewals.{none_open}
+use Rattle.velo_laws.proofs.OnRenewals.{none_open}
 use Rattle.velo_audit.proofs.pieces.is_quiet.Goals as goal
 
 pub loop-thread-init : goal.loop-thread-init

@@ -3,7 +3,7 @@ use Rattle.velo_events.specs.declared.config.Bounds.{Bounds}
 use Rattle.velo_events.specs.declared.config.Config.{Config}
 use Rattle.velo_events.specs.WellFormed.{IsWellFormed}
 use Rattle.std.proofs.lemmas.Result.{on_ok_weaker, on_err_weaker}
-use Rattle.velo_renew.specs.Renewal.{StandsInTheWay}
+use Rattle.velo_laws.specs.Renewal.{StandsInTheWay}
 use Rattle.velo_world.specs.World.{WorldState}
 use Rattle.velo_watch.specs.Kept.{IsKept, CannotBeCut, WasCutInTime}
 use Rattle.velo_watch.specs.Piece.{BeginsWithPrologue}

@@ -1,5 +1,0 @@
-use Rattle.velo_laws.proofs.OnRestart.{prologue_law}
-use Rattle.velo_laws.proofs.restarts.prologue.Goals as goal
-
-pub returns : goal.returns
-returns c = prologue_law

@@ -1,5 +1,0 @@
-use Rattle.velo_laws.proofs.OnRestart.{restart_law}
-use Rattle.velo_laws.proofs.restarts.restart.Goals as goal
-
-pub returns : goal.returns
-returns c = restart_law

@@ -1,2 +1,0 @@
-pub mod Renewal
-pub mod Opening
