@@ -627,10 +627,7 @@ PLANTS = [
         [
             ("i >= 0 && me->tried; i--)", "i >= 0 && false; i--)"),
         ],
-        {
-            "session": ["tries_that_back_off_are_no_events"],
-            "cpp": ["std_lock_is_one_acquire"],
-        },
+        {"session": ["tries_that_back_off_are_no_events"]},
     ),
     Plant(
         "a copy under the session's lock",
