@@ -33,7 +33,7 @@ PLANTS = [
         "threads of two monitors are one",
         SESSION,
         [
-            ("if (me->seat[i].id == id) return", "if (me->seat[i].id) return"),
+            ("if (me->seat[i].id == id)", "if (me->seat[i].id)"),
             ("child.who = ++s->born;", "child.who = s->born = s->born ? s->born + 1 : 2;"),
         ],
         {"cpp": ["a_thread_of_another_session_is_itself"]},
@@ -159,7 +159,7 @@ PLANTS = [
         "a stranger is thread 0",
         SESSION,
         [
-            ("if (me->seat[i].id == id) return", "if (me->seat[i].in == slot_of(id)) return"),
+            ("if (me->seat[i].id == id)", "if (me->seat[i].in == slot_of(id))"),
         ],
         {"rust": ["who_opened_an_earlier_session_is_another_thread"]},
     ),
@@ -192,8 +192,8 @@ PLANTS = [
             ("make_room(s, s->variable.count, s->variables);", "(void)s;"),
             ("    if (s->variable.count >= s->variables) {", "    if (false) {"),
             (
-                "? number_in(tag) : new_variable(s, o, tag);",
-                "? (uint16_t)number_in(tag) : (uint16_t)new_variable(s, o, tag);",
+                "? number_in(tag) : new_variable(s, o, tag, place);",
+                "? (uint16_t)number_in(tag) : (uint16_t)new_variable(s, o, tag, place);",
             ),
         ],
         {"cpp": ["more_objects_than_numbers"]},
@@ -271,6 +271,10 @@ PLANTS = [
                 '        stop(s, "%s", reason(status));\n        return false;',
                 "        return false;",
             ),
+            (
+                '        stop(s, "%s", reason(VELODROME_LOG_FULL));',
+                "        end_recording(s);",
+            ),
         ],
         {
             "session": ["a_full_log_is_told_and_nothing_else"],
@@ -284,8 +288,8 @@ PLANTS = [
         HPP,
         [
             (
-                "~atomic_block() { vs_end(); }",
-                "~atomic_block() {\n        vs_end();\n        if (vs_so_far(vs_current()) == VS_INCOMPLETE) throw 1;\n    }",
+                "            vs_end_block(block_);",
+                "            vs_end_block(block_);\n        if (vs_so_far(vs_current()) == VS_INCOMPLETE) throw 1;",
             ),
         ],
         {"cpp": ["a_block_that_is_too_long", "a_thread_full_of_events_ends"]},
@@ -295,8 +299,8 @@ PLANTS = [
         HPP,
         [
             (
-                "tell(object_, VS_RELEASE);\n        inner_.unlock();",
-                "tell(object_, VS_RELEASE);\n"
+                "tell(object_, VS_RELEASE, at);\n        inner_.unlock();",
+                "tell(object_, VS_RELEASE, at);\n"
                 "        inner_.unlock();\n"
                 "        if (vs_so_far(vs_current()) == VS_INCOMPLETE) throw 1;",
             ),
@@ -308,8 +312,8 @@ PLANTS = [
         HPP,
         [
             (
-                "tell(object_, VS_RELEASE);\n        inner_.unlock();",
-                "tell(object_, VS_RELEASE);\n        if (vs_so_far(vs_current()) != VS_INCOMPLETE) inner_.unlock();",
+                "tell(object_, VS_RELEASE, at);\n        inner_.unlock();",
+                "tell(object_, VS_RELEASE, at);\n        if (vs_so_far(vs_current()) != VS_INCOMPLETE) inner_.unlock();",
             ),
         ],
         {"cpp": ["locks_work_where_nothing_is_told", "a_block_that_is_too_long"]},
@@ -345,8 +349,8 @@ PLANTS = [
         SESSION,
         [
             (
-                "    if (!take_held(s, &list, &count)) return false;",
-                "    if (*s->words->text || !take_held(s, &list, &count)) return false;",
+                "    if (!held)\n        return;",
+                "    if (true)\n        return;",
             ),
         ],
         {
@@ -360,7 +364,7 @@ PLANTS = [
         "a cut where a block is open",
         SESSION,
         [
-            ("    if (!s->open) renew(s);\n    else if (", "    renew(s);\n    if ("),
+            ("    if (!s->open)\n        renew(s);\n    else if (", "    renew(s);\n    if ("),
         ],
         {"fuzz": ["2000"]},
     ),
@@ -368,7 +372,10 @@ PLANTS = [
         "a cut forgets the locks that are held",
         SESSION,
         [
-            ("hold_again(s, &list[i].hold, (uint16_t)lock);", ""),
+            (
+                "        if (!is_held(h)) {\n",
+                "        *h = (hold){0};\n        if (!is_held(h)) {\n",
+            ),
         ],
         {"fuzz": ["2000"], "cpp": ["an_alarm_through_a_lock_that_was_held_across_a_cut"]},
     ),
@@ -429,8 +436,8 @@ PLANTS = [
         SESSION,
         [
             (
-                "if (self()->current == session) self()->current = s->outer;",
-                "if (self()->current == session) self()->current = 0;",
+                "self()->current = s->outer;",
+                "self()->current = 0;",
             ),
         ],
         {"session": ["sessions_nest"], "rust": ["two_runs_of_one_thread"]},
@@ -440,8 +447,8 @@ PLANTS = [
         SESSION,
         [
             (
-                "if (self()->current == session) self()->current = s->outer;",
-                "if (self()->current == session) self()->current = 0;",
+                "self()->current = s->outer;",
+                "self()->current = 0;",
             ),
             (
                 "atomic_compare_exchange_strong(&everywhere, &all, s->outer_everywhere);",
@@ -466,9 +473,14 @@ PLANTS = [
         SESSION,
         [
             (
-                "if (!s->open && s->recording && is_nearly_full(s, used, limit)) renew(s);",
-                "(void)s, (void)used, (void)limit, (void)is_nearly_full;",
+                "    if (!s->open)\n        renew(s);\n    else\n",
+                "    if (s->open)\n",
             ),
+            (
+                "        if (s->recording && s->crowded && !s->open)\n            renew(s);\n",
+                "",
+            ),
+            ("s->threads >= REUSED_FROM; i++)", "false; i++)"),
         ],
         {
             "long": [""],
@@ -577,15 +589,97 @@ PLANTS = [
         "names that spoil their file",
         SESSION,
         [
-            ("(unsigned char)name[n] < 32 || name[n] == 127 ? ' ' : name[n]", "name[n]"),
+            ("        if (*c < 32 || *c == 127)\n", "        if (false)\n"),
         ],
         {"cpp": ["names_of_any_kind"], "python": ["test_names_of_all_kinds"]},
+    ),
+    Plant(
+        "the number of a held lock is given again",
+        SESSION,
+        [
+            ("    s->lock.at[c->lock] = (named){(uint32_t)(w - s->words), c->nth};\n", ""),
+        ],
+        {"session": ["a_held_lock_keeps_its_number"]},
+    ),
+    Plant(
+        "a block ends by nesting alone",
+        SESSION,
+        [
+            ("    if (block.who == me->id)\n", "    if (true)\n"),
+        ],
+        {"session": ["an_end_of_anothers_block_is_not_that_of_ones_own"]},
+    ),
+    Plant(
+        "a block outlives its session",
+        SESSION,
+        [
+            ("b->since < t->since ? IGNORED :", "false ? IGNORED :"),
+            ("        forget_old(me, since);", "        (void)forget_old;"),
+        ],
+        {
+            "session": ["a_jump_out_of_a_block"],
+            "rust": ["a_forgotten_block_ends_with_its_run"],
+        },
+    ),
+    Plant(
+        "tries of std::lock are events",
+        SESSION,
+        [
+            ("i >= 0 && me->tried; i--)", "i >= 0 && false; i--)"),
+        ],
+        {"session": ["tries_that_back_off_are_no_events"]},
+    ),
+    Plant(
+        "a copy under the session's lock",
+        HPP,
+        [
+            (
+                "is_copied_in_hold = std::is_trivially_copyable_v<T>;",
+                "is_copied_in_hold = true;",
+            ),
+        ],
+        {"cpp": ["a_copy_may_wait_for_another_thread"]},
+    ),
+    Plant(
+        "nobody waits for room",
+        SESSION,
+        [
+            ("    if (!s->crowded || (t && t->told))\n", "    if (true)\n"),
+        ],
+        {"session": ["who_is_crowded_waits"]},
+    ),
+    Plant(
+        "a setting that means nothing is not told",
+        SESSION,
+        [
+            ("        any |= is_wrong(i);", "        (void)is_wrong;"),
+        ],
+        {
+            "session": ["wrong_settings_are_told"],
+            "cpp": ["settings_of_the_environment"],
+        },
+    ),
+    Plant(
+        "the report is not asked",
+        SESSION,
+        [
+            ("        put_finding(text, log);", "        (void)put_finding;"),
+        ],
+        {"session": ["an_alarm_is_told_by_the_report"]},
+    ),
+    Plant(
+        "a place in the library is told",
+        SESSION,
+        [
+            ("is_of_library(path), path};", "false, path};"),
+        ],
+        {"cpp": ["calls_of_locks_have_their_place"]},
     ),
     Plant(
         "one lock hides schedules",
         SESSION,
         [
-            ("if (drawn % noise == 0) pause_for", "if (drawn % noise == noise) pause_for"),
+            ("if (drawn % noise == 0)", "if (drawn % noise == noise)"),
         ],
         {"python": ["test_noise_lets_others_run"]},
     ),

@@ -272,9 +272,10 @@ if wants examples && have cmake; then
         step "examples: $language, careful: a hundred times without an alarm" in_time ctest --test-dir "$build_folder" --output-on-failure --repeat until-fail:100 -R '[Cc]areful'
         step "examples: $language, careless: repeated until it fails" says 'not atomic: deposit_carelessly' in_time "${repeated[@]}" -R '[Cc]areless'
         step "examples: $language, its log is kept" kept "$build_folder"/*[Cc]areless.vlog
-        incomplete=(env VELODROME_EVENTS=2 ctest --test-dir "$build_folder" --verbose -R '[Cc]areful')
-        step "examples: $language, incomplete: it fails" says 'too many events while a block was open' "${incomplete[@]}"
-        step "examples: $language, incomplete, with VELODROME_INCOMPLETE=warn" warns 'too many events while a block was open' env VELODROME_INCOMPLETE=warn "${incomplete[@]}"
+        incomplete=(env VELODROME_EVENTS=2 ctest --test-dir "$build_folder" -R '[Cc]areful')
+        step "examples: $language, incomplete: it fails" says 'too many events while a block was open' "${incomplete[@]}" --verbose
+        step "examples: $language, incomplete, with VELODROME_INCOMPLETE=warn: it says why" warns 'too many events while a block was open' env VELODROME_INCOMPLETE=warn "${incomplete[@]}" --verbose
+        step "examples: $language, incomplete, with VELODROME_INCOMPLETE=warn: it is skipped" warns '(Skipped)' env VELODROME_INCOMPLETE=warn "${incomplete[@]}"
     done
     if [ -x "$out/build_cpp/bank_test" ]; then
         rm -rf "$out/embedding"

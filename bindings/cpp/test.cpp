@@ -1161,6 +1161,23 @@ TEST(objects_without_a_name_have_their_place) {
     EXPECT(
         has(s.close().words, ("writes variable at test.cpp:" + std::to_string(line + 1)).c_str()));
 }
+TEST(calls_of_locks_have_their_place) { // those of a guard stand in the library, and have none
+    session s;
+    mutex m VELODROME_NAMED("m");
+    const int line = __LINE__;
+    {
+        VELODROME_ATOMIC("two holds");
+        m.lock();
+        m.unlock();
+        apart([&] { std::lock_guard hold(m); });
+        m.lock();
+        m.unlock();
+    }
+    const std::string words = s.close().words;
+    EXPECT(has(words, ("releases m at test.cpp:" + std::to_string(line + 4)).c_str()));
+    EXPECT(has(words, ("acquires m at test.cpp:" + std::to_string(line + 6)).c_str()));
+    EXPECT(has(words, "acquires m)") && !has(words, ".h:"));
+}
 TEST(names_of_any_kind) {
     session s;
     var<int> x VELODROME_VALUE(0, "pay\nlabel 1 refund"), y VELODROME_VALUE(0, "");

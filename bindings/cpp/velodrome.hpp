@@ -183,6 +183,12 @@ inline void tell(vs_object &object, vs_kind kind, const vs_place *at = nullptr) 
     if (!vs_idle())
         vs_tell_at(&object, kind, at);
 }
+inline void tell(vs_object &object, vs_kind kind, place at) noexcept {
+    if (vs_idle())
+        return;
+    const vs_place told = at.told();
+    vs_tell_at(&object, kind, &told);
+}
 
 // A mutex of std's, recorded: an acquire after it was acquired, a release before it is released.
 // What std::lock tries and gives back is no event.
@@ -193,15 +199,16 @@ public:
     lockable(const lockable &) = delete;
     lockable &operator=(const lockable &) = delete;
 
-    void lock() {
+    void lock(place at = place::here()) {
         inner_.lock();
-        acquired(VS_ACQUIRE);
+        acquired(VS_ACQUIRE, at);
     }
-    [[nodiscard]] bool try_lock() noexcept(noexcept(std::declval<M &>().try_lock())) {
-        return taken(inner_.try_lock());
+    [[nodiscard]] bool
+    try_lock(place at = place::here()) noexcept(noexcept(std::declval<M &>().try_lock())) {
+        return taken(inner_.try_lock(), VS_ACQUIRE, at);
     }
-    void unlock() noexcept {
-        tell(object_, VS_RELEASE);
+    void unlock(place at = place::here()) noexcept {
+        tell(object_, VS_RELEASE, at);
         inner_.unlock();
     }
     template <class U = M> typename U::native_handle_type native_handle() {
@@ -209,13 +216,15 @@ public:
     }
 
 protected:
-    void acquired(vs_kind kind) noexcept {
-        if (!vs_idle())
-            vs_acquired(&object_, kind);
+    void acquired(vs_kind kind, place at) noexcept {
+        if (vs_idle())
+            return;
+        const vs_place told = at.told();
+        vs_acquired_at(&object_, kind, &told);
     }
-    bool taken(bool got, vs_kind kind = VS_ACQUIRE) noexcept {
+    bool taken(bool got, vs_kind kind, place at) noexcept {
         if (got)
-            acquired(kind);
+            acquired(kind, at);
         else if (!vs_idle())
             vs_try_failed();
         return got;
@@ -228,28 +237,30 @@ template <class M> class timed : public lockable<M> {
 public:
     using lockable<M>::lockable;
     template <class R, class P>
-    [[nodiscard]] bool try_lock_for(const std::chrono::duration<R, P> &time) {
-        return this->taken(this->inner_.try_lock_for(time));
+    [[nodiscard]] bool try_lock_for(const std::chrono::duration<R, P> &time,
+                                    place at = place::here()) {
+        return this->taken(this->inner_.try_lock_for(time), VS_ACQUIRE, at);
     }
     template <class C, class D>
-    [[nodiscard]] bool try_lock_until(const std::chrono::time_point<C, D> &time) {
-        return this->taken(this->inner_.try_lock_until(time));
+    [[nodiscard]] bool try_lock_until(const std::chrono::time_point<C, D> &time,
+                                      place at = place::here()) {
+        return this->taken(this->inner_.try_lock_until(time), VS_ACQUIRE, at);
     }
 };
 
 template <class Base> class shared : public Base {
 public:
     using Base::Base;
-    void lock_shared() {
+    void lock_shared(place at = place::here()) {
         this->inner_.lock_shared();
-        this->acquired(VS_ACQUIRE_SHARED);
+        this->acquired(VS_ACQUIRE_SHARED, at);
     }
-    [[nodiscard]] bool
-    try_lock_shared() noexcept(noexcept(std::declval<shared &>().inner_.try_lock_shared())) {
-        return this->taken(this->inner_.try_lock_shared(), VS_ACQUIRE_SHARED);
+    [[nodiscard]] bool try_lock_shared(place at = place::here()) noexcept(
+        noexcept(std::declval<shared &>().inner_.try_lock_shared())) {
+        return this->taken(this->inner_.try_lock_shared(), VS_ACQUIRE_SHARED, at);
     }
-    void unlock_shared() noexcept {
-        tell(this->object_, VS_RELEASE_SHARED);
+    void unlock_shared(place at = place::here()) noexcept {
+        tell(this->object_, VS_RELEASE_SHARED, at);
         this->inner_.unlock_shared();
     }
 };
@@ -300,12 +311,14 @@ public:
     constexpr shared_timed_mutex(place at = place::here()) noexcept : shared(at) {}
     constexpr explicit shared_timed_mutex(named n) noexcept : shared(n) {}
     template <class R, class P>
-    [[nodiscard]] bool try_lock_shared_for(const std::chrono::duration<R, P> &time) {
-        return taken(inner_.try_lock_shared_for(time), VS_ACQUIRE_SHARED);
+    [[nodiscard]] bool try_lock_shared_for(const std::chrono::duration<R, P> &time,
+                                           place at = place::here()) {
+        return taken(inner_.try_lock_shared_for(time), VS_ACQUIRE_SHARED, at);
     }
     template <class C, class D>
-    [[nodiscard]] bool try_lock_shared_until(const std::chrono::time_point<C, D> &time) {
-        return taken(inner_.try_lock_shared_until(time), VS_ACQUIRE_SHARED);
+    [[nodiscard]] bool try_lock_shared_until(const std::chrono::time_point<C, D> &time,
+                                             place at = place::here()) {
+        return taken(inner_.try_lock_shared_until(time), VS_ACQUIRE_SHARED, at);
     }
 };
 

@@ -5,14 +5,19 @@
 #include "velodrome.h"
 #include <elf.h>
 #include <errno.h>
+#include <fcntl.h>
 #include <link.h>
+#include <poll.h>
 #include <pthread.h>
+#include <signal.h>
+#include <spawn.h>
 #include <stdarg.h>
 #include <stdatomic.h>
 #include <stdio.h>
 #include <stdlib.h>
 #include <string.h>
 #include <sys/stat.h>
+#include <sys/wait.h>
 #include <time.h>
 #include <unistd.h>
 #define SLOTS 256 /* sessions at a time */
@@ -29,6 +34,8 @@
 #define NOT_TOLD UINT32_MAX
 #define IGNORED ((1u << NUMBER_BITS) - 1) /* the number of all that is left out */
 #define REUSED_FROM (THREADS * 3 / 4)     /* so many numbers are given before one is given again */
+#define RESERVE 256          /* events of the log beyond those of a piece: ends at a cut */
+#define NO_WORD UINT32_MAX   /* of a number that nobody has */
 #define ENDS 256             /* ends of blocks by others that are kept for their owners */
 #define PENDING 8            /* locks that std::lock takes at a time */
 #define BETWEEN_LOOKS 100000 /* nanoseconds, of who waits for open blocks */
@@ -37,6 +44,7 @@
 #define FIRST_SLEEP                                                                                \
     50000 /* nanoseconds; each is twice as long as the one before, up to the longest */
 #define LONGEST_SLEEP 400000
+#define LONGEST_REPORT 20 /* seconds that velodrome-report may take */
 #define HOT static inline __attribute__((always_inline)) /* what every event passes */
 #define COLD static __attribute__((noinline))
 
@@ -97,6 +105,7 @@ typedef struct ignored {
 typedef struct placed {
     const char *file; /* to find it again, and never read */
     uint32_t line;
+    bool is_of_library; /* so it says nothing */
     char *path;
 } placed;
 
@@ -136,14 +145,16 @@ typedef struct slot {
     vs_session outer, outer_everywhere;
 
     thread thread[THREADS];
-    uint32_t threads;
+    uint32_t threads, threads_end; /* how many have a number, and where the numbers end */
     names variable, lock, label;
-    hold *holds; /* one for each lock */
+    uint32_t locks_used, locks_from; /* how many have a number; all before this one are given */
+    hold *holds;                     /* one for each lock */
     uint32_t holds_room;
     word *words;
     uint32_t word_count, word_room, *word_table, table_room;
     placed *places; /* each place once; the first is none */
     uint32_t place_count, place_room, *place_table, place_table_room;
+    const char *library;   /* the last file of these, as nearly all locks are taken there */
     uint32_t *event_place; /* by position; nothing from event_places on */
     uint32_t event_places, event_room;
 
@@ -195,6 +206,7 @@ struct vs_self {
     struct {
         vs_object *lock;
         vs_kind kind;
+        vs_place place;
     } pending[PENDING]; /* locks that it took, and has not told of */
     int pendings;
     bool tried; /* since then a try failed */
@@ -514,7 +526,8 @@ static size_t name_of(const vs_object *o, const char *kind, const vs_place *plac
         return (size_t)sprintf(text, "unnamed %s", kind);
     if (!o->line)
         return with_ordinal_escaped(text, cleaned(o->name, text));
-    bool is_element = place && place->file && !place->file_bytes && is_of_library(o->name);
+    bool is_element = place && place->file && !place->file_bytes && is_of_library(o->name) &&
+                      !is_of_library(place->file);
     cleaned(after_last_slash(is_element ? place->file : o->name), file);
     return (size_t)sprintf(text, is_element ? "%s used at %s:%llu" : "%s at %s:%llu", kind, file,
                            (unsigned long long)(is_element ? place->line : o->line));
@@ -576,7 +589,7 @@ static bool add_name(slot *s, names *list, word *w, uint32_t nth) {
 
 /* Puts the name of a number there, as in a names file. */
 static void put_name(FILE *f, slot *s, names *list, uint32_t number) {
-    if (number >= list->count) {
+    if (number >= list->count || list->at[number].word == NO_WORD) {
         fprintf(f, "%u", number);
         return;
     }
@@ -588,6 +601,8 @@ static void put_name(FILE *f, slot *s, names *list, uint32_t number) {
 
 static void put_names(FILE *f, slot *s, const char *kind, names *list) {
     for (uint32_t i = 0; i < list->count; i++) {
+        if (list->at[i].word == NO_WORD)
+            continue;
         fprintf(f, "%s %u ", kind, i);
         put_name(f, s, list, i);
         fputc('\n', f);
@@ -745,7 +760,7 @@ static char *path_of(const vs_place *p) {
 }
 
 COLD void note_place(slot *s, uint32_t position, const vs_place *p) {
-    if (!p || !p->file || !grow_places(s))
+    if (!p || !p->file || p->file == s->library || !grow_places(s))
         return;
     while (position >= s->event_room)
         if (!has_room(&s->event_place, &s->event_room, s->event_room, sizeof *s->event_place))
@@ -756,7 +771,11 @@ COLD void note_place(slot *s, uint32_t position, const vs_place *p) {
         if (!path)
             return;
         *place = s->place_count;
-        s->places[s->place_count++] = (placed){p->file, p->line, path};
+        s->places[s->place_count++] = (placed){p->file, p->line, is_of_library(path), path};
+    }
+    if (s->places[*place].is_of_library) {
+        s->library = p->file;
+        return;
     }
     while (s->event_places < position)
         s->event_place[s->event_places++] = 0;
@@ -1039,10 +1058,17 @@ HOT bool told(slot *s, velodrome_status status, const velodrome_answer *a, const
 /* ---- threads */
 
 static uint32_t number_of_who(slot *s, uint64_t who) {
-    for (uint32_t i = 1; i < s->threads; i++)
+    for (uint32_t i = 1; i < s->threads_end; i++)
         if (s->thread[i].who == who)
             return i;
     return 0;
+}
+
+static uint32_t free_number(const slot *s) {
+    uint32_t n = 1;
+    while (n < s->threads_end && s->thread[n].who)
+        n++;
+    return n;
 }
 
 /* The start and the end of a number's thread are accesses of a variable beyond those of the
@@ -1057,20 +1083,24 @@ static uint32_t life_of(const slot *s, uint32_t number) {
  * from outside. */
 static uint32_t enrol(slot *s, uint32_t parent, uint64_t who, const vs_place *place) {
     velodrome_answer a;
-    if (s->threads == THREADS) {
+    uint32_t n = free_number(s);
+    if (n == THREADS) {
         stop(s, "more than %d threads while a block was open", THREADS - 1);
         return 0;
     }
-    if (!told(s, velodrome_fork(s->handle, parent, s->threads, &a), &a, place))
+    if (!told(s, velodrome_fork(s->handle, parent, n, &a), &a, place))
         return 0;
-    s->thread[s->threads] = (thread){.who = who};
-    return s->threads++;
+    s->thread[n] = (thread){.who = who};
+    s->threads++;
+    if (s->threads_end == n)
+        s->threads_end++;
+    return n;
 }
 
 /* That of a thread which `parent` has joined: so whatever it did leads to what the new one does,
  * also where they are two. */
 static uint32_t number_to_use_again(const slot *s, uint32_t parent) {
-    for (uint32_t i = 1; i < s->threads && s->threads >= REUSED_FROM; i++) {
+    for (uint32_t i = 1; i < s->threads_end && s->threads >= REUSED_FROM; i++) {
         const thread *t = &s->thread[i];
         if (t->joined && t->ended && t->joiner == parent && !t->deepest && !t->locks)
             return i;
@@ -1085,8 +1115,9 @@ static void clear_names(slot *s) {
         free(s->words[i].text);
     for (uint32_t i = 0; i < s->place_count; i++)
         free(s->places[i].path);
-    s->word_count = s->variable.count = s->lock.count = s->label.count = 0;
+    s->word_count = s->variable.count = s->label.count = 0;
     s->place_count = s->event_places = 0;
+    s->library = NULL;
     if (s->word_table)
         memset(s->word_table, 0, s->table_room * sizeof *s->word_table);
     if (s->place_table)
@@ -1103,77 +1134,94 @@ static void set_crowded(slot *s, bool crowded) {
 
 static void next_piece(slot *s) {
     atomic_store(&s->last, epoch(s) + SLOTS);
-    s->threads = 1;
     s->open = s->events = 0;
     s->looks = 0;
     set_crowded(s, false);
 }
 
 static velodrome_status open_handle(slot *s) {
-    uint32_t nodes = s->most < VELODROME_MAX_NODES
-                         ? s->most
+    uint32_t events = s->most + RESERVE;
+    uint32_t nodes = events < VELODROME_MAX_NODES
+                         ? events
                          : VELODROME_MAX_NODES; /* no more transactions than events */
-    velodrome_limits limits = {THREADS, s->variables + (uint32_t)THREADS, s->locks, s->most, nodes};
+    velodrome_limits limits = {THREADS, s->variables + (uint32_t)THREADS, s->locks, events, nodes};
+    s->threads = s->threads_end = 1;
+    s->locks_used = s->locks_from = 0;
     return velodrome_open(&s->handle, &limits);
 }
 
-/* A lock that is held across a cut. */
+/* The name of a lock that is held across a cut. */
 typedef struct carried {
-    hold hold;
+    uint32_t lock, nth;
     char *name;
-    uint32_t nth;
 } carried;
 
 static bool is_held(const hold *h) {
     return h->owner || h->shares;
 }
 
-/* The locks that are held, taken out of the session; false, and nothing is changed, where there is
- * no memory. */
-static bool take_held(slot *s, carried **list, uint32_t *count) {
+static void free_carried(carried *list, uint32_t count) {
+    while (count)
+        free(list[--count].name);
+    free(list);
+}
+
+/* The names of the locks that are held; NULL where there is no memory. */
+static carried *names_of_held(const slot *s, uint32_t *count) {
+    carried *list = calloc(s->locks_used + 1, sizeof *list);
     *count = 0;
-    for (uint32_t i = 0; i < s->lock.count; i++)
-        *count += is_held(&s->holds[i]);
-    if (!(*list = calloc(*count + 1, sizeof **list)))
-        return false;
-    uint32_t n = 0;
-    for (uint32_t i = 0; i < s->lock.count; i++) {
+    for (uint32_t i = 0; list && i < s->lock.count; i++) {
+        const named *n = &s->lock.at[i];
         if (!is_held(&s->holds[i]))
             continue;
-        carried *c = &(*list)[n++];
-        c->hold = s->holds[i];
-        if (!c->hold.old)
-            c->hold.old = tag_with(epoch(s), i);
-        c->nth = s->lock.at[i].nth;
-        if ((c->name = strdup(s->words[s->lock.at[i].word].text)))
-            continue;
-        while (n)
-            free((*list)[--n].name);
-        free(*list);
-        return false;
+        char *name = strdup(s->words[n->word].text);
+        if (!name) {
+            free_carried(list, *count);
+            return NULL;
+        }
+        list[(*count)++] = (carried){i, n->nth, name};
     }
-    for (uint32_t i = 0; i < s->lock.count; i++)
-        if (is_held(&s->holds[i]))
-            s->holds[i] = (hold){0};
+    return list;
+}
+
+/* Each thread without a lock ends, and thread 0 joins it: it is met again where it acts again, and
+ * meanwhile others may have its number. */
+static bool end_threads(slot *s) {
+    velodrome_answer a;
+    uint32_t end = 1;
+    for (uint32_t i = 1; i < s->threads_end; i++) {
+        thread *t = &s->thread[i];
+        if (t->who && t->locks) {
+            *t = (thread){.who = t->who, .locks = t->locks, .ended = t->ended};
+            end = i + 1;
+        } else if (t->who) {
+            if (!told(s, velodrome_exit(s->handle, i, &a), &a, NULL) ||
+                !told(s, velodrome_join(s->handle, 0, i, &a), &a, NULL))
+                return false;
+            *t = (thread){0};
+            s->threads--;
+        }
+    }
+    s->threads_end = end;
     return true;
 }
 
-static uint32_t number_again(slot *s, uint64_t who) {
-    uint32_t number = number_of_who(s, who);
-    return number ? number : enrol(s, 0, who, NULL);
-}
-
-/* Says again who holds the lock. */
-static void hold_again(slot *s, const hold *h, uint16_t lock) {
-    velodrome_answer a;
-    uint32_t t;
-    if (h->owner && (t = number_again(s, h->owner)) &&
-        told(s, velodrome_acquire(s->handle, t, lock, &a), &a, NULL))
-        s->thread[t].locks++;
-    for (uint32_t i = 0; i < h->shares; i++)
-        if ((t = number_again(s, h->share[i].who)) &&
-            told(s, velodrome_acquire_shared(s->handle, t, lock, &a), &a, NULL))
-            s->thread[t].locks++;
+/* The locks that are held keep their numbers; all others are given anew. */
+static void keep_held(slot *s) {
+    uint32_t end = 0;
+    for (uint32_t i = 0; i < s->lock.count; i++) {
+        hold *h = &s->holds[i];
+        s->lock.at[i].word = NO_WORD;
+        if (!is_held(h)) {
+            h->old = 0;
+        } else {
+            end = i + 1;
+            if (!h->old)
+                h->old = tag_with(epoch(s), i);
+        }
+    }
+    s->lock.count = end;
+    s->locks_used = s->locks_from = 0;
 }
 
 static bool grow_holds(slot *s) {
@@ -1185,42 +1233,63 @@ static bool grow_holds(slot *s) {
     return true;
 }
 
-static uint32_t add_lock(slot *s, word *w, uint32_t nth) {
-    if (w && grow_holds(s) && add_name(s, &s->lock, w, nth))
-        return s->lock.count - 1;
-    stop(s, "out of memory");
-    return NOT_TOLD;
+static uint32_t free_lock(slot *s) {
+    while (s->locks_from < s->lock.count && s->lock.at[s->locks_from].word != NO_WORD)
+        s->locks_from++;
+    return s->locks_from;
 }
 
-/* Goes on in a new log with the same threads and the same locks held. No block is open, so all that
- * came before leads forward alone, and no cycle has a part on either side. */
-static bool renew(slot *s) {
-    carried *list;
-    uint32_t count;
-    if (!take_held(s, &list, &count))
-        return false;
-    s->earlier += s->events;
-    velodrome_close(s->handle);
-    clear_names(s);
-    next_piece(s);
-    if (open_handle(s))
+static uint32_t add_lock(slot *s, word *w, uint32_t nth) {
+    uint32_t n = free_lock(s);
+    if (w && n < s->lock.count) {
+        s->lock.at[n] = (named){(uint32_t)(w - s->words), nth};
+    } else if (!w || !grow_holds(s) || !add_name(s, &s->lock, w, nth)) {
         stop(s, "out of memory");
-    for (uint32_t i = 0; i < count; i++) {
-        word *w = s->why[0] ? NULL : word_with(s, list[i].name, strlen(list[i].name));
-        uint32_t lock = s->why[0] ? NOT_TOLD : add_lock(s, w, list[i].nth);
-        if (lock == NOT_TOLD)
-            free(list[i].hold.share);
-        else {
-            if (w->met[1] < list[i].nth)
-                w->met[1] = list[i].nth;
-            free(s->holds[lock].share);
-            s->holds[lock] = list[i].hold;
-            hold_again(s, &list[i].hold, (uint16_t)lock);
-        }
-        free(list[i].name);
+        return NOT_TOLD;
     }
-    free(list);
-    return !s->why[0];
+    s->locks_used++;
+    return n;
+}
+
+static void name_again(slot *s, const carried *c) {
+    word *w = word_with(s, c->name, strlen(c->name));
+    if (!w) {
+        stop(s, "out of memory");
+        return;
+    }
+    if (w->met[1] < c->nth)
+        w->met[1] = c->nth;
+    s->lock.at[c->lock] = (named){(uint32_t)(w - s->words), c->nth};
+    s->locks_used++;
+}
+
+static uint32_t number_again(slot *s, uint64_t who) {
+    uint32_t number = number_of_who(s, who);
+    return number ? number : enrol(s, 0, who, NULL);
+}
+
+/* Goes on in a new log with the same locks held. No block is open. That whatever comes then is
+ * judged as if the log had gone on is proved of velodrome_renew. */
+static void renew(slot *s) {
+    uint32_t count, events = s->events;
+    velodrome_summary after = {0};
+    carried *held = names_of_held(s, &count);
+    if (!held)
+        return;
+    velodrome_status status = end_threads(s) ? velodrome_renew(s->handle) : VELODROME_DONE;
+    if (status)
+        stop(s, "%s", reason(status));
+    if (s->recording) {
+        velodrome_verdict(s->handle, &after);
+        s->earlier += events;
+        keep_held(s);
+        clear_names(s);
+        next_piece(s);
+        s->events = (uint32_t)after.events;
+        for (uint32_t i = 0; i < count; i++)
+            name_again(s, &held[i]);
+    }
+    free_carried(held, count);
 }
 
 /* Three quarters of a limit are in use. Where that is not of events, a cut has to be worth its
@@ -1251,6 +1320,8 @@ static void make_room_for_events(slot *s) {
         return;
     if (!s->open)
         renew(s);
+    else if (s->events >= s->most)
+        stop(s, "%s", reason(VELODROME_LOG_FULL));
     else if (s->events >= s->most - s->most / 8)
         set_crowded(s, true);
 }
@@ -1452,7 +1523,7 @@ HOT void look_for_ends(struct vs_self *me) {
 /* What the thread that began it did meanwhile was told as in the block, and what others did for it
  * was not: where it has events, nothing is known any more. */
 static void doubt_block(slot *s, vs_block block) {
-    for (uint32_t i = 1; i < s->threads; i++) {
+    for (uint32_t i = 1; i < s->threads_end; i++) {
         if (s->thread[i].actor != block.who || s->thread[i].deepest < block.nth)
             continue;
         if (s->alarmed)
@@ -1609,17 +1680,11 @@ HOT uint32_t variable_number(slot *s, vs_object *o, const vs_place *place) {
 
 /* The number of a lock that is held since an earlier piece. */
 COLD uint32_t carried_lock(slot *s, vs_object *o, uint64_t tag) {
-    if (!is_of(s, tag))
+    uint32_t n = number_in(tag);
+    if (!is_of(s, tag) || n >= s->lock.count || s->holds[n].old != tag || !claim(s, o, tag, n))
         return NOT_TOLD;
-    for (uint32_t i = 0; i < s->lock.count; i++) {
-        if (s->holds[i].old != tag)
-            continue;
-        if (!claim(s, o, tag, i))
-            return NOT_TOLD;
-        s->holds[i].old = 0;
-        return i;
-    }
-    return NOT_TOLD;
+    s->holds[n].old = 0;
+    return n;
 }
 
 HOT uint32_t known_lock(slot *s, vs_object *o) {
@@ -1635,7 +1700,7 @@ COLD uint32_t new_lock(slot *s, vs_object *o, const vs_place *place) {
     size_t bytes = name_of(o, "lock", place, text);
     if (is_ignored(s, VS_NAMED_LOCK, text))
         return claim(s, o, tag, IGNORED) ? IGNORED : NOT_TOLD;
-    if (s->lock.count >= s->locks) {
+    if (free_lock(s) >= s->locks) {
         stop(s, "more than %u locks while a block was open", s->locks);
         return NOT_TOLD;
     }
@@ -1736,7 +1801,7 @@ static void make_room_for_object(slot *s, vs_kind kind) {
     if (kind == VS_READ || kind == VS_WRITE)
         make_room(s, s->variable.count, s->variables);
     else if (kind == VS_ACQUIRE || kind == VS_ACQUIRE_SHARED)
-        make_room(s, s->lock.count, s->locks);
+        make_room(s, s->locks_used, s->locks);
 }
 
 /* The seat for an event, which may be the first of its thread or its object since the last cut;
@@ -1859,7 +1924,7 @@ static uint32_t looks_to_take(slot *s, const seat *t, bool forks, bool has_lock)
     uint32_t number = !t ? 0 : t->epoch == epoch(s) ? t->number : number_of_who(s, t->who);
     bool is_stuck = s->threads == THREADS && (forks ? !number_to_use_again(s, number) : !number);
     has_lock |= number && s->thread[number].locks;
-    for (uint32_t i = 1; i < s->threads; i++)
+    for (uint32_t i = 1; i < s->threads_end; i++)
         others |= s->thread[i].deepest && s->thread[i].system != mine.system;
     bool waits = s->crowded && others && (is_stuck || !has_lock);
     let_go(s);
@@ -1927,7 +1992,7 @@ COLD void tell_all_pending(slot *kept_slot, struct vs_self *me) {
         uint64_t id = session_for(me->pending[i].lock);
         slot *s = !id ? NULL : kept_slot == slot_of(id) ? kept_slot : kept(id);
         if (s && s->recording)
-            event(s, me, me->pending[i].lock, me->pending[i].kind, NULL);
+            event(s, me, me->pending[i].lock, me->pending[i].kind, &me->pending[i].place);
         if (s && s != kept_slot)
             let_go(s);
     }
@@ -2019,15 +2084,21 @@ void vs_tell(vs_object *o, vs_kind kind) {
     vs_tell_at(o, kind, NULL);
 }
 
-void vs_acquired(vs_object *lock, vs_kind kind) {
+void vs_acquired_at(vs_object *lock, vs_kind kind, const vs_place *place) {
+    static const vs_place none;
     if (vs_idle() || !come_in())
         return;
     struct vs_self *me = self();
     if (me->pendings == PENDING)
         tell_pending(me);
     me->pending[me->pendings].lock = lock;
-    me->pending[me->pendings++].kind = kind;
+    me->pending[me->pendings].kind = kind;
+    me->pending[me->pendings++].place = place ? *place : none;
     go_out();
+}
+
+void vs_acquired(vs_object *lock, vs_kind kind) {
+    vs_acquired_at(lock, kind, NULL);
 }
 
 void vs_try_failed(void) {
@@ -2280,9 +2351,8 @@ static void child_of_fork(void) {
 static void set_options(slot *s, const vs_options *o) {
     struct timespec now;
     clock_gettime(CLOCK_MONOTONIC, &now);
-    s->most = !o->events                         ? 1u << 20
-              : o->events > VELODROME_MAX_EVENTS ? VELODROME_MAX_EVENTS
-                                                 : o->events;
+    uint32_t most = VELODROME_MAX_EVENTS - RESERVE;
+    s->most = !o->events ? 1u << 20 : o->events > most ? most : o->events;
     s->near = s->most - s->most / 4;
     s->variables = !o->variables || o->variables > VARIABLES ? VARIABLES : o->variables;
     s->locks = !o->locks                        ? VELODROME_MAX_LOCKS
@@ -2526,7 +2596,7 @@ static bool put_log(FILE *f, slot *s) {
 
 static void put_all_names(FILE *f, slot *s) {
     put_names(f, s, "variable", &s->variable);
-    for (uint32_t i = 1; i < s->threads; i++)
+    for (uint32_t i = 1; i < s->threads_end; i++)
         if (s->thread[i].lived)
             fprintf(f, "variable %u start and end of thread %u\n", life_of(s, i), i);
     put_names(f, s, "lock", &s->lock);
@@ -2713,20 +2783,114 @@ __attribute__((format(printf, 2, 3))) static void append(char **text, const char
     free(more);
 }
 
-/* Keeps the log of a test that fails, and says how to read it. */
-static void keep_log(slot *s, const char *name, char **text) {
+/* ---- the finding of velodrome-report, where that can be called */
+
+extern char **environ;
+
+/* A group of its own, so that all of it can be ended, with no signal blocked or ignored. */
+static pid_t start_report(char *program, char *log, int output) {
+    char *words[] = {program, log, NULL};
+    sigset_t none, pipe_alone;
+    pid_t pid = 0;
+    posix_spawnattr_t how;
+    posix_spawn_file_actions_t files;
+    sigemptyset(&none);
+    sigemptyset(&pipe_alone);
+    sigaddset(&pipe_alone, SIGPIPE);
+    if (posix_spawnattr_init(&how))
+        return 0;
+    posix_spawnattr_setflags(&how, POSIX_SPAWN_SETPGROUP | POSIX_SPAWN_SETSIGMASK |
+                                       POSIX_SPAWN_SETSIGDEF);
+    posix_spawnattr_setsigmask(&how, &none);
+    posix_spawnattr_setsigdefault(&how, &pipe_alone);
+    if (posix_spawn_file_actions_init(&files) == 0) {
+        if (posix_spawn_file_actions_addopen(&files, 0, "/dev/null", O_RDONLY, 0) ||
+            posix_spawn_file_actions_adddup2(&files, output, 1) ||
+            posix_spawn_file_actions_addopen(&files, 2, "/dev/null", O_WRONLY, 0) ||
+            posix_spawnp(&pid, program, &files, &how, words, environ))
+            pid = 0;
+        posix_spawn_file_actions_destroy(&files);
+    }
+    posix_spawnattr_destroy(&how);
+    return pid;
+}
+
+static int64_t milliseconds(void) {
+    struct timespec now;
+    clock_gettime(CLOCK_MONOTONIC, &now);
+    return now.tv_sec * 1000ll + now.tv_nsec / 1000000;
+}
+
+/* Whether all was read in time. */
+static bool read_all(int from, FILE *to) {
+    char piece[4096];
+    int64_t end = milliseconds() + LONGEST_REPORT * 1000ll, left;
+    while ((left = end - milliseconds()) > 0) {
+        struct pollfd one = {from, POLLIN, 0};
+        ssize_t n = 0;
+        if (poll(&one, 1, (int)left) > 0 && (n = read(from, piece, sizeof piece)) == 0)
+            return true;
+        if (n > 0)
+            fwrite(piece, 1, (size_t)n, to);
+    }
+    return false;
+}
+
+/* What the report says of the log; NULL where it cannot be called, or finds nothing. */
+static char *report_on(char *log) {
+    static const char otherwise[] = "velodrome-report";
+    int channel[2], status = -1;
+    char *text = NULL;
+    size_t bytes;
+    if (pipe2(channel, O_CLOEXEC))
+        return NULL;
+    FILE *f = open_memstream(&text, &bytes);
+    pid_t pid =
+        f ? start_report((char *)setting("VELODROME_REPORT", otherwise), log, channel[1]) : 0;
+    close(channel[1]);
+    if (pid && !read_all(channel[0], f))
+        kill(-pid, SIGKILL);
+    close(channel[0]);
+    while (pid && waitpid(pid, &status, 0) < 0 && errno == EINTR)
+        continue;
+    bool found = pid && WIFEXITED(status) && WEXITSTATUS(status) == VS_ALARM;
+    if (f && (fclose(f) || !found)) {
+        free(text);
+        return NULL;
+    }
+    return text;
+}
+
+/* Puts the first finding on the log in the place of the lines of the explanation. */
+static void put_finding(char **text, char *log) {
+    int state, errno_before = errno;
+    pthread_setcancelstate(PTHREAD_CANCEL_DISABLE, &state);
+    char *said = report_on(log);
+    pthread_setcancelstate(state, &state);
+    errno = errno_before;
+    char *end = said ? strstr(said, "\n\n") : NULL, *lines = *text;
+    if (end && lines && (lines = strstr(lines, "\nLine "))) {
+        lines[1] = 0;
+        end[1] = 0;
+        append(text, "%s", said);
+    }
+    free(said);
+}
+
+/* ---- the end of a test: what it came to */
+
+/* Keeps the log of a test that fails; its path, to be freed, or NULL. */
+static char *keep_log(slot *s, const char *name, char **text) {
     char *path = log_path(name);
-    if (!path)
-        return;
-    if (save_in(s, path))
-        append(text, "velodrome explain %s --names %s.names\n", path, path);
-    else
-        append(text, "the log could not be written to %s\n", path);
+    if (!path || save_in(s, path))
+        return path;
+    append(text, "the log could not be written to %s\n", path);
     free(path);
+    return NULL;
 }
 
 static vs_verdict finish(vs_session session, const char *name, char **text, bool *fails) {
-    char *wrong = vs_wrong_settings();
+    char *wrong = vs_wrong_settings(), *log = NULL;
     tell_pending(self());
     slot *s = kept_to_end(session);
     vs_verdict verdict = s ? verdict_of(s, true) : VS_INCOMPLETE;
@@ -2734,14 +2898,19 @@ static vs_verdict finish(vs_session session, const char *name, char **text, bool
     *fails = verdict == VS_ALARM || (verdict == VS_INCOMPLETE && !lenient) || wrong;
     *text = s ? report_of(s) : session ? NULL : strdup(no_session);
     if (s && *fails && verdict != VS_CLEAN && s->events)
-        keep_log(s, name, text);
+        log = keep_log(s, name, text);
+    if (s)
+        close_kept(s);
+    if (log && verdict == VS_ALARM)
+        put_finding(text, log);
+    if (log)
+        append(text, "velodrome explain %s --names %s.names\n", log, log);
+    free(log);
     if (verdict == VS_INCOMPLETE && *fails && !lenient)
         append(text, "with VELODROME_INCOMPLETE=warn such a test passes\n");
     if (wrong)
         append(text, "%s", wrong);
     free(wrong);
-    if (s)
-        close_kept(s);
     return verdict;
 }
 

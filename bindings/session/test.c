@@ -10,6 +10,7 @@
 #include <stdio.h>
 #include <stdlib.h>
 #include <string.h>
+#include <sys/stat.h>
 #include <sys/time.h>
 #include <sys/wait.h>
 #include <time.h>
@@ -722,6 +723,40 @@ static void the_folder_of_logs_is_made(void) {
     EXPECT(rmdir("made/for/it") == 0 && rmdir("made/for") == 0 && rmdir("made") == 0);
 }
 
+static void write_report(const char *script) {
+    FILE *f = fopen("report", "w");
+    if (script)
+        fputs(script, f);
+    fclose(f);
+    chmod("report", script ? 0700 : 0600);
+}
+static void an_alarm_is_told_by_the_report(void) { /* else by the explanation */
+    static const char *const scripts[] = {
+        "#!/bin/sh\n"
+        "[ -s \"$1\" ] && printf 'add is not atomic\\n    by whom\\n\\nthe rest\\n'\n"
+        "exit 3\n",
+        "#!/bin/sh\nprintf 'nothing by whom\\n\\n'\n", "#!/bin/sh\nkill -9 $$\n", NULL};
+    vs_object x = VS_OBJECT("x");
+    setenv("VELODROME_REPORT", "./report", 1);
+    for (int i = 0; i < 4; i++) {
+        char *report;
+        bool fails, told = i == 0;
+        write_report(scripts[i]);
+        vs_session s = vs_open(NULL, true);
+        lost_update(&x);
+        EXPECT(vs_finish(s, "told", &report, &fails) == VS_ALARM && fails &&
+               strstr(report, "not atomic: add (test.c:") == report);
+        EXPECT(!strstr(report, "\n    by whom\nvelodrome explain ./told.vlog") == !told);
+        EXPECT(!strstr(report, "closes a cycle") == told);
+        vs_free(report);
+    }
+    unsetenv("VELODROME_REPORT");
+    remove("report");
+    remove("told.vlog");
+    remove("told.vlog.names");
+    remove("told.vlog.sites");
+}
+
 static void *update_on(void *o) {
     while (!over) {
         VELODROME_ATOMIC("update");
@@ -801,6 +836,29 @@ static void names_of_any_bytes(void) {
     remove("names.vlog");
     remove("names.vlog.names");
     remove("names.vlog.sites");
+    EXPECT_END(s, VS_CLEAN, NULL);
+}
+
+static void use_lock(vs_object *lock) {
+    vs_tell(lock, VS_ACQUIRE);
+    vs_tell(lock, VS_RELEASE);
+}
+static void a_held_lock_keeps_its_number(void) { /* and all others may be given anew at a cut */
+    static vs_object held = VS_OBJECT("held"), lock[100];
+    vs_options few = {.locks = 8};
+    vs_session s = vs_open(&few, true);
+    for (int i = 0; i < 7; i++)
+        use_lock(&lock[i]);
+    vs_tell(&held, VS_ACQUIRE);
+    for (int i = 7; i < 100; i++)
+        use_lock(&lock[i]);
+    EXPECT(vs_save(s, "held.vlog"));
+    EXPECT(strstr(read_whole("held.vlog.names"), "lock 7 held\n"));
+    remove("held.vlog");
+    remove("held.vlog.names");
+    remove("held.vlog.sites");
+    vs_tell(&held, VS_RELEASE);
+    use_lock(&held);
     EXPECT_END(s, VS_CLEAN, NULL);
 }
 
@@ -974,9 +1032,11 @@ int main(void) {
         T(nothing_was_recorded),
         T(wrong_settings_are_told),
         T(the_folder_of_logs_is_made),
+        T(an_alarm_is_told_by_the_report),
         T(a_test_ends_while_threads_are_at_work),
         T(places_are_copied),
         T(names_of_any_bytes),
+        T(a_held_lock_keeps_its_number),
         T(sites_stand_beside_a_log),
         T(names_that_go),
         T(what_is_left_out_makes_no_alarm),

@@ -116,7 +116,9 @@ vs_verdict vs_close(vs_session session, char **report);
  * could not be watched to its end, or nothing was recorded, unless VELODROME_INCOMPLETE is `warn`;
  * or by a setting of the environment that is wrong. The log of a test that fails is kept as
  * NAME.vlog, NAME.vlog.names and NAME.vlog.sites in the folder VELODROME_LOGS (or here), which is
- * made if need be, and the report says how to read it. */
+ * made if need be, and the report says how to read it. The report of an alarm is the first finding
+ * of `velodrome-report` on this log, where that is on the path, or VELODROME_REPORT names it, and
+ * answers within 20 seconds; else it is the explanation. */
 vs_verdict vs_finish(vs_session session, const char *name, char **report, bool *fails);
 
 /* The verdict so far, while the session goes on. */
@@ -175,6 +177,7 @@ void vs_tell_at(vs_object *object, vs_kind kind, const vs_place *place);
  * Where a try for another lock fails before that, which vs_try_failed reports, and the lock is
  * released then, neither is an event: so whatever std::lock tries is one acquire. */
 void vs_acquired(vs_object *lock, vs_kind kind);
+void vs_acquired_at(vs_object *lock, vs_kind kind, const vs_place *place);
 void vs_try_failed(void);
 
 /* A block of who acts that is meant to be atomic. It is recorded once an event is in it. The label

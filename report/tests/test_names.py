@@ -21,6 +21,7 @@ class Short(unittest.TestCase):
             ("v(void (*)(int))", "v(..)"),
             ("Account.deposit (bank.py:8)", "Account.deposit (bank.py:8)"),
             ("move money (my bank.c:8)", "move money (my bank.c:8)"),
+            ("deposit (bank_test.cpp:6)", "deposit (bank_test.cpp:6)"),
         ):
             with self.subTest(whole):
                 self.assertEqual(names.without_parameters(whole), short)

@@ -1,8 +1,10 @@
 /* bank_test NAME: one test, a session. It fails where its blocks were not atomic, and prints which.
- */
+ * With VELODROME_INCOMPLETE=warn one that is incomplete is skipped. */
 #include "bank.h"
 #include <stdio.h>
 #include <string.h>
+
+enum { FAILED = 1, SKIPPED = 77 }; /* as CMakeLists.txt has it */
 
 static void (*tested)(account *, long);
 
@@ -29,9 +31,9 @@ int main(int argc, char **argv) {
     two_threads();
     char *report;
     bool fails;
-    vs_finish(session, name, &report, &fails);
+    vs_verdict verdict = vs_finish(session, name, &report, &fails);
     if (report)
         fputs(report, stderr);
     vs_free(report);
-    return fails;
+    return fails ? FAILED : verdict == VS_INCOMPLETE ? SKIPPED : 0;
 }

@@ -229,7 +229,7 @@ impl Builder {
     /// when the one before has ended. A run within a run, on its threads or those of [`thread`], begins at once; so does one that has
     /// waited for a minute, for its own threads alone.
     ///
-    /// A test that is not watched but uses these types is watched by the run beside it: run such tests apart from the others.
+    /// A test that is not watched but uses these types is watched by the run beside it, unless its body is in [`unwatched`].
     ///
     /// Otherwise a thread that no watched one started, such as one of a pool, is met where it uses a variable or lock that this run
     /// knows, and runs go on beside one another.
@@ -367,6 +367,19 @@ fn note(end: &End) {
 #[track_caller]
 pub fn check<T>(body: impl FnOnce() -> T) -> T {
     Builder::new().check(body)
+}
+
+/// Runs the body between two runs that watch all threads, so that none of them records it: for a test that is not watched, but uses
+/// these types beside tests that are. Within a run it is a part of that.
+///
+/// ```
+/// use velodrome::sync::Mutex;
+/// let balance = Mutex::new(100);
+/// velodrome::unwatched(|| *balance.lock().unwrap() += 5);
+/// ```
+pub fn unwatched<T>(body: impl FnOnce() -> T) -> T {
+    let _turn = turn::Turn::take(true);
+    body()
 }
 
 /// An atomic block of this thread, by [`block!`]: it ends where the value is dropped, with the blocks that began within it. One that is

@@ -299,6 +299,12 @@ fn runs_take_turns() {
     std::thread::scope(|scope| {
         for _ in 0..8 {
             scope.spawn(|| {
+                velodrome::unwatched(|| {
+                    assert_eq!(AT_ONCE.fetch_add(1, SeqCst), 0);
+                    AT_ONCE.fetch_sub(1, SeqCst);
+                });
+            });
+            scope.spawn(|| {
                 let outcome = watch(|| {
                     assert_eq!(AT_ONCE.fetch_add(1, SeqCst), 0);
                     *SHARED.lock().unwrap() += 1;
