@@ -11,6 +11,7 @@ Events::Events(Trace &trace, Shared &shared, Blocks &blocks, const Options &opti
     : shared_(shared), blocks_(blocks), options_(options), threads_(trace.threads()),
       holder_(MAX_THREADS, -1) {
     many_ = threads_.size() > MAX_THREADS;
+    begins_late_ = trace.overwritten() > 0;
     if (threads_.empty())
         return;
     number_variables();
@@ -20,10 +21,8 @@ Events::Events(Trace &trace, Shared &shared, Blocks &blocks, const Options &opti
         if (v.number && v.valued && v.initial)
             keep(0, WR, v.number - 1, 0, v.initial);
     }
-    for (u32 t : shared_.foreign) // no order is known: forked at the start
-        if (!many_)
-            threads_[t].state = LIVE, threads_[t].carrier = t, threads = max(threads, t + 1),
-            keep(0, FORK, t, 0);
+    for (u32 t : shared_.foreign)
+        begin_foreign(t);
     shared_.each([&](const Event &e, u32 piece, const Granule &g, int p, int a, int b,
                      u64 at) { access(e, piece, g, p, a, b, at); },
                  [&](const Event &e) { return step(e); });
@@ -425,6 +424,18 @@ int Events::carrier_for(u32 thread) {
             return orders_added++, i;
     return -1;
 }
+// One that nobody forked. No order is known: it is forked at the start.
+void Events::begin_foreign(u32 thread) {
+    u32 number = thread;
+    if (many_)
+        number = find(holder_.begin(), holder_.end(), -1) - holder_.begin();
+    if (number == MAX_THREADS)
+        return void(odd++);
+    threads_[thread].state = LIVE, threads_[thread].carrier = number;
+    holder_[number] = thread;
+    threads = max(threads, number + 1);
+    keep(0, FORK, number, 0);
+}
 void Events::fork(u32 thread, u32 child, u64 code) {
     Thread &c = threads_[child];
     if (c.state != UNBORN)
@@ -464,6 +475,8 @@ void Events::exit(u32 thread) {
 }
 void Events::join(u32 thread, u32 other, u64 code) {
     Thread &o = threads_[other];
+    if (o.state == UNBORN && begins_late_)
+        return; // it ended before the log begins
     if (o.state != ENDED)
         return void(odd++);
     o.state = JOINED;

@@ -90,6 +90,7 @@ private:
     bool locks_again(Lock &l, const Event &e);
     void fork(u32 thread, u32 child, u64 code);
     int carrier_for(u32 thread);
+    void begin_foreign(u32 thread);
     void exit(u32 thread);
     void join(u32 thread, u32 other, u64 code);
 
@@ -103,5 +104,5 @@ private:
     std::set<u32> rewritten_;                  // variables of which a write was dropped
     u32 room_for_unshared_ = 0;                // numbers for locks that one thread alone takes
     std::unordered_map<u64, u32> variable_at_; // of atomics: numbers by address
-    bool many_;
+    bool many_, begins_late_;
 };

@@ -22,13 +22,15 @@ static const char USAGE[] =
     "  --all-variables     leave nothing out: neither ordered variables nor repeats\n"
     "  --sites-out FILE    write the code addresses that matter, for VELODROME_SITES of the next "
     "run\n"
+    "  --quiet-out FILE    likewise with all accesses but those that touch nothing that threads "
+    "share\n"
     "  --tried FILE        write the positions of the acquires that came from trylock\n"
     "  --events N          at most so many events (16777216)\n";
 
 static const int CANNOT_NAME = 4;
 
 struct Arguments {
-    string trace, log, codes, tried, only, never;
+    string trace, log, codes, quiet, tried, only, never;
     Ignored ignored;
     Options options;
 };
@@ -40,6 +42,7 @@ static Arguments read(int n, char **v) {
     map<string, string *> files = {{"--only", &a.only},
                                    {"--not-blocks", &a.never},
                                    {"--sites-out", &a.codes},
+                                   {"--quiet-out", &a.quiet},
                                    {"--tried", &a.tried}};
     map<string, set<string> *> sets = {{"--ignore-lock", &a.ignored.locks},
                                        {"--ignore-variable", &a.ignored.variables}};
@@ -67,8 +70,11 @@ static void tell(Trace &trace, Shared &shared, Events &events, Writer &writer) {
            shared.records, trace.full() ? " (stopped)" : "", writer.written(),
            events.cut ? " (cut)" : "", trace.threads(), writer.variables(), events.ordered,
            events.dropped, events.locks.size(), writer.labels());
-    printf(" blocks-too-deep %lu odd %lu late %lu lost %lu%s\n", events.deep, events.odd,
-           shared.late, h.lost, events.orders_added ? " (orders added)" : "");
+    printf(" blocks-too-deep %lu odd %lu late %lu lost %lu", events.deep, events.odd, shared.late,
+           h.lost);
+    if (trace.overwritten())
+        printf(" overwritten %lu", trace.overwritten());
+    printf("%s\n", events.orders_added ? " (orders added)" : "");
 }
 static void tell_hidden(Shared &shared, Modules &modules) {
     printf("hidden writes %lu\n", shared.hidden);
@@ -101,6 +107,19 @@ static vector<StaleWrite> look_closer(Trace &trace, Shared &shared, Stacks &stac
                 found.end());
     find_functions(trace, modules, found);
     return found;
+}
+// Of each access: whether it touched, once at least, what threads share.
+static void write_quiet(Trace &trace, Shared &shared, Writer &writer, const string &path) {
+    set<u64> all, loud;
+    trace.each([&](const Event &e) {
+        if (e.access() && !e.atomic())
+            all.insert(e.code);
+        return true;
+    });
+    shared.each(
+        [&](const Event &e, u32, const Granule &, int, int, int, u64) { loud.insert(e.code); },
+        [](const Event &) { return true; });
+    writer.quiet(path, all, loud);
 }
 // What the log was thinned by.
 static vector<string> left_out(const Arguments &a) {
@@ -157,6 +176,8 @@ static int run(const Arguments &a) {
     notes.stale_logs(a.log);
     if (!a.codes.empty())
         writer.codes(a.codes);
+    if (!a.quiet.empty())
+        write_quiet(trace, shared, writer, a.quiet);
     if (!a.tried.empty())
         writer.tried(a.tried);
     tell(trace, shared, events, writer);

@@ -100,6 +100,7 @@ string Notes::stopped(const string &path) const {
     return h.stopped == FULL       ? quoted("full")
            : h.stopped == NO_SPACE ? quoted("no space")
            : h.stopped == FIBERS   ? quoted("fibers")
+           : h.stopped == TOO_LONG ? quoted("too long")
                                    : "null";
 }
 static bool is_of_the_system(const string &path) {
@@ -289,6 +290,7 @@ void Notes::write(const string &log, const string &trace, const vector<string> &
         member("threads", count(trace_.threads())),
         member("functions", count(writer_.labels())),
         member("stopped", stopped(trace)),
+        member("overwritten", count(trace_.overwritten())),
         member("cut", events_.cut ? "true" : "false"),
         member("left_out", list_of(thinned)),
         member("all_variables", all_variables ? "true" : "false"),

@@ -3,6 +3,7 @@
 #include <cerrno>
 #include <cstring>
 #include <fcntl.h>
+#include <map>
 #include <queue>
 #include <stdexcept>
 #include <sys/mman.h>
@@ -10,6 +11,9 @@
 #include <unistd.h>
 
 using namespace std;
+
+static const u64 MAX_THREAD = 1 << 24; // plus one
+static const u64 MAX_DEPTH = 4096;     // of blocks
 
 Trace::Trace(const string &path) {
     struct stat s;
@@ -25,31 +29,45 @@ Trace::Trace(const string &path) {
         throw runtime_error(path + ": no trace");
     first_ = reinterpret_cast<const record *>(static_cast<const char *>(p) + HEAD_BYTES);
     read_chunks();
-    merge();
+    starts_.resize(streams_.size());
+    for (size_t t = 0; t < starts_.size(); t++)
+        open(starts_[t], t);
+    if (overwritten())
+        begin_behind(head_->overwritten_until);
+    else
+        merge();
 }
 
 // What lies behind the end of the file was given out, and never written.
 void Trace::read_chunks() {
+    typedef pair<u64, u32> Place; // round, chunk
     u64 chunks = min<u64>(head_->chunks, (length_ - HEAD_BYTES) / (CHUNK * sizeof(record)));
+    vector<vector<Place>> places;
     for (u64 c = 0; c < chunks; c++) {
-        u64 thread = first_[c * CHUNK].what;
-        if (!thread || thread > 1 << 24)
+        u64 what = first_[c * CHUNK].what, thread = what & ((1 << ROUND_SHIFT) - 1);
+        if (!thread || thread >= MAX_THREAD || first_[c * CHUNK].where >> STATE_SHIFT >= CHUNK)
             continue;
-        if (thread > streams_.size())
-            streams_.resize(thread);
-        streams_[thread - 1].push_back(c);
+        if (thread > places.size())
+            places.resize(thread);
+        places[thread - 1].push_back({what >> ROUND_SHIFT, c});
+    }
+    streams_.resize(places.size());
+    for (size_t t = 0; t < places.size(); t++) {
+        sort(places[t].begin(), places[t].end());
+        for (auto &place : places[t])
+            streams_[t].push_back(place.second);
     }
 }
 
 void Trace::open(Cursor &c, size_t thread) const {
     c.chunks = &streams_[thread], c.thread = thread;
     if (!c.chunks->empty())
-        c.high = first_[u64((*c.chunks)[0]) * CHUNK].where << 32;
+        enter_chunk(c);
 }
 
 static bool stamped(const record *r) {
     int k = r->what & 31;
-    return k != BEGIN && k != NAMED && k != END && k != MORE && k != HIGH;
+    return k != BEGIN && k != NAMED && k != END && k != MORE && k != HIGH && k != STATE;
 }
 static int numbers_of(int kind) {
     switch (kind) {
@@ -96,13 +114,11 @@ u32 Trace::take_group(Cursor &c) const {
 void Trace::merge() {
     typedef pair<u32, u32> Next; // stamp, thread
     priority_queue<Next, vector<Next>, greater<Next>> queue;
-    vector<Cursor> at(streams_.size());
+    vector<Cursor> at = starts_;
     u32 stamp;
-    for (u32 t = 0; t < at.size(); t++) {
-        open(at[t], t);
+    for (u32 t = 0; t < at.size(); t++)
         if (next_stamp(at[t], stamp))
             queue.push({stamp, t});
-    }
     while (!queue.empty()) {
         u32 t = queue.top().second, taken = 0;
         queue.pop();
@@ -117,4 +133,137 @@ void Trace::merge() {
         if (more)
             queue.push({stamp, t});
     }
+}
+
+// ---- a ring. Its log begins behind the last stamp that is missing in some thread. What is so
+// there is told before the first event.
+static Event state_event(u32 thread, int kind, u64 at, u64 code) {
+    Event e{};
+    e.thread = thread, e.kind = kind, e.at = at, e.code = code;
+    return e;
+}
+namespace {
+struct State {
+    vector<Event> thread, held, open, waits;
+    bool ended = false;
+    void step(const Event &e);
+
+private:
+    void release(const Event &e);
+};
+} // namespace
+void State::release(const Event &e) {
+    int taken = e.kind == REL ? ACQ : ACQS;
+    auto l = find_if(held.rbegin(), held.rend(),
+                     [&](auto &h) { return h.kind == taken && h.at == e.at; });
+    if (l != held.rend())
+        held.erase(next(l).base());
+}
+void State::step(const Event &e) {
+    if (e.kind != END && e.kind != HIGH)
+        waits.clear();
+    switch (e.kind) {
+    case START:
+    case TITLE:
+        thread.push_back(e);
+        break;
+    case BEGIN:
+    case NAMED:
+        open.push_back(e);
+        break;
+    case END:
+        if (!open.empty())
+            open.pop_back();
+        break;
+    case ACQ:
+    case ACQS:
+        held.push_back(e);
+        break;
+    case REL:
+    case RELS:
+        release(e);
+        break;
+    case WAIT:
+    case CONTENDED:
+    case STUCK:
+        waits.push_back(e);
+        break;
+    case EXIT:
+        ended = true;
+        break;
+    default:
+        break;
+    }
+}
+// What the chunk at the cursor begins with.
+vector<Event> Trace::state_of_chunk(Cursor c) const {
+    const record *r = chunk_at(c);
+    vector<Event> all;
+    if (!(r->where >> STATE_SHIFT))
+        return all; // the thread begins here
+    all.push_back(state_event(c.thread, START, r[1].what >> 16, r[1].where));
+    all.back().number = r[2].where;
+    if (r[4].where) {
+        all.push_back(state_event(c.thread, TITLE, c.thread, 0));
+        all.back().number = r[4].where, all.back().second = r[5].where;
+    }
+    u32 end = c.place;
+    u64 open = r[3].where;
+    c.place = 2 + STATE_NUMBERS;
+    for (; c.place < end; open--)
+        all.emplace_back(), decode(c, chunk_at(c) + c.place, all.back());
+    bool deeper = open > 0 && open <= MAX_DEPTH && all.back().kind != START;
+    if (deeper) // they have no names there
+        all.insert(all.end(), open, Event(all.back()));
+    return all;
+}
+void Trace::begin_behind(u32 stamp) {
+    State all;
+    auto add = [](vector<Event> &to, const vector<Event> &from) {
+        to.insert(to.end(), from.begin(), from.end());
+    };
+    for (auto &c : starts_) {
+        State one;
+        if (c.chunks->empty())
+            continue;
+        for (auto &e : state_of_chunk(c))
+            one.step(e);
+        for (u32 next; next_stamp(c, next) && next <= stamp;) {
+            Cursor group = c;
+            for (u32 left = take_group(group); left > 0;) {
+                Event e;
+                left -= decode(c, current(c), e);
+                one.step(e);
+            }
+        }
+        if (one.ended)
+            continue;
+        add(all.thread, one.thread), add(all.held, one.held);
+        add(all.open, one.open), add(all.waits, one.waits);
+    }
+    merge();
+    for (auto *part : {&all.thread, &all.held})
+        add(state_, *part);
+    add_held_locks();
+    for (auto *part : {&all.open, &all.waits})
+        add(state_, *part);
+}
+// A lock that is released without being taken was taken before.
+void Trace::add_held_locks() {
+    map<pair<u64, u32>, long> exclusive, shares; // by lock and thread: how many holds
+    vector<Event> taken;
+    each([&](const Event &e) {
+        bool share = e.kind == ACQS || e.kind == RELS;
+        if (e.kind < ACQ || e.kind > RELS)
+            return true;
+        long &holds = (share ? shares : exclusive)[{e.at, e.thread}];
+        if (e.kind == ACQ || e.kind == ACQS)
+            holds++;
+        else if (holds > 0)
+            holds--;
+        else
+            taken.push_back(state_event(e.thread, share ? ACQS : ACQ, e.at, 0));
+        return true;
+    });
+    state_.insert(state_.end(), taken.begin(), taken.end());
 }

@@ -30,13 +30,16 @@ public:
     size_t threads() const { return streams_.size(); }
     bool full() const { return head_->stopped != GOES_ON && head_->stopped != ENDED; }
     u64 records() const { return records_; }
+    // Records that made way for newer ones: the trace begins behind them.
+    u64 overwritten() const { return head_->overwritten; }
 
     // Calls use(event) for each event, until it returns false. The streams are merged once; what
-    // comes again is a replay.
+    // comes again is a replay. What was so where the trace begins comes first.
     template <class F> void each(F use) {
-        std::vector<Cursor> at(streams_.size());
-        for (size_t t = 0; t < at.size(); t++)
-            open(at[t], t);
+        std::vector<Cursor> at = starts_;
+        for (const Event &e : state_)
+            if (!use(e))
+                return;
         for (const Run &r : runs_) {
             Cursor &c = at[r.thread];
             for (u32 left = r.records; left > 0;) {
@@ -59,17 +62,25 @@ private:
     struct Run {
         u32 thread, records;
     };
+    const record *chunk_at(const Cursor &c) const {
+        return first_ + u64((*c.chunks)[c.chunk]) * CHUNK;
+    }
+    // To where the cursor's chunk begins, behind the state of its thread.
+    void enter_chunk(Cursor &c) const {
+        const record *r = chunk_at(c);
+        c.high = r->where << 32;
+        c.place = 1 + (r->where >> STATE_SHIFT);
+    }
     void open(Cursor &c, size_t thread) const;
     const record *current(Cursor &c) const {
         for (;;) {
             if (c.chunk == c.chunks->size())
                 return nullptr;
-            const record *r = first_ + u64((*c.chunks)[c.chunk]) * CHUNK + c.place;
+            const record *r = chunk_at(c) + c.place;
             if (c.place < CHUNK && r->what)
                 return r;
             if (++c.chunk < c.chunks->size())
-                c.high = first_[u64((*c.chunks)[c.chunk]) * CHUNK].where << 32;
-            c.place = 1;
+                enter_chunk(c);
         }
     }
     // The event at the cursor, which moves behind it: how many records it took.
@@ -94,10 +105,15 @@ private:
     u32 take_group(Cursor &c) const;
     void read_chunks();
     void merge();
+    std::vector<Event> state_of_chunk(Cursor c) const;
+    void begin_behind(u32 stamp);
+    void add_held_locks();
 
     const head *head_;
     const record *first_;
     u64 length_ = 0, records_ = 0;
     std::vector<std::vector<u32>> streams_;
+    std::vector<Cursor> starts_;
+    std::vector<Event> state_;
     std::vector<Run> runs_;
 };

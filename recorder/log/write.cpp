@@ -117,11 +117,20 @@ void Writer::tried(const string &path) {
         fprintf(out.file(), "%lu\n", p);
     out.close();
 }
+static void write_code(FILE *f, Modules &modules, const char *sign, u64 code) {
+    if (Module *m = modules.of(code))
+        fprintf(f, "%s%lx %s\n", sign, code - m->bias, m->path.c_str());
+}
 void Writer::codes(const string &path) {
     Out out(path);
     for (u64 a : events_.codes)
-        if (Module *m = modules_.of(a))
-            fprintf(out.file(), "%lx %s\n", a - m->bias, m->path.c_str());
+        write_code(out.file(), modules_, "", a);
+    out.close();
+}
+void Writer::quiet(const string &path, const set<u64> &all, const set<u64> &loud) {
+    Out out(path);
+    for (u64 a : all)
+        write_code(out.file(), modules_, loud.count(a) ? "+" : "-", a);
     out.close();
 }
 

@@ -14,7 +14,9 @@ public:
     void names(const std::string &path);
     void functions(const std::string &path);
     void tried(const std::string &path);
-    void codes(const std::string &path);        // for VELODROME_SITES
+    void codes(const std::string &path); // for VELODROME_SITES
+    // likewise: of all code addresses, the others than those that are loud are left out
+    void quiet(const std::string &path, const std::set<u64> &all, const std::set<u64> &loud);
     void add_codes(std::set<u64> &codes) const; // those whose lines it tells
     std::string thread_name(u32 t);
     u32 labels() const { return labels_.size(); }

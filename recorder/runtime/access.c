@@ -278,9 +278,9 @@ void close_block(struct self *t, u64 at) {
         return;
     t->depth--;
     if (t->depth < DEEP && t->told > t->depth) {
-        t->told = t->depth;
         if (values || mode == FREE || !spun(t, t->frame[t->depth].begun))
             record(t, END, 0, at, (u64)t->high << 32);
+        t->told = t->depth; // until here it is open in the state of a new chunk
     }
     t->epoch++;
 }

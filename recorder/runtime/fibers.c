@@ -75,7 +75,7 @@ static struct self *new_fiber(struct self *t, u64 stack, u64 bytes, u64 routine,
     if (f->busy == 2)
         return f;
     f->clock = t->clock;
-    f->stack_end = stack + bytes;
+    f->stack_end = stack + bytes, f->stack_bytes = bytes, f->routine = routine;
     stamp_alone(f);
     if (record(f, START, 0, stack, routine))
         more(f, 0, bytes);
@@ -120,6 +120,7 @@ static void run_fiber(unsigned low, unsigned high) {
     struct self *next = who_goes_on(s.link, t);
     if (next != t) {
         hand_over(t, next, (u64)s.link, 1, EXIT, 0);
+        leave_chunk(t);
         stamp_alone(next);
         event(next, JOIN, 0, t->id, 0);
     }

@@ -8,6 +8,12 @@
 // apart, and the threads begin one after the other.
 #define EARLY 64 // events and blocks
 #define EARLY_NOISE 2
+#define LONGEST 300000 // ns; what is longer is the machine's load
+// How long a thread may have waited: so long for each of its first events and blocks, and twice
+// what one costs to record for each of all. A long run takes at most some three times as long.
+#define FIRST 5000
+#define WAIT_OF_FIRST 60000 // ns
+#define WAIT_OF_ALL 100     // ns
 u64 noise;
 static u64 noise_seed;
 u64 draw(u64 *state) {
@@ -22,6 +28,19 @@ void noise_open(u64 seed) {
     noise = setting("VELODROME_NOISE", 0);
     noise_seed = seed;
 }
+static int may_wait(const struct self *t) {
+    u64 first = t->epoch < FIRST ? t->epoch : FIRST;
+    return t->waited <= (first + 1) * WAIT_OF_FIRST + t->epoch * WAIT_OF_ALL;
+}
+static void wait_a_little(struct self *t, int early) {
+    u64 d = draw(&t->chance), began = real_now();
+    if (d % (early ? 2 : 4))
+        pause_briefly();
+    else
+        sleep_briefly((d >> 8) % LONGEST);
+    u64 took = real_now() - began;
+    t->waited += took < LONGEST ? took : LONGEST;
+}
 void make_noise(struct self *t) {
     if (!t->chance)
         t->chance = scramble(noise_seed * 0x10001 + t->id);
@@ -29,14 +48,13 @@ void make_noise(struct self *t) {
     u64 d = draw(&t->chance);
     if (d % (early ? EARLY_NOISE : noise) || head->stopped)
         return;
+    if (!TURNS(t) && !may_wait(t))
+        return;
     COUNT(noise);
     int e = errno;
-    d = draw(&t->chance);
     if (TURNS(t))
         yield_turn(t);
-    else if (d % (early ? 2 : 4))
-        pause_briefly();
     else
-        sleep_briefly((d >> 8) % 300000);
+        wait_a_little(t, early);
     errno = e;
 }

@@ -64,6 +64,7 @@ struct self {
     u64 allocates;   // operator new: who called it
     u64 stack_end;
     size_t stack_bytes;
+    u64 routine, title[2];
     void *writes[64]; // reader-writer locks that it holds alone
     int nwrites;
     struct self *unused; // a list of those whose threads have ended
@@ -71,7 +72,7 @@ struct self {
         u64 at, value;
     } saw[SAW];               // what its atomics found or stored last, by address
     u64 swapped, swapped_to;  // its last exchange
-    u64 chance;               // of noise
+    u64 chance, waited;       // of noise; ns that it waited by it
     u64 code_low, code_bytes; // of the module whose block began last
     struct frame frame[DEEP];
 };
@@ -96,6 +97,8 @@ void trace_leave(void); // in a child of fork
 void trace_maps(void);
 void trace_builds(void); // builds.c
 void trace_stop(enum stop why);
+const char *reason_of(enum stop why);
+extern struct record *records;
 
 // ---- room.c: the trace's file, and descriptors that the program does not see
 enum keep { TRACE, MAPS, MAPPED, TASKS, KEEPS }; // the trace, its .maps, /proc/self/maps and task
@@ -105,7 +108,7 @@ extern int sealed;      // a filter of system calls is there
 void keep(enum keep k, int fd);
 int kept_file(enum keep k); // its descriptor, or -1
 void drop_kept(void);
-int has_room(u64 bytes);
+int has_room(u64 bytes);                                             // makes it, if need be
 long kernel(long n, long a, long b, long c, long d, long e, long f); // a call without a hook
 void room_reset(void);
 void room_trim(u64 used);
@@ -116,6 +119,12 @@ long close_around(unsigned first, unsigned last, int flags);
 int is_kept(int fd);
 void pause_briefly(void);
 void sleep_briefly(u64 nanoseconds);
+
+// ring.c: the chunks of the trace
+int ring_open(u64 chunks);
+int take_chunk(u64 *chunk, u64 *round); // 0: the recording stops
+void leave_chunk(struct self *t);
+void ring_reset(void);
 
 int open_chunk(struct self *t);
 int tell_begins(struct self *t);
@@ -250,7 +259,7 @@ void noise_open(u64 seed);
 void make_noise(struct self *t);
 extern u64 *sites;
 int sites_open(const char *path);
-int is_listed(u64 code);
+int is_noted(u64 code);
 void threads_open(void);
 void begin_thread(struct self *t, u64 routine);
 void hide_thread(void);
@@ -320,7 +329,7 @@ static inline void leave(struct self *t) {
 }
 // Whether VELODROME_SITES leaves this access out.
 static inline int left_out(u64 code) {
-    if (likely(!sites) || !on || is_listed(code))
+    if (likely(!sites) || !on || is_noted(code))
         return 0;
     struct self *t = self();
     if (!t->busy && mode == EXACT)

@@ -1,5 +1,4 @@
-// VELODROME_SITES: only the accesses of these code addresses are noted. The list is of an earlier
-// run.
+// VELODROME_SITES: which accesses are noted, by their code addresses, as an earlier run tells.
 #include "runtime.h"
 #include <errno.h>
 #include <link.h>
@@ -8,12 +7,13 @@
 #include <sys/mman.h>
 #include <unistd.h>
 
-#define MOST 65536
+#define MOST 262144
 u64 *sites;
+static int all_but; // the list has what is not noted
 static u64 slot(u64 code) {
     return code * 0x9e3779b97f4a7c15ull >> 40;
 }
-int is_listed(u64 code) {
+static int is_listed(u64 code) {
     for (u64 h = slot(code);; h++) {
         u64 s = sites[h % (2 * MOST)];
         if (s == code)
@@ -22,9 +22,13 @@ int is_listed(u64 code) {
             return 0;
     }
 }
+int is_noted(u64 code) {
+    return is_listed(code) != all_but;
+}
 struct wanted {
-    const char *name;
+    char name[4096];
     u64 base;
+    int found;
 };
 static int find_base(struct dl_phdr_info *info, size_t size, void *to) {
     struct wanted *w = to;
@@ -39,11 +43,26 @@ static int find_base(struct dl_phdr_info *info, size_t size, void *to) {
     if (strcmp(name, w->name))
         return 0;
     w->base = info->dlpi_addr;
-    return 1;
+    return w->found = 1;
 }
-// Lines: code address in its module, module.
+static void add(u64 code) {
+    u64 h = slot(code);
+    while (sites[h % (2 * MOST)])
+        h++;
+    sites[h % (2 * MOST)] = code;
+}
+// Lines: code address in its module, module. With `-` before them: all others are noted. With `+`:
+// one of the others.
+static int read_line(const char *line, u64 *at, char *name) {
+    char sign = 0;
+    if (*line == '-' || *line == '+')
+        sign = *line++;
+    all_but |= sign == '-';
+    return sign != '+' && sscanf(line, "%lx %4095[^\n]", at, name) == 2;
+}
 int sites_open(const char *path) {
     char line[4200], name[4096];
+    static struct wanted of; // the module of the line before
     u64 n = 0, at;
     FILE *f = fopen(path, "re");
     if (f)
@@ -57,16 +76,15 @@ int sites_open(const char *path) {
         return 0;
     }
     while (n < MOST && fgets(line, sizeof line, f)) {
-        if (sscanf(line, "%lx %4095[^\n]", &at, name) != 2)
+        if (!read_line(line, &at, name))
             continue;
-        struct wanted w = {name, 0};
-        if (!dl_iterate_phdr(find_base, &w))
-            continue;
-        u64 h = slot(at + w.base);
-        while (sites[h % (2 * MOST)])
-            h++;
-        sites[h % (2 * MOST)] = at + w.base;
-        n++;
+        if (strcmp(name, of.name)) {
+            of = (struct wanted){0};
+            strcpy(of.name, name);
+            dl_iterate_phdr(find_base, &of);
+        }
+        if (of.found)
+            add(at + of.base), n++;
     }
     fclose(f);
     return 1;

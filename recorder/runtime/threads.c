@@ -147,7 +147,7 @@ void begin_thread(struct self *t, u64 routine) {
     if (t->id < KNOWN)
         known[t->id].tid = own_tid();
     find_stack(t, &at, &size);
-    t->stack_end = (u64)at + size;
+    t->stack_end = (u64)at + size, t->stack_bytes = size, t->routine = routine;
     if (LOAD(memory_clock) > t->clock)
         t->clock = memory_clock;
     stamp_alone(t);
@@ -162,6 +162,7 @@ static void end_thread(struct self *t) {
     if (t->id < KNOWN)
         known[t->id].clock = t->clock, STORE(known[t->id].ended, 1);
     raise_memory_clock(t);
+    leave_chunk(t);
 }
 static void last_destructor(void *round) { // behind the program's own
     struct self *t = own;
@@ -334,6 +335,9 @@ static void title(u32 n, const char *name, u64 code) {
         return;
     for (int i = 0; i < 15 && name[i]; i++)
         ((char *)text)[i] = name[i];
+    struct self *of = n - 1 == t->id ? t : n - 1 < KNOWN ? LOAD(known[n - 1].self) : 0;
+    if (of && of->id == n - 1)
+        of->title[0] = text[0], of->title[1] = text[1];
     stamp_alone(t);
     if (record(t, TITLE, 0, n - 1, code))
         more(t, 0, text[0]), more(t, 0, text[1]);

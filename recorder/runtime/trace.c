@@ -18,7 +18,7 @@
 int on, mode, values;
 struct head *head;
 u32 memory_clock;
-static struct record *records;
+struct record *records;
 static char base[3800];
 char trace_path[4096];
 u64 trace_bytes;
@@ -94,6 +94,10 @@ int trace_open(void) {
         drop_kept();
         return 0;
     }
+    if (!ring_open(most / CHUNK)) {
+        munmap(p, trace_bytes);
+        return refused(ENOMEM);
+    }
     head = (struct head *)p;
     records = (struct record *)(p + HEAD_BYTES);
     *head = (struct head){.magic = MAGIC, .mode = mode, .values = values, .most = most};
@@ -116,6 +120,7 @@ void trace_leave(void) {
     if (head && !sealed)
         munmap(head, trace_bytes);
     drop_kept();
+    ring_reset();
     head = 0;
     records = 0;
 }
@@ -195,32 +200,16 @@ void trace_stop(enum stop why) {
         return;
     if (mode != SERIAL)
         STORE(on, 0); // by turns the program goes on by turns, without a record
-    const char *reason = why == FULL     ? "the trace is full (VELODROME_MOST)"
-                         : why == FIBERS ? "fibers by turns, or too many of them"
-                                         : no_room();
-    say("%s: the recording stops here, the program goes on", reason);
+    say("%s: the recording stops here, the program goes on", reason_of(why));
+}
+const char *reason_of(enum stop why) {
+    return why == FULL       ? "the trace is full (VELODROME_MOST)"
+           : why == FIBERS   ? "fibers by turns, or too many of them"
+           : why == TOO_LONG ? "there are no stamps left for more events"
+                             : no_room();
 }
 
 // ---- records
-int open_chunk(struct self *t) {
-    if (head->stopped)
-        return 0;
-    if (!t->begun)
-        t->id = thread_number(), t->begun = 1;
-    u64 n = __atomic_fetch_add(&head->chunks, 1, __ATOMIC_RELAXED);
-    u64 end = (n + 1) * CHUNK;
-    int fits = end <= head->most;
-    if (!fits || !has_room(HEAD_BYTES + end * sizeof(struct record))) {
-        __atomic_fetch_sub(&head->chunks, 1, __ATOMIC_RELAXED);
-        trace_stop(fits ? NO_SPACE : FULL);
-        return 0;
-    }
-    struct record *r = records + n * CHUNK;
-    r->where = t->high;
-    STORE(r->what, (u64)t->id + 1);
-    t->next = r + 1, t->end = r + CHUNK;
-    return 1;
-}
 // How far the frame's pointer lies below that of the call outside it, in the upper bits of a BEGIN.
 static u64 frame_span(struct self *t, const struct frame *f) {
     const struct frame *outer = f > t->frame ? f - 1 : 0;
@@ -230,13 +219,46 @@ static u64 frame_span(struct self *t, const struct frame *f) {
     u64 units = (top - f->base) / FRAME_UNIT;
     return f->base > f->at && f->base < top && units < 1 << 16 ? units << FRAME_SHIFT : 0;
 }
+static struct record *write_begin(struct self *t, const struct frame *f) {
+    u64 span = f->at ? frame_span(t, f) : 0;
+    return write_record(t, word(f->at ? BEGIN : NAMED, 0, f->from), f->function | span);
+}
+// What a log that begins in this chunk has to know of its thread: how many records.
+static u64 write_state(struct self *t) {
+    struct record *first = t->next;
+    u64 stack = t->stack_end - t->stack_bytes;
+    int told = t->told < MAX_STATE ? t->told : MAX_STATE;
+    write_record(t, word(STATE, 0, stack), t->routine);
+    more(t, 0, t->stack_bytes), more(t, 0, t->told);
+    more(t, 0, t->title[0]), more(t, 0, t->title[1]);
+    for (int i = 0; i < told; i++)
+        write_begin(t, &t->frame[i]);
+    return t->next - first;
+}
+int open_chunk(struct self *t) {
+    u64 chunk, round;
+    int first = !t->next;
+    if (head->stopped)
+        return 0;
+    if (!t->begun)
+        t->id = thread_number(), t->begun = 1;
+    if (!take_chunk(&chunk, &round))
+        return 0;
+    leave_chunk(t);
+    struct record *r = records + chunk * CHUNK;
+    t->next = r + 1, t->end = r + CHUNK;
+    u64 state = first ? 0 : write_state(t);
+    r->where = state << STATE_SHIFT | t->high;
+    STORE(r->what, round << ROUND_SHIFT | ((u64)t->id + 1));
+    return 1;
+}
 int tell_begins(struct self *t) {
     while (t->told < t->depth && t->told < DEEP) {
-        struct frame *f = &t->frame[t->told++];
+        struct frame *f = &t->frame[t->told];
         if (t->end - t->next < 4 && !open_chunk(t))
             return 0;
-        u64 span = f->at ? frame_span(t, f) : 0;
-        f->begun = write_record(t, word(f->at ? BEGIN : NAMED, 0, f->from), f->function | span);
+        f->begun = write_begin(t, f);
+        t->told++;
         if (f->at && unlikely(f->function - t->code_low >= t->code_bytes))
             look_for_module(t, f->function);
     }

@@ -1,16 +1,25 @@
 // The trace that the runtime writes and velodrome-log reads.
 //
-// A page for the head, then chunks of CHUNK records of 16 bytes. The first record of a chunk has
-// the thread plus one in `what` and the upper half of its code addresses in `where`; the chunk ends
-// at its first record whose `what` is 0. The chunks of a thread, in the order of the file, are its
-// stream.
+// A page for the head, then chunks of CHUNK records of 16 bytes. The first record of a chunk is its
+// own (below); the chunk ends at its first record whose `what` is 0. The chunks of a thread, by
+// rounds, and in the order of the file, are its stream.
+//
+//   what    round << ROUND_SHIFT | thread plus one
+//   where   records of its state << STATE_SHIFT | upper half of the code addresses
+//
+// A trace that is full is a ring: a chunk that its thread has left makes way for a new one, of the
+// next round. Up to the stamp `overwritten_until` records are missing, so a log begins behind it. A
+// chunk therefore begins with the thread's state: STATE, and the BEGIN of each open block.
+//
+// All other records:
 //
 //   what    address << 16 | flags << 13 | size << 5 | kind
 //   where   stamp << 32 | lower half of the code address
 //
 // Stamps rise along each stream, and from one event to a later one of another thread that it
 // conflicts with: sorted by stamps, streams merged, the records are a sequence that the program
-// did. BEGIN, NAMED, END, MORE and HIGH have no stamp; they belong to the event next to them.
+// did. BEGIN, NAMED, END, MORE, HIGH and STATE have no stamp; they belong to the event next to
+// them.
 #pragma once
 #include <stdint.h>
 
@@ -48,6 +57,8 @@ enum kind {
            // thread that holds it, plus one
     CONTENDED, // a lock was not free. address: the lock; size: a kind of `enum wait`; TRIED: the
                // wait ends by itself after a time
+    STATE,     // of a chunk's thread. address: its stack; where: its routine; MORE: bytes of the
+               // stack; open blocks, of which the outer MAX_STATE follow; the two of its TITLE
 };
 
 enum flag {
@@ -80,12 +91,17 @@ struct head {
     uint64_t magic, mode, seed, values;
     uint64_t chunks, most; // chunks that were given out; most records
     uint64_t lost, late, seized, switches, stuck, noise;
-    uint64_t stopped; // enum stop
+    uint64_t stopped;                        // enum stop
+    uint64_t overwritten, overwritten_until; // records that made way for others; their last stamp
 };
-enum stop { GOES_ON, FULL, NO_SPACE, ENDED, FIBERS };
+enum stop { GOES_ON, FULL, NO_SPACE, ENDED, FIBERS, TOO_LONG };
 
 #define MAGIC 0x3265636172746c76ull // "vltrace2"
 #define CHUNK 512
+#define ROUND_SHIFT 24
+#define STATE_SHIFT 32
+#define MAX_STATE 128
+#define STATE_NUMBERS 4
 #define HEAD_BYTES 4096
 #define FRAME_SHIFT 48
 #define FRAME_UNIT 16

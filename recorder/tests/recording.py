@@ -333,6 +333,11 @@ class Recorder:
             return []
 
 
+def number_of_records(trace):
+    with open(f"{trace}.log.notes", encoding="utf-8") as f:
+        return json.load(f)["records"]
+
+
 def recordings(room, cc):
     holds = program(room, cc, "holds").path
 
@@ -383,6 +388,24 @@ def recordings(room, cc):
         record = Recorder(room)
         record("-n", 6, "--seed", 2, "--until-found", holds, "right")
         return True if [r["seed"] for _, r in record.runs()] == [2, 3] else f"{record.runs()}"
+
+    def quiet():
+        cache = program(room, cc, "cache").path
+
+        def sizes(*options):
+            record = Recorder(room)
+            record("-n", 3, "--noise", 0, *options, cache)
+            kept = [
+                (number_of_records(f"{folder}/{run['traces'][0]}"), run["environment"])
+                for folder, run in record.runs()
+            ]
+            return [n for n, _ in kept], ["VELODROME_SITES" in env for _, env in kept]
+
+        less, listed = sizes()
+        whole, unlisted = sizes("--whole")
+        right = listed == [False, True, True] and max(less[1:]) < less[0] * 3 // 4
+        right = right and not any(unlisted) and min(whole) > less[0] * 3 // 4
+        return True if right else f"{less} {listed} {whole} {unlisted}"
 
     def own_streams():
         record = Recorder(room)
@@ -435,6 +458,7 @@ def recordings(room, cc):
 
     test(f"{cc} velodrome-record keeps runs", runs)
     test(f"{cc} velodrome-record --until-found", until)
+    test(f"{cc} velodrome-record leaves out what was quiet", quiet)
     test(f"{cc} velodrome-record leaves the program its streams", own_streams)
     test(f"{cc} velodrome-record interrupted", ended_by(signal.SIGINT, True))
     test(f"{cc} velodrome-record ended", ended_by(signal.SIGTERM, False))

@@ -65,6 +65,7 @@ class Program:
             *(["-std=c++17"] if suffix == "cpp" else []),
             *flags,
             env={"VELODROME_CC": cc, "VELODROME_CXX": cxx},
+            timeout=600,
         )
 
     def run(self, mode, ok=(0,), timeout=60, out=None, **env):
@@ -174,9 +175,17 @@ def noises(room, cc):
         for seed in (1, 1, 2):
             made.run("exact", VELODROME_NOISE=10, VELODROME_SEED=seed, VELODROME_VERBOSE=1)
             seen.append(int(re.search(r"(\d+) waits by noise", made.done.stderr)[1]))
-        return True if all(2000 < n < 40000 for n in seen) else seen
+        return True if all(500 < n < 40000 for n in seen) else seen
 
     test(f"{cc} noise", body)
+    long = program(room, cc, "late", "-I" + HERE + "/programs")
+
+    def bounded():
+        long.run("exact", VELODROME_NOISE=2, VELODROME_VERBOSE=1)
+        waits = int(re.search(r"(\d+) waits by noise", long.done.stderr)[1])
+        return True if 500 < waits < 100000 else waits
+
+    test(f"{cc} noise of a long run", bounded)
 
 
 def sites(room, cc):
@@ -192,6 +201,19 @@ def sites(room, cc):
         )
 
     test(f"{cc} a list of sites", body)
+
+    def quiet():
+        path = f"{room}/quiet"
+        before = log_of(room, made.run("exact"), "--all-variables", "--quiet-out", path)[2]
+        with open(path, encoding="utf-8") as f:
+            signs = {line[0] for line in f}
+        after = log_of(room, made.run("exact", VELODROME_SITES=path), "--all-variables")[2]
+        same = number(after, "locks") == number(before, "locks")
+        same = same and number(after, "variables") > number(before, "variables") * 9 // 10
+        fewer = number(after, "records") < number(before, "records") * 3 // 4
+        return True if same and fewer and signs == {"-", "+"} else f"{signs} {before}{after}"
+
+    test(f"{cc} a list of quiet places", quiet)
 
 
 def seeds(room, cc):
@@ -391,7 +413,8 @@ def limits(room, cc):
             right = (
                 made.done.stderr.count("\n") == 1
                 and "the trace is full" in made.done.stderr
-                and "(stopped)" in said
+                and "(stopped)" not in said
+                and "overwritten" in said
             )
             return (
                 True
@@ -400,6 +423,14 @@ def limits(room, cc):
             )
 
         test(f"{cc} {mode} a full trace", full)
+
+        def tiny():
+            trace = run_with(made, mode, "much", ok=(5,), VELODROME_MOST=5000)
+            said = log_of(room, trace, "--all-variables")[2]
+            right = "the recording stops here" in made.done.stderr and "(stopped)" in said
+            return True if right else made.done.stderr + said
+
+        test(f"{cc} {mode} a trace too small for a ring", tiny)
 
     def file_limit():
         with open(f"{room}/limited", "w", encoding="utf-8") as f:
@@ -451,6 +482,29 @@ def limits(room, cc):
     test(f"{cc} a full disk", full_disk)
 
 
+def late_mistake(room, cc):
+    """A run that is longer than its trace: what its end has is whole, with what was begun before."""
+    made = program(room, cc, "late", "-I" + HERE + "/programs")
+    for mode, short_threads in (*((mode, 3) for mode in MODES), ("exact", 70)):
+
+        def body():
+            trace = run_with(made, mode, short_threads, VELODROME_MOST=100000)
+            log, names, said = log_of(room, trace, "--all-variables")
+            begins_late = "overwritten" in said and number(said, "overwritten") > 1000000
+            if number(said, "odd") or "(stopped)" in said or not begins_late:
+                return said
+            if made.done.stdout != "202\n" or "from here on" not in made.done.stderr:
+                return made.done.stdout + made.done.stderr
+            wanted = ["across", "held", *(["filler"] if short_threads < 64 else [])]
+            missing = [name for name in wanted if f" {name}\n" not in names]
+            if missing or log.count("begin") != log.count("end"):
+                return f"{missing}, {log.count('begin')} begins, {log.count('end')} ends"
+            listed, said = functions(room, trace, "--all-variables") if CHECKER else (["bump"], "")
+            return True if "bump" in listed else said
+
+        test(f"{cc} {mode} a mistake at the end of a long run, {short_threads} threads", body)
+
+
 def reductions(room, cc):
     """The list is the same with nothing left out, neither in the trace nor in the log."""
     if not CHECKER:
@@ -489,6 +543,7 @@ def main(words):
                 deadlocks,
                 endings,
                 limits,
+                late_mistake,
                 reductions,
             ):
                 part(room, cc)

@@ -84,6 +84,7 @@ class Unsaid(support.InFolder):
     def test_what_the_recorder_notes(self) -> None:
         noted: List[Tuple[Dict[str, Any], str]] = [
             ({"stopped": "full"}, "ended before the program did: full"),
+            ({"overwritten": 1024}, "its trace was full: the first 1,024 records are missing"),
             ({"cut": True}, "its log was cut off"),
             ({"modules": [{"path": "/a", "state": "changed"}]}, "/a was built again"),
             ({"modules": [{"path": "/a", "state": "gone"}]}, "/a is not there any more"),
@@ -125,6 +126,19 @@ class Unsaid(support.InFolder):
         self.assertEqual(done.returncode, 0)
         self.assertIn("warning: run.log: 7 variables or locks", done.stdout)
         self.assertIn("1,200 accesses are perhaps not in their order", done.stdout)
+
+    @support.needs_checker
+    def test_a_run_that_leaves_places_out(self) -> None:
+        for environment in ({"VELODROME_SITES": "/quiet"}, {}):
+            support.put(self.path("r", "trace.7"), "vltrace2")
+            support.put(self.path("r", "trace.7.maps"), "")
+            support.put(self.path("r", "run.json"), json.dumps({"environment": environment}))
+            log = support.right()
+            log.notes = {"schema": 1, "all_variables": True}
+            log.write(self.path("r", "trace.7.log"))
+            done = self.run_command("r")
+            self.assertEqual(done.returncode, 0, done.stdout)
+            self.assertEqual("at some places in the code" in done.stdout, bool(environment))
 
 
 class Traces(support.InFolder):

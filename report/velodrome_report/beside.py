@@ -64,6 +64,8 @@ class Notes:
     """What the recorder says of a log beside its events."""
 
     stopped: Optional[str] = None
+    # records at the start of the trace that made way for newer ones
+    overwritten: int = 0
     cut: bool = False
     # why the functions of the program cannot be named; None if they can
     cannot_name: Optional[str] = None
@@ -175,6 +177,7 @@ def _read_functions(path: str, found: Beside) -> None:
 def _notes(value: Any, folder: str) -> Notes:
     return Notes(
         stopped=value.get("stopped") or None,
+        overwritten=int(value.get("overwritten") or 0),
         cut=bool(value.get("cut")),
         counts={name: int(value[name]) for name in COUNTS if value.get(name)},
         cannot_name=value.get("cannot_name") or None,

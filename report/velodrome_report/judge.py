@@ -28,6 +28,10 @@ SETTINGS = (
     *("STRATEGY", "PERIOD", "DEPTH", "STEPS", "SEIZE_MS"),
     *("SITES", "VALUES", "MOST", "FORKS"),
 )
+LEAVES_OUT = (
+    "accesses were recorded at some places in the code alone, by VELODROME_SITES"
+    " (velodrome-record --whole: at all)"
+)
 WEAKENS = {
     "dropped": "variables or locks were too many to be looked at",
     "odd": "events do not fit together, and were left out",
@@ -213,12 +217,16 @@ def _judge_notes(looked: Looked) -> None:
     if notes.stopped:
         run.reasons = tuple(reason for reason in run.reasons if reason != making.STOPPED)
         run.reasons += (f"{making.STOPPED}: {notes.stopped}",)
+    if notes.overwritten:
+        run.reasons += (f"its trace was full: the first {notes.overwritten:,} records are missing",)
     if notes.cut and making.CUT not in run.reasons:
         run.reasons += (making.CUT,)
     for path, state, objects in notes.modules:
         some = f" ({', '.join(objects[:MOST_OBJECTS])})" if objects else ""
         run.reasons += (f"{path} {STATES.get(state, state)}{some}",)
     run.warnings += tuple(words for words in _weakened(notes.counts) if words not in run.warnings)
+    if "VELODROME_SITES" in run.settings:
+        run.warnings += (LEAVES_OUT,)
     if notes.loops:
         run.warnings += (_loops(notes.loops),)
 
