@@ -94,9 +94,9 @@ stage() {
     cp "$top/docs/completions/velodrome.bash" "$root/share/bash-completion/completions/velodrome"
     cp "$top/docs/completions/_velodrome" "$root/share/zsh/vendor-completions/"
     cp "$top/docs/completions/velodrome.fish" "$root/share/fish/vendor_completions.d/"
-    # the pages as they lie here, so that their links hold; of tests/ they have links to one
+    # the pages as they lie here, so that their links hold; of tests/ they have links to three
     copy_of "$top" "$root/share/doc/velodrome" '*.md' 'docs/*.json' 'docs/*.png' ':!tests'
-    copy_of "$top" "$root/share/doc/velodrome" tests/explain.md
+    copy_of "$top" "$root/share/doc/velodrome" tests/{explain,devices,each_byte}.md
     copy_of "$top/bindings" "$root/share/velodrome" rust
     find "$root" -name __pycache__ -prune -exec rm -r {} +
     chmod -R u=rwX,go=rX "$root"
