@@ -62,6 +62,13 @@ copy_of() {
     (cd "$folder" && git ls-files -z "$@" | xargs -0 cp --parents -t "$to")
 }
 
+# man_page_of COMMAND SUMMARY: what COMMAND says of itself, as a manual page; of velodrome there are pages in docs/man
+man_page_of() {
+    printf '.TH %s 1 "" "" "User commands"\n.SH NAME\n%s \\- %s\n.SH DESCRIPTION\n.nf\n' "${1^^}" "${1//-/\\-}" "$2"
+    "$top/recorder/out/bin/$1" --help | sed "s/\\\\/\\\\e/g; s/-/\\\\-/g; s/^[.']/\\\\\&&/"
+    printf '.fi\n.SH SEE ALSO\n\\fBvelodrome\\fR(1)\n'
+}
+
 # stage ROOT: the files as they lie below a prefix. The commands find one another where they really are, in lib/velodrome/bin
 stage() {
     local root=$1 command home=$1/lib/velodrome
@@ -80,13 +87,16 @@ stage() {
     cp "$top/recorder/include/velodrome_atomic.h" "$root/include/"
     python3 "$top/bindings/python/make_wheel.py" "$libraries/libvelodrome.a" "$root/share/velodrome" >/dev/null
     cp "$top"/docs/man/*.1 "$root/share/man/man1/"
+    man_page_of velodrome-record "runs a recorded program, and reports what its threads did" >"$root/share/man/man1/velodrome-record.1"
+    man_page_of velodrome-report "lists the findings of all runs" >"$root/share/man/man1/velodrome-report.1"
+    man_page_of velodrome-import "makes a log of a trace that another tool recorded" >"$root/share/man/man1/velodrome-import.1"
     gzip -9n "$root"/share/man/man1/*.1
     cp "$top/docs/completions/velodrome.bash" "$root/share/bash-completion/completions/velodrome"
     cp "$top/docs/completions/_velodrome" "$root/share/zsh/vendor-completions/"
     cp "$top/docs/completions/velodrome.fish" "$root/share/fish/vendor_completions.d/"
-    # the pages as they lie here, so that their links hold; of tests/ they have links to one
+    # the pages as they lie here, so that their links hold; of tests/ they have links to three
     copy_of "$top" "$root/share/doc/velodrome" '*.md' 'docs/*.json' 'docs/*.png' ':!tests'
-    copy_of "$top" "$root/share/doc/velodrome" tests/explain.md
+    copy_of "$top" "$root/share/doc/velodrome" tests/{explain,devices,each_byte}.md
     copy_of "$top/bindings" "$root/share/velodrome" rust
     find "$root" -name __pycache__ -prune -exec rm -r {} +
     chmod -R u=rwX,go=rX "$root"
@@ -198,7 +208,7 @@ grep -q "^commit [0-9a-f]" built
 grep -q "^toolchain ." built
 grep -qx "$(velodrome --version)" built
 step "man pages, completions, the other commands"
-gzip -t $prefix/share/man/man1/velodrome{,-check}.1.gz
+gzip -t $prefix/share/man/man1/velodrome{,-check,-record,-report,-import}.1.gz
 bash -c "source $prefix/share/bash-completion/completions/velodrome; complete -p velodrome" >/dev/null
 velodrome-import --help >/dev/null
 velodrome-record --help >/dev/null
