@@ -2,8 +2,8 @@
 use std::alloc::Global;
 use std::process::Abort;
 use velo_events::{Bounds, Config, Event, Kind, Label, LockId, ThreadId, VarId};
-use velo_ledger::Shares;
 use velo_laws::{NotRenewed, renew};
+use velo_ledger::Shares;
 use velo_traces::Trace;
 use velo_world::World;
 
