@@ -606,6 +606,10 @@ PLANTS = [
         SESSION,
         [
             ("    if (block.who == me->id)\n", "    if (true)\n"),
+            (
+                "        end_own(me, block.nth);",
+                "        (void)end_own, me->depth ? end_from(me, me->depth - 1) : (void)0;",
+            ),
         ],
         {"session": ["an_end_of_anothers_block_is_not_that_of_ones_own"]},
     ),

@@ -1,6 +1,7 @@
 // cost: nanoseconds a round of six events (begin, lock, read, write, unlock, end): by std's mutex,
 // by the calls with a lock, watched, in a session that stopped, and without one. The median of
-// nine; the processor's time, and the clock's in brackets.
+// nine; the processor's time, and the clock's in brackets. Then what it costs to open and close a
+// session.
 #include "velodrome.hpp"
 #include <algorithm>
 #include <cstdio>
@@ -79,6 +80,15 @@ static std::pair<double, double> once(way w, int threads, bool same) {
     return spent;
 }
 
+// Microseconds of the processor.
+static double opened_and_closed() {
+    constexpr int sessions = 100;
+    const double before = now(CLOCK_PROCESS_CPUTIME_ID);
+    for (int i = 0; i < sessions; i++)
+        velodrome::session s;
+    return (now(CLOCK_PROCESS_CPUTIME_ID) - before) / sessions / 1000;
+}
+
 int main() {
     std::promise<void> over; // a program with threads: with one alone the C library's mutex is
                              // cheaper by its atomic operations
@@ -102,6 +112,7 @@ int main() {
                             w == alone ? "\n" : ",");
             }
         }
+    std::printf("a session, opened and closed: %.0f us\n", opened_and_closed());
     over.set_value();
     idle.join();
 }
