@@ -45,6 +45,17 @@ class OfALog(support.InFolder):
         self.assertEqual(found.seen, {})
         self.assertEqual(found.possible[(False, 0)].tier, Tier.CARRIED)
 
+    def test_nobody_came_between_a_change_and_a_read(self) -> None:
+        log = Log().add(*changed_in_a_hold(2), ("1 begin 0", ""), *changed_in_a_hold(1))
+        found = self.scan(log.add(*hold(1, "rd 0 0", 3, "f"), ("1 end", "")), 0).gaps[0]
+        gap = found.possible[(False, 0)]
+        self.assertEqual((found.seen, gap.tier, gap.counts), ({}, Tier.SEEN_TWICE, False))
+
+    def test_nobody_came_between_two_changes_of_a_count(self) -> None:
+        log = Log().add(*changed_in_a_hold(2), ("1 begin 0", ""), *changed_in_a_hold(1))
+        found = self.scan(log.add(*changed_in_a_hold(1), ("1 end", "")), 0).gaps[0]
+        self.assertTrue(found.possible[(False, 0)].counts)
+
     def test_nobody_else_writes_what_could_be_interrupted(self) -> None:
         log = Log().add(("1 begin 0", ""), *hold(1, "rd 0 0", 1, "f"), *hold(1, "wr 0 0", 2, "f"))
         found = self.scan(log.add(("1 end", ""), *hold(2, "rd 0 0", 9, "g")), 0).gaps[0]

@@ -146,6 +146,8 @@ class Order(unittest.TestCase):
         (one,) = ranking.ranked([replace(found("f", gap), witness=locks)])
         self.assertEqual(one.section, Section.LIKELY)
         self.assertIn("m is held shared and later alone", one.why)
+        used = replace(found("f", replace(gap, target="x")), witness=locks)
+        self.assertIn("x is used before the lock is let go", ranking.ranked([used])[0].why)
 
     def test_the_more_telling_gap(self) -> None:
         best = GapTrait(tier=CARRIED)

@@ -5,8 +5,8 @@ thread in between that conflicts with both: three events that by themselves make
 atomic. They are read off the log for the order of the list, and to know what to ask the checker
 about: what is told of a finding is the checker's own witness.
 
-A possible gap is one into which nobody came in this run: a variable that is read under one hold
-of a lock and written under a later hold of it.
+A possible gap is one into which nobody came in this run: a variable that is used under one hold
+of a lock and again under a later hold of it.
 """
 
 from __future__ import annotations
@@ -283,6 +283,9 @@ class Scan:
             own = _Own(position, False, site, thread.top, thread.holds)
             between = self._writes.of(variable, number)
             self._told(thread, (False, variable), between, own, Tier.SEEN_TWICE)
+            owns = thread.owns.get((False, variable))
+            if owns is not None:
+                self._could(thread, variable, owns, own)
             thread.add((False, variable), own)
         self._reads.put(variable, position, number)
         thread.last = (variable, site, position)
@@ -396,20 +399,26 @@ class Scan:
         return (kept.whole or gap.tier is Tier.SEEN_TWICE) and not (kept.whole and not own.is_write)
 
     def _could(self, thread: _Thread, variable: int, owns: _Owns, own: _Own) -> None:
-        """Notes the gaps of all open blocks where a lock was let go between a read and a write."""
+        """Notes the gaps of all open blocks where a lock was let go between two accesses."""
         if not own.holds:
             return
         newest = max(own.holds.values())
         if newest < owns.positions[0]:
             return
         tier = Tier.LOOKED_AT_AGAIN if owns.last_read() > newest else Tier.CARRIED
+        tier = tier if own.is_write else Tier.SEEN_TWICE
         block: Optional[_Block] = own.block
         while block is not None:
             if block.wanted and block.begin < newest and self._may_look(block.label, variable):
                 for kept in owns.between(block.begin, newest):
-                    if not kept.is_write and _let_go(kept, own):
-                        gap = _gap(thread, block, (False, variable), kept, newest, own, tier)
-                        self._note(self.found.gaps[block.label].possible, gap, kept, own)
+                    if own.is_write and kept.is_write or not _let_go(kept, own):
+                        continue
+                    gap = _gap(thread, block, (False, variable), kept, newest, own, tier)
+                    gaps = self.found.gaps[block.label].possible
+                    if own.is_write:
+                        self._note(gaps, gap, kept, own)
+                    else:
+                        thread.undecided.append(_Undecided(gaps, gap, kept, own))
             block = block.parent
 
     def _may_look(self, label: int, variable: int) -> bool:

@@ -14,6 +14,7 @@ SAID = {
 }
 
 UPGRADED = "is held shared and later alone: what was read before may have changed"
+USED_AGAIN = "is used before the lock is let go, and again after that"
 UNORDERED = "no lock is held, and nothing orders the other thread's write: it can come in between"
 
 
@@ -49,7 +50,8 @@ def why(finding: Finding) -> str:
     targets = finding.witness.targets()
     variables = [target for target in targets if target.kind is TargetKind.VARIABLE]
     if gap.tier == SEEN_TWICE and not variables:
-        return f"{gap.target} {UPGRADED}"
+        is_lock = gap.target in (str(target) for target in targets)
+        return f"{gap.target} {UPGRADED if is_lock else USED_AGAIN}"
     if gap.tier not in SAID:
         return ""
     if not variables:
