@@ -2785,8 +2785,6 @@ __attribute__((format(printf, 2, 3))) static void append(char **text, const char
 
 /* ---- the finding of velodrome-report, where that can be called */
 
-extern char **environ;
-
 /* A group of its own, so that all of it can be ended, with no signal blocked or ignored. */
 static pid_t start_report(char *program, char *log, int output) {
     char *words[] = {program, log, NULL};
