@@ -8,7 +8,8 @@
 // apart, and the threads begin one after the other.
 #define EARLY 64 // events and blocks
 #define EARLY_NOISE 2
-#define LONGEST 300000 // ns; what is longer is the machine's load
+#define LONGEST 300000       // ns
+#define MOST_COUNTED 1000000 // ns of one wait: what is longer is the machine's load
 // How long a thread may have waited: so long for each of its first events and blocks, and twice
 // what one costs to record for each of all. A long run takes at most some three times as long.
 #define FIRST 5000
@@ -39,7 +40,7 @@ static void wait_a_little(struct self *t, int early) {
     else
         sleep_briefly((d >> 8) % LONGEST);
     u64 took = real_now() - began;
-    t->waited += took < LONGEST ? took : LONGEST;
+    t->waited += took < MOST_COUNTED ? took : MOST_COUNTED;
 }
 void make_noise(struct self *t) {
     if (!t->chance)

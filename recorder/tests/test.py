@@ -175,7 +175,7 @@ def noises(room, cc):
         for seed in (1, 1, 2):
             made.run("exact", VELODROME_NOISE=10, VELODROME_SEED=seed, VELODROME_VERBOSE=1)
             seen.append(int(re.search(r"(\d+) waits by noise", made.done.stderr)[1]))
-        return True if all(500 < n < 40000 for n in seen) else seen
+        return True if all(200 < n < 40000 for n in seen) else seen
 
     test(f"{cc} noise", body)
     long = program(room, cc, "late", "-I" + HERE + "/programs")
@@ -183,7 +183,7 @@ def noises(room, cc):
     def bounded():
         long.run("exact", VELODROME_NOISE=2, VELODROME_VERBOSE=1)
         waits = int(re.search(r"(\d+) waits by noise", long.done.stderr)[1])
-        return True if 500 < waits < 100000 else waits
+        return True if 200 < waits < 100000 else waits
 
     test(f"{cc} noise of a long run", bounded)
 
