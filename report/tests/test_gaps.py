@@ -122,6 +122,46 @@ class OfALog(support.InFolder):
         log.add(("1 rd 0 0", "a.c:2 f"), ("1 wr 0 0", "a.c:2 f"), ("1 end", ""))
         self.assertFalse(self.scan(log, 0).gaps[0].seen[(False, 0)].counts)
 
+    def tried(self, *last: Line) -> bool:
+        """Whether a value that is read, and changed by another, is tried again by these events."""
+        log = Log().add(("1 begin 0", ""), ("1 rd 0 0", "a.c:1 f"), ("2 wr 0 0", "a.c:9 g"))
+        found = self.seen(log.add(*last, ("1 end", "")))
+        self.assertEqual(found.tier, Tier.LOOKED_AT_AGAIN)
+        return found.in_loop
+
+    def test_a_change_at_once_of_what_was_looked_at_again(self) -> None:
+        swap: List[Line] = [("1 rd 0 0", "a.c:2 f"), ("1 wr 0 0", "a.c:2 f")]
+        self.assertTrue(self.tried(("1 rd 0 0", "a.c:1 f"), *swap))
+        self.assertFalse(self.tried(*swap))
+        late: List[Line] = [("1 rd 0 0", "a.c:2 f"), ("1 wr 0 0", "a.c:3 f")]
+        self.assertFalse(self.tried(("1 rd 0 0", "a.c:1 f"), *late))
+        held: List[Line] = [("1 acq 0", "a.c:1 f"), ("1 rd 0 0", "a.c:1 f")]
+        self.assertFalse(self.tried(*held, *swap, ("1 rel 0", "")))
+
+    def looked(self, *last: Line) -> bool:
+        """Whether a count that is changed, and changed by another, is a count to these events."""
+        change: List[Line] = [("1 rd 0 0", "a.c:2 f"), ("1 wr 0 0", "a.c:2 f")]
+        other: List[Line] = [("2 rd 0 0", "a.c:9 g"), ("2 wr 0 0", "a.c:9 g")]
+        log = Log().add(*other, ("1 begin 0", ""), *change, *other, *last, ("1 end", ""))
+        return self.scan(log, 0).gaps[0].seen[(False, 0)].counts
+
+    def test_a_look_at_a_count_that_was_changed(self) -> None:
+        look: Line = ("1 rd 0 0", "a.c:3 f")
+        self.assertFalse(self.looked(look))
+        self.assertFalse(self.looked(("1 begin 1", ""), look, ("1 end", "")))
+
+    def test_a_look_before_a_change_is_part_of_it(self) -> None:
+        look: Line = ("1 rd 0 0", "a.c:3 f")
+        tried: List[Line] = [("1 rd 0 0", "a.c:4 f"), ("1 wr 0 0", "a.c:4 f")]
+        self.assertTrue(self.looked(look, *tried))
+        self.assertTrue(self.looked(("1 begin 1", ""), look, *tried, ("1 end", "")))
+
+    def test_what_is_looked_at_again_and_again_is_waited_for(self) -> None:
+        polled: Line = ("1 rd 0 0", "a.c:3 f")
+        log = Log().add(("1 begin 0", ""), ("1 wr 0 1", "a.c:2 f"), polled)
+        log.add(("2 wr 0 0", "a.c:9 g"), polled, ("1 end", ""))
+        self.assertTrue(self.seen(log).counts)
+
     def test_blocks_that_are_left_out(self) -> None:
         log = support.lost_update()
         log.lines.insert(2, ("1 begin 7", "bank/bank.cpp:20 main"))

@@ -28,7 +28,7 @@ class Gap:
     inside_callee: bool
     # whether the other thread came while this one waited
     in_wait: bool
-    # whether both events stand at one place, in a loop
+    # whether both events stand at one place, in a loop, or a try came through after others failed
     in_loop: bool
     tier: Tier
     # whether what was read is changed at once: by an operation that cannot be interrupted, or

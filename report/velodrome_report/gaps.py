@@ -12,7 +12,8 @@ of a lock and written under a later hold of it.
 from __future__ import annotations
 
 from bisect import bisect_left, bisect_right
-from typing import Dict, List, Optional, Sequence, Set, Tuple
+from dataclasses import replace
+from typing import Dict, List, NamedTuple, Optional, Sequence, Set, Tuple
 
 from .gap import BEST, Gap, Gaps, Scanned, Tier
 from .sites import Sites
@@ -23,6 +24,8 @@ MOST_EVENTS = 4_000_000
 MOST_KEPT = 128
 # so often a possible gap of one function and one variable is looked at
 MOST_POSSIBLE = 32
+# so many looks of a thread are kept until their calls end
+MOST_LOOKS = 128
 
 
 class _Block:
@@ -43,7 +46,7 @@ class _Block:
 class _Own:
     """An event of a thread inside its blocks: in which block, under which holds."""
 
-    __slots__ = ("position", "is_write", "site", "block", "holds", "whole")
+    __slots__ = ("position", "is_write", "site", "block", "holds", "whole", "tried")
 
     def __init__(
         self, position: int, is_write: bool, site: int, block: _Block, holds: Dict[int, int]
@@ -56,6 +59,8 @@ class _Own:
         self.holds = holds
         # whether what it read is changed at once
         self.whole = False
+        # whether it is a try that came through: a change at once of what was just looked at again
+        self.tried = False
 
 
 class _Owns:
@@ -91,12 +96,21 @@ class _Owns:
                 break
             own.whole = not own.is_write
 
-    def last_read(self) -> int:
-        """The position of the latest read, -1 if there is none."""
+    def last_read(self, before: int) -> int:
+        """The position of the latest read before another position, -1 if there is none."""
         for own in reversed(self.events):
-            if not own.is_write:
+            if not own.is_write and own.position < before:
                 return own.position
         return -1
+
+
+class _Look(NamedTuple):
+    """A gap from a change of a variable to a look at it, in one call that may change it yet."""
+
+    call: _Block
+    variable: int
+    gaps: Dict[Tuple[bool, int], Gap]
+    gap: Gap
 
 
 class _Others:
@@ -136,6 +150,7 @@ class _Thread:
         "owns",
         "last",
         "reads",
+        "looks",
     )
 
     def __init__(self, number: int) -> None:
@@ -156,6 +171,8 @@ class _Thread:
         self.last: Tuple[int, int, int] = (-1, -1, -1)
         # of each variable the position of the latest read
         self.reads: Dict[int, int] = {}
+        # what was looked at after it was changed, and not changed again up to now
+        self.looks: List[_Look] = []
 
     def add(self, target: Tuple[bool, int], own: _Own) -> None:
         owns = self.owns.get(target)
@@ -225,6 +242,8 @@ class Scan:
         if block is None:
             return
         thread.top = block.parent
+        if thread.looks:
+            _only_looked(thread, block)
         thread.wanted -= block.wanted
         if not thread.wanted:
             thread.waits.clear()
@@ -248,6 +267,8 @@ class Scan:
 
     def _write(self, position: int, thread: _Thread, variable: int, site: int) -> None:
         number = thread.number
+        if thread.looks:
+            thread.looks = [look for look in thread.looks if look.variable != variable]
         self._use(variable, number)
         written = self._writes.of(variable, number)
         since = _changes_since(thread, variable, site, written)
@@ -261,7 +282,9 @@ class Scan:
             if owns is not None:
                 if whole:
                     owns.changed(since)
-                again = owns.last_read() > written
+                again = owns.last_read(position) > written
+                alone = not thread.holds and _at_once(thread, variable, site)
+                own.tried = alone and owns.last_read(since) > written
                 tier = Tier.LOOKED_AT_AGAIN if again else Tier.CARRIED
                 self._told(thread, target, written, own, tier)
                 self._told(thread, target, self._reads.of(variable, number), own, None)
@@ -312,7 +335,11 @@ class Scan:
                     for kept in owns.between(block.begin, between):
                         if tier is None and not kept.is_write:
                             continue
-                        _note(gaps, _gap(thread, block, target, kept, between, own, tier))
+                        gap = _gap(thread, block, target, kept, between, own, tier)
+                        _note(gaps, gap)
+                        if _looks(owns, kept, own) and len(thread.looks) < MOST_LOOKS:
+                            call = _call(block, own) or block
+                            thread.looks.append(_Look(call, target[1], gaps, gap))
             block = block.parent
 
     def _could(self, thread: _Thread, variable: int, owns: _Owns, own: _Own) -> None:
@@ -322,7 +349,8 @@ class Scan:
         newest = max(own.holds.values())
         if newest < owns.positions[0]:
             return
-        tier = Tier.LOOKED_AT_AGAIN if owns.last_read() > newest else Tier.CARRIED
+        again = owns.last_read(own.position) > newest
+        tier = Tier.LOOKED_AT_AGAIN if again else Tier.CARRIED
         block: Optional[_Block] = own.block
         while block is not None:
             if block.wanted and block.begin < newest and self._may_look(block.label, variable):
@@ -339,19 +367,42 @@ class Scan:
         return times < MOST_POSSIBLE
 
 
+def _looks(owns: _Owns, kept: _Own, own: _Own) -> bool:
+    """Whether an event is the first look of its line at what was changed before.
+
+    One that is looked at again and again is waited for.
+    """
+    latest = owns.events[-1]
+    again = not latest.is_write and latest.site == own.site
+    return not own.is_write and (kept.is_write or kept.whole) and not again
+
+
+def _only_looked(thread: _Thread, call: _Block) -> None:
+    """A call ends: what it looked at after a change, and did not change, is no count to it."""
+    for look in thread.looks:
+        if look.call is call:
+            _note(look.gaps, replace(look.gap, counts=False))
+    thread.looks = [look for look in thread.looks if look.call is not call]
+
+
 def _changes_since(thread: _Thread, variable: int, site: int, written: int) -> int:
     """From where on what the thread read of a variable is changed at once by a write of it now.
 
     That is by an operation that cannot be interrupted, or under the hold of a lock. -1 if what is
     written does not come of what was just read.
     """
-    if thread.last[:2] == (variable, site) and written < thread.last[2]:
+    if _at_once(thread, variable, site) and written < thread.last[2]:
         return thread.last[2]
     if thread.holds:
         since = min(thread.holds.values())
         if thread.reads.get(variable, -1) > since:
             return since
     return -1
+
+
+def _at_once(thread: _Thread, variable: int, site: int) -> bool:
+    """Whether the event before a write is its own read: an operation that is not interrupted."""
+    return thread.last[:2] == (variable, site)
 
 
 def _let_go(kept: _Own, own: _Own) -> bool:
@@ -394,7 +445,7 @@ def _gap(
     return Gap(
         inside_callee=inside,
         in_wait=any(low <= start and start <= between <= end for start, end in thread.waits),
-        in_loop=not inside and _line(first, kept) == _line(second, own),
+        in_loop=own.tried or (not inside and _line(first, kept) == _line(second, own)),
         tier=tier,
         counts=kept.whole or tier is Tier.SEEN_TWICE,
         is_lock=target[0],
