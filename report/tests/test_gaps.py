@@ -61,6 +61,12 @@ class OfALog(support.InFolder):
         found = self.scan(log.add(("1 end", ""), *hold(2, "rd 0 0", 9, "g")), 0).gaps[0]
         self.assertEqual(found.possible, {})
 
+    def test_who_calls_the_same_function_may_write_it_too(self) -> None:
+        called = (("1 begin 0", ""), *hold(1, "rd 0 0", 1, "f"), *hold(1, "wr 0 0", 2, "f"))
+        log = Log().add(*called, ("1 end", ""), ("2 begin 0", ""), *hold(2, "rd 0 0", 1, "f"))
+        found = self.scan(log.add(("2 end", "")), 0).gaps[0]
+        self.assertEqual(found.possible[(False, 0)].tier, Tier.CARRIED)
+
     def test_what_is_written_once(self) -> None:
         log = Log(variables=2).add(("1 wr 0 0", ""), ("1 wr 1 0", ""), ("2 wr 1 0", ""))
         self.assertEqual(self.scan(log).once, {0})

@@ -208,6 +208,8 @@ class Scan:
         self._acquires, self._alone = _Others(), _Others()
         # the only thread that used a variable, -1 if there are two
         self._owner: Dict[int, int] = {}
+        # the only thread that called a function, -1 if there are two
+        self._caller: Dict[int, int] = {}
         # the only thread that wrote a variable, -1 if there are two
         self._writer: Dict[int, int] = {}
         self._written: Set[int] = set()
@@ -226,13 +228,20 @@ class Scan:
         counters = (self._changed - self._plainly) | self._atomic
         self.found.counters = frozenset(counters & shared)
         self.found.once = frozenset(self._written - self._again)
-        for gaps in self.found.gaps.values():
-            gaps.possible = {key: gap for key, gap in gaps.possible.items() if self._can_come(gap)}
+        for label, gaps in self.found.gaps.items():
+            gaps.possible = {
+                key: gap for key, gap in gaps.possible.items() if self._can_come(label, gap)
+            }
         return self.found
 
-    def _can_come(self, gap: Gap) -> bool:
-        """Whether some other thread than that of a possible gap writes its variable."""
-        return self._writer.get(gap.number, -1) < 0
+    def _can_come(self, label: int, gap: Gap) -> bool:
+        """Whether some other thread than that of a possible gap may write its variable.
+
+        It writes it, or uses it and calls the same function, which writes it another time.
+        """
+        if self._writer.get(gap.number, -1) < 0:
+            return True
+        return self._owner.get(gap.number, -1) < 0 and self._caller.get(label, -1) < 0
 
     def event(self, position: int, words: List[str], site: int) -> None:
         """The next event of the log, by the words of its line."""
@@ -263,6 +272,8 @@ class Scan:
             thread.stack.append(None)
             return
         self.found.calls[label] = self.found.calls.get(label, 0) + 1
+        if self._caller.setdefault(label, thread.number) != thread.number:
+            self._caller[label] = -1
         block = _Block(label, position, site, thread.top, label in self.found.gaps)
         thread.stack.append(block)
         thread.top = block
