@@ -168,7 +168,8 @@ class Pages(unittest.TestCase):
         self.assertIn("Repetitions: 3 to 10; that", page.repetitions(ALL, whole))
         self.assertNotIn("Not run", page.repetitions(ALL, whole))
         few = {f"{of.name}_{version}": [NO] for of in ALL for version in check.versions(of)}
-        kept = filled(**{**few, "meal_wrong": []})
+        few["meal_wrong"] = []
+        kept = filled(**few)
         kept.of("meal", "wrong", tools.PLAIN).append(NO)
         self.assertEqual(page.in_most(ALL, kept), "In one repetition")
         words = page.repetitions(ALL, kept)
