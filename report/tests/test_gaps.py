@@ -62,10 +62,12 @@ class OfALog(support.InFolder):
         self.assertEqual(found.possible, {})
 
     def test_who_calls_the_same_function_may_write_it_too(self) -> None:
-        called = (("1 begin 0", ""), *hold(1, "rd 0 0", 1, "f"), *hold(1, "wr 0 0", 2, "f"))
-        log = Log().add(*called, ("1 end", ""), ("2 begin 0", ""), *hold(2, "rd 0 0", 1, "f"))
-        found = self.scan(log.add(("2 end", "")), 0).gaps[0]
-        self.assertEqual(found.possible[(False, 0)].tier, Tier.CARRIED)
+        for variable, tiers in ((0, [Tier.CARRIED]), (1, [])):
+            log = Log(variables=2).add(("1 begin 0", ""), *hold(1, "rd 0 0", 1, "f"))
+            log.add(*hold(1, "wr 0 0", 2, "f"), ("1 end", ""), ("2 begin 0", ""))
+            log.add(*hold(2, f"rd {variable} 0", 1, "f"), ("2 end", ""))
+            possible = self.scan(log, 0).gaps[0].possible
+            self.assertEqual([gap.tier for gap in possible.values()], tiers)
 
     def test_what_is_written_once(self) -> None:
         log = Log(variables=2).add(("1 wr 0 0", ""), ("1 wr 1 0", ""), ("2 wr 1 0", ""))
