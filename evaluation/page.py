@@ -151,7 +151,7 @@ def sums(chosen: List[Program], kept: Results, columns: Sequence[str]) -> List[s
         f"of {len(wrong)} atomicity mistakes",
         f"of {len(hung)} deadlocks",
         f"of {len(chosen)} right programs, something said",
-        "times the processor time",
+        "processor time, times the program's alone",
     )
     for column in columns:
         lines.append(
