@@ -9,11 +9,13 @@ import os
 import re
 import subprocess
 import sys
+import threading
 from concurrent.futures import ThreadPoolExecutor
 from typing import Dict, List, NamedTuple, Optional, Tuple
 
 HERE = os.path.dirname(os.path.abspath(__file__))
 PROGRAMS = os.path.join(HERE, "programs")
+SCENE = os.path.join(HERE, "include", "scene.h")
 OUT = os.path.join(HERE, "out")
 KINDS = ("atomicity", "deadlock", "right")
 FIELDS = ("kind", "source", "function", "variable")
@@ -25,8 +27,10 @@ FLAGS = [
     "-O1",
     "-g",
     "-I",
-    os.path.join(HERE, "include"),
+    os.path.dirname(SCENE),
 ]
+# the mistake shows, and a program that hangs ends soon
+SHOWN = ("-DPROVOKE", "-DHANG_SECONDS=5")
 DEADLOCK_STATUS = 97
 WRONG_STATUS = 1
 TRIES = 5
@@ -110,12 +114,14 @@ def compile_one(
     compiler = (compilers or {".c": "gcc", ".cpp": "g++"})[name]
     os.makedirs(folder, exist_ok=True)
     path = os.path.join(folder, f"{of.name}.{version}")
+    beside = f"{path}.{threading.get_ident()}"
     words = [compiler, standard, *FLAGS, *extra]
     words += ["-DREPAIRED"] if version == "repaired" else []
-    words += [os.path.join(PROGRAMS, of.file), "-o", path]
+    words += [os.path.join(PROGRAMS, of.file), "-o", beside]
     done = subprocess.run(words, stderr=subprocess.PIPE, text=True)
     if done.returncode:
         raise Bad(f"{of.name}, {version}: it does not compile\n{done.stderr}")
+    os.replace(beside, path)
     return path
 
 
@@ -128,7 +134,7 @@ def tested(of: Program) -> str:
     """Compiles and runs the versions of a program with its delay. What is wrong in words, or ''."""
     try:
         for version in versions(of):
-            path = compile_one(of, version, os.path.join(OUT, "check"), extra=("-DPROVOKE",))
+            path = compile_one(of, version, os.path.join(OUT, "check"), extra=SHOWN)
             seen: List[int] = []
             for _ in range(TRIES if version == "wrong" else 1):
                 seen.append(

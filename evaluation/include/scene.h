@@ -37,9 +37,13 @@
         pthread_join(two_, NULL);                                                                  \
     } while (0)
 
-/* A deadlock ends the program with status 97. */
+/* A deadlock ends the program with status 97, so many seconds after it began. A tool that slows
+ * the program down, on a machine that is busy, must not seem to hang. */
 #define DEADLOCK_STATUS 97
-#define WATCH_FOR_DEADLOCK(handler) (signal(SIGALRM, (handler)), alarm(5))
+#ifndef HANG_SECONDS
+#define HANG_SECONDS 20
+#endif
+#define WATCH_FOR_DEADLOCK(handler) (signal(SIGALRM, (handler)), alarm(HANG_SECONDS))
 
 /* The end of main: status 1 and a word if the result is wrong. */
 #define RESULT(right) ((right) ? 0 : (puts("wrong"), 1))

@@ -61,6 +61,14 @@ class OfALog(support.InFolder):
         found = self.scan(log.add(("1 end", ""), *hold(2, "rd 0 0", 9, "g")), 0).gaps[0]
         self.assertEqual(found.possible, {})
 
+    def test_who_calls_the_same_function_may_write_it_too(self) -> None:
+        for variable, tiers in ((0, [Tier.CARRIED]), (1, [])):
+            log = Log(variables=2).add(("1 begin 0", ""), *hold(1, "rd 0 0", 1, "f"))
+            log.add(*hold(1, "wr 0 0", 2, "f"), ("1 end", ""), ("2 begin 0", ""))
+            log.add(*hold(2, f"rd {variable} 0", 1, "f"), ("2 end", ""))
+            possible = self.scan(log, 0).gaps[0].possible
+            self.assertEqual([gap.tier for gap in possible.values()], tiers)
+
     def test_what_is_written_once(self) -> None:
         log = Log(variables=2).add(("1 wr 0 0", ""), ("1 wr 1 0", ""), ("2 wr 1 0", ""))
         self.assertEqual(self.scan(log).once, {0})
@@ -166,6 +174,11 @@ class OfALog(support.InFolder):
                 self.assertEqual(found.counters, {0})
                 self.assertEqual((gap.tier, gap.counts), (Tier.SEEN_TWICE, False))
 
+    def test_what_is_looked_at_in_a_call_after_a_change_is_no_count(self) -> None:
+        look: List[Line] = [("1 begin 1", ""), ("1 rd 0 0", "a.c:3 f"), ("1 end", "")]
+        log = Log().add(("1 begin 0", ""), *changed(1), *changed(2), *look, ("1 end", ""))
+        self.assertFalse(self.scan(log, 0, atomic=[0]).gaps[0].seen[(False, 0)].counts)
+
     def test_what_is_looked_at_twice_under_a_lock_is_no_count(self) -> None:
         log = Log().add(("1 begin 0", ""), *hold(1, "rd 0 0", 1, "f"), *changed_in_a_hold(2))
         found = self.scan(log.add(*hold(1, "rd 0 0", 2, "f"), ("1 end", "")), 0)
@@ -178,9 +191,25 @@ class OfALog(support.InFolder):
         self.assertTrue(found.gaps[0].seen[(False, 0)].counts)
 
     def test_a_look_just_before_a_change_is_part_of_it(self) -> None:
-        log = Log().add(("1 begin 0", ""), *changed(1), *changed(2), ("1 rd 0 0", "a.c:3 f"))
-        found = self.scan(log.add(*changed(1), ("1 end", "")), 0)
-        self.assertTrue(found.gaps[0].seen[(False, 0)].counts)
+        look: Line = ("1 rd 0 0", "a.c:3 f")
+        for last in ((look, *changed(1)), (("1 begin 1", ""), look, *changed(1), ("1 end", ""))):
+            with self.subTest(last):
+                log = Log().add(("1 begin 0", ""), *changed(1), *changed(2), *last, ("1 end", ""))
+                self.assertTrue(self.scan(log, 0).gaps[0].seen[(False, 0)].counts)
+
+    def after_a_store(self, *events: Line) -> bool:
+        """Whether an atomic variable, stored before these events, is a flag or a count to them."""
+        log = Log().add(("1 begin 0", ""), ("1 wr 0 1", "a.c:2 f"), *events, ("1 end", ""))
+        return self.scan(log, 0, atomic=[0]).gaps[0].seen[(False, 0)].counts
+
+    def test_what_is_read_after_a_store(self) -> None:
+        look: Line = ("1 rd 0 0", "a.c:3 f")
+        other: Line = ("2 wr 0 0", "a.c:9 g")
+        self.assertFalse(self.after_a_store(other, look))
+        self.assertTrue(self.after_a_store(other, *changed(1)))
+        # it is looked at again and again: it is waited for
+        self.assertTrue(self.after_a_store(look, other, look))
+        self.assertFalse(self.after_a_store(("1 rd 0 0", "a.c:4 f"), other, look))
 
     def test_a_lock_that_is_held_shared_and_later_alone(self) -> None:
         log = Log(variables=0).add(("1 begin 0", ""), ("1 acqs 0", "a.c:1 f"))

@@ -4,10 +4,11 @@ import contextlib
 import gzip
 import io
 import os
+import random
 import subprocess
 import tempfile
 import unittest
-from typing import List, Tuple
+from typing import Dict, List, Set, Tuple
 
 from velodrome_report import importing
 
@@ -229,8 +230,85 @@ class Refused(Folder):
         self.assertEqual(self.text("log"), before)
 
 
+def any_lines(chance: random.Random) -> List[str]:
+    """A trace of any lines: hardly ever one of a run."""
+    operations = "r(x{}) w(x{}) acq(m{}) rel(m{}) fork(T{}) join(T{}) begin end".split()
+    return [
+        f"T{chance.randrange(3)}|{chance.choice(operations).format(chance.randrange(3))}|{line}"
+        for line in range(chance.randint(1, 40))
+    ]
+
+
+def of_a_run(chance: random.Random) -> List[str]:
+    """A trace of a run of two threads that T0 starts: accesses, and holds of one lock."""
+    lines = ["T0|fork(T1)|0", "T0|fork(T2)|0"]
+    is_open: Set[str] = set()
+    for line in range(chance.randint(4, 30)):
+        thread = f"T{chance.randint(1, 2)}"
+        access = f"{thread}|{chance.choice('rrw')}(x{chance.randrange(2)})|{line}"
+        if chance.random() < 0.3:
+            lines.append(f"{thread}|{'end' if thread in is_open else 'begin'}|{line}")
+            is_open ^= {thread}
+        elif chance.random() < 0.3:
+            lines += [f"{thread}|acq(m)|{line}", access, f"{thread}|rel(m)|{line}"]
+        else:
+            lines.append(access)
+    return lines
+
+
+def is_serializable(lines: List[str]) -> bool:
+    """By the definition: whether a graph of all transactions of a trace has no circle."""
+    sections: Dict[str, int] = {}
+    before: List[Tuple[int, str, str, str]] = []
+    edges: Dict[int, Set[int]] = {}
+    for number, line in enumerate(lines):
+        thread, operation = line.split("|")[:2]
+        name, _, target = operation.rstrip(")").partition("(")
+        if name == "begin":
+            sections[thread] = number
+        mine = sections.get(thread, number)
+        if name == "end":
+            del sections[thread]
+        for other, by, what, on in before:
+            reads = {name, what} == {"r"}
+            same = target == on and target and not reads and "fork" not in (name, what)
+            if other != mine and (by == thread or same or (what, on) == ("fork", thread)):
+                edges.setdefault(other, set()).add(mine)
+        before.append((mine, thread, name, target))
+    return not any(reaches(edges, after, start) for start in edges for after in edges[start])
+
+
+def reaches(edges: Dict[int, Set[int]], start: int, end: int) -> bool:
+    """Whether a way leads from one node to another."""
+    seen, left = {start}, [start]
+    while left:
+        new = edges.get(left.pop(), set()) - seen
+        seen |= new
+        left += new
+    return end in seen
+
+
 @unittest.skipUnless(CHECKER, "VELODROME is not the checker")
 class Checked(Folder):
+    def verdict(self) -> int:
+        """The status of the checker for the log."""
+        words = [CHECKER, "check", "--names", self.path("log.names"), self.path("log")]
+        return subprocess.run(words, stdout=subprocess.DEVNULL).returncode
+
+    def test_random_runs_by_the_definition(self) -> None:
+        for seed in range(60):
+            lines = of_a_run(random.Random(seed))
+            with self.subTest(seed):
+                self.assertEqual(self.made("\n".join(lines).encode())[::2], (0, ""))
+                self.assertEqual(self.verdict(), 0 if is_serializable(lines) else 3)
+
+    def test_random_lines_are_mended_to_a_run(self) -> None:
+        for seed in range(60):
+            lines = any_lines(random.Random(seed))
+            with self.subTest(seed):
+                self.assertEqual(self.made("\n".join(lines).encode(), "--mend")[::2], (0, ""))
+                self.assertIn(self.verdict(), (0, 3))
+
     def test_the_checker_takes_it(self) -> None:
         self.made(LOST_UPDATE.encode())
         words = [CHECKER, "check", "--names", self.path("log.names"), self.path("log")]

@@ -270,6 +270,22 @@ class Lists(support.InFolder):
         self.assertIn("worker() (counter.cpp:5), the routine of a thread, loops", said)
         self.assertEqual(done.returncode, 3)
 
+    def test_an_old_value_of_another_pass_of_a_loop(self) -> None:
+        for line, section in ((20, "by_design"), (21, "likely")):
+            small = Log(locks=0).named(label_0="worker()", label_1="step()", variable_0="counter")
+            small.add(("1 begin 0", ""), ("1 begin 1", "counter.cpp:20 worker()"))
+            small.add(("1 rd 0 0", "counter.cpp:7 step()"), ("1 end", ""))
+            small.add(("2 wr 0 0", "counter.cpp:8 step()"))
+            small.add(("1 begin 1", f"counter.cpp:{line} worker()"))
+            small.add(("1 wr 0 0", "counter.cpp:8 step()"), ("1 end", ""), ("1 end", ""))
+            small.write(self.path("run.log.stale.1"))
+            log = Log(variables=0, locks=0)
+            stale = {"log": "run.log.stale.1", "function": "worker()", "place": "counter.cpp:5"}
+            log.notes = {"schema": 1, "stale": [{**stale, "variable": "counter"}]}
+            log.write(self.path("run.log"))
+            (found,) = self.answer("run.log")["findings"]
+            self.assertEqual((found["kind"], found["section"]), ("stale_write", section))
+
     def test_how_to_repeat_it(self) -> None:
         log = self.path("velodrome.runs", "0001", "01", "trace.7.log")
         support.lost_update().write(log)

@@ -132,6 +132,12 @@ class Order(unittest.TestCase):
                 self.assertEqual(one.section, Section.BY_DESIGN)
                 self.assertIn(words, one.why)
 
+    def test_an_old_value_of_another_pass(self) -> None:
+        for in_loop, section in ((True, Section.BY_DESIGN), (False, Section.LIKELY)):
+            gap = GapTrait(tier=CARRIED, in_loop=in_loop, seen=True)
+            (one,) = ranking.ranked([found("f", gap, kind=Kind.STALE_WRITE)])
+            self.assertEqual(one.section, section)
+
     def test_locks_alone_may_matter(self) -> None:
         gap = GapTrait(tier=LOCK, target="m")
         (one,) = ranking.ranked([found("f", gap, data=True)])

@@ -173,7 +173,7 @@ class Gathering:
             for alarm in looked.data_alarms
             for block in alarm.blocks
             if not _only_counts(alarm, looked)
-        }
+        } | looked.together
         for label in seen | foretold:
             entry = self._entry(looked, label)
             if label in seen:
@@ -280,6 +280,7 @@ class Gathering:
         trait = GapTrait(
             tier=0,
             seen=not could,
+            in_loop=None not in calls and own[0].place == own[-1].place,
             target=written,
             used_again=written.startswith(HEAP) and None not in calls,
         )

@@ -48,7 +48,7 @@ class _Block:
 class _Own:
     """An event of a thread inside its blocks: in which block, under which holds."""
 
-    __slots__ = ("position", "is_write", "site", "block", "holds", "whole")
+    __slots__ = ("position", "is_write", "site", "block", "holds", "whole", "polled")
 
     def __init__(
         self, position: int, is_write: bool, site: int, block: _Block, holds: Dict[int, int]
@@ -61,6 +61,12 @@ class _Own:
         self.holds = holds
         # whether it is part of a change at once: a read that is written back, or that write
         self.whole = False
+        # whether it is a read that repeats the one before it: something is waited for
+        self.polled = False
+
+    def only_reads(self) -> bool:
+        """Whether what it reads is not written back."""
+        return not (self.is_write or self.whole)
 
 
 class _Owns:
@@ -95,6 +101,10 @@ class _Owns:
             if own.position < since:
                 break
             own.whole = own.whole or not own.is_write
+
+    def last_is_read_at(self, site: int) -> bool:
+        """Whether the latest event is a read at this site."""
+        return bool(self.events) and not self.events[-1].is_write and self.events[-1].site == site
 
     def last_read(self) -> int:
         """The position of the latest read, -1 if there is none."""
@@ -198,6 +208,8 @@ class Scan:
         self._acquires, self._alone = _Others(), _Others()
         # the only thread that used a variable, -1 if there are two
         self._owner: Dict[int, int] = {}
+        # the only thread that called a function, -1 if there are two
+        self._caller: Dict[int, int] = {}
         # the only thread that wrote a variable, -1 if there are two
         self._writer: Dict[int, int] = {}
         self._written: Set[int] = set()
@@ -216,13 +228,20 @@ class Scan:
         counters = (self._changed - self._plainly) | self._atomic
         self.found.counters = frozenset(counters & shared)
         self.found.once = frozenset(self._written - self._again)
-        for gaps in self.found.gaps.values():
-            gaps.possible = {key: gap for key, gap in gaps.possible.items() if self._can_come(gap)}
+        for label, gaps in self.found.gaps.items():
+            gaps.possible = {
+                key: gap for key, gap in gaps.possible.items() if self._can_come(label, gap)
+            }
         return self.found
 
-    def _can_come(self, gap: Gap) -> bool:
-        """Whether some other thread than that of a possible gap writes its variable."""
-        return self._writer.get(gap.number, -1) < 0
+    def _can_come(self, label: int, gap: Gap) -> bool:
+        """Whether some other thread than that of a possible gap may write its variable.
+
+        It writes it, or uses it and calls the same function, which writes it another time.
+        """
+        if self._writer.get(gap.number, -1) < 0:
+            return True
+        return self._owner.get(gap.number, -1) < 0 and self._caller.get(label, -1) < 0
 
     def event(self, position: int, words: List[str], site: int) -> None:
         """The next event of the log, by the words of its line."""
@@ -253,6 +272,8 @@ class Scan:
             thread.stack.append(None)
             return
         self.found.calls[label] = self.found.calls.get(label, 0) + 1
+        if self._caller.setdefault(label, thread.number) != thread.number:
+            self._caller[label] = -1
         block = _Block(label, position, site, thread.top, label in self.found.gaps)
         thread.stack.append(block)
         thread.top = block
@@ -281,10 +302,11 @@ class Scan:
                 self._decide(thread)
         if thread.wanted and thread.top is not None:
             own = _Own(position, False, site, thread.top, thread.holds)
-            between = self._writes.of(variable, number)
-            self._told(thread, (False, variable), between, own, Tier.SEEN_TWICE)
             owns = thread.owns.get((False, variable))
             if owns is not None:
+                own.polled = owns.last_is_read_at(site)
+                between = self._writes.of(variable, number)
+                self._told(thread, (False, variable), between, own, Tier.SEEN_TWICE)
                 self._could(thread, variable, owns, own)
             thread.add((False, variable), own)
         self._reads.put(variable, position, number)
@@ -390,13 +412,15 @@ class Scan:
         """Whether this is how a count is used: what is changed at once is changed at once again.
 
         What is changed and later only read is a value that is used. But an atomic variable that
-        is looked at twice is mostly a flag.
+        is looked at twice is mostly a flag, and one that is looked at again and again is.
         """
         if kept.whole and own.whole:
             return True
         if gap.is_lock or gap.number not in self._atomic:
             return False
-        return (kept.whole or gap.tier is Tier.SEEN_TWICE) and not (kept.whole and not own.is_write)
+        if own.only_reads() and not kept.only_reads():
+            return own.polled
+        return kept.whole or gap.tier is Tier.SEEN_TWICE
 
     def _could(self, thread: _Thread, variable: int, owns: _Owns, own: _Own) -> None:
         """Notes the gaps of all open blocks where a lock was let go between two accesses."""

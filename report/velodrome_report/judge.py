@@ -7,10 +7,10 @@ import tempfile
 from dataclasses import dataclass, field
 from typing import Any, Dict, List, Optional, Sequence, Set, Tuple
 
-from . import answers, beside, checker, closer, deadlocks, gaps, making, racing
+from . import answers, beside, checker, closer, deadlocks, gaps, making, racing, together
 from .answers import Alarm, Audit, NotAnAnswer, Predictions
 from .beside import Beside, Stale, Wait
-from .gap import Scanned
+from .gap import Scanned, Tier
 from .known import Known
 from .model import Place, Run
 from .names import without_parameters
@@ -66,6 +66,8 @@ class Looked:
     closer: List[Alarm] = field(default_factory=list)
     predictions: Optional[Predictions] = None
     scanned: Scanned = field(default_factory=Scanned)
+    # the labels that do in pieces what belongs together, of those that only locks tell of
+    together: Set[int] = field(default_factory=set)
     sites: Sites = field(default_factory=lambda: Sites(None, 0))
     waits: Tuple[Wait, ...] = ()
     stale: List[Tuple[Stale, Audit]] = field(default_factory=list)
@@ -268,6 +270,9 @@ def _ask(looked: Looked, asked: Asked) -> None:
         looked.predictions = answers.predictions(done.out)
     _scan(looked, _found_labels(looked))
     closer.look(looked.closer, looked.scanned, program, log, names, looked.sites, _left_out(looked))
+    by_locks = _told_by_locks(looked)
+    if by_locks:
+        looked.together = together.scan(log, looked.sites, by_locks, looked.scanned.counters)
     for one in looked.beside.notes.stale:
         _ask_about_stale(looked, program, one)
     for gap in racing.scan(log, looked.beside.notes.racing, looked.sites):
@@ -296,6 +301,17 @@ def _found_labels(looked: Looked) -> Set[int]:
     for alarm in alarms:
         found.update(block.label.number for block in alarm.blocks)
     return found
+
+
+def _told_by_locks(looked: Looked) -> Set[int]:
+    """The labels that are not atomic and have no gap that is more telling than that of a lock."""
+    return {
+        label
+        for label, gaps_of in looked.scanned.gaps.items()
+        if all(
+            gap.tier is Tier.LOCK for gap in (*gaps_of.seen.values(), *gaps_of.possible.values())
+        )
+    }
 
 
 def _scan(looked: Looked, wanted: Set[int]) -> None:

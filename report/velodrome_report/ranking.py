@@ -15,6 +15,7 @@ SAID = {
 
 UPGRADED = "is held shared and later alone: what was read before may have changed"
 USED_AGAIN = "is used before the lock is let go, and again after that"
+LOOPS = "each pass of its loop is atomic by itself"
 UNORDERED = "no lock is held, and nothing orders the other thread's write: it can come in between"
 
 
@@ -23,6 +24,8 @@ def by_design(finding: Finding) -> Optional[str]:
     gap = finding.traits.gap
     if gap is not None and gap.used_again:
         return f"one call reads {gap.target} and another one writes it: it is used again, perhaps"
+    if finding.kind is Kind.STALE_WRITE and gap is not None and gap.in_loop:
+        return LOOPS
     if finding.kind is not Kind.NOT_ATOMIC:
         return None
     if (gap is None or gap.tier >= SEEN_TWICE) and _waits_for_threads(finding):
@@ -34,7 +37,7 @@ def by_design(finding: Finding) -> Optional[str]:
     if gap.counts:
         return f"{gap.target} is changed more than once, each time at once, as a count is"
     if gap.in_loop:
-        return "each pass of its loop is atomic by itself"
+        return LOOPS
     if gap.tier == LOCK and not _may_matter(finding.traits):
         return f"it takes {gap.target} more than once, and no variable makes it so"
     return None
