@@ -232,8 +232,12 @@ pub struct ThinOptions<'a> {
 pub struct VerifyOptions<'a> {
     /// The path of the log, or `-`.
     pub input: &'a str,
-    /// The path of the report with the certificate, or `-`.
+    /// The path of the report with the certificate or of the answer, or `-`.
     pub report: &'a str,
+    /// The path of the names by which an answer is judged, or `-`.
+    pub names: Option<&'a str>,
+    /// The path of the sites by which an answer is judged, or `-`.
+    pub sites: Option<&'a str>,
 }
 
 /// The most delays that a search for predictions tries for each label in a round.

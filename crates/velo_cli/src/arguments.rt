@@ -212,8 +212,8 @@ fn predict<'a>(alloc: Global) -> Result<Command<'a>, Memory> {
 }
 
 fn verify<'a>(alloc: Global) -> Result<Command<'a>, Memory> {
-    let about = "Checks the certificate of a report against the log";
-    let arguments = [LOG, REPORT];
+    let about = "Checks the certificate of a report, or an answer as JSON, against the log";
+    let arguments = [LOG, REPORT, NAMES, SITES];
     subcommand(alloc, "verify", about, help::OF_VERIFY, &arguments)
 }
 

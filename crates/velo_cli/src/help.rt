@@ -391,7 +391,8 @@ Example, the lost update of 'velodrome check --help' in the file log:
   velodrome verify log report
 It prints 'verified alarm 4', with status 0.
 
-REPORT is what 'velodrome check --certificate' prints, with or without --names. The number of events,
+REPORT is what 'velodrome check --certificate' prints, with or without --names, or what audit, explain
+or predict print with --format json. Of a report the number of events,
 the verdict, the transaction and the certificate are read, and checked against the events of LOG alone.
 If REPORT says 'verdict clean', the serial order must have each position once, any two conflicting
 events as they are in LOG, and the events of each transaction next to one another. If it says
@@ -405,7 +406,13 @@ applies: 'another number of events', 'no certificate', 'wrong order', 'wrong cyc
 including P cannot, for a cycle through the transaction of P. Not looked at are the threads and the
 blocks to blame, whether an earlier event closes a cycle, and whether the events of LOG can happen.
 
-REPORT is read before LOG. Only one of them can be -.
+An answer as JSON is judged whole: each finding with its witness, each other run, each count, event,
+place and name has to be that of LOG, by the same --names and --sites; the path of the log and the number
+of tries are not looked at. It prints 'verified audit', 'verified explain' or 'verified predict'; or 'not
+verified: wrong ' and the member: left_out, found, finding K (from 0), counts, atomic, serial, events or
+sites, names.
+
+REPORT is read before LOG. Only one of the files can be -.
 
 Report faults, line 0 for the whole text:
    1  bad line

@@ -46,6 +46,7 @@ mod thinning;
 mod together;
 mod told;
 mod verifying;
+mod verifying_answer;
 mod watching;
 mod watching_rest;
 mod work;

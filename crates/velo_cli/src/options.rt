@@ -52,7 +52,7 @@ pub const FILE: Argument<'static> = Argument {
 pub const REPORT: Argument<'static> = Argument {
     name: "REPORT",
     takes: Takes::Operand,
-    help: "The path of a report with its certificate, or - for standard input",
+    help: "The path of a report with its certificate, or of an answer as JSON, or - for standard input",
 };
 
 pub const SCHEDULE: Argument<'static> = Argument {

@@ -224,6 +224,8 @@ fn verify_options<'a>(found: &ArgMatches<'a>) -> Option<VerifyOptions<'a>> {
     Some(VerifyOptions {
         input: found.get_str("LOG")?,
         report: found.get_str("REPORT")?,
+        names: found.get_str("names"),
+        sites: found.get_str("sites"),
     })
 }
 

@@ -26,7 +26,12 @@ fn clash_of(request: &Request, given: Given) -> Option<Clash> {
         Request::Audit(options) => clash_of_audit(options, given),
         Request::Thin(options) => clash_of_thin(options, given.not_atomic),
         Request::Predict(options) => clash_of_predict(options, given),
-        Request::Verify(options) => clash_of_inputs(options.input, Some(options.report)),
+        Request::Verify(options) => clash_of_files(
+            options.input,
+            options.names,
+            options.sites,
+            Some(options.report),
+        ),
     }
 }
 

@@ -1,6 +1,7 @@
 //! `velodrome verify`.
 
 use crate::told::tell;
+use crate::verifying_answer::{is_answer, verify_answer};
 use std::alloc::Global;
 use velo_bytes::{Sink, Source};
 use velo_check::{CheckFault, Fate, Files, Operand, VerifyOptions, open_input, read_file};
@@ -17,20 +18,6 @@ fn claim_in(alloc: Global, bytes: &[u8]) -> Result<Claim, Fate> {
         Ok(claim) => Ok(claim),
         Err(fault) => Err(Fate::Report(fault)),
     }
-}
-
-/// What the report at a path claims. Its bytes are let go before the log is read.
-///
-/// # Errors
-/// As `read_file`; else `Report` with the fault for which it claims nothing.
-fn claim_at<F: Files>(alloc: Global, path: &str, files: &F) -> Result<Claim, Fate> {
-    let bytes = match read_file(alloc, path, MAX_REPORT_BYTES, files) {
-        Ok(bytes) => bytes,
-        Err(fate) => return Err(fate),
-    };
-    let claim = claim_in(alloc, &bytes);
-    drop(bytes);
-    claim
 }
 
 /// Reads a whole log, judges the claim by it, and prints what became of it.
@@ -64,15 +51,17 @@ fn verify_claim<F: Files, O: Sink>(
     }
 }
 
-/// Judges by its certificate what the report that was asked for claims of the log. The report is
-/// read first.
-pub fn verify_file<F: Files, O: Sink>(
+/// Judges what the bytes of a report claim by the log that was asked for.
+fn verify_report<F: Files, O: Sink>(
     alloc: Global,
     options: &VerifyOptions,
+    bytes: Vec<u8>,
     files: &F,
     out: &mut O,
 ) -> Fate {
-    match claim_at(alloc, options.report, files) {
+    let claimed = claim_in(alloc, &bytes);
+    drop(bytes);
+    match claimed {
         Ok(claim) => {
             let fate = verify_claim(alloc, options, &claim, files, out);
             drop(claim);
@@ -80,4 +69,25 @@ pub fn verify_file<F: Files, O: Sink>(
         }
         Err(fate) => fate,
     }
+}
+
+/// Judges what was asked for by the log: a report by its certificate, or an answer as JSON by all that it
+/// says. The report or the answer is read first, and the bytes of a report are let go before its log is
+/// read.
+pub fn verify_file<F: Files, O: Sink>(
+    alloc: Global,
+    options: &VerifyOptions,
+    files: &mut F,
+    out: &mut O,
+) -> Fate {
+    let bytes = match read_file(alloc, options.report, MAX_REPORT_BYTES, files) {
+        Ok(bytes) => bytes,
+        Err(fate) => return fate,
+    };
+    if !is_answer(&bytes) {
+        return verify_report(alloc, options, bytes, files, out);
+    }
+    let fate = verify_answer(alloc, options, &bytes, files, out);
+    drop(bytes);
+    fate
 }

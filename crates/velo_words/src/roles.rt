@@ -17,7 +17,7 @@ pub enum Role {
     Sites,
     /// It is a recorded log.
     Log,
-    /// It is a report, with its certificate.
+    /// It is a report with its certificate, or an answer.
     Report,
     /// It is a workload.
     Work,
@@ -93,6 +93,7 @@ pub fn names_of<'a>(request: &Request<'a>) -> Option<&'a str> {
         Request::Audit(options) => options.names,
         Request::Thin(options) => options.names,
         Request::Predict(options) => options.names,
+        Request::Verify(options) => options.names,
         _ => None,
     }
 }
@@ -139,6 +140,7 @@ pub fn sites_of<'a>(request: &Request<'a>) -> Option<&'a str> {
         Request::WatchRest(options) => options.sites,
         Request::Audit(options) => options.sites,
         Request::Predict(options) => options.sites,
+        Request::Verify(options) => options.sites,
         _ => None,
     }
 }
