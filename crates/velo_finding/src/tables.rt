@@ -129,7 +129,14 @@ fn add_log_events<'m>(
     for position in mentioned.positions.as_slice() {
         add_position(&mut positions, *position)?;
     }
-    add_events(json, mentioned, log, log, Rows::Log, &positions)
+    let own = Background {
+        alloc: log.alloc,
+        names: log.names,
+        sites: log.sites,
+        events: log.events,
+        owners: log.owners,
+    };
+    add_events(json, mentioned, log, &own, Rows::Log, &positions)
 }
 
 /// Adds the member with the places in the source.
