@@ -391,9 +391,9 @@ Example, the lost update of 'velodrome check --help' in the file log:
   velodrome verify log report
 It prints 'verified alarm 4', with status 0.
 
-REPORT is what 'velodrome check --certificate' prints, with or without --names, or what audit, explain
-or predict print with --format json. Of a report the number of events,
-the verdict, the transaction and the certificate are read, and checked against the events of LOG alone.
+REPORT is what 'velodrome check --certificate' prints, with or without --names, or what audit, explain or
+predict print with --format json. Of a report the number of events, the verdict, the transaction and the
+certificate are read, and checked against the events of LOG alone.
 If REPORT says 'verdict clean', the serial order must have each position once, any two conflicting
 events as they are in LOG, and the events of each transaction next to one another. If it says
 'verdict alarm P', the cycle must be a shortest one of the events up to and including P that begins with

@@ -266,6 +266,9 @@ fn report_line(fault: ReportFault) -> usize {
 
 /// What is wrong with a line that is not what a report has at its place.
 fn report_line_reason(line: &[u8]) -> &'static str {
+    if line.first() == Some(&b'{') {
+        return "this is not an answer of audit, explain or predict as JSON";
+    }
     match after(line, b"vlog ") {
         Some(_) => "this is not a report: it looks like a log",
         None => "this is not what a report or its certificate has at this place",
@@ -286,7 +289,7 @@ fn report_reason(fault: ReportFault, line: &[u8]) -> &'static str {
 fn report_help(fault: ReportFault) -> &'static str {
     match fault {
         ReportFault::BadLine(_) | ReportFault::EndsEarly(_) => {
-            "help: REPORT is all that `velodrome check LOG --certificate` prints\n"
+            "help: REPORT is all that `velodrome check LOG --certificate` or `audit LOG --format json` prints\n"
         }
         _ => "",
     }
