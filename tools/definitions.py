@@ -89,6 +89,7 @@ PARTS = [
             "velo_check": "Check Carrying Input Verdict Format Delivery Barred Fate Failures Disk"
             " Reading Writing Answers",
             "velo_claims": "Judging* Text* Line",
+            "velo_answers": "Holds* Says*",
         },
     ),
     (

@@ -1,1 +1,2 @@
 pub mod Says
+pub mod Holds

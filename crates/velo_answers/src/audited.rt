@@ -1,7 +1,9 @@
 //! What an answer says of the rounds of an audit.
-ghost use Rattle.std.specs.Prelude.{◌≡◌, ◌≤◌, false, length};
+ghost use Rattle.std.specs.Prelude.{◌≡◌, ◌≤◌, false, length, None, IfOk};
 ghost use Rattle.velo_events.specs.declared.limits.TheConstants.{MAX_EVENTS};
 ghost use Rattle.velo_events.specs.WellFormed.{IsWellFormed};
+ghost use Rattle.velo_filter.specs.Tables.{left_of};
+ghost use Rattle.velo_answers.specs.Holds.{HoldsOfAudit};
 
 use crate::answer::Answer;
 use crate::counting::are_counts;
@@ -21,6 +23,8 @@ pub(crate) fn wrong_in_audit(
     requires short { length context.log.now.events ≤ context.config.now.events }
     requires few { length context.log.now.events ≤ MAX_EVENTS }
     requires well_formed { IsWellFormed context.config.now.bounds context.log.now.events }
+    ensures { IfOk result (λ wrong. wrong ≡ None
+        → HoldsOfAudit context.log.now.events (left_of left) answer.now.findings.items) }
 {
     let (alloc, log) = (context.alloc, context.log);
     let rounds = audit(alloc, context.config, log, &mut left, true)?;

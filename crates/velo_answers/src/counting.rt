@@ -33,6 +33,27 @@ fn is_count(count: &Count, label: Label, round: usize, log: &Trace, marks: &Blam
         && count.innermost == tally.innermost
 }
 
+/// The counts behind that of a block's label, if the first of them is this one; all, where a block before it
+/// has the label.
+fn behind_block<'c>(
+    counts: &'c [Count],
+    before: &[Block],
+    label: Label,
+    round: usize,
+    log: &Trace,
+    marks: &BlameMarks,
+) -> Option<&'c [Count]>
+    requires { AreMarks log.now.events marks.now }
+{
+    if has_label(before, label) {
+        return Some(counts);
+    }
+    match counts.split_first() {
+        Some((count, others)) if is_count(count, label, round, log, marks) => Some(others),
+        _ => None,
+    }
+}
+
 /// The counts behind those of the labels that a round found, each once, if the first of them are these.
 fn behind_round<'c>(
     counts: &'c [Count],
@@ -45,13 +66,9 @@ fn behind_round<'c>(
 {
     let mut rest = counts;
     for k in 0..blocks.len() {
-        let label = blocks[k].label;
-        if has_label(&blocks[..k], label) {
-            continue;
-        }
-        match rest.split_first() {
-            Some((count, others)) if is_count(count, label, round, log, marks) => rest = others,
-            _ => return None,
+        match behind_block(rest, &blocks[..k], blocks[k].label, round, log, marks) {
+            Some(others) => rest = others,
+            None => return None,
         }
     }
     Some(rest)

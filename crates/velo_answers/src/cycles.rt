@@ -1,4 +1,6 @@
 //! Cycles of the log itself.
+ghost use Rattle.std.specs.Prelude.{◌≤◌, length, IfOk, IsTrue};
+ghost use Rattle.velo_answers.specs.Holds.{SayRounds, SaysRound};
 
 use crate::finding::{CycleClaim, FindingClaim};
 use crate::told::says;
@@ -15,7 +17,9 @@ pub(crate) fn cycle_of_log(finding: &FindingClaim) -> Option<&CycleClaim> {
 }
 
 /// Whether the finding is what a round told.
-fn is_round(alloc: Global, finding: &FindingClaim, told: &Told) -> Result<bool, Memory> {
+fn is_round(alloc: Global, finding: &FindingClaim, told: &Told) -> Result<bool, Memory>
+    ensures { IfOk result (λ yes. IsTrue yes → SaysRound finding.now told.now) }
+{
     match cycle_of_log(finding) {
         Some(cycle) => says(alloc, cycle, told),
         None => Ok(false),
@@ -28,7 +32,10 @@ pub(crate) fn first_wrong(
     alloc: Global,
     findings: &[FindingClaim],
     rounds: &[Told],
-) -> Result<usize, Memory> {
+) -> Result<usize, Memory>
+    ensures say { IfOk result (λ count. SayRounds findings.now rounds.now count) }
+    ensures at_most { IfOk result (λ count. count ≤ length rounds.now) }
+{
     for k in 0..rounds.len() {
         let Some(finding) = findings.get(k) else {
             return Ok(k);

@@ -75,8 +75,9 @@ fn found_behind(
     let alloc = foretold.context.alloc;
     let config = foretold.context.config;
     let claimed = &foretold.answer.left_out;
-    for fewer in 0..=blamed.counts.len() {
-        let labels = blamed.of_first(blamed.counts.len() - fewer);
+    let cycles = blamed.counts.len();
+    for fewer in 0..cycles.saturating_add(1) {
+        let labels = blamed.of_first(cycles.saturating_sub(fewer));
         let Some(left) = left_out_behind(alloc, claimed, foretold.rounds, labels)? else {
             return Ok(None);
         };

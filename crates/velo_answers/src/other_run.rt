@@ -24,7 +24,7 @@ fn add_stretch(positions: &mut Vec<usize>, stretch: Pair, length: usize) -> Resu
     if stretch.second < stretch.first || stretch.second >= length {
         return Ok(false);
     }
-    for position in stretch.first..=stretch.second {
+    for position in stretch.first..stretch.second + 1 {
         if positions.len() >= length {
             return Ok(false);
         }

@@ -89,6 +89,23 @@ fn recorded_at<'d>(
     }
 }
 
+/// The changed events behind one at this position, which is of the log or is none, and has been read so, if it
+/// is as said; all, where it is as in the log.
+fn behind_event<'c>(
+    changed: &'c [Changed],
+    at: usize,
+    is_of_log: bool,
+    recorded: Option<u64>,
+) -> Option<&'c [Changed]> {
+    if recorded.is_none() && is_of_log {
+        return Some(changed);
+    }
+    match changed.split_first() {
+        Some((first, others)) if first.position == at && first.recorded == recorded => Some(others),
+        _ => None,
+    }
+}
+
 /// Whether the changed events are those that are none of the log, and those that have another value, and
 /// each has what was recorded.
 fn are_changed(
@@ -102,14 +119,9 @@ fn are_changed(
     for at in 0..sources.len() {
         let (recorded, later) = recorded_at(log, differing, at);
         differing = later;
-        if recorded.is_none() && sources[at].is_some() {
-            continue;
-        }
-        match changed.split_first() {
-            Some((first, others)) if first.position == at && first.recorded == recorded => {
-                changed = others;
-            }
-            _ => return false,
+        match behind_event(changed, at, sources[at].is_some(), recorded) {
+            Some(others) => changed = others,
+            None => return false,
         }
     }
     changed.is_empty() && differing.is_empty()

@@ -201,18 +201,31 @@ pub(crate) fn are_run_rows(
     Ok(true)
 }
 
+/// The names behind that of the number, if the first of them is this one; all, where the number has none.
+fn behind_name<'n, 'a>(
+    names: &Names,
+    kind: NameKind,
+    number: u32,
+    claimed: &'n [Named<'a>],
+) -> Option<&'n [Named<'a>]> {
+    let Some(name) = names.name_of(kind, number) else {
+        return Some(claimed);
+    };
+    match claimed.split_first() {
+        Some((first, others)) if first.number == number && first.name.as_bytes() == name => {
+            Some(others)
+        }
+        _ => None,
+    }
+}
+
 /// Whether the names are those of these numbers, of those that have one.
 fn are_names(names: &Names, kind: NameKind, numbers: &[u32], claimed: &[Named]) -> bool {
     let mut rest = claimed;
     for number in numbers {
-        let Some(name) = names.name_of(kind, *number) else {
-            continue;
-        };
-        match rest.split_first() {
-            Some((first, others)) if first.number == *number && first.name.as_bytes() == name => {
-                rest = others;
-            }
-            _ => return false,
+        match behind_name(names, kind, *number, rest) {
+            Some(others) => rest = others,
+            None => return false,
         }
     }
     rest.is_empty()

@@ -91,6 +91,29 @@ fn add_changed(
     add_value_or_null(json, recorded)?.end_object()
 }
 
+/// What the event at a position read in the log, if it is the first of the reads that differ, and the others.
+fn recorded_at(differing: &[Differing], at: usize) -> (Option<u64>, &[Differing]) {
+    match differing.split_first() {
+        Some((first, others)) if first.position == at => (Some(first.recorded), others),
+        _ => (None, differing),
+    }
+}
+
+/// Adds the event at a position, if it is not as in the log.
+fn add_if_changed(
+    json: JsonWriter,
+    alloc: Global,
+    run: OtherRun<'_>,
+    position: usize,
+    recorded: Option<u64>,
+) -> Result<JsonWriter, Memory> {
+    let is_source = matches!(run.sources.get(position), Some(Some(_)));
+    if recorded.is_none() && is_source {
+        return Ok(json);
+    }
+    add_changed(json, alloc, run, position, recorded)
+}
+
 /// Adds the events that are not as in the log.
 fn add_all_changed(
     json: JsonWriter,
@@ -100,17 +123,9 @@ fn add_all_changed(
     let mut written = json.begin_array()?;
     let mut differing = run.differing;
     for position in 0..run.events.len() {
-        let recorded = match differing.split_first() {
-            Some((first, others)) if first.position == position => {
-                differing = others;
-                Some(first.recorded)
-            }
-            _ => None,
-        };
-        let is_source = matches!(run.sources.get(position), Some(Some(_)));
-        if recorded.is_some() || !is_source {
-            written = add_changed(written, alloc, run, position, recorded)?;
-        }
+        let (recorded, later) = recorded_at(differing, position);
+        differing = later;
+        written = add_if_changed(written, alloc, run, position, recorded)?;
     }
     written.end_array()
 }
