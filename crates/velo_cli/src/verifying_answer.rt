@@ -91,6 +91,7 @@ fn judge_by_source<I: Source, O: Sink>(
 }
 
 /// An answer, and what was asked for.
+#[derive(Clone, Copy)]
 struct AnswerCommand<'a> {
     options: &'a VerifyOptions<'a>,
     answer: &'a Answer<'a>,
