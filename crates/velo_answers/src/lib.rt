@@ -22,6 +22,8 @@ mod predicted;
 mod reading;
 mod row;
 mod tables;
+#[cfg(test)]
+mod tests;
 mod told;
 
 pub use answer::{
