@@ -169,10 +169,11 @@ fn answers_are_verified(rt: HostRuntime) {
     assert!(rt; judged(&rt, rt.alloc(), &LOCKED, EXPLANATION) == 2);
 }
 
-/// Only how many delays were tried may be another number.
+/// Another number may be how many delays were tried, and where the last stretch of the run ends: the run that
+/// goes on by one event after its cycle is foretold as well.
 #[test]
 fn changed_numbers_are_refused(rt: HostRuntime) {
     assert!(rt; verified_changes(&rt, rt.alloc(), &LOST, AUDIT) == 0);
-    assert!(rt; verified_changes(&rt, rt.alloc(), &CLEAN, FORETOLD_CYCLE) == 2);
+    assert!(rt; verified_changes(&rt, rt.alloc(), &CLEAN, FORETOLD_CYCLE) == 3);
     assert!(rt; verified_changes(&rt, rt.alloc(), &LOCKED, EXPLANATION) == 0);
 }
