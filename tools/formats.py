@@ -12,8 +12,8 @@ import re
 import subprocess
 import sys
 
-DOCS = os.path.join(os.path.dirname(os.path.dirname(os.path.abspath(__file__))), "docs")
-COMMANDS = ("audit", "explain", "explore", "predict")
+TOP = os.path.dirname(os.path.dirname(os.path.abspath(__file__)))
+SCHEMA = os.path.join(TOP, "docs", "answer.schema.json")
 AUDITS = ([], ["--no-witness"])
 EXPLANATIONS = ([], ["--ignore-lock", "0", "--ignore-variable", "0"], ["--ignore-locks"])
 EXPLORATIONS = ([], ["--first"], ["--states", "9"], ["--random", "20"])
@@ -42,10 +42,141 @@ def named(thing):
     return str(thing["number"]) + ("" if thing["name"] is None else " " + thing["name"])
 
 
+class Tables:
+    """What the numbers and positions of an answer stand for."""
+
+    KINDS = {"rd": "variables", "wr": "variables", "begin": "labels"} | {
+        word: "locks" for word in ("acq", "rel", "acqs", "rels")
+    }
+
+    def __init__(self, answer):
+        self.sites = answer.get("sites", [])
+        self.names = {
+            (kind, one["number"]): one["name"]
+            for kind, those in answer["names"].items()
+            for one in those
+        }
+
+    def named(self, kind, number):
+        return {"number": number, "name": self.names.get((kind, number))}
+
+    def event(self, position, text, site):
+        word = text.split()
+        kind = self.KINDS.get(word[1], "threads")
+        return {
+            "line": position + 2,
+            "thread": self.named("threads", int(word[0])),
+            "text": text,
+            "name": self.names.get((kind, int(word[2]))) if len(word) > 2 else None,
+            "site": None if site is None else self.sites[site],
+        }
+
+    def events(self, rows):
+        return {
+            row["position"]: self.event(row["position"], row["text"], row["site"]) for row in rows
+        }
+
+    def block(self, event):
+        return {"label": self.named("labels", int(event["text"].split()[2])), "begin": event}
+
+    def alarm(self, events, finding):
+        """A cycle with the events in place of their positions."""
+        witness = finding["witness"]
+        return {
+            "blocks": [self.block(events[begin]) for begin in finding["blocks"]],
+            "closing": events[finding["closing"]],
+            "witness": witness
+            and {
+                "transactions": [
+                    {"first": events[first], "last": events[last]}
+                    for first, last in witness["transactions"]
+                ],
+                "edges": [
+                    {"from": {"event": events[one]}, "to": {"event": events[other]}}
+                    for one, other in witness["edges"]
+                ],
+                "reasons": [
+                    {"block": self.block(events[begin]), "event": events[event]}
+                    for begin, event in witness["reasons"]
+                ],
+            },
+        }
+
+    def prediction(self, log, finding, sites):
+        """Another run. `sites` are those of the log, by position."""
+        run = finding["run"]
+        length = sum(last - first + 1 for first, last in run["stretches"])
+        length += sum(one["source"] is None for one in run["changed"])
+        differing = [
+            {
+                "event": {
+                    **self.event(one["position"], one["text"], None),
+                    "site": sites.get(one["source"]),
+                },
+                "recorded": one["recorded"],
+            }
+            for one in run["changed"]
+            if one["recorded"] is not None
+        ]
+        told = {"kind": finding["kind"], "events": length, "differing": differing}
+        if finding["kind"] == "deadlock":
+            return {**told, "circle": [log[position] for position in finding["circle"]]}
+        return {**told, "alarm": self.alarm(self.events(finding["events"]), finding)}
+
+
+def sites_beside(log):
+    """The places of a log's events, by position, if a file of them is beside it."""
+    path = log[:-3] + "sites"
+    if not os.path.exists(path):
+        return {}
+    with open(path, encoding="utf-8") as it:
+        lines = it.read().split("\n")
+    many = int(lines[0].split()[2])
+    places, events = lines[1 : 1 + many], lines[1 + many : -1]
+    return {k: places[int(site) - 1] for k, site in enumerate(events) if site != "0"}
+
+
+def joined(log, answer):
+    """The answer with what its numbers and positions stand for."""
+    tables = Tables(answer)
+    if answer["command"] == "explore":
+        words = {"cycle": "alarm", "deadlock": "stuck", "refusal": "refused"}
+        found = {words[one["kind"]]: {**one, "finding": one["state"]} for one in answer["findings"]}
+        refusal = found["refused"]["refusal"]
+        if refusal:
+            thread = tables.named("threads", refusal["thread"])
+            found["refused"]["refusal"] = {**refusal, "thread": thread}
+        labels = [
+            {**one, "label": tables.named("labels", one["label"])}
+            for one in answer["blame"]["labels"]
+        ]
+        threads = [tables.named("threads", thread) for thread in answer["never_forked"]]
+        blame = {**answer["blame"], "labels": labels}
+        return {**answer, **found, "blame": blame, "never_forked": threads}
+    events, asked = tables.events(answer["events"]), answer["left_out"]
+    own = [one for one in answer["findings"] if "run" not in one]
+    sites = sites_beside(log)
+    return {
+        **answer,
+        "left_out": {
+            "all_locks": asked["all_locks"],
+            **{
+                kind: [tables.named(kind, number) for number in asked[kind]]
+                for kind in ("labels", "locks", "variables")
+            },
+        },
+        "alarms": [tables.alarm(events, one) for one in own],
+        "predictions": [
+            tables.prediction(events, one, sites) for one in answer["findings"] if "run" in one
+        ],
+        "counts": [tables.named("labels", one["label"]) for one in answer.get("counts", [])],
+    }
+
+
 def audit_faults(program, log, words, text, status, answer):
     blocks = [block for alarm in answer["alarms"] for block in alarm["blocks"]]
     labels = list(dict.fromkeys("not atomic " + named(block["label"]) for block in blocks))
-    counted = ["not atomic " + named(entry["label"]) for entry in answer["counts"]["labels"]]
+    counted = ["not atomic " + named(label) for label in answer["counts"]]
     lines = text.splitlines()
     closing = [
         f"  Line {alarm['closing']['line']} `{alarm['closing']['text']}`"
@@ -57,12 +188,8 @@ def audit_faults(program, log, words, text, status, answer):
             ("labels", labels == [line for line in lines if line.startswith("not atomic ")]),
             ("counts", counted == labels),
             ("atomic", f"atomic {answer['atomic']} labels" in lines),
-            (
-                "rounds",
-                f"rounds {answer['rounds']}" in lines
-                and len(answer["alarms"]) + 1 == answer["rounds"],
-            ),
-            ("verdict", (answer["verdict"] == "not atomic") == (status == 3)),
+            ("rounds", f"rounds {len(answer['alarms']) + 1}" in lines),
+            ("found", answer["found"] == (status == 3) == bool(answer["alarms"])),
             (
                 "closing",
                 "--no-witness" in words
@@ -152,7 +279,8 @@ def words_of(alarm):
 
 
 def explanation_faults(program, log, words, text, status, answer):
-    lines, alarm, serial = text.splitlines(), answer["alarm"], answer["serial"]
+    lines, serial = text.splitlines(), answer["serial"]
+    alarm = answer["alarms"][0] if answer["alarms"] else None
     expected = left_out(answer["left_out"])
     expected += ["What is left of the log:"] if expected else []
     if alarm:
@@ -170,19 +298,13 @@ def explanation_faults(program, log, words, text, status, answer):
             f"Events: {serial['events']}",
             f"Transactions, which can follow one another: {serial['transactions']}",
         ]
-    with open(log, encoding="utf-8") as it:
-        events = sum(1 for line in it) - 1
     return [
         what
         for what, right in (
             ("lines", lines == expected),
-            ("events", answer["events"] == events),
             (
-                "verdict",
-                (answer["verdict"] == "not serializable")
-                == (status == 3)
-                == (alarm is not None)
-                == (serial is None),
+                "found",
+                answer["found"] == (status == 3) == (alarm is not None) == (serial is None),
             ),
         )
         if not right
@@ -344,37 +466,26 @@ def faults(program, command, log, words, validate):
             "predict": prediction_faults,
         }[command],
     )
-    return more(program, log, words, text, status, answer) + [
-        error.message for error in validate[command](answer)
+    return more(program, log, words, text, status, joined(log, answer)) + [
+        error.message for error in validate(answer)
     ]
 
 
-def validators():
+def validator():
     try:
         import jsonschema
-        import referencing
     except ImportError:
         print("not validated: the Python module jsonschema is not installed")
-        return {command: lambda answer: [] for command in COMMANDS}
-    schemas = {}
-    for command in COMMANDS:
-        with open(os.path.join(DOCS, command + ".schema.json"), encoding="utf-8") as it:
-            schemas[command] = json.load(it)
-    known = referencing.Registry().with_resources(
-        (command + ".schema.json", referencing.Resource.from_contents(schema))
-        for command, schema in schemas.items()
-    )
-    return {
-        command: jsonschema.Draft202012Validator(schema, registry=known).iter_errors
-        for command, schema in schemas.items()
-    }
+        return lambda answer: []
+    with open(SCHEMA, encoding="utf-8") as it:
+        return jsonschema.Draft202012Validator(json.load(it)).iter_errors
 
 
 def main(words):
     if len(words) < 2:
         print(__doc__)
         return 2
-    validate, passed, failed = validators(), 0, 0
+    validate, passed, failed = validator(), 0, 0
     tries = [
         (command, choice)
         for command, choices in (

@@ -226,8 +226,11 @@ def functions(room, trace, *options):
     """The names of the functions that are not atomic, in the order of the rounds; what was said."""
     said = log_of(room, trace, *options)[2]
     words = ["audit", f"{room}/log", "--names", f"{room}/log.names", "--format", "json"]
-    alarms = json.loads(sh(CHECKER, *words, ok=(0, 3)).stdout)["alarms"]
-    names = [block["label"]["name"] for alarm in alarms for block in alarm["blocks"]]
+    answer = json.loads(sh(CHECKER, *words, ok=(0, 3)).stdout)
+    labels = {one["number"]: one["name"] for one in answer["names"]["labels"]}
+    texts = {row["position"]: row["text"] for row in answer["events"]}
+    begins = [begin for found in answer["findings"] for begin in found["blocks"]]
+    names = [labels.get(int(texts[begin].split()[2])) for begin in begins]
     return list(dict.fromkeys(names)), f"{said}not atomic: {names}"
 
 

@@ -12,7 +12,10 @@ from typing import Any, Dict, List, Tuple
 import support
 from support import Log
 
-AUDIT = '{"schema":1,"log":"x","left_out":{"labels":[]},"alarms":[],"counts":null,"atomic":1}'
+AUDIT = (
+    '{"schema":2,"command":"audit","input":"x","left_out":{"labels":[]},"findings":[],"counts":[],'
+    '"atomic":1,"events":[],"sites":[],"names":{}}'
+)
 
 
 class Unsaid(support.InFolder):
@@ -41,7 +44,7 @@ class Unsaid(support.InFolder):
             ("kill -9 $$", "ended by signal 9"),
             ("echo hello", "was not understood: no JSON"),
             ('echo "{}"', "of another version"),
-            ("echo '{\"schema\":1}'", "no answer of velodrome audit"),
+            ("echo '{\"schema\":2}'", "no answer of velodrome audit"),
         ):
             with self.subTest(script):
                 program = support.program(self.path("velodrome"), script)

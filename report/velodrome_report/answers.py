@@ -13,7 +13,7 @@ from typing import Any, Dict, List, Optional, Tuple
 
 from .model import Action, Place, Target, TargetKind, Thread
 
-SCHEMA = 1
+SCHEMA = 2
 SITE = re.compile(r"(.+?):([1-9]\d{0,9})(?: (.*))?$", re.S)
 ACTIONS = {
     "rd": (Action.READS, TargetKind.VARIABLE),
@@ -28,6 +28,22 @@ ACTIONS = {
     "join": (Action.JOINS, TargetKind.THREAD),
     "exit": (Action.ENDS, TargetKind.NOTHING),
 }
+# what the answer of a command is
+ANSWERS = {
+    "audit": "audit",
+    "explain": "explanation",
+    "explore": "exploration",
+    "predict": "predictions",
+}
+# the table that names what a target is
+TABLES = {
+    TargetKind.VARIABLE: "variables",
+    TargetKind.LOCK: "locks",
+    TargetKind.BLOCK: "labels",
+    TargetKind.THREAD: "threads",
+}
+# an answer counts events from 0; the first one stands on this line of a log, below the header
+FIRST_LINE = 2
 
 
 class NotAnAnswer(Exception):
@@ -140,26 +156,22 @@ def kind(text: str) -> str:
     value = _parsed(text)
     if value.get("tool") == "velodrome-report":
         return "report"
-    for name, members in (("predictions", ("predictions", "log")), ("audit", ("alarms", "rounds"))):
-        if all(member in value for member in members):
-            return name
-    for name, member in (("explanation", "serial"), ("summary", "logs"), ("exploration", "search")):
-        if member in value:
-            return name
-    return "something else"
+    return ANSWERS.get(str(value.get("command")), "something else")
 
 
 def audit(text: str) -> Audit:
     """The answer of `velodrome audit --format json`. Raises `NotAnAnswer`."""
     value = _parsed(text)
     try:
-        listed = (value.get("counts") or {"labels": []})["labels"]
+        tables = _Tables(value)
+        log = _Rows(tables, value["events"])
+        listed = value["counts"]
         return Audit(
-            log=value["log"],
-            alarms=tuple(_alarm(alarm) for alarm in value["alarms"]),
-            counts={item["label"]["number"]: (item["blocks"], item["to_blame"]) for item in listed},
+            log=value["input"],
+            alarms=tuple(_alarm(log, found) for found in value["findings"]),
+            counts={item["label"]: (item["blocks"], item["to_blame"]) for item in listed},
             atomic=value["atomic"],
-            left_out=tuple(label["number"] for label in value["left_out"]["labels"]),
+            left_out=tuple(value["left_out"]["labels"]),
         )
     except (KeyError, TypeError, IndexError, ValueError, AttributeError):
         raise NotAnAnswer("no answer of velodrome audit --format json") from None
@@ -169,13 +181,18 @@ def predictions(text: str) -> Predictions:
     """The answer of `velodrome predict --format json`. Raises `NotAnAnswer`."""
     value = _parsed(text)
     try:
-        found = value["predictions"]
+        tables = _Tables(value)
+        log = _Rows(tables, value["events"])
+        found = value["findings"]
+        cycles = [one for one in found if one["kind"] == "cycle"]
         return Predictions(
-            log=value["log"],
-            own_alarms=tuple(_alarm(alarm) for alarm in value["alarms"]),
-            alarms=tuple(_alarm(one["alarm"]) for one in found if one["kind"] == "not atomic"),
+            log=value["input"],
+            own_alarms=tuple(_alarm(log, one) for one in cycles if "run" not in one),
+            alarms=tuple(
+                _alarm(_Rows(tables, one["events"]), one) for one in cycles if "run" in one
+            ),
             circles=tuple(
-                tuple(_waiting(item) for item in one["circle"])
+                tuple(log.waiting(position) for position in one["circle"])
                 for one in found
                 if one["kind"] == "deadlock"
             ),
@@ -191,68 +208,90 @@ def _parsed(text: str) -> Dict[str, Any]:
         raise NotAnAnswer("no JSON") from None
     if not isinstance(value, dict):
         raise NotAnAnswer("no object of JSON")
+    if value.get("tool") == "velodrome-report":
+        return value
     if value.get("schema") != SCHEMA:
         raise NotAnAnswer(f"an answer of another version: its schema is {value.get('schema')}")
     return value
 
 
-def _named(value: Any) -> Thread:
-    return Thread(int(value["number"]), value["name"])
+class _Tables:
+    """The names and the places in the source that the numbers of an answer stand for."""
+
+    def __init__(self, value: Dict[str, Any]) -> None:
+        self.sites: List[str] = value["sites"]
+        self._names: Dict[Tuple[str, int], str] = {
+            (kind, int(item["number"])): item["name"]
+            for kind, items in value["names"].items()
+            for item in items
+        }
+
+    def thread(self, number: int) -> Thread:
+        """A thread with its name."""
+        return Thread(number, self._names.get(("threads", number)))
+
+    def label(self, number: int) -> Label:
+        """A label with its name."""
+        return Label(number, self._names.get(("labels", number)))
+
+    def done(self, words: List[str]) -> Tuple[Action, Target]:
+        """What an event does to what, of its words in a log: `0 wr 3 1`."""
+        action, target = ACTIONS[words[1]]
+        if target is TargetKind.NOTHING:
+            return action, Target(target)
+        number = int(words[2])
+        return action, Target(target, number, self._names.get((TABLES[target], number)))
 
 
-def _label(value: Any) -> Label:
-    return Label(int(value["number"]), value["name"])
+class _Rows:
+    """The events of a log, or of another run, that an answer tells of, by their positions."""
+
+    def __init__(self, tables: _Tables, rows: List[Dict[str, Any]]) -> None:
+        self._tables = tables
+        self._rows = {int(row["position"]): row for row in rows}
+
+    def step(self, position: int) -> Step:
+        """The event at a position."""
+        words: List[str] = self._rows[position]["text"].split()
+        action, target = self._tables.done(words)
+        at, function = self._site(position)
+        thread = self._tables.thread(int(words[0]))
+        return Step(position, position + FIRST_LINE, thread, action, target, at, function)
+
+    def block(self, begin: int) -> OpenBlock:
+        """The block that begins at a position."""
+        words: List[str] = self._rows[begin]["text"].split()
+        return OpenBlock(self._tables.label(int(words[2])), self.step(begin))
+
+    def end(self, position: int) -> End:
+        """An event, and the blocks that are open before it."""
+        inside = self._rows[position]["inside"]
+        return End(self.step(position), tuple(self.block(begin) for begin in inside))
+
+    def waiting(self, position: int) -> Waiting:
+        """What a thread waits to do: its event at a position."""
+        step = self.step(position)
+        return Waiting(step.thread, step.action, step.target, step.at, step.function)
+
+    def _site(self, position: int) -> Tuple[Optional[Place], Optional[str]]:
+        number = self._rows[position]["site"]
+        return site(None if number is None else self._tables.sites[number])
 
 
-def _done(text: str, name: Optional[str]) -> Tuple[Action, Target]:
-    """What an event does to what, of its text as in a log: `0 wr 3 1`."""
-    words: List[str] = text.split()
-    action, target = ACTIONS[words[1]]
-    if target is TargetKind.NOTHING:
-        return action, Target(target)
-    return action, Target(target, int(words[2]), name)
-
-
-def _step(value: Any) -> Step:
-    action, target = _done(value["text"], value["name"])
-    at, function = site(value["site"])
-    return Step(
-        int(value["position"]),
-        int(value["line"]),
-        _named(value["thread"]),
-        action,
-        target,
-        at,
-        function,
-    )
-
-
-def _block(value: Any) -> OpenBlock:
-    return OpenBlock(_label(value["label"]), _step(value["begin"]))
-
-
-def _end(value: Any) -> End:
-    return End(_step(value["event"]), tuple(_block(block) for block in value["inside"]))
-
-
-def _alarm(value: Any) -> Alarm:
+def _alarm(rows: _Rows, value: Any) -> Alarm:
     return Alarm(
-        blocks=tuple(_block(block) for block in value["blocks"]),
+        blocks=tuple(rows.block(begin) for begin in value["blocks"]),
         to_blame=bool(value["to_blame"]),
-        closing=_step(value["closing"]),
-        cycle=None if value["witness"] is None else _cycle(value["witness"]),
+        closing=rows.step(value["closing"]),
+        cycle=None if value["witness"] is None else _cycle(rows, value["witness"]),
     )
 
 
-def _cycle(value: Any) -> Cycle:
+def _cycle(rows: _Rows, value: Any) -> Cycle:
     return Cycle(
-        transactions=tuple((_step(t["first"]), _step(t["last"])) for t in value["transactions"]),
-        edges=tuple((_end(edge["from"]), _end(edge["to"])) for edge in value["edges"]),
-        reasons=tuple((_block(r["block"]), _step(r["event"])) for r in value["reasons"]),
+        transactions=tuple(
+            (rows.step(first), rows.step(last)) for first, last in value["transactions"]
+        ),
+        edges=tuple((rows.end(before), rows.end(after)) for before, after in value["edges"]),
+        reasons=tuple((rows.block(begin), rows.step(event)) for begin, event in value["reasons"]),
     )
-
-
-def _waiting(value: Any) -> Waiting:
-    action, target = _done(value["text"], value["name"])
-    at, function = site(value["site"])
-    return Waiting(_named(value["thread"]), action, target, at, function)

@@ -114,6 +114,7 @@ pub(crate) fn page_of_predictions(
             log,
             input,
             inquiry.asked,
+            inquiry.options.values,
             findings,
         ),
     }

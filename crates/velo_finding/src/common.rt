@@ -1,55 +1,63 @@
-//! What all answers on a log have.
+//! What all answers have.
 
-use crate::background::Background;
-use crate::elements::{Element, add_array};
-use crate::events::add_named;
+use crate::elements::add_array;
+use crate::mentioned::Mentioned;
 use crate::text::Asked;
 use crate::writer::JsonWriter;
 use std::alloc::Global;
-use velo_events::{Event, Label, LockId, Memory, VarId};
+use velo_events::Memory;
 use velo_explain::Page;
 use velo_names::NameKind;
 
-impl Element for Label {
-    fn add(&self, json: JsonWriter, background: &Background) -> Result<JsonWriter, Memory> {
-        add_named(json, background.names, NameKind::Label, self.0)
-    }
-}
+/// The version of the form. It changes if a member goes away or means something else.
+const SCHEMA: u64 = 2;
 
-impl Element for LockId {
-    fn add(&self, json: JsonWriter, background: &Background) -> Result<JsonWriter, Memory> {
-        add_named(json, background.names, NameKind::Lock, u32::from(self.0))
-    }
-}
-
-impl Element for VarId {
-    fn add(&self, json: JsonWriter, background: &Background) -> Result<JsonWriter, Memory> {
-        let number = u32::from(self.0);
-        add_named(json, background.names, NameKind::Variable, number)
-    }
-}
-
-/// Adds what was to be left out.
-pub(crate) fn add_asked(
+/// Begins an answer: of which form it is, of which command, and on which input.
+pub(crate) fn begin_answer(
     json: JsonWriter,
-    background: &Background,
-    asked: &Asked,
+    command: &str,
+    input: &str,
 ) -> Result<JsonWriter, Memory> {
-    let json = json.begin_object()?.key("labels")?;
-    let json = add_array(json, background, asked.labels)?.key("all_locks")?;
+    json.begin_object()?
+        .key("schema")?
+        .number(SCHEMA)?
+        .key("command")?
+        .string(command.as_bytes())?
+        .key("input")?
+        .string(input.as_bytes())
+}
+
+/// Adds the member with what was to be left out.
+pub(crate) fn add_asked(json: JsonWriter, asked: &Asked) -> Result<JsonWriter, Memory> {
+    let json = json.key("left_out")?.begin_object()?.key("labels")?;
+    let json = add_array(json, asked.labels)?.key("all_locks")?;
     let json = json.boolean(asked.all_locks)?.key("locks")?;
-    let json = add_array(json, background, asked.locks)?.key("variables")?;
-    add_array(json, background, asked.variables)?.end_object()
+    let json = add_array(json, asked.locks)?.key("variables")?;
+    add_array(json, asked.variables)?.end_object()
 }
 
-/// Adds the member with the path of the log.
-pub(crate) fn add_log(json: JsonWriter, path: &str) -> Result<JsonWriter, Memory> {
-    json.key("log")?.string(path.as_bytes())
+/// Mentions what was to be left out.
+pub(crate) fn mention_asked(mentioned: &mut Mentioned, asked: &Asked) -> Result<(), Memory> {
+    for label in asked.labels {
+        mentioned.add(NameKind::Label, label.0)?;
+    }
+    for lock in asked.locks {
+        mentioned.add(NameKind::Lock, u32::from(lock.0))?;
+    }
+    for variable in asked.variables {
+        mentioned.add(NameKind::Variable, u32::from(variable.0))?;
+    }
+    Ok(())
 }
 
-/// Adds the member with how many events there are.
-pub(crate) fn add_size(json: JsonWriter, events: &[Event]) -> Result<JsonWriter, Memory> {
-    json.key("events")?.number(events.len() as u64)
+/// Adds the member that says whether something was found.
+pub(crate) fn add_whether_found(json: JsonWriter, found: bool) -> Result<JsonWriter, Memory> {
+    json.key("found")?.boolean(found)
+}
+
+/// Adds the member with the kind of a finding.
+pub(crate) fn add_kind(json: JsonWriter, kind: &str) -> Result<JsonWriter, Memory> {
+    json.key("kind")?.string(kind.as_bytes())
 }
 
 /// What was written, as a line.

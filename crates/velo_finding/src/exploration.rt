@@ -1,54 +1,43 @@
 //! The answer of an exploration.
 
+use crate::common::{add_whether_found, begin_answer};
+use crate::elements::{Element, add_array};
 use crate::forks::never_forked;
-use crate::known::{add_finding, add_refused, are_decided};
-use crate::named::{add_label, add_threads};
+use crate::known::{add_finding, add_refused, are_decided, is_something_shown, refusal_of};
+use crate::mentioned::Mentioned;
 use crate::survey::{Survey, ToBlame, Tried};
+use crate::tables::add_named;
 use crate::writer::JsonWriter;
 use std::alloc::Global;
 use velo_bytes::append;
-use velo_events::Memory;
+use velo_events::{Memory, ThreadId};
 use velo_explore::{BlamedLabel, Findings};
+use velo_names::NameKind;
 use velo_workload::Workload;
 
-/// Adds a label that is to blame.
-fn add_blamed(
-    json: JsonWriter,
-    workload: &Workload,
-    blamed: BlamedLabel,
-) -> Result<JsonWriter, Memory> {
-    let json = add_label(json.begin_object()?, workload, blamed.label)?.key("alarms")?;
-    json.number(blamed.alarms)?.end_object()
-}
-
-/// Adds the labels that are to blame, one after another.
-fn add_each_blamed(
-    json: JsonWriter,
-    workload: &Workload,
-    labels: &[BlamedLabel],
-) -> Result<JsonWriter, Memory> {
-    let mut written = json;
-    for blamed in labels {
-        written = add_blamed(written, workload, *blamed)?;
+impl Element for ThreadId {
+    fn add(&self, json: JsonWriter) -> Result<JsonWriter, Memory> {
+        json.number(u64::from(self.0))
     }
-    Ok(written)
 }
 
-/// Adds the array of the labels that are to blame.
-fn add_labels(
-    json: JsonWriter,
-    workload: &Workload,
-    labels: &[BlamedLabel],
-) -> Result<JsonWriter, Memory> {
-    let written = add_each_blamed(json.begin_array()?, workload, labels)?.end_array()?;
-    Ok(written)
+/// A label that is to blame, and how many of the alarms blame it.
+impl Element for BlamedLabel {
+    fn add(&self, json: JsonWriter) -> Result<JsonWriter, Memory> {
+        json.begin_object()?
+            .key("label")?
+            .number(u64::from(self.label.0))?
+            .key("alarms")?
+            .number(self.alarms)?
+            .end_object()
+    }
 }
 
-/// Adds who is to blame.
-fn add_blame(json: JsonWriter, workload: &Workload, blame: &ToBlame) -> Result<JsonWriter, Memory> {
-    let json = json.begin_object()?.key("alarms")?;
+/// Adds the member with whom the alarms blame.
+fn add_blame(json: JsonWriter, blame: &ToBlame) -> Result<JsonWriter, Memory> {
+    let json = json.key("blame")?.begin_object()?.key("alarms")?;
     let json = json.number(blame.alarms)?.key("labels")?;
-    add_labels(json, workload, &blame.labels)?.end_object()
+    add_array(json, &blame.labels)?.end_object()
 }
 
 /// Adds how all schedules were tried.
@@ -83,24 +72,54 @@ fn add_tried(json: JsonWriter, tried: Tried) -> Result<JsonWriter, Memory> {
     }
 }
 
-/// Adds the member with the path of the workload.
-fn add_path(json: JsonWriter, path: &str) -> Result<JsonWriter, Memory> {
-    json.key("workload")?.string(path.as_bytes())
+/// Adds the member with what is known of each fault.
+fn add_findings(json: JsonWriter, alloc: Global, found: &Findings) -> Result<JsonWriter, Memory> {
+    let json = json.key("findings")?.begin_array()?;
+    let json = add_finding(json, alloc, "cycle", &found.alarm)?;
+    let json = add_finding(json, alloc, "deadlock", &found.stuck)?;
+    add_refused(json, alloc, &found.refused)?.end_array()
 }
 
-/// Adds the member that says whether no finding is open.
-fn add_decided(json: JsonWriter, found: &Findings) -> Result<JsonWriter, Memory> {
-    json.key("decided")?.boolean(are_decided(found))
+/// Mentions whom the alarms blame, whose event is refused, and which threads no thread forks.
+fn mention(
+    mentioned: &mut Mentioned,
+    survey: &Survey,
+    unforked: &[ThreadId],
+) -> Result<(), Memory> {
+    for blamed in survey.blame.labels.as_slice() {
+        mentioned.add(NameKind::Label, blamed.label.0)?;
+    }
+    if let Some((thread, _refusal)) = refusal_of(&survey.shrunk.findings.refused) {
+        mentioned.add(NameKind::Thread, u32::from(thread.0))?;
+    }
+    for thread in unforked {
+        mentioned.add(NameKind::Thread, u32::from(thread.0))?;
+    }
+    mentioned.put_numbers_in_order();
+    Ok(())
 }
 
-/// Adds the threads that no thread forks.
-fn add_never_forked(
+/// Adds the names of those of these numbers that have one.
+fn add_names_of(json: JsonWriter, names: &[String], numbers: &[u32]) -> Result<JsonWriter, Memory> {
+    let mut written = json.begin_array()?;
+    for number in numbers {
+        written = match names.get(*number as usize) {
+            Some(name) => add_named(written, *number, name.as_bytes())?,
+            None => written,
+        };
+    }
+    written.end_array()
+}
+
+/// Adds the member with the names in the workload.
+fn add_names(
     json: JsonWriter,
-    alloc: Global,
     workload: &Workload,
+    mentioned: &Mentioned,
 ) -> Result<JsonWriter, Memory> {
-    let threads = never_forked(alloc, workload)?;
-    add_threads(json, workload, &threads)
+    let json = json.key("names")?.begin_object()?.key("threads")?;
+    let json = add_names_of(json, workload.thread_names(), &mentioned.threads)?.key("labels")?;
+    add_names_of(json, workload.label_names(), &mentioned.labels)?.end_object()
 }
 
 /// Adds the answer.
@@ -112,15 +131,16 @@ fn add_answer(
     survey: &Survey,
 ) -> Result<JsonWriter, Memory> {
     let found = &survey.shrunk.findings;
-    let json = json.begin_object()?.key("schema")?.number(1)?;
-    let json = add_path(json, path)?.key("search")?;
-    let json = add_tried(json, survey.tried)?;
-    let json = add_decided(json, found)?.key("alarm")?;
-    let json = add_finding(json, alloc, &found.alarm)?.key("stuck")?;
-    let json = add_finding(json, alloc, &found.stuck)?.key("refused")?;
-    let json = add_refused(json, alloc, workload, &found.refused)?.key("blame")?;
-    let json = add_blame(json, workload, &survey.blame)?.key("never_forked")?;
-    add_never_forked(json, alloc, workload)?.end_object()
+    let unforked = never_forked(alloc, workload)?;
+    let mut mentioned = Mentioned::new(alloc);
+    mention(&mut mentioned, survey, &unforked)?;
+    let json = begin_answer(json, "explore", path)?;
+    let json = add_whether_found(json, is_something_shown(found))?.key("search")?;
+    let json = add_tried(json, survey.tried)?.key("decided")?;
+    let json = add_findings(json.boolean(are_decided(found))?, alloc, found)?;
+    let json = add_blame(json, &survey.blame)?.key("never_forked")?;
+    let json = add_array(json, &unforked)?;
+    add_names(json, workload, &mentioned)?.end_object()
 }
 
 /// What was written, as a line.

@@ -1,13 +1,12 @@
 //! What an exploration knows of each fault.
 
-use crate::named::add_thread;
+use crate::common::add_kind;
 use crate::writer::JsonWriter;
 use std::alloc::Global;
 use velo_check::number_of;
 use velo_events::{Memory, Refusal, ThreadId};
 use velo_explore::{Finding, Findings, Goal};
 use velo_schedule_text::append_turns;
-use velo_workload::Workload;
 
 /// What is known, in a word.
 fn finding_name(finding: &Finding) -> &'static str {
@@ -24,6 +23,19 @@ fn is_open(finding: &Finding) -> bool {
         Finding::Open => true,
         Finding::Shown(_) | Finding::Never => false,
     }
+}
+
+/// Whether it is shown.
+fn is_shown(finding: &Finding) -> bool {
+    match finding {
+        Finding::Shown(_) => true,
+        Finding::Never | Finding::Open => false,
+    }
+}
+
+/// Whether some finding is shown.
+pub(crate) fn is_something_shown(found: &Findings) -> bool {
+    is_shown(&found.alarm) || is_shown(&found.stuck) || is_shown(&found.refused)
 }
 
 /// Whether no finding is open.
@@ -61,57 +73,56 @@ fn add_turns_or_null(
     }
 }
 
-/// Adds the members that each finding has.
-fn add_members(json: JsonWriter, alloc: Global, finding: &Finding) -> Result<JsonWriter, Memory> {
+/// Adds the members that each finding has: its kind, what is known, and the turns that show it.
+fn add_members(
+    json: JsonWriter,
+    alloc: Global,
+    kind: &str,
+    finding: &Finding,
+) -> Result<JsonWriter, Memory> {
     let name = finding_name(finding);
-    let json = json.key("finding")?.string(name.as_bytes())?.key("turns")?;
+    let json = add_kind(json, kind)?.key("state")?;
+    let json = json.string(name.as_bytes())?.key("turns")?;
     add_turns_or_null(json, alloc, finding)
 }
 
-/// Adds what is known of alarms or of deadlocks.
+/// Adds what is known of cycles or of deadlocks.
 pub(crate) fn add_finding(
     json: JsonWriter,
     alloc: Global,
+    kind: &str,
     finding: &Finding,
 ) -> Result<JsonWriter, Memory> {
-    let json = add_members(json.begin_object()?, alloc, finding)?;
+    let json = add_members(json.begin_object()?, alloc, kind, finding)?;
     json.end_object()
 }
 
-/// Adds the member with the number of a refusal.
-fn add_number(json: JsonWriter, refusal: Refusal) -> Result<JsonWriter, Memory> {
-    json.key("number")?.number(u64::from(number_of(refusal)))
+/// Adds a refusal, by its number and its thread.
+fn add_refusal(json: JsonWriter, thread: ThreadId, refusal: Refusal) -> Result<JsonWriter, Memory> {
+    json.begin_object()?
+        .key("number")?
+        .number(u64::from(number_of(refusal)))?
+        .key("thread")?
+        .number(u64::from(thread.0))?
+        .end_object()
 }
 
-/// Adds a refusal.
-fn add_refusal(
-    json: JsonWriter,
-    workload: &Workload,
-    thread: ThreadId,
-    refusal: Refusal,
-) -> Result<JsonWriter, Memory> {
-    let json = add_number(json.begin_object()?, refusal)?;
-    let json = add_thread(json, workload, thread)?;
-    json.end_object()
-}
-
-/// Adds the refusal that is shown, or null.
-fn add_refusal_of(json: JsonWriter, workload: &Workload, goal: Goal) -> Result<JsonWriter, Memory> {
-    match goal {
-        Goal::Refused(thread, refusal) => add_refusal(json, workload, thread, refusal),
-        Goal::Alarm | Goal::Stuck => json.null(),
+/// The refusal that a finding shows, if it shows one.
+pub(crate) fn refusal_of(finding: &Finding) -> Option<(ThreadId, Refusal)> {
+    match finding {
+        Finding::Shown(witness) => match witness.goal {
+            Goal::Refused(thread, refusal) => Some((thread, refusal)),
+            Goal::Alarm | Goal::Stuck => None,
+        },
+        Finding::Never | Finding::Open => None,
     }
 }
 
 /// Adds the refusal that a finding shows, or null.
-fn add_refusal_or_null(
-    json: JsonWriter,
-    workload: &Workload,
-    finding: &Finding,
-) -> Result<JsonWriter, Memory> {
-    match finding {
-        Finding::Shown(witness) => add_refusal_of(json, workload, witness.goal),
-        Finding::Never | Finding::Open => json.null(),
+fn add_refusal_or_null(json: JsonWriter, finding: &Finding) -> Result<JsonWriter, Memory> {
+    match refusal_of(finding) {
+        Some((thread, refusal)) => add_refusal(json, thread, refusal),
+        None => json.null(),
     }
 }
 
@@ -119,9 +130,8 @@ fn add_refusal_or_null(
 pub(crate) fn add_refused(
     json: JsonWriter,
     alloc: Global,
-    workload: &Workload,
     finding: &Finding,
 ) -> Result<JsonWriter, Memory> {
-    let json = add_members(json.begin_object()?, alloc, finding)?.key("refusal")?;
-    add_refusal_or_null(json, workload, finding)?.end_object()
+    let json = add_members(json.begin_object()?, alloc, "refusal", finding)?.key("refusal")?;
+    add_refusal_or_null(json, finding)?.end_object()
 }

@@ -1,153 +1,181 @@
 //! The answer of predictions.
 
-use crate::audit::{add_alarm, add_alarms};
+use crate::audit::{add_told_members, mention_rounds};
 use crate::background::Background;
-use crate::common::{add_asked, add_log, add_size, line_of};
-use crate::elements::{Element, add_array, add_elements};
-use crate::events::{add_about, add_event_at, add_site, add_thread, add_words};
+use crate::common::{add_asked, add_kind, add_whether_found, begin_answer, line_of, mention_asked};
+use crate::elements::Element;
 use crate::findings::PredictedFindings;
+use crate::mentioned::{Mentioned, add_position, add_told};
+use crate::runs::{OtherRun, add_run};
+use crate::tables::{Rows, add_events, add_tables};
 use crate::text::{Asked, is_something_told};
 use crate::writer::JsonWriter;
 use std::alloc::Global;
 use velo_certify::owners_of;
-use velo_delays::{Awaited, Deadlock, Differing, PredictedCycle};
+use velo_delays::{Deadlock, PredictedCycle};
 use velo_events::Memory;
 use velo_explain::Page;
 use velo_names::Names;
-use velo_sidecars::{Sites, seen_from};
+use velo_sidecars::Sites;
 use velo_traces::Trace;
 
-/// A read that has another value than in the log, by what describes its trace.
-impl Element for Differing {
-    fn add(&self, json: JsonWriter, trace: &Background) -> Result<JsonWriter, Memory> {
-        let json = json.begin_object()?.key("event")?;
-        let json = add_event_at(json, trace, self.position)?.key("recorded")?;
-        json.number(self.recorded)?.end_object()
-    }
-}
-
-/// What a thread waits to do, by what describes the log.
-impl Element for Awaited {
-    fn add(&self, json: JsonWriter, log: &Background) -> Result<JsonWriter, Memory> {
-        let event = self.event;
-        let json = add_thread(json.begin_object()?, log.names, event.thread)?;
-        let json = add_words(json, log.alloc, event)?;
-        let json = add_about(json, log.names, event.kind)?;
-        let json = add_site(json, log.sites, self.position)?;
-        json.end_object()
-    }
-}
-
-/// Adds the member with the kind of a prediction.
-fn add_kind(json: JsonWriter, kind: &str) -> Result<JsonWriter, Memory> {
-    json.key("kind")?.string(kind.as_bytes())
-}
-
-/// Adds the member with the reads that have another value than in the log.
-fn add_differences(
+/// Adds the events of a run that its finding mentions.
+fn add_run_events<'m>(
     json: JsonWriter,
-    trace: &Background,
-    differing: &[Differing],
-) -> Result<JsonWriter, Memory> {
-    add_array(json.key("differing")?, trace, differing)
-}
-
-/// Adds labels that may not be atomic, by what describes their trace.
-fn add_cycle(
-    json: JsonWriter,
-    trace: &Background,
+    mentioned: &mut Mentioned<'m>,
+    log: &Background<'m>,
     found: &PredictedCycle,
 ) -> Result<JsonWriter, Memory> {
-    let json = add_kind(json.begin_object()?, "not atomic")?;
-    let json = add_size(json, trace.events)?;
-    let json = add_differences(json, trace, &found.differing)?.key("alarm")?;
-    add_alarm(json, trace, &found.told)?.end_object()
+    let events = found.trace.as_slice();
+    let owners = owners_of(log.alloc, events)?;
+    let run = Background {
+        alloc: log.alloc,
+        names: log.names,
+        sites: log.sites,
+        events,
+        owners: &owners,
+    };
+    let mut positions = Vec::new(log.alloc);
+    add_told(&mut positions, &found.told)?;
+    add_events(
+        json,
+        mentioned,
+        log,
+        &run,
+        Rows::Run(&found.sources),
+        &positions,
+    )
 }
 
-/// Labels that may not be atomic, by what describes the log.
-impl Element for PredictedCycle {
-    fn add(&self, json: JsonWriter, log: &Background) -> Result<JsonWriter, Memory> {
-        let sites = seen_from(log.alloc, log.sites, &self.sources)?;
-        let events = self.trace.as_slice();
-        let owners = owners_of(log.alloc, events)?;
-        let trace = Background {
-            alloc: log.alloc,
-            names: log.names,
-            sites: &sites,
-            events,
-            owners: &owners,
-        };
-        add_cycle(json, &trace, self)
-    }
-}
-
-/// Adds a deadlock, by what describes the log and its trace.
-fn add_stuck(
+/// Adds another run with a cycle: the positions are those of this run.
+fn add_predicted<'m>(
     json: JsonWriter,
-    log: &Background,
-    trace: &Background,
+    mentioned: &mut Mentioned<'m>,
+    log: &Background<'m>,
+    found: &PredictedCycle,
+) -> Result<JsonWriter, Memory> {
+    let run = OtherRun {
+        events: found.trace.as_slice(),
+        sources: &found.sources,
+        differing: &found.differing,
+    };
+    let json = add_kind(json.begin_object()?, "cycle")?;
+    let json = add_run(json, log.alloc, run)?;
+    let json = add_told_members(json, &found.told)?;
+    let json = add_run_events(json, mentioned, log, found)?;
+    json.end_object()
+}
+
+/// Adds the positions in the log of what the threads wait to do.
+fn add_circle(
+    json: JsonWriter,
+    mentioned: &mut Mentioned,
     deadlock: &Deadlock,
 ) -> Result<JsonWriter, Memory> {
-    let json = add_kind(json.begin_object()?, "deadlock")?;
-    let json = add_size(json, trace.events)?;
-    let json = add_differences(json, trace, &deadlock.differing)?;
-    add_array(json.key("circle")?, log, &deadlock.waiting)?.end_object()
-}
-
-/// A deadlock, by what describes the log.
-impl Element for Deadlock {
-    fn add(&self, json: JsonWriter, log: &Background) -> Result<JsonWriter, Memory> {
-        let sites = seen_from(log.alloc, log.sites, &self.sources)?;
-        let events = self.trace.as_slice();
-        let owners = owners_of(log.alloc, events)?;
-        let trace = Background {
-            alloc: log.alloc,
-            names: log.names,
-            sites: &sites,
-            events,
-            owners: &owners,
-        };
-        add_stuck(json, log, &trace, self)
+    let mut written = json.key("circle")?.begin_array()?;
+    for awaited in deadlock.waiting.as_slice() {
+        add_position(&mut mentioned.positions, awaited.position)?;
+        written = written.number(awaited.position as u64)?;
     }
+    written.end_array()
 }
 
-/// Adds the member with all that was found of other runs.
-fn add_predictions(
+/// Adds another run after which threads wait in a circle.
+fn add_stuck(
     json: JsonWriter,
-    log: &Background,
+    mentioned: &mut Mentioned,
+    alloc: Global,
+    deadlock: &Deadlock,
+) -> Result<JsonWriter, Memory> {
+    let run = OtherRun {
+        events: deadlock.trace.as_slice(),
+        sources: &deadlock.sources,
+        differing: &deadlock.differing,
+    };
+    let json = add_kind(json.begin_object()?, "deadlock")?;
+    let json = add_run(json, alloc, run)?;
+    let json = add_circle(json, mentioned, deadlock)?;
+    json.end_object()
+}
+
+/// Adds the rounds of the log's own audit.
+fn add_rounds(
+    json: JsonWriter,
+    mentioned: &mut Mentioned,
     findings: &PredictedFindings,
 ) -> Result<JsonWriter, Memory> {
-    let begun = json.key("predictions")?.begin_array()?;
-    let labels = add_elements(begun, log, &findings.cycles)?;
-    let written = add_elements(labels, log, &findings.deadlocks)?.end_array()?;
+    mention_rounds(mentioned, &findings.rounds)?;
+    let mut written = json;
+    for told in findings.rounds.as_slice() {
+        written = told.add(written)?;
+    }
     Ok(written)
 }
 
-/// Adds the member that says whether anything is told.
-fn add_whether_found(json: JsonWriter, findings: &PredictedFindings) -> Result<JsonWriter, Memory> {
-    json.key("found")?.boolean(is_something_told(findings))
+/// Adds the cycles of other runs.
+fn add_cycles<'m>(
+    json: JsonWriter,
+    mentioned: &mut Mentioned<'m>,
+    log: &Background<'m>,
+    findings: &PredictedFindings,
+) -> Result<JsonWriter, Memory> {
+    let mut written = json;
+    for found in findings.cycles.as_slice() {
+        written = add_predicted(written, mentioned, log, found)?;
+    }
+    Ok(written)
+}
+
+/// Adds the deadlocks of other runs.
+fn add_deadlocks(
+    json: JsonWriter,
+    mentioned: &mut Mentioned,
+    alloc: Global,
+    findings: &PredictedFindings,
+) -> Result<JsonWriter, Memory> {
+    let mut written = json;
+    for deadlock in findings.deadlocks.as_slice() {
+        written = add_stuck(written, mentioned, alloc, deadlock)?;
+    }
+    Ok(written)
+}
+
+/// Adds the member with all that was found: in the log, and then of other runs.
+fn add_findings<'m>(
+    json: JsonWriter,
+    mentioned: &mut Mentioned<'m>,
+    log: &Background<'m>,
+    findings: &PredictedFindings,
+) -> Result<JsonWriter, Memory> {
+    let json = json.key("findings")?.begin_array()?;
+    let json = add_rounds(json, mentioned, findings)?;
+    let json = add_cycles(json, mentioned, log, findings)?;
+    let json = add_deadlocks(json, mentioned, log.alloc, findings)?;
+    json.end_array()
 }
 
 /// Adds the answer.
-fn add_answer(
+fn add_answer<'m>(
     json: JsonWriter,
-    log: &Background,
+    log: &Background<'m>,
     path: &str,
     asked: &Asked,
+    values: bool,
     findings: &PredictedFindings,
 ) -> Result<JsonWriter, Memory> {
-    let json = json.begin_object()?.key("schema")?.number(1)?;
-    let json = add_log(json, path)?;
-    let json = add_whether_found(json, findings)?.key("left_out")?;
-    let json = add_asked(json, log, asked)?;
-    let json = add_alarms(json, log, &findings.rounds)?;
-    let json = add_predictions(json, log, findings)?;
-    json.key("tries")?.number(findings.tries)?.end_object()
+    let mut mentioned = Mentioned::new(log.alloc);
+    mention_asked(&mut mentioned, asked)?;
+    let json = add_asked(begin_answer(json, "predict", path)?, asked)?;
+    let json = add_whether_found(json, is_something_told(findings))?;
+    let json = json.key("values")?.boolean(values)?;
+    let json = add_findings(json, &mut mentioned, log, findings)?;
+    let json = json.key("tries")?.number(findings.tries)?;
+    add_tables(json, &mut mentioned, log)?.end_object()
 }
 
 /// What a log at a path shows and foretells, as one JSON object on a line: what was to be left out,
-/// the rounds of the log's own audit, the predictions, each by the events of its own trace, and how
-/// many delays were tried. An event has its place, if the sites of the log give it.
+/// whether its values are those of the program, the rounds of the log's own audit, the predictions, each
+/// with its run, and how many delays were tried. An event has its place, if the sites of the log give it.
 ///
 /// # Errors
 /// `Memory` if an allocation failed.
@@ -158,6 +186,7 @@ pub fn predictions_json(
     log: &Trace,
     path: &str,
     asked: &Asked,
+    values: bool,
     findings: &PredictedFindings,
 ) -> Result<Page, Memory> {
     let events = log.as_slice();
@@ -170,6 +199,6 @@ pub fn predictions_json(
         owners: &owners,
     };
     let json = JsonWriter::new(alloc);
-    let json = add_answer(json, &background, path, asked, findings)?;
+    let json = add_answer(json, &background, path, asked, values, findings)?;
     line_of(alloc, json)
 }

@@ -1,117 +1,67 @@
-//! What explains an alarm.
+//! A cycle that was found, by the positions of its events.
 
-use crate::background::Background;
-use crate::elements::{Element, add_array};
-use crate::events::{add_block, add_event, add_event_at};
-use crate::text::blocks_around;
+use crate::elements::{Element, add_array, add_pair};
 use crate::writer::JsonWriter;
 use velo_certify::EdgeEvents;
-use velo_events::{Event, Memory};
+use velo_events::Memory;
 use velo_explain::{Blame, Evidence, Span};
 use velo_traces::Block;
 
+/// A block, by the position of its begin.
 impl Element for Block {
-    fn add(&self, json: JsonWriter, background: &Background) -> Result<JsonWriter, Memory> {
-        add_block(json, background, *self)
+    fn add(&self, json: JsonWriter) -> Result<JsonWriter, Memory> {
+        self.first.add(json)
     }
 }
 
+/// A transaction, by its first and its last position.
 impl Element for Span {
-    fn add(&self, json: JsonWriter, background: &Background) -> Result<JsonWriter, Memory> {
-        let json = json.begin_object()?.key("first")?;
-        let json = add_event_at(json, background, self.first)?.key("last")?;
-        add_event_at(json, background, self.last)?.end_object()
-    }
-}
-
-/// Adds the blocks that the event's thread has open before it.
-fn add_inside(
-    json: JsonWriter,
-    background: &Background,
-    position: usize,
-) -> Result<JsonWriter, Memory> {
-    let blocks = blocks_around(background, position)?;
-    add_array(json.key("inside")?, background, &blocks)
-}
-
-/// Adds an event, and the blocks that its thread has open before it.
-fn add_placed(
-    json: JsonWriter,
-    background: &Background,
-    position: usize,
-    event: Event,
-) -> Result<JsonWriter, Memory> {
-    let json = json.begin_object()?.key("event")?;
-    let json = add_event(json, background, position, event)?;
-    let json = add_inside(json, background, position)?;
-    json.end_object()
-}
-
-/// Adds the event at a position of the log, and these blocks.
-fn add_placed_at(
-    json: JsonWriter,
-    background: &Background,
-    position: usize,
-) -> Result<JsonWriter, Memory> {
-    match background.events.get(position) {
-        Some(event) => add_placed(json, background, position, *event),
-        None => json.null(),
+    fn add(&self, json: JsonWriter) -> Result<JsonWriter, Memory> {
+        add_pair(json, self.first, self.last)
     }
 }
 
 impl Element for EdgeEvents {
-    fn add(&self, json: JsonWriter, background: &Background) -> Result<JsonWriter, Memory> {
-        let json = json.begin_object()?.key("from")?;
-        let json = add_placed_at(json, background, self.from)?.key("to")?;
-        add_placed_at(json, background, self.to)?.end_object()
+    fn add(&self, json: JsonWriter) -> Result<JsonWriter, Memory> {
+        add_pair(json, self.from, self.to)
     }
 }
 
+/// Why a block is to blame, by its begin and the event that parts it.
 impl Element for Blame {
-    fn add(&self, json: JsonWriter, background: &Background) -> Result<JsonWriter, Memory> {
-        let json = json.begin_object()?.key("block")?;
-        let json = add_block(json, background, self.block)?.key("event")?;
-        add_event_at(json, background, self.witness)?.end_object()
+    fn add(&self, json: JsonWriter) -> Result<JsonWriter, Memory> {
+        add_pair(json, self.block.first, self.witness)
     }
-}
-
-/// Adds the transactions of the cycle.
-fn add_transactions(
-    json: JsonWriter,
-    background: &Background,
-    evidence: &Evidence,
-) -> Result<JsonWriter, Memory> {
-    add_array(json.key("transactions")?, background, &evidence.spans)
-}
-
-/// Adds the events of its edges.
-fn add_edges(
-    json: JsonWriter,
-    background: &Background,
-    evidence: &Evidence,
-) -> Result<JsonWriter, Memory> {
-    add_array(json.key("edges")?, background, &evidence.edges)
-}
-
-/// Adds why the blocks are to blame.
-fn add_reasons(
-    json: JsonWriter,
-    background: &Background,
-    evidence: &Evidence,
-) -> Result<JsonWriter, Memory> {
-    add_array(json.key("reasons")?, background, &evidence.blames)
 }
 
 /// Adds a witness: the transactions of the cycle, the events of its edges, and why the blocks are to
 /// blame.
-pub(crate) fn add_witness(
-    json: JsonWriter,
-    background: &Background,
-    evidence: &Evidence,
-) -> Result<JsonWriter, Memory> {
-    let json = json.begin_object()?;
-    let json = add_transactions(json, background, evidence)?;
-    let json = add_edges(json, background, evidence)?;
-    let json = add_reasons(json, background, evidence)?;
+fn add_witness(json: JsonWriter, evidence: &Evidence) -> Result<JsonWriter, Memory> {
+    let json = add_array(json.begin_object()?.key("transactions")?, &evidence.spans)?;
+    let json = add_array(json.key("edges")?, &evidence.edges)?;
+    let json = add_array(json.key("reasons")?, &evidence.blames)?;
     json.end_object()
+}
+
+/// Adds the witness, or null where none was asked for.
+fn add_witness_or_null(json: JsonWriter, witness: Option<&Evidence>) -> Result<JsonWriter, Memory> {
+    match witness {
+        Some(evidence) => add_witness(json, evidence),
+        None => json.null(),
+    }
+}
+
+/// Adds the members that say what cycle was found: its closing event, the blocks that are told, whether
+/// they are to blame, and the witness or null.
+pub(crate) fn add_cycle(
+    json: JsonWriter,
+    closing: usize,
+    blocks: &[Block],
+    to_blame: bool,
+    witness: Option<&Evidence>,
+) -> Result<JsonWriter, Memory> {
+    let json = json.key("closing")?.number(closing as u64)?;
+    let json = add_array(json.key("blocks")?, blocks)?;
+    let json = json.key("to_blame")?.boolean(to_blame)?;
+    add_witness_or_null(json.key("witness")?, witness)
 }

@@ -128,17 +128,6 @@ impl JsonWriter {
         self.token(Token::String(bytes))
     }
 
-    /// Adds a text, or null where there is none.
-    ///
-    /// # Errors
-    /// `Memory` if an allocation failed.
-    pub fn string_or_null(self, bytes: Option<&[u8]>) -> Result<JsonWriter, Memory> {
-        match bytes {
-            Some(bytes) => self.string(bytes),
-            None => self.token(Token::Null),
-        }
-    }
-
     /// Adds a number.
     ///
     /// # Errors
