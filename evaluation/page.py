@@ -13,6 +13,7 @@ from typing import Callable, Dict, List, NamedTuple, Sequence, Tuple
 
 import case
 import check
+import java
 import tools
 from check import Program
 from results import Results
@@ -326,6 +327,7 @@ def page(asked: Asked, chosen: List[Program], kept: Results) -> str:
         ("Repaired programs: said", lambda: table(wrong + hung, kept, "repaired", "said")),
         ("Right programs: said", lambda: table(right, kept, "repaired", "said")),
         ("Processor time", lambda: cost(chosen, kept)),
+        ("Java programs", lambda: java.told(asked)),
         ("What each tool said of one program", lambda: case.told(asked)),
     )
     lines = ["# Evaluation", "", INTRODUCTION, ""]
@@ -348,8 +350,10 @@ def with_sums(text: str, lines: List[str]) -> str:
 
 def write(asked: Asked, chosen: List[Program], kept: Results) -> None:
     """Writes the page, and the sums. Raises check.Bad."""
+    # programs may run for it: a call that is broken off leaves the page as it was
+    whole = page(asked, chosen, kept)
     with open(PAGE, "w", encoding="utf-8") as file:
-        file.write(page(asked, chosen, kept))
+        file.write(whole)
     with open(README, encoding="utf-8") as file:
         text = file.read()
     with open(README, "w", encoding="utf-8") as file:

@@ -8,13 +8,14 @@ from typing import Any, Dict, List, Sequence
 from unittest import mock
 
 import check
+import java
 import page
 import results
 import run
 import tools
 from check import Program
 from results import Results
-from tools import Ended, Seen
+from tools import Asked, Ended, Seen
 
 WRONG = Program("bank", "bank.c", "atomicity", "a book", "transfer", "balance", 1, 2)
 HUNG = Program("meal", "meal.c", "deadlock", "a book", "dine", "forks", 1, 2)
@@ -203,6 +204,85 @@ class Pages(unittest.TestCase):
         self.assertEqual(page.with_sums(text, ["new"]), f"a\n{page.BEGIN}\nnew\n{page.END}\nb\n")
         with self.assertRaises(check.Bad):
             page.with_sums("a\n", ["new"])
+
+
+SELL = java.Mistake("Shop", ["a.Shop$Till.sell"], "looked at, and then sold")
+WITH_NOISE, PREDICTED = (column for column, _ in java.WAYS)
+
+
+def recording(
+    version: str, column: str, *findings: java.Listed, failed: str = ""
+) -> java.Recording:
+    """Of the file Shop."""
+    return java.Recording("Shop", version, column, 2.5, list(findings), failed)
+
+
+def sold(section: str, seen: bool = True) -> java.Listed:
+    """A finding of the method that is wrong."""
+    return java.Listed("a.Shop$Till.sell(int)", section, seen)
+
+
+class Java(unittest.TestCase):
+    def row(self, *kept: java.Recording) -> List[str]:
+        """The cells behind the words of the mistake."""
+        line = next(one for one in java.part([SELL], list(kept)) if one.startswith("| Till.sell"))
+        return line.strip("| ").split(" | ")[2:]
+
+    def test_with_noise_only_what_happened_counts(self) -> None:
+        for seen, cell in ((True, "found"), (False, "nothing")):
+            finding = sold("likely", seen)
+            kept = [recording(java.BROKEN, column, finding) for column, _ in java.WAYS]
+            self.assertEqual(self.row(*kept), [cell, "found", "-"])
+
+    def test_it_is_told_where_a_report_has_it(self) -> None:
+        other = java.Listed("a.Shop$Till.seller", "likely", True)
+        for section, cell in (("by_design", "by design"), ("folded", "folded")):
+            kept = recording(java.BROKEN, PREDICTED, other, sold(section))
+            self.assertEqual(self.row(kept)[1], cell)
+        self.assertEqual(self.row(recording(java.BROKEN, PREDICTED, other))[1], "nothing")
+
+    def test_a_repair_is_of_both_ways(self) -> None:
+        good = recording(java.REPAIRED, WITH_NOISE)
+        said = recording(java.REPAIRED, PREDICTED, sold("likely", False))
+        self.assertEqual(self.row(good, said)[2], "found")
+        self.assertEqual(self.row(good, recording(java.REPAIRED, PREDICTED))[2], "nothing")
+
+    def test_what_failed_says_nothing(self) -> None:
+        failed = recording(java.BROKEN, PREDICTED, failed="no log")
+        self.assertEqual(self.row(failed)[1], "-")
+        self.assertIn("no log", java.part([SELL], [failed])[-1])
+
+    def test_what_else_is_likely(self) -> None:
+        other = java.Listed("a.Shop.open", "likely", True)
+        less = java.Listed("a.Shop.wait", "by_design", True)
+        seen = (other, less, sold("likely"))
+        lines = java.part([SELL], [recording(java.REPAIRED, WITH_NOISE, *seen)])
+        self.assertTrue(lines[-2].endswith("broken versions beside these methods: nothing."))
+        self.assertIn("repaired versions beside these methods: `a.Shop.open`: the", lines[-1])
+        self.assertNotIn("a.Shop.wait", lines[-1])
+
+    def test_a_report_of_which_a_run_was_not_looked_at(self) -> None:
+        seen, failed = java.listed(answer(finding("sell", seen=())))
+        self.assertEqual((seen, failed), ([java.Listed("sell", "likely", False)], ""))
+        self.assertTrue(java.listed(answer(looked_at=False))[1])
+        self.assertEqual(java.listed(Ended(4, "", "no log", 1.0))[1], "no log")
+
+    def test_without_a_jdk_it_is_not_run(self) -> None:
+        asked = Asked("", "", "")
+        nowhere = os.path.join(check.OUT, "nowhere.json")
+        with mock.patch.object(java, "FILE", nowhere), mock.patch("shutil.which", lambda _: None):
+            self.assertEqual(java.told(asked)[0][: len("not run: ")], "not run: ")
+
+    def test_what_does_not_compile_is_not_run(self) -> None:
+        nowhere = os.path.join(check.OUT, "nowhere.json")
+        bad = mock.Mock(side_effect=check.Bad("it does not compile"))
+        with mock.patch.multiple(java, FILE=nowhere, missing=lambda: None, compiled=bad):
+            self.assertEqual(java.told(Asked("", "", "")), ["not run: it does not compile"])
+
+    def test_the_rows_of_the_recorder_are_read(self) -> None:
+        names = [of.name() for of in java.mistakes()]
+        self.assertIn("Counter.increment", names)
+        self.assertIn("SynchronizedCollection.containsAll", names)
 
 
 if __name__ == "__main__":

@@ -5,11 +5,12 @@ from __future__ import annotations
 import json
 import os
 import re
+import shlex
 import shutil
 import signal
 import subprocess
 import threading
-from typing import Any, Callable, Dict, List, NamedTuple, Optional, Tuple
+from typing import Any, Callable, Dict, List, NamedTuple, Optional, Sequence, Tuple
 
 import check
 from check import Program
@@ -188,26 +189,38 @@ def found_by(asked: Asked) -> Dict[str, str]:
 RECORDER = os.path.join(check.OUT, "bin", "velodrome-record")
 
 
-def prepare(asked: Asked) -> None:
-    """Makes RECORDER: velodrome-record, with a report beside it that prints JSON.
+def prepare(
+    asked: Asked, folder: str = os.path.dirname(RECORDER), options: Sequence[str] = ()
+) -> str:
+    """Makes velodrome-record in `folder`, with a report beside it that prints JSON: its path.
 
-    So a run is reported once, and its processor time is that of a user's call.
+    So a run is reported once, and its processor time is that of a user's call. `options` are
+    more of the report.
     """
-    folder = os.path.dirname(RECORDER)
     os.makedirs(folder, exist_ok=True)
     report = os.path.join(folder, "velodrome-report")
+    words = shlex.join([asked.report, "--format", "json", *options])
     with open(report, "w", encoding="utf-8") as file:
-        file.write(f'#!/bin/sh\nexec "{asked.report}" --format json "$@"\n')
+        file.write(f'#!/bin/sh\nexec {words} "$@"\n')
     os.chmod(report, 0o755)
-    shutil.copy(os.path.join(asked.recorder, "velodrome-record"), RECORDER)
+    recorder = os.path.join(folder, "velodrome-record")
+    shutil.copy(os.path.join(asked.recorder, "velodrome-record"), recorder)
+    return recorder
+
+
+def answer(ended: Ended) -> Optional[Dict[str, Any]]:
+    """The report in JSON that a command printed, behind what the program printed."""
+    try:
+        report: Dict[str, Any] = json.loads(ended.out.rstrip("\n").rpartition("\n")[2])
+    except ValueError:
+        return None
+    return report
 
 
 def judged(of: Program, ended: Ended, predicted: bool) -> Seen:
     """What a report in JSON says of a program; with `predicted` what could have happened, too."""
-    try:
-        # what the program printed comes before it
-        report = json.loads(ended.out.rstrip("\n").rpartition("\n")[2])
-    except ValueError:
+    report = answer(ended)
+    if report is None:
         return Seen(False, False, ended.seconds, failed=_short(ended.err) or "no answer")
     findings = [one for one in report["findings"] if predicted or one["seen"]]
     likely = [one for one in findings if one["section"] == "likely"]

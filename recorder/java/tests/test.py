@@ -161,14 +161,8 @@ def cases(room: Room, mode: str) -> Optional[str]:
 # ---- planted mistakes, and their repairs
 # What is wrong in each program: the methods that the checker lists, and nothing else.
 PLANTED = os.path.join(HERE, "mistakes.json")
-# What only calls them.
-AROUND = [
-    "cases.Mistakes.guarded",
-    "cases.Mistakes.run",
-    "cases.Classics.guarded",
-    "cases.Classics.with",
-    "cases.Classics.ask",
-]
+# What only calls them, and is no block.
+CALLERS = os.path.join(HERE, "callers.txt")
 
 
 def planted(program: str) -> Set[str]:
@@ -182,11 +176,7 @@ def found(room: Room, program: str, how: str, mode: str) -> Set[str]:
     folder = room.folder(f"{program}-{how}-{mode}")
     words = [f"cases.{program}", how]
     run = Run(room, folder, words, {"VELODROME_MODE": mode}, java=COPIED)
-    around = AROUND + [method.rpartition(".")[0] + ".first" for method in planted("Mistakes")]
-    no_blocks = os.path.join(folder, "no-blocks")
-    with open(no_blocks, "w", encoding="ascii") as f:
-        f.writelines(f"{name}\n" for name in around)
-    run.make_log("--not-blocks", no_blocks)
+    run.make_log("--not-blocks", CALLERS)
     return set(re.findall(r"^not atomic \d+ (\S+)", run.audit(), re.M))
 
 
