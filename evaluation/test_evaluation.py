@@ -276,7 +276,7 @@ class Java(unittest.TestCase):
     def test_what_does_not_compile_is_not_run(self) -> None:
         nowhere = os.path.join(check.OUT, "nowhere.json")
         bad = mock.Mock(side_effect=check.Bad("it does not compile"))
-        with mock.patch.multiple(java, FILE=nowhere, missing=lambda: None, compiled=bad):
+        with mock.patch.multiple(java, FILE=nowhere, missing=lambda: None, recorded=bad):
             self.assertEqual(java.told(Asked("", "", "")), ["not run: it does not compile"])
 
     def test_the_rows_of_the_recorder_are_read(self) -> None:

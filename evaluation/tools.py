@@ -88,7 +88,9 @@ def command(words: List[str], folder: str, extra: Optional[Dict[str, str]] = Non
         stderr=subprocess.PIPE,
         start_new_session=True,
     )
-    hangs = threading.Timer(MOST_SECONDS, _kill_group, (started.pid,))
+    # set before the kill: the timer's thread may still be there when the command is not
+    ended_by_kill = threading.Event()
+    hangs = threading.Timer(MOST_SECONDS, _kill_group, (started.pid, ended_by_kill))
     hangs.start()
     printed: List[bytes] = [b"", b""]
     assert started.stdout is not None and started.stderr is not None
@@ -98,11 +100,10 @@ def command(words: List[str], folder: str, extra: Optional[Dict[str, str]] = Non
     other.join()
     _, status, usage = os.wait4(started.pid, 0)
     started.returncode = os.waitstatus_to_exitcode(status)
-    ended_by_kill = not hangs.is_alive()
     hangs.cancel()
     out, err = (part.decode("utf-8", "replace") for part in printed)
     return Ended(
-        ENDED_BY_KILL if ended_by_kill else started.returncode,
+        ENDED_BY_KILL if ended_by_kill.is_set() else started.returncode,
         out,
         err,
         usage.ru_utime + usage.ru_stime,
@@ -114,7 +115,8 @@ def _read(stream: Any, printed: List[bytes], place: int) -> None:
         printed[place] = stream.read()
 
 
-def _kill_group(pid: int) -> None:
+def _kill_group(pid: int, ended_by_kill: threading.Event) -> None:
+    ended_by_kill.set()
     try:
         os.killpg(pid, signal.SIGKILL)
     except ProcessLookupError:
