@@ -101,7 +101,7 @@ needs() {
     for each in "$@"; do
         command -v "${each%%:*}" >/dev/null || lacking+=("${each##*:}")
     done
-    echo "${lacking[*]}"
+    [ ${#lacking[@]} -eq 0 ] || echo "${lacking[*]}"
 }
 
 # the library cannot be built over crates that the gate did not prove

@@ -403,8 +403,8 @@ def recordings(room, cc):
 
         less, listed = sizes()
         whole, unlisted = sizes("--whole")
-        right = listed == [False, True, True] and max(less[1:]) < less[0] * 3 // 4
-        right = right and not any(unlisted) and min(whole) > less[0] * 3 // 4
+        right = listed == [False, True, True] and max(less[1:]) < less[0] * 4 // 5
+        right = right and not any(unlisted) and min(whole) > less[0] * 4 // 5
         return True if right else f"{less} {listed} {whole} {unlisted}"
 
     def own_streams():

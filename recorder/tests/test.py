@@ -210,7 +210,7 @@ def sites(room, cc):
         after = log_of(room, made.run("exact", VELODROME_SITES=path), "--all-variables")[2]
         same = number(after, "locks") == number(before, "locks")
         same = same and number(after, "variables") > number(before, "variables") * 9 // 10
-        fewer = number(after, "records") < number(before, "records") * 3 // 4
+        fewer = number(after, "records") < number(before, "records") * 4 // 5
         return True if same and fewer and signs == {"-", "+"} else f"{signs} {before}{after}"
 
     test(f"{cc} a list of quiet places", quiet)

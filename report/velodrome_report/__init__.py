@@ -1,3 +1,3 @@
 """velodrome-report: one list of findings over all runs of a program."""
 
-VERSION = "1.0"
+VERSION = "0.2.0"
