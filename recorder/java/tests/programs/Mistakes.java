@@ -87,6 +87,7 @@ public class Mistakes {
     }
 
     Object get() {
+      Object[] got = new Object[1];
       guarded(
           this,
           () -> {
@@ -94,8 +95,9 @@ public class Mistakes {
               meet();
               value = new Object();
             }
+            got[0] = value;
           });
-      return value;
+      return got[0];
     }
 
     void first() {
