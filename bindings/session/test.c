@@ -724,11 +724,11 @@ static void the_folder_of_logs_is_made(void) {
 }
 
 static void write_report(const char *script) {
-    FILE *f = fopen("report", "w");
+    FILE *f = fopen("told.report", "w");
     if (script)
         fputs(script, f);
     fclose(f);
-    chmod("report", script ? 0700 : 0600);
+    chmod("told.report", script ? 0700 : 0600);
 }
 static void an_alarm_is_told_by_the_report(void) { /* else by the explanation */
     static const char *const scripts[] = {
@@ -737,7 +737,7 @@ static void an_alarm_is_told_by_the_report(void) { /* else by the explanation */
         "exit 3\n",
         "#!/bin/sh\nprintf 'nothing by whom\\n\\n'\n", "#!/bin/sh\nkill -9 $$\n", NULL};
     vs_object x = VS_OBJECT("x");
-    setenv("VELODROME_REPORT", "./report", 1);
+    setenv("VELODROME_REPORT", "./told.report", 1);
     for (int i = 0; i < 4; i++) {
         char *report;
         bool fails, told = i == 0;
@@ -751,7 +751,7 @@ static void an_alarm_is_told_by_the_report(void) { /* else by the explanation */
         vs_free(report);
     }
     unsetenv("VELODROME_REPORT");
-    remove("report");
+    remove("told.report");
     remove("told.vlog");
     remove("told.vlog.names");
     remove("told.vlog.sites");

@@ -101,7 +101,8 @@ class Programs(Recorded):
         answer = self.recorded("registry", "-n", "3", "--noise", "5")
         (kind, function, _), *_ = self.likely(answer)
         self.assertEqual((kind, function), ("not_atomic", "Registry::id_of(..)"))
-        self.assertIn(16, self.lines(answer))
+        # by what is looked up, or by the shared hold in which it is
+        self.assertTrue({16, 19} & set(self.lines(answer)))
 
     def test_handle(self) -> None:
         answer = self.recorded("handle", "-n", "3", "--noise", "5")

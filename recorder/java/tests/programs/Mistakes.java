@@ -87,7 +87,7 @@ public class Mistakes {
     }
 
     Object get() {
-      Object[] got = {null};
+      Object[] got = new Object[1];
       guarded(
           this,
           () -> {
