@@ -1644,11 +1644,16 @@ static PyObject *py_join(PyObject *module, PyObject *args) {
 /* What the package knows of Python: a function that says whether a file is of the library, and the
  * code by which a Condition makes its lock. */
 static PyObject *py_know(PyObject *module, PyObject *args) {
+    PyObject *library, *init;
     (void)module;
-    if (!PyArg_ParseTuple(args, "OO", &is_library, &condition))
+    if (!PyArg_ParseTuple(args, "OO", &library, &init))
         return NULL;
-    Py_INCREF(is_library); /* for good */
-    Py_INCREF(condition);
+    if (!is_library) {      /* that of another interpreter would go with it */
+        Py_INCREF(library); /* for good */
+        Py_INCREF(init);
+        is_library = library;
+        condition = init;
+    }
     Py_RETURN_NONE;
 }
 
