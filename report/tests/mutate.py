@@ -2,7 +2,8 @@
 
 Each edit is put into a copy of the package, and the tests are run over it until one fails. With words it takes the edits of
 the files whose names have one of them. The last line is `N wrong printers, M seen`; the status is 1 where an edit fits no
-line, or where more than LEFT were not seen.
+line, or where more than LEFT were not seen. It is 2 where nothing can be said: VELODROME is no checker, without which tests
+are left out, or a test fails without an edit.
 """
 
 from __future__ import annotations
@@ -14,7 +15,7 @@ import signal
 import sys
 import tempfile
 import unittest
-from typing import List, Optional, Tuple
+from typing import Iterable, List, Optional, Tuple
 
 # what the tests need is loaded once, not in each process
 import html.parser  # noqa: F401
@@ -38,6 +39,7 @@ JUDGED = {
 }
 
 Edit = Tuple[str, str, str]
+NO_EDIT: Edit = ("words.py", "", "")
 EDITS: List[Edit] = [
     # what every form says
     ("words.py", "{len(finding.seen)} of", "{len(finding.possible)} of"),
@@ -202,7 +204,7 @@ EDITS: List[Edit] = [
     ("text.py", "enumerate(self.report.findings, 1)", "enumerate(self.report.findings, 0)"),
     ("text.py", "if free >= GAP:", "if True:"),
     ("text.py", "shortened_at_end(visible(line), room) for", "visible(line) for"),
-    ("text.py", "lane[event.thread.number] * (room + GAP)", "lane[event.thread.number] * room"),
+    ("text.py", "lane[number] * (room + GAP)", "lane[number] * room"),
     ("text.py", "words.frames(event, self.report)", "reversed(event.stack)"),
     ("text.py", '" (to blame)" if frame.to_blame', '" (to blame)" if not frame.to_blame'),
     ("text.py", "if run not in one.seen]", "if run in one.seen]"),
@@ -334,10 +336,26 @@ def copied(edit: Edit) -> Optional[str]:
     return None
 
 
+def tests_of(name: str) -> List[str]:
+    """Returns the tests that are run over an edit of a file."""
+    return [*JUDGED.get(name, []), *TESTS, *(["test_page"] if name in PAGE else [])]
+
+
 def is_seen(folder: str, name: str) -> bool:
     """Says whether a test fails."""
-    tests = [*JUDGED.get(name, []), *TESTS, *(["test_page"] if name in PAGE else [])]
-    return any(fails(folder, test) for test in tests)
+    return any(fails(folder, test) for test in tests_of(name))
+
+
+def unfit(names: Iterable[str]) -> Optional[str]:
+    """Returns why the tests of these files tell nothing; None if they do."""
+    if not os.access(os.environ.get("VELODROME", ""), os.X_OK):
+        return "VELODROME is not the path of the checker: the tests that need it would be left out"
+    folder = copied(NO_EDIT)
+    assert folder is not None
+    tests = dict.fromkeys(test for name in names for test in tests_of(name))
+    failed = [test for test in tests if fails(folder, test)]
+    shutil.rmtree(folder)
+    return f"without an edit, too, there fails: {', '.join(failed)}" if failed else None
 
 
 def fails(folder: str, test: str) -> bool:
@@ -368,6 +386,10 @@ def run(folder: str, test: str) -> int:
 
 def main(wanted: List[str]) -> int:
     edits = [edit for edit in EDITS if not wanted or any(word in edit[0] for word in wanted)]
+    why = unfit(edit[0] for edit in edits)
+    if why is not None:
+        print(f"mutate.py: {why}", file=sys.stderr)
+        return 2
     seen = lost = 0
     for edit in edits:
         folder = copied(edit)

@@ -164,6 +164,10 @@ class Words(unittest.TestCase):
         finding.witness = replace(finding.witness, events=tuple(events))
         self.assertEqual(words.claim(finding), "worker(): counter is written from an old value")
 
+    def test_what_no_run_has_seen_can_be_written(self) -> None:
+        finding = replace(samples.stale(), seen=())
+        self.assertEqual(words.claim(finding), "worker(): counter can be written from an old value")
+
     def test_what_many_runs_say_is_told_once(self) -> None:
         report = Report([Run(f"r/{number}", reasons=("moved",)) for number in range(3)])
         self.assertEqual(words.unsaid(report), ["r/0: moved (and 2 more)"])

@@ -165,6 +165,16 @@ class Racing(support.InFolder):
         support.put(self.path("known.txt"), "worker()\n")
         self.assertEqual(self.found(one_after_the_other(), "--known", "known.txt"), [])
 
+    def test_a_known_function_within_another(self) -> None:
+        """What is known of the inner one is not told of the outer one."""
+        log = one_after_the_other().named(label_1="run()")
+        place = log.lines.index(("1 begin 0", "race.cpp:9 main"))
+        log.lines.insert(place, ("1 begin 1", "race.cpp:8 main"))
+        log.lines.insert(log.lines.index(("1 end", "")), ("1 end", ""))
+        self.assertEqual(self.assert_told(log)["function"]["name"], "worker()")
+        support.put(self.path("known.txt"), "worker()\n")
+        self.assertEqual(self.found(log, "--known", "known.txt"), [])
+
     def test_inner_calls_are_on_the_stacks(self) -> None:
         log = one_after_the_other().named(label_1="get()", label_2="put()")
         for access, label in ((READ, 1), (WRITE, 2)):
