@@ -1,8 +1,11 @@
 pub mod OnReaders
-pub mod OnRenamed
-pub mod OnLastAccesses
-pub mod OnOthers
+pub mod OnRaised
+pub mod OnRows
 pub mod OnCells
+pub mod OnLastAccesses
+pub mod OnStored
+pub mod OnRenamed
+pub mod OnOthers
 pub mod OnForgotten
 pub mod OnSteps
 pub mod OnGraphLookUps
@@ -10,6 +13,4 @@ pub mod OnLatest
 pub mod OnBeside
 pub mod OnClocks
 pub mod OnThreads
-pub mod OnRaised
-pub mod OnRows
 pub mod OnNoted

@@ -6,8 +6,8 @@ use Rattle.std.specs.Option.{option_to_list}
 use Rattle.velo_arena.specs.declared.step.Step.{Step}
 use Rattle.velo_events.specs.Place.{LastWrite, LastRead, thread_numbers}
 use Rattle.velo_tables.specs.Readers.{AreReaders}
-use Rattle.velo_tables.specs.LastAccesses.{LastAccesses, entry, accesses_of}
-use Rattle.velo_tables.specs.Others.{but_for, steps_of}
+use Rattle.velo_tables.specs.LastAccesses.{LastAccesses, entry, reads_of}
+use Rattle.velo_tables.specs.Others.{but_for}
 use Rattle.velo_tables.proofs.OnReaders.{HaveBits, filter_map-cons}
 
 pub but_for-none : (slot : Option ℕ) → but_for slot None ≡ None
@@ -26,7 +26,11 @@ filter_map-map f g (x ∷ xs) = ap (cons_option (f (g x))) (filter_map-map f g x
 abbrev pub accesses_of_places : Option ℕ → LastAccesses → ℕ → List Step
 accesses_of_places slot kept x = filter_map (λ p. but_for slot (entry kept p)) (LastWrite x ∷ map (LastRead x) thread_numbers)
 
-pub steps_of_accesses : (slot : Option ℕ) (kept : LastAccesses) (x : ℕ) → accesses_of_places slot kept x ≡ steps_of slot (accesses_of kept x)
+-- those of its reads
+abbrev pub reads_but_for : Option ℕ → List (Option Step) → List Step
+reads_but_for slot reads = filter_map (λ t. but_for slot (get_or reads t None)) thread_numbers
+
+pub steps_of_accesses : (slot : Option ℕ) (kept : LastAccesses) (x : ℕ) → accesses_of_places slot kept x ≡ option_to_list (but_for slot (entry kept (LastWrite x))) ++ reads_but_for slot (reads_of kept x)
 steps_of_accesses slot kept x =
     filter_map-cons (λ p. but_for slot (entry kept p)) (LastWrite x) (map (LastRead x) thread_numbers)
-    ∙ ap (λ ys. option_to_list (but_for slot (accesses_of kept x).write) ++ ys) (filter_map-map (λ p. but_for slot (entry kept p)) (LastRead x) thread_numbers)
+    ∙ ap (λ ys. option_to_list (but_for slot (entry kept (LastWrite x))) ++ ys) (filter_map-map (λ p. but_for slot (entry kept p)) (LastRead x) thread_numbers)

@@ -14,18 +14,10 @@ use Rattle.std.proofs.lemmas.Nat.Bits.{bit_at-zero, bit_at_above, bit_at-trailin
 use Rattle.std.proofs.lemmas.List.{append-nil, append_assoc, get_or_past, get_or-set_same, get_or-set_other, length-set, map-id}
 use Rattle.std.proofs.lemmas.List.Elements.{filter_map-append}
 use Rattle.std.proofs.lemmas.List.FromFn.{map-range_with_len_more}
-use Rattle.velo_events.specs.Growth.{filled_up}
-use Rattle.velo_events.proofs.OnFilling.{get_or-filled_up, length-filled_up}
 use Rattle.velo_tables.specs.Readers.{AreReaders}
 use Rattle.velo_events.specs.Place.{thread_numbers}
 
 -- ---- the threads that have a read
-
-pub AreReaders-filled_up : {X : Type 0} (readers n : ℕ) (reads : List (Option X)) → n ≤ 64 → AreReaders readers reads → AreReaders readers (filled_up None n reads)
-AreReaders-filled_up readers n reads h are = record {
-  few = omega (arith, length-filled_up None n reads, are.few);
-  covers = λ t clear. get_or-filled_up None n reads t ∙ are.covers t clear;
-}
 
 -- with its bit set, an entry may have a step
 pub AreReaders-set : {X : Type 0} (readers : ℕ) (reads : List (Option X)) (t : ℕ) (step : Option X) → t < length reads → AreReaders readers reads → AreReaders (bit_or readers (1 * 2 ^ t % 2 ^ bits w64)) (set reads t step)

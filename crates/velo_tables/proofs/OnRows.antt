@@ -13,7 +13,7 @@ use Rattle.velo_tables.specs.ClockRows.{IsWritten, KeepsNumbers}
 -- ---- where rows stand
 
 -- each ends where a later one begins, or before
-ends-before : (n i j : ℕ) → i < j → i * n + n ≤ j * n
+pub ends-before : (n i j : ℕ) → i < j → i * n + n ≤ j * n
 ends-before n i zero h = absurd (omega (arith, h))
 ends-before n zero (suc j) h = omega (arith, suc-mul j n)
 ends-before n (suc i) (suc j) h = omega (arith, suc-mul i n, suc-mul j n, ends-before n i j (omega (arith, h)))
@@ -96,21 +96,26 @@ module _ (n : ℕ) (numbers : List ℕ) (i : ℕ) (there : HasRow n numbers i) (
 
 -- ---- lists are filled up
 
--- a number of a row is one of the list
-number-in : (n : ℕ) (numbers : List ℕ) (i u : ℕ) → u < n → get_or (row_of n numbers i) u 0 ≡ get_or numbers (i * n + u) 0
-number-in n numbers i u l = get_or-take n (drop (i * n) numbers) u 0 l ∙ get_or-drop (i * n) numbers u 0
+module _ {X : Type 0} (blank : X) (n : ℕ) where
+  -- a number of a row is one of the list
+  number-in : (numbers : List X) (i u : ℕ) → u < n → get_or (row_of n numbers i) u blank ≡ get_or numbers (i * n + u) blank
+  number-in numbers i u l = get_or-take n (drop (i * n) numbers) u blank l ∙ get_or-drop (i * n) numbers u blank
 
--- and a row has no more
-none-past : (n : ℕ) (numbers : List ℕ) (i u : ℕ) → n ≤ u → get_or (row_of n numbers i) u 0 ≡ 0
-none-past n numbers i u past = get_or_past (row_of n numbers i) u 0 (omega (arith, past, length-take n (drop (i * n) numbers)))
+  -- and a row has no more
+  pub none-past : (numbers : List X) (i u : ℕ) → n ≤ u → get_or (row_of n numbers i) u blank ≡ blank
+  none-past numbers i u past = get_or_past (row_of n numbers i) u blank (omega (arith, past, length-take n (drop (i * n) numbers)))
 
-pub row-filled : (n k : ℕ) (numbers : List ℕ) (i u : ℕ) → get_or (row_of n (filled_up 0 k numbers) i) u 0 ≡ get_or (row_of n numbers i) u 0
-row-filled n k numbers i u = ⊎_elim
-    (λ l. number-in n (filled_up 0 k numbers) i u l ∙ (get_or-filled_up 0 k numbers (i * n + u) ∙ sym (number-in n numbers i u l)))
-    (λ past. none-past n (filled_up 0 k numbers) i u past ∙ sym (none-past n numbers i u past))
-    (cases_lt u n)
+  -- nor has the list
+  pub none-behind : (numbers : List X) (i u : ℕ) → length numbers ≤ i * n + u → get_or (row_of n numbers i) u blank ≡ blank
+  none-behind numbers i u past = get_or_past (row_of n numbers i) u blank (omega (arith, past, length-take n (drop (i * n) numbers), length-drop (i * n) numbers))
 
-pub row-short : (n : ℕ) (numbers : List ℕ) (i : ℕ) → length (row_of n numbers i) ≤ n
+  pub row-filled : (k : ℕ) (numbers : List X) (i u : ℕ) → get_or (row_of n (filled_up blank k numbers) i) u blank ≡ get_or (row_of n numbers i) u blank
+  row-filled k numbers i u = ⊎_elim
+      (λ l. number-in (filled_up blank k numbers) i u l ∙ (get_or-filled_up blank k numbers (i * n + u) ∙ sym (number-in numbers i u l)))
+      (λ past. none-past (filled_up blank k numbers) i u past ∙ sym (none-past numbers i u past))
+      (cases_lt u n)
+
+pub row-short : {X : Type 0} (n : ℕ) (numbers : List X) (i : ℕ) → length (row_of n numbers i) ≤ n
 row-short n numbers i = omega (arith, length-take n (drop (i * n) numbers))
 
 -- each of n threads has its row
@@ -131,9 +136,9 @@ module _ (n : ℕ) (old : PlaceNumbers) (some : 0 < n) (x last : ℕ) (is_last :
     where
       number : (p : ClockPlace) (u : ℕ) → number_at n filled p u ≡ number_at n old p u
       number (OfLast t) u = refl
-      number (OfWrite c) u = ap (λ xs. get_or (row_of n xs c) u 0) written ∙ row-filled n (last + 1) old.writes c u
+      number (OfWrite c) u = ap (λ xs. get_or (row_of n xs c) u 0) written ∙ row-filled 0 n (last + 1) old.writes c u
       number (OfReads c) u = ⊎_elim
-          (λ more. ap (λ xs. get_or (row_of n xs c) u 0) more ∙ row-filled n (last + 1) old.reads c u)
+          (λ more. ap (λ xs. get_or (row_of n xs c) u 0) more ∙ row-filled 0 n (last + 1) old.reads c u)
           (λ same. ap (λ xs. get_or (row_of n xs c) u 0) same) read
 
   pub filled-room : reads ≡ filled_up 0 (last + 1) old.reads → HasRoomAt n filled x

@@ -67,8 +67,8 @@ pub record ClockState : Type 0 where
   pub known : PlaceNumbers
   pub by_others : PlaceNumbers
 
--- one of the rows of n numbers that stand one after another
-abbrev pub row_of : ℕ → List ℕ → ℕ → List ℕ
+-- one of the rows of n numbers, or entries, that stand one after another
+abbrev pub row_of : {X : Type 0} → ℕ → List X → ℕ → List X
 row_of n numbers i = take n (drop (i * n) numbers)
 
 abbrev pub row_at : ℕ → PlaceNumbers → ClockPlace → List ℕ

@@ -1,5 +1,5 @@
 -- What the tables keep: a step or none at each place.
-use Rattle.std.specs.Prelude.{◌≡◌, ℕ, Bool, false, ◌==◌, ◌&&◌, ◌<◌, ◌≤◌, List, [], Option, None, slice_index_or, option_map, length, if◌then◌else◌, ⊤}
+use Rattle.std.specs.Prelude.{◌≡◌, ℕ, Bool, false, ◌==◌, ◌&&◌, ◌+◌, ◌*◌, ◌<◌, List, Option, None, slice_index_or, option_map, length, if◌then◌else◌, ⊤}
 use Rattle.std.specs.List.{filter_map}
 use Rattle.std.specs.Int.{bit_at}
 use Rattle.velo_arena.specs.declared.step.Step.{Step}
@@ -10,28 +10,23 @@ use Rattle.velo_events.specs.declared.event.Access.{Access}
 use Rattle.velo_events.specs.declared.event.Access.TheVariants.{Shared, Exclusive}
 use Rattle.velo_events.specs.Event.{thread_of, access_of}
 use Rattle.velo_events.specs.Place.{Place, LastOf, LastWrite, LastRead, looked_up, is_recorded}
+use Rattle.velo_tables.specs.Clocks.{row_of}
 
--- what is kept of one cell: its last write, and its last read by each thread for which there is room
-pub record Accesses : Type 0 where
-  pub write : Option Step
-  pub reads : List (Option Step)
-
--- by number: what is kept of each thread, and of each cell for which there is room
+-- by number: what is kept of each thread, and of each cell for which there is room. The last reads are rows, one after another, with an entry for each thread
 pub record LastAccesses : Type 0 where
   pub threads : List (Option Step)
-  pub cells : List Accesses
+  pub writes : List (Option Step)
+  pub reads : List (Option Step)
 
-abbrev pub no_accesses : Accesses
-no_accesses = record { write = None; reads = [] }
-
-abbrev pub accesses_of : LastAccesses → ℕ → Accesses
-accesses_of kept x = slice_index_or kept.cells x no_accesses
+-- the last reads of cell x
+abbrev pub reads_of : LastAccesses → ℕ → List (Option Step)
+reads_of kept x = row_of (length kept.threads) kept.reads x
 
 -- the step that is kept at a place
 abbrev pub entry : LastAccesses → Place → Option Step
 entry kept (LastOf t) = slice_index_or kept.threads t None
-entry kept (LastWrite x) = (accesses_of kept x).write
-entry kept (LastRead x t) = slice_index_or (accesses_of kept x).reads t None
+entry kept (LastWrite x) = slice_index_or kept.writes x None
+entry kept (LastRead x t) = slice_index_or (reads_of kept x) t None
 
 -- the steps at the places that the event looks up, where there is one
 unfoldable pub steps_looked_up : LastAccesses → Event → List Step
@@ -47,16 +42,16 @@ pub record HasItsThreads (kept : LastAccesses) (e : Event) : Type 0 where
   pub own : thread_of e < length kept.threads
   pub forked : OthersKnown kept (access_of e.kind)
 
+-- there is room for a read of cell x by thread t
+abbrev pub HasRoomToRead : LastAccesses → ℕ → ℕ → Type 0
+HasRoomToRead kept x t = (x < length kept.writes) × (x * length kept.threads + t < length kept.reads)
+
 -- there is room for what the operation of thread t records beside the last event of t
 abbrev pub HasRoomBeside : LastAccesses → ℕ → Access → Type 0
-HasRoomBeside kept t (Shared c) = (c.0 < length kept.cells) × (t < length (accesses_of kept c.0).reads)
-HasRoomBeside kept t (Exclusive c) = c.0 < length kept.cells
+HasRoomBeside kept t (Shared c) = HasRoomToRead kept c.0 t
+HasRoomBeside kept t (Exclusive c) = c.0 < length kept.writes
 HasRoomBeside kept t (Access.Fork u) = u.0 < length kept.threads
 HasRoomBeside kept t _ = ⊤
-
--- there is room for a read of the cell by each of so many threads
-abbrev pub HasRoomToRead : ℕ → LastAccesses → ℕ → Type 0
-HasRoomToRead threads kept x = (x < length kept.cells) × (threads ≤ length (accesses_of kept x).reads)
 
 -- there is room for all that the event records
 pub record HasRoomFor (kept : LastAccesses) (e : Event) : Type 0 where

@@ -1,4 +1,4 @@
-//! Rows of numbers, one for each thread, that stand one after another in one list.
+//! Rows, with a number or an entry for each thread, that stand one after another in one list.
 ghost use Rattle.std.specs.Prelude.{◌≡◌, ◌<◌, ◌≤◌, ◌*◌, ◌+◌, ◌^◌, length, slice_index_or};
 ghost use Rattle.velo_tables.specs.Clocks.{row_of, HasRow};
 ghost use Rattle.velo_tables.specs.ClockRows.{maxima, IsWritten};
@@ -27,7 +27,7 @@ pub(crate) fn number_of(numbers: &[u32], t: ThreadId) -> u32
 }
 
 /// The row of this number, or what there is of it.
-pub(crate) fn row(numbers: &[u32], count: usize, number: usize) -> &[u32]
+pub(crate) fn row<T>(numbers: &[T], count: usize, number: usize) -> &[T]
     requires few { count ≤ 64 }
     requires fits { number < 2 ^ 32 }
     ensures { result.now ≡ row_of count numbers.now number }

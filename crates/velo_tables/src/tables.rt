@@ -1,23 +1,28 @@
 //! The steps of the last events of threads, variables and locks.
-ghost use Rattle.std.specs.Prelude.{◌≡◌, ◌+◌, ◌^◌, ◌<◌, ◌≤◌, ◌++◌, ◌∷◌, None, Some, length, map, slice_index_or, slice_set, IsTrue, IsFalse, ◌↔◌, IfOk, OnOk, OnErr};
+ghost use Rattle.std.specs.Prelude.{◌≡◌, ◌+◌, ◌*◌, ◌^◌, ◌<◌, ◌≤◌, ◌++◌, ◌∷◌, None, Some, length, map, slice_index_or, slice_set, IsTrue, IsFalse, ◌↔◌, IfOk, OnOk, OnErr};
 ghost use Rattle.std.specs.List.{filter_map};
 ghost use Rattle.std.specs.Option.{option_to_list};
 ghost use Rattle.smallvec.specs.SmallVec.{HasRoomFor as HasSpace};
 ghost use Rattle.velo_events.specs.declared.limits.TheConstants.{MAX_THREADS};
 ghost use Rattle.velo_tables.specs.declared.tables.TheConstants.{MAX_PREDECESSORS};
 ghost use Rattle.velo_events.specs.Place.{LastOf, LastWrite, LastRead, thread_numbers};
-ghost use Rattle.velo_tables.specs.LastAccesses.{entry, no_accesses, steps_looked_up, HasItsThreads, HasRoomFor, HasRoomToRead, HasRoomBeside, CoverReaders, IsBlank, IsUnchanged, IsRecorded, IsReadForgotten, IsRenamed, accesses_of};
+ghost use Rattle.velo_tables.specs.LastAccesses.{entry, reads_of, steps_looked_up, HasItsThreads, HasRoomFor, HasRoomToRead, HasRoomBeside, CoverReaders, IsBlank, IsUnchanged, IsRecorded, IsReadForgotten, IsRenamed};
 ghost use Rattle.velo_tables.specs.Others.{but_for, accesses_but_for};
 ghost use Rattle.velo_events.specs.Event.{thread_of, access_of, is_exclusive};
-ghost use Rattle.velo_tables.specs.Recorded.{kept_after, kept_after_beside, kept_by, with_cell, with_read};
+ghost use Rattle.velo_tables.specs.Recorded.{kept_after, kept_after_beside, kept_by, with_read, with_write};
+ghost use Rattle.velo_tables.specs.Readers.{AreReaders};
 
-use crate::cells::{Cells, but_for, push_step};
+use crate::cells::{
+    CellAccesses, are_of, blank_cell, but_for, push_reads_of, push_step, read_place, readers_at,
+    rename_writes, with_reader, without_reader, write_at,
+};
 use crate::entry::{Entry, entry_at, rename_entries};
+use crate::rows::row;
 use smallvec::SmallVec;
 use std::alloc::Global;
 use std::marker::Model;
 use velo_arena::{Heir, Step};
-use velo_events::growth::resize;
+use velo_events::growth::{fill_up_to, resize};
 use velo_events::{Access, Cell, Config, Event, MAX_THREADS, Memory, Resolved, ThreadId};
 
 /// The most steps that an event looks up: of its thread, of the last write, and of a read by each thread.
@@ -29,19 +34,22 @@ pub const MAX_PREDECESSORS: usize = MAX_THREADS as usize + 2;
 #[derive(Drop)]
 pub struct Tables {
     threads: Vec<Entry>,
-    cells: Cells,
+    cells: Vec<CellAccesses>,
+    /// The last reads: a row of each cell, one after another, with an entry for each thread.
+    reads: Vec<Entry>,
 }
 
 impl Model for Tables {
-    ghost use Rattle.std.specs.Prelude.{◌≤◌, length};
-    ghost use Rattle.velo_events.specs.declared.limits.TheConstants.{MAX_THREADS};
+    ghost use Rattle.std.specs.Prelude.{length};
     ghost use Rattle.velo_tables.specs.LastAccesses.{LastAccesses};
 
     ghost Value = { LastAccesses };
 
-    ghost view = { λ s. record { threads = s.threads.items; cells = s.cells } };
+    ghost use Rattle.velo_tables.specs.Cells.{writes_in, AreKept};
 
-    ghost invariant = { λ s. length s.threads.items ≤ MAX_THREADS };
+    ghost view = { λ s. record { threads = s.threads.items; writes = writes_in s.cells.items; reads = s.reads.items } };
+
+    ghost invariant = { λ s. AreKept (length s.threads.items) s.cells.items s.reads.items };
 }
 
 /// Puts the step, or none, in the place of the entry with this number.
@@ -69,7 +77,8 @@ impl Tables {
         )?;
         Ok(Tables {
             threads,
-            cells: Cells::new(alloc),
+            cells: Vec::new(alloc),
+            reads: Vec::new(alloc),
         })
     }
 
@@ -84,14 +93,14 @@ impl Tables {
     pub fn last_write(&self, c: Cell) -> Option<Step>
         ensures { result ≡ entry self.now (LastWrite c.0) }
     {
-        self.cells.last_write(c)
+        write_at(&self.cells, c.0 as usize)
     }
 
     /// The step of the cell's last read by the thread.
     pub fn last_read(&self, c: Cell, t: ThreadId) -> Option<Step>
         ensures { result ≡ entry self.now (LastRead c.0 t.0) }
     {
-        self.cells.last_read(c, t)
+        entry_at(self.reads_of(c), t.0 as usize)
     }
 
     /// A bit for each thread whose last read of the cell has a step, and perhaps for others that read it: no other
@@ -99,7 +108,21 @@ impl Tables {
     pub fn readers(&self, c: Cell) -> u64
         ensures { CoverReaders self.now c.0 result }
     {
-        self.cells.readers(c)
+        self.readers_of(c)
+    }
+
+    /// The last reads of the cell, by number of their threads.
+    fn reads_of(&self, c: Cell) -> &[Entry]
+        ensures { result.now ≡ reads_of self.now c.0 }
+    {
+        row(&self.reads, self.threads.len(), c.0 as usize)
+    }
+
+    /// The bits of its readers.
+    fn readers_of(&self, c: Cell) -> u64
+        ensures { AreReaders result (reads_of self.now c.0) }
+    {
+        readers_at(&self.cells, c.0 as usize)
     }
 }
 
@@ -128,11 +151,37 @@ impl Tables {
         ensures { IsTrue result ↔ HasRoomBeside self.now (thread_of event.now) (access_of event.now.kind) }
     {
         match event.access() {
-            Access::Shared(c) => self.cells.has_room_to_read(c, event.thread()),
-            Access::Exclusive(c) => self.cells.has_room_to_write(c),
+            Access::Shared(c) => self.has_room_to_read(c, event.thread()),
+            Access::Exclusive(c) => (c.0 as usize) < self.cells.len(),
             Access::Fork(u) => (u.0 as usize) < self.threads.len(),
             _ => true,
         }
+    }
+
+    /// Where the thread's last read of the cell stands among those of all.
+    #[inline(always)]
+    fn place_of(&self, c: Cell, t: ThreadId) -> usize
+        ensures place { result ≡ c.0 * length self.now.threads + t.0 }
+        ensures small { result < 2 ^ 48 }
+    {
+        read_place(self.threads.len(), c, t)
+    }
+
+    /// Whether there is room for a read of the cell by the thread.
+    #[inline(always)]
+    fn has_room_to_read(&self, c: Cell, t: ThreadId) -> bool
+        ensures { IsTrue result ↔ HasRoomToRead self.now c.0 t.0 }
+    {
+        (c.0 as usize) < self.cells.len() && self.place_of(c, t) < self.reads.len()
+    }
+
+    /// Whether the thread's last read of the cell has a place.
+    fn has_place(&self, c: Cell, t: ThreadId) -> bool
+        ensures own { IsTrue result → t.0 < length self.now.threads }
+        ensures room { IsTrue result → HasRoomToRead self.now c.0 t.0 }
+        ensures none { IsFalse result → entry self.now (LastRead c.0 t.0) ≡ None }
+    {
+        (t.0 as usize) < self.threads.len() && self.has_room_to_read(c, t)
     }
 
     /// Makes room for what the event records, where there was none.
@@ -144,7 +193,7 @@ impl Tables {
         ensures ok { OnOk result (HasItsThreads self.old event.now → HasRoomFor self.new event.now) }
     {
         match event.access() {
-            Access::Shared(c) => self.reserve_reads(c),
+            Access::Shared(c) => self.reserve_read(c, event.thread()),
             Access::Exclusive(c) => self.reserve_cell(c),
             _ => Ok(()),
         }
@@ -154,20 +203,31 @@ impl Tables {
     fn reserve_cell(&mut self, c: Cell) -> Result<(), Memory>
         ensures same { IsUnchanged self.old self.new }
         ensures threads { length self.new.threads ≡ length self.old.threads }
-        ensures ok { OnOk result (c.0 < length self.new.cells) }
-        ensures err { OnErr result (length self.old.cells ≤ c.0) }
+        ensures ok { OnOk result (c.0 < length self.new.writes) }
     {
-        self.cells.reserve(c)
+        fill_up_to(&mut self.cells, c.0 as usize, blank_cell())
     }
 
-    /// Makes room for a read of the cell by each thread.
-    fn reserve_reads(&mut self, c: Cell) -> Result<(), Memory>
+    /// Makes room for a read of the cell by the thread.
+    fn reserve_read(&mut self, c: Cell, t: ThreadId) -> Result<(), Memory>
         ensures same { IsUnchanged self.old self.new }
         ensures threads { length self.new.threads ≡ length self.old.threads }
-        ensures ok { OnOk result (HasRoomToRead (length self.old.threads) self.new c.0) }
+        ensures ok { OnOk result (HasRoomToRead self.new c.0 t.0) }
     {
         self.reserve_cell(c)?;
-        self.cells.reserve_reads(c, self.threads.len())
+        let place = self.place_of(c, t);
+        self.reserve_place(place)
+    }
+
+    /// Makes room for the last read that stands at this place.
+    fn reserve_place(&mut self, place: usize) -> Result<(), Memory>
+        requires { place < 2 ^ 48 }
+        ensures same { IsUnchanged self.old self.new }
+        ensures threads { length self.new.threads ≡ length self.old.threads }
+        ensures writes { length self.new.writes ≡ length self.old.writes }
+        ensures ok { OnOk result (place < length self.new.reads) }
+    {
+        fill_up_to(&mut self.reads, place, Entry::new(None))
     }
 
     /// Records the step, or none, as the last at each place that the event touches. There has to be room
@@ -216,15 +276,46 @@ impl Tables {
     /// Keeps the step at the places that the event records beside the last event of its thread.
     #[inline(always)]
     fn record_beside(&mut self, event: &Resolved<'_>, step: Option<Step>)
-        requires { HasRoomBeside self.old (thread_of event.now) (access_of event.now.kind) }
+        requires { HasRoomFor self.old event.now }
         ensures { self.new ≡ kept_after_beside self.old (thread_of event.now) (access_of event.now.kind) step }
     {
         match event.access() {
-            Access::Shared(c) => self.cells.record_read(c, event.thread(), step),
-            Access::Exclusive(c) => self.cells.record_write(c, step),
+            Access::Shared(c) => self.record_read(c, event.thread(), step),
+            Access::Exclusive(c) => self.record_write(c, step),
             Access::Fork(u) => put_entry(&mut self.threads, u.0 as usize, step),
             _ => {}
         }
+    }
+
+    /// Records the step, or none, as the cell's last write.
+    fn record_write(&mut self, c: Cell, step: Option<Step>)
+        requires { c.0 < length self.old.writes }
+        ensures { self.new ≡ with_write self.old c.0 step }
+    {
+        self.cells[c.0 as usize].write = Entry::new(step);
+    }
+
+    /// Records the step, or none, as the thread's last read of the cell.
+    fn record_read(&mut self, c: Cell, t: ThreadId, step: Option<Step>)
+        requires own { t.0 < length self.old.threads }
+        requires room { HasRoomToRead self.old c.0 t.0 }
+        ensures { self.new ≡ with_read self.old c.0 t.0 step }
+    {
+        let readers = with_reader(self.readers_of(c), t, step);
+        self.put_read(c, t, readers, step);
+    }
+
+    /// Puts the step, or none, in the place of the thread's last read, and these bits in that of the cell's readers.
+    #[inline(always)]
+    fn put_read(&mut self, c: Cell, t: ThreadId, readers: u64, step: Option<Step>)
+        requires own { t.0 < length self.old.threads }
+        requires room { HasRoomToRead self.old c.0 t.0 }
+        requires covered { AreReaders readers (slice_set (reads_of self.old c.0) t.0 step) }
+        ensures { self.new ≡ with_read self.old c.0 t.0 step }
+    {
+        let place = self.place_of(c, t);
+        self.cells[c.0 as usize].readers = readers;
+        put_entry(&mut self.reads, place, step);
     }
 
     /// Forgets the step of the cell's last read by the thread.
@@ -232,13 +323,10 @@ impl Tables {
         ensures forgotten { IsReadForgotten self.old c.0 t.0 self.new }
         ensures threads { length self.new.threads ≡ length self.old.threads }
     {
-        self.forget_in_place(c, t);
-    }
-
-    fn forget_in_place(&mut self, c: Cell, t: ThreadId)
-        ensures { self.new ≡ with_cell self.old c.0 (with_read (accesses_of self.old c.0) t.0 None) }
-    {
-        self.cells.forget_read(c, t);
+        if self.has_place(c, t) {
+            let readers = without_reader(self.readers_of(c), t);
+            self.put_read(c, t, readers, None);
+        }
     }
 
     /// Puts each step by its heir, where its node has one in the list, which is by slot.
@@ -253,7 +341,8 @@ impl Tables {
         ensures { self.new ≡ kept_by heirs.now self.old }
     {
         rename_entries(&mut self.threads, heirs);
-        self.cells.rename(heirs);
+        rename_writes(&mut self.cells, heirs);
+        rename_entries(&mut self.reads, heirs);
     }
 
     /// Puts the steps that the event looks up into the list, in place of what it had: first that of the thread's last
@@ -314,7 +403,7 @@ impl Tables {
             ↔ (accesses_but_for self.now c.0 slot
             ≡ option_to_list (but_for (Some slot) (entry self.now (LastWrite c.0)))) }
     {
-        self.cells.reads_are_of(c, slot)
+        are_of(self.reads_of(c), self.readers_of(c), slot)
     }
 
     /// The step of the cell's last write, unless it is of the slot.
@@ -334,7 +423,8 @@ impl Tables {
             (LastWrite c.0 ∷ map (LastRead c.0) thread_numbers) }
         ensures capacity { list.new.capacity ≡ list.old.capacity }
     {
-        self.cells.push_accesses(c, slot, list);
+        push_step(list, but_for(slot, self.last_write(c)));
+        push_reads_of(self.reads_of(c), self.readers_of(c), slot, list);
     }
 
     /// The steps that the event looks up: first that of the thread's last event, and a write's reads in the order of their

@@ -1,6 +1,6 @@
 use Rattle.std.proofs.Common.{ap, ◌∙◌, arith, set}
 use Rattle.std.proofs.lemmas.List.Edits.{map_over_more}
-use Rattle.velo_tables.specs.Recorded.{with_write_by}
+use Rattle.velo_tables.specs.Cells.{with_write_by}
 use Rattle.velo_tables.proofs.cells.rename_writes.Goals as goal
 
 pub loop-number-preserved : goal.loop-number-preserved

@@ -1,5 +1,5 @@
 use Rattle.std.proofs.Common.{◌≡◌, ◌++◌, take, drop, map}
-use Rattle.velo_tables.specs.Recorded.{with_write_by}
+use Rattle.velo_tables.specs.Cells.{with_write_by}
 use Rattle.velo_tables.proofs.cells.rename_writes.Given as goal
 
 abbrev pub invariant-loop-number : goal.invariant-loop-number

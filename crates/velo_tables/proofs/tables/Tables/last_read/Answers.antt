@@ -1,7 +1,6 @@
-use Rattle.std.proofs.Common.{ap, ◌∙◌}
-use Rattle.velo_events.specs.Place.{LastRead}
-use Rattle.velo_tables.specs.LastAccesses.{entry}
+use Rattle.std.proofs.Common.{None, ap, ◌∙◌}
+use Rattle.std.specs.Prelude.{slice_index_or}
 use Rattle.velo_tables.proofs.tables.Tables.last_read.Goals as goal
 
 pub returns : goal.returns
-returns c = c.last_read.ensures ∙ ap (λ kept. entry kept (LastRead c.args.c.0 c.args.t.0)) c.self.view_is
+returns c = c.entry_at.ensures ∙ ap (λ row. slice_index_or row c.args.t.0 None) c.reads_of.ensures
