@@ -1,5 +1,5 @@
 -- What the tables keep at each place: after an event was recorded, after room was made, and in the order of a look-up.
-use Rattle.std.proofs.Common.{◌≡◌, ℕ, ◌+◌, ◌*◌, ◌<◌, ◌≤◌, Bool, true, false, List, length, get_or, Option, Some, None, Result, refl, sym, ap, ◌∙◌, subst, arith, max}
+use Rattle.std.proofs.Common.{◌≡◌, ℕ, ◌+◌, ◌*◌, ◌<◌, ◌≤◌, Bool, true, false, List, length, get_or, Option, Some, None, Result, refl, sym, ap, ◌∙◌, subst, arith}
 use Rattle.std.specs.Prelude.{OnOk, OnErr}
 use Rattle.std.specs.Prelude.{◌==◌, ◌||◌, ◌&&◌, if◌then◌else◌}
 use Rattle.std.proofs.Math.ListN.{set}
@@ -15,7 +15,7 @@ use Rattle.velo_tables.specs.Clocks.{row_of}
 use Rattle.velo_tables.specs.LastAccesses.{LastAccesses, entry, reads_of, HasRoomFor, HasRoomBeside, IsRecorded, IsUnchanged}
 use Rattle.velo_tables.specs.Recorded.{with_thread, kept_after, kept_after_beside}
 use Rattle.velo_events.proofs.OnLists.{get_or-set}
-use Rattle.velo_events.proofs.OnResults.{from_either, OnOk-weaker}
+use Rattle.velo_events.proofs.OnResults.{from_either}
 use Rattle.velo_events.proofs.OnFilling.{get_or-filled_up, length-filled_up}
 use Rattle.velo_tables.proofs.OnRows.{row-filled}
 use Rattle.velo_tables.proofs.OnCells.{read-set}
@@ -177,8 +177,3 @@ module _ {A E : Type 0} (r : Result A E) where
       from_either r _ _ (IsUnchanged kept (with_reads kept after)) ok err
       (λ e. subst (λ rs. IsUnchanged kept (with_reads kept rs)) (sym e) (IsUnchanged-reads kept n))
       (λ e. subst (λ rs. IsUnchanged kept (with_reads kept rs)) (sym e) (IsUnchanged-same kept))
-
-  -- there is room where none was refused
-  pub entries_room : {X : Type 0} (blank : X) (number : ℕ) (before after : List X) → OnOk r (after ≡ filled_up blank (number + 1) before) → OnOk r (number < length after)
-  entries_room blank number before after ok =
-      OnOk-weaker r _ (number < length after) ok (λ e. let long : length after ≡ max (number + 1) (length before) = ap length e ∙ length-filled_up blank (number + 1) before in omega (arith, long))

@@ -68,9 +68,6 @@ module _ (n : ℕ) (numbers : List ℕ) (i : ℕ) (there : HasRow n numbers i) (
   counted : i * n + n - i * n ≡ n
   counted = omega arith
 
-  pub part-fits : i * n + n ≤ length now
-  part-fits = omega (arith, row-fits n numbers i there, ap length same)
-
   pub part-is : take (i * n + n - i * n) (drop (i * n) now) ≡ row_of n numbers i
   part-is = ap (λ k. take k (drop (i * n) now)) counted ∙ ap (λ ns. row_of n ns i) same
 
