@@ -10,14 +10,12 @@ pub mod OnTables
 pub mod OnForgetting
 pub mod OnOwn
 pub mod OnOthers
-pub mod OnStep
-pub mod OnOutside
 pub mod OnOpening
 pub mod OnCollected
 pub mod OnCurrent
 pub mod OnEnding
-pub mod OnBegin
-pub mod OnPlaced
+pub mod OnTaken
+pub mod OnOutside
 pub mod OnDepthsAfter
 pub mod OnSteps
 pub mod OnFirsts

@@ -22,8 +22,7 @@ use Rattle.velo_monitor.specs.Steps.{live_slots, ReachesSome}
 use Rattle.velo_monitor.proofs.OnLooks.{Names}
 use Rattle.velo_monitor.proofs.OnInside.{AreNamed}
 use Rattle.velo_monitor.proofs.OnClosing.{closes-by, closes-from}
-use Rattle.velo_monitor.proofs.OnOpening.{HasFresh}
-use Rattle.velo_monitor.proofs.OnBegin.{HasFlags}
+use Rattle.velo_monitor.proofs.OnOpening.{HasFresh, HasFlags}
 use Rattle.velo_monitor.proofs.OnCurrent.{current-node}
 use Rattle.velo_monitor.proofs.OnSteps.{in_live_slots, of_live_slot}
 

@@ -1,5 +1,5 @@
 -- The ancestors after an event that gets a new node: an outermost begin, or an event outside blocks.
-use Rattle.std.proofs.Common.{◌≡◌, ◌≢◌, ℕ, ◌<◌, ◌≤◌, true, not, ◌&&◌, ◌||◌, eqb, List, [], ◌∷◌, ◌++◌, length, refl, sym, ap, ◌∙◌, subst, ⊎_elim, inl, inr, arith}
+use Rattle.std.proofs.Common.{◌≡◌, ◌≢◌, ℕ, ◌<◌, ◌≤◌, true, false, not, ◌&&◌, ◌||◌, eqb, List, [], ◌∷◌, ◌++◌, length, Some, refl, sym, ap, ◌∙◌, subst, ⊎_elim, inl, inr, arith}
 use Rattle.std.specs.Prelude.{IsTrue}
 use Rattle.std.proofs.lemmas.Bool.{cases_lt, cases_eq, or_cases, or_left, or_right, and_parts, and_from, not_from_false, ne_eqb, eq-eqb, eqb-true, both_ways}
 use Rattle.std.proofs.lemmas.List.Folds.{Any-from_list_any, list_any_at}
@@ -11,6 +11,7 @@ use Rattle.velo_events.specs.Graph.{Edge, Reaches}
 use Rattle.velo_events.proofs.OnGraphs.{newest, Reaches-trans}
 use Rattle.velo_events.proofs.OnReaching.{Reaches-old, Reaches-push_alone, Reaches-to_transaction, Reaches-from_transaction}
 use Rattle.velo_events.proofs.OnUnfinished.{IsUnfinished-before}
+use Rattle.velo_arena.specs.Slots.{is_finished_in}
 use Rattle.velo_graph.specs.Nodes.{Nodes, is_ancestor, reaches, AddsEdges, leads_on, IsAlone}
 use Rattle.velo_tables.proofs.OnGraphLookUps.{IsFound, ReachesByFound, Reaches-push_found}
 use Rattle.velo_merge.specs.Named.{Bears}
@@ -27,6 +28,12 @@ pub record HasFresh (old mid : Nodes) (c p : ℕ) : Type 0 where
   pub stays : (k a : ℕ) → Bears old k a → (k ≢ c) × Bears mid k a
   pub same : (m n : ℕ) → is_ancestor mid m n ≡ is_ancestor old m n
   pub alone : IsAlone mid c
+
+-- the fresh node has not finished, the others are as they were, and its stamp is the newest
+pub record HasFlags (old mid : Nodes) (c p : ℕ) : Type 0 where
+  pub going : is_finished_in mid.slots c ≡ false
+  pub others : (k : ℕ) → k ≢ c → is_finished_in mid.slots k ≡ is_finished_in old.slots k
+  pub newest : mid.slots.newest ≡ Some p
 
 module _ (bounds : Bounds) (w : Watched) (trace : List Event) (e : Event) (stands : IsMonitorOf bounds w trace) (follows : MayFollow bounds trace e) (outer : newest trace e ≡ length trace) (froms : List ℕ) (are : AreNamed w e froms) (mid new : Nodes) (c : ℕ) (opens : HasFresh w.nodes mid c (length trace)) (adds : AddsEdges mid new froms c) where
   back : (k a : ℕ) → Bears new k a → Bears mid k a
