@@ -1,3 +1,4 @@
+pub mod OnOptions
 pub mod OnCollection
 pub mod OnNodes
 pub mod OnLooks

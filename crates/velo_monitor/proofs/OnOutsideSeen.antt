@@ -1,5 +1,5 @@
 -- What the monitor is after an outermost begin, and after an event outside blocks. Neither closes a cycle.
-use Rattle.std.proofs.Common.{◌≡◌, ◌≢◌, ℕ, ◌≤◌, true, false, not, List, [], ◌∷◌, ◌++◌, length, Option, Some, None, refl, sym, ap, ◌∙◌, subst, ⊎_elim, inl, inr, arith}
+use Rattle.std.proofs.Common.{◌≡◌, ◌≢◌, ℕ, ◌≤◌, true, false, not, List, [], ◌∷◌, ◌++◌, length, Option, None, refl, sym, ap, ◌∙◌, subst, ⊎_elim, inl, inr, arith}
 use Rattle.std.specs.Prelude.{◌⊎◌, IsTrue, IsFalse, IsSomeAnd, Contains}
 use Rattle.std.proofs.lemmas.Bool.{cases_Bool, both_ways}
 use Rattle.std.proofs.lemmas.List.{length_push}
@@ -29,6 +29,7 @@ use Rattle.velo_tables.specs.LastAccesses.{steps_looked_up, IsRecorded}
 use Rattle.velo_monitor.specs.Watched.{Watched, IsEntryFor, AreDepths, IsMonitorOf}
 use Rattle.velo_monitor.specs.Steps.{live_slots}
 use Rattle.velo_monitor.specs.Changed.{OpensAfter, BeginsBlock, GetsNoNode, GoesIntoNode, GetsOwnNode, AfterOutside}
+use Rattle.velo_monitor.proofs.OnOptions.{same_some, none_some}
 use Rattle.velo_monitor.proofs.OnLooks.{Names}
 use Rattle.velo_monitor.proofs.OnCurrent.{outside-depth, fresh-opens}
 use Rattle.velo_monitor.proofs.OnInside.{AreNamed}
@@ -117,9 +118,6 @@ module _ (bounds : Bounds) (w : Watched) (trace : List Event) (e : Event) (stand
           nothing : (xs : List ℕ) (b : ℕ) → xs ≡ [] → Contains xs b → ⊥
           nothing xs b none among = let l = subst (λ (ys : List ℕ). Contains ys b) none among in omega (arith, l.1)
 
-          none_some : (s : Step) → None ≡ Some s → ⊥
-          none_some s h = cc
-
       -- it goes into a node that has finished
       module _ (goes : GoesIntoNode w.nodes steps step new.nodes) where
         abbrev c : ℕ
@@ -127,9 +125,6 @@ module _ (bounds : Bounds) (w : Watched) (trace : List Event) (e : Event) (stand
 
         abbrev n : ℕ
         n = goes.into.stamp
-
-        same_some : (a b : Step) → Some a ≡ Some b → a ≡ b
-        same_some a b h = cc
 
         given : IsSomeAnd w.nodes.slots.newest (λ newest. n ≤ newest)
         given =

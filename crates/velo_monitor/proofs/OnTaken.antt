@@ -1,6 +1,6 @@
 -- One more event, by what it does to the nodes: opening one, edges into it, finishing it. But for what is left to collect, the
 -- monitor then stands for the longer trace.
-use Rattle.std.proofs.Common.{◌≡◌, ◌≢◌, ℕ, ◌<◌, ◌≤◌, not, List, [], ◌∷◌, ◌++◌, length, Option, Some, None, refl, sym, ap, ◌∙◌, subst, ⊎_elim, inl, inr, arith}
+use Rattle.std.proofs.Common.{◌≡◌, ◌≢◌, ℕ, ◌<◌, ◌≤◌, not, List, [], ◌∷◌, ◌++◌, length, Option, Some, sym, ap, ◌∙◌, subst, ⊎_elim, inl, inr, arith}
 use Rattle.std.specs.Prelude.{◌⊎◌, IsSomeAnd}
 use Rattle.std.specs.Option.{ForSome}
 use Rattle.std.proofs.lemmas.Bool.{cases_eq, cases_lt, both_ways}
@@ -22,6 +22,7 @@ use Rattle.velo_tables.specs.LastAccesses.{IsRecorded}
 use Rattle.velo_merge.specs.Named.{Bears}
 use Rattle.velo_merge.proofs.OnStamps.{one_slot, one_stamp}
 use Rattle.velo_monitor.specs.Watched.{Watched, AreAncestors, IsEntryFor, IsAccountedIn, AreDepths, IsMonitorOf}
+use Rattle.velo_monitor.proofs.OnOptions.{same_some, below}
 use Rattle.velo_monitor.proofs.OnInside.{AreNamed, ancestors-inside}
 use Rattle.velo_monitor.proofs.OnOpening.{HasFresh, HasFlags, ancestors-opened}
 use Rattle.velo_monitor.proofs.OnEnding.{Finishes}
@@ -56,13 +57,6 @@ takes-finished old up new trace e c own marks takes = record {
     back k a borne = sym (marks.bearing k a) ∙ borne
 
 -- ---- the whole
-
-below : (o : Option ℕ) (s n : ℕ) → IsSomeAnd o (λ z. s ≤ z) → ForSome o (λ z. z < n) → s < n
-below None s n h f = absurd h
-below (Some z) s n h f = let l : z < n = f z refl in let m : s ≤ z = h in omega (arith, l, m)
-
-same_some : {X : Type 0} (a b : X) → Some a ≡ Some b → a ≡ b
-same_some a b h = cc
 
 -- what has not finished founds a node: it is live, and where there is no cycle nothing covers it
 unfinished-founds : (nodes : Nodes) (trace : List Event) (a : ℕ) → ¬ HasCycle trace → IsUnfinished trace a → IsAccountedIn nodes trace a → (k : ℕ) × Bears nodes k a
