@@ -25,6 +25,7 @@ use Rattle.velo_monitor.specs.Steps.{live_slots}
 use Rattle.velo_monitor.specs.Changed.{depth_of, EndsBlock, EndsInner, CountsBlocks, ExtendsBlock, ClosesBlock, AfterInside}
 use Rattle.velo_monitor.specs.Answers.{IsSeen}
 use Rattle.velo_monitor.proofs.OnNaming.{are-named, own-node, cycle-from_some, some-from_cycle}
+use Rattle.velo_monitor.proofs.OnInside.{own-inside}
 use Rattle.velo_monitor.proofs.OnEnding.{Finishes, finishes}
 use Rattle.velo_monitor.proofs.OnTaken.{TakesIn, takes-added, takes-finished, stands-own}
 use Rattle.velo_monitor.proofs.OnCollected.{IsUncollected, stands-collected}
@@ -60,7 +61,7 @@ module _ (bounds : Bounds) (w : Watched) (trace : List Event) (e : Event) (stand
     there = ap (λ (s : Slots). bears s extends.own.slot (newest trace e)) extends.adds.slots ∙ own.0
 
     takes : TakesIn w.nodes extends.extended trace e
-    takes = takes-added bounds w trace e stands follows inside extends.extended (live_slots w.nodes (steps_looked_up w.kept e)) extends.own.slot own.0 (are-named w e) extends.adds
+    takes = takes-added bounds w trace e stands follows w.nodes extends.extended (live_slots w.nodes (steps_looked_up w.kept e)) extends.own.slot (are-named w e) (own-inside bounds w trace e stands follows extends.own.slot own.0 inside) extends.adds
 
     quiet : HasNothingLeft extends.extended
     quiet = nothing_left-added w.nodes extends.extended (live_slots w.nodes (steps_looked_up w.kept e)) extends.own.slot extends.adds stands.collected

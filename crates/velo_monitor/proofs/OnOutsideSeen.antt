@@ -33,12 +33,12 @@ use Rattle.velo_monitor.proofs.OnOptions.{same_some, none_some}
 use Rattle.velo_monitor.proofs.OnLooks.{Names}
 use Rattle.velo_monitor.proofs.OnCurrent.{outside-depth, fresh-opens}
 use Rattle.velo_monitor.proofs.OnInside.{AreNamed}
-use Rattle.velo_monitor.proofs.OnOpening.{HasFresh, HasFlags}
+use Rattle.velo_monitor.proofs.OnOpening.{HasFresh, HasFlags, own-opened}
 use Rattle.velo_monitor.proofs.OnNaming.{names-at, step-borne, flags-opens, are-named-opened}
 use Rattle.velo_monitor.proofs.OnOutside.{stands-outside}
 use Rattle.velo_monitor.proofs.OnMerging.{none-dead, merged-covered}
 use Rattle.velo_monitor.proofs.OnEnding.{Finishes, finishes}
-use Rattle.velo_monitor.proofs.OnTaken.{TakesIn, takes-opened, takes-finished, stands-own}
+use Rattle.velo_monitor.proofs.OnTaken.{TakesIn, takes-added, takes-finished, stands-own}
 use Rattle.velo_monitor.proofs.OnQuiet.{nothing_left-opened, nothing_left-added, nothing_left-ended, not-root, stands-whole}
 use Rattle.velo_monitor.proofs.OnCounts.{end-deep, depths-same, depths-begun}
 
@@ -72,7 +72,7 @@ module _ (bounds : Bounds) (w : Watched) (trace : List Event) (e : Event) (stand
     there = ap (λ (s : Slots). bears s own.slot (newest trace e)) opened.adds.slots ∙ subst (Bears opened.mid own.slot) (sym outer) fresh.fresh
 
     takes : TakesIn w.nodes new trace e
-    takes = takes-opened bounds w trace e stands follows outer opened.mid new froms own.slot are fresh flags opened.adds
+    takes = takes-added bounds w trace e stands follows opened.mid new froms own.slot are (own-opened bounds w trace e stands outer opened.mid own.slot fresh flags) opened.adds
 
     quiet : HasNothingLeft new
     quiet = nothing_left-added opened.mid new froms own.slot opened.adds (nothing_left-opened w.nodes opened.mid own.slot (length trace) fresh flags stands.collected)

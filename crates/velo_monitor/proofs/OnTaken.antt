@@ -1,4 +1,4 @@
--- One more event, by what it does to the nodes: opening one, edges into it, finishing it. But for what is left to collect, the
+-- One more event, by what it does to the nodes: edges into that of its transaction, and finishing it. But for what is left to collect, the
 -- monitor then stands for the longer trace.
 use Rattle.std.proofs.Common.{◌≡◌, ◌≢◌, ℕ, ◌<◌, ◌≤◌, not, List, [], ◌∷◌, ◌++◌, length, Option, Some, sym, ap, ◌∙◌, subst, ⊎_elim, inl, inr, arith}
 use Rattle.std.specs.Prelude.{◌⊎◌, IsSomeAnd}
@@ -23,8 +23,7 @@ use Rattle.velo_merge.specs.Named.{Bears}
 use Rattle.velo_merge.proofs.OnStamps.{one_slot, one_stamp}
 use Rattle.velo_monitor.specs.Watched.{Watched, AreAncestors, IsEntryFor, IsAccountedIn, AreDepths, IsMonitorOf}
 use Rattle.velo_monitor.proofs.OnOptions.{same_some, below}
-use Rattle.velo_monitor.proofs.OnInside.{AreNamed, ancestors-inside}
-use Rattle.velo_monitor.proofs.OnOpening.{HasFresh, HasFlags, ancestors-opened}
+use Rattle.velo_monitor.proofs.OnInside.{AreNamed, HasOwn, ancestors-added}
 use Rattle.velo_monitor.proofs.OnEnding.{Finishes}
 use Rattle.velo_monitor.proofs.OnTables.{entries-recorded}
 use Rattle.velo_monitor.proofs.OnCollected.{IsUncollected}
@@ -68,36 +67,20 @@ unfinished-founds nodes trace a acyclic still account = ⊎_elim
     account
 
 module _ (bounds : Bounds) (w : Watched) (trace : List Event) (e : Event) (stands : IsMonitorOf bounds w trace) (follows : MayFollow bounds trace e) where
-  -- ---- opening, and edges
+  -- ---- edges into the own node
 
-  pub takes-added : (inside : newest trace e < length trace) (new : Nodes) (froms : List ℕ) (c : ℕ) → Bears w.nodes c (newest trace e) → AreNamed w e froms → AddsEdges w.nodes new froms c → TakesIn w.nodes new trace e
-  takes-added inside new froms c own are adds = record {
-    stays = λ k a borne. ap (λ (s : Slots). bears s k a) adds.slots ∙ borne;
-    was = λ k a borne. inl (ap (λ (s : Slots). bears s k a) (sym adds.slots) ∙ borne);
-    others = λ k a other borne. ap (λ (s : Slots). is_finished_in s k) adds.slots;
-    given = λ s h. subst (λ (z : Slots). IsSomeAnd z.newest (λ n. s ≤ n)) (sym adds.slots) h;
-    earlier = λ z h. let l = stands.earlier z (sym (ap (λ (s : Slots). s.newest) adds.slots) ∙ h) in omega (arith, l, length_push trace e);
-    ancestors = ancestors-inside bounds w trace e stands follows froms are c own inside new adds;
-  }
-
-  pub takes-opened : (outer : newest trace e ≡ length trace) (mid new : Nodes) (froms : List ℕ) (c : ℕ) → AreNamed w e froms → HasFresh w.nodes mid c (length trace) → HasFlags w.nodes mid c (length trace) → AddsEdges mid new froms c → TakesIn w.nodes new trace e
-  takes-opened outer mid new froms c are opens flags adds = record {
-    stays = λ k a borne. ap (λ (s : Slots). bears s k a) adds.slots ∙ (opens.stays k a borne).1;
-    was = λ k a borne. ⊎_elim (λ (same : k ≡ c). inr (at k a same borne, outer)) (λ (other : k ≡ c → ⊥). inl (opens.was k a other (to_mid k a borne))) (cases_eq k c);
-    others = λ k a other borne. ap (λ (s : Slots). is_finished_in s k) adds.slots ∙ flags.others k (λ same. other (at k a same borne ∙ sym outer));
-    given = λ s h. let l = below w.nodes.slots.newest s (length trace) h stands.earlier in subst (λ o. IsSomeAnd o (λ z. s ≤ z)) (sym newest_is) (omega (arith, l));
-    earlier = λ z h. let at : z ≡ length trace = same_some z (length trace) (sym h ∙ newest_is) in omega (arith, at, length_push trace e);
-    ancestors = ancestors-opened bounds w trace e stands follows outer froms are mid new c opens adds;
+  pub takes-added : (mid new : Nodes) (froms : List ℕ) (c : ℕ) → AreNamed w e froms → HasOwn w.nodes mid trace e c → AddsEdges mid new froms c → TakesIn w.nodes new trace e
+  takes-added mid new froms c are has adds = record {
+    stays = λ k a borne. ap (λ (s : Slots). bears s k a) adds.slots ∙ has.stays k a borne;
+    was = λ k a borne. has.was k a (back k a borne);
+    others = λ k a other borne. ap (λ (s : Slots). is_finished_in s k) adds.slots ∙ has.others k a other (back k a borne);
+    given = λ s h. subst (λ (z : Slots). IsSomeAnd z.newest (λ n. s ≤ n)) (sym adds.slots) (has.given s h);
+    earlier = λ z h. has.earlier z (sym (ap (λ (s : Slots). s.newest) adds.slots) ∙ h);
+    ancestors = ancestors-added bounds w trace e stands follows froms are mid new c has adds;
   }
     where
-      newest_is : new.slots.newest ≡ Some (length trace)
-      newest_is = ap (λ (s : Slots). s.newest) adds.slots ∙ flags.newest
-
-      to_mid : (k a : ℕ) → Bears new k a → Bears mid k a
-      to_mid k a borne = ap (λ (s : Slots). bears s k a) (sym adds.slots) ∙ borne
-
-      at : (k a : ℕ) → k ≡ c → Bears new k a → a ≡ length trace
-      at k a same borne = one_stamp mid c a (length trace) (subst (λ z. Bears mid z a) same (to_mid k a borne)) opens.fresh
+      back : (k a : ℕ) → Bears new k a → Bears mid k a
+      back k a borne = ap (λ (s : Slots). bears s k a) (sym adds.slots) ∙ borne
 
   -- ---- the monitor
 
