@@ -1,3 +1,4 @@
+pub mod OnOptions
 pub mod OnCollection
 pub mod OnNodes
 pub mod OnLooks
@@ -10,14 +11,12 @@ pub mod OnTables
 pub mod OnForgetting
 pub mod OnOwn
 pub mod OnOthers
-pub mod OnStep
-pub mod OnOutside
 pub mod OnOpening
 pub mod OnCollected
 pub mod OnCurrent
 pub mod OnEnding
-pub mod OnBegin
-pub mod OnPlaced
+pub mod OnTaken
+pub mod OnOutside
 pub mod OnDepthsAfter
 pub mod OnSteps
 pub mod OnFirsts

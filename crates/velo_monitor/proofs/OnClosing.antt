@@ -51,5 +51,5 @@ module _ (bounds : Bounds) (w : Watched) (trace : List Event) (e : Event) (stand
       HasCycle-from_found bounds trace e stands.well_formed follows few (owner trace s.at)
       (record { place = s.place; at = s.at; looked = s.looked; last = s.last; of = refl; differ = λ same. other (stamp-other trace e stands.acyclic b (owner trace s.at) s.which same) })
       (Reaches-trans (Edge trace) (newest trace e) b (owner trace s.at)
-      (reaches-sound w.nodes trace c k (newest trace e) b stands.sound stands.ancestors own names.borne leads)
+      (reaches-sound w.nodes trace c k (newest trace e) b stands.ancestors own names.borne leads)
       (stamp-reaches trace b (owner trace s.at) s.which))

@@ -1,5 +1,5 @@
 -- After collecting the monitor stands for the trace.
-use Rattle.std.proofs.Common.{◌≡◌, ℕ, ◌<◌, ◌≤◌, true, false, not, ◌&&◌, List, length, Option, Some, None, refl, sym, ap, ◌∙◌, subst, ⊎_elim, inl, inr}
+use Rattle.std.proofs.Common.{◌≡◌, ℕ, ◌<◌, ◌≤◌, true, false, not, ◌&&◌, List, length, Option, Some, None, sym, ap, ◌∙◌, subst, ⊎_elim}
 use Rattle.std.specs.Prelude.{IsTrue, IsSomeAnd, is_some}
 use Rattle.std.specs.Option.{ForSome}
 use Rattle.std.proofs.lemmas.Bool.{cases_Bool, both_ways, and_parts, and_from, not-true, not_from_true, not_from_false, false≢true}
@@ -9,17 +9,18 @@ use Rattle.velo_events.specs.declared.event.Event.{Event}
 use Rattle.velo_events.specs.WellFormed.{IsWellFormed}
 use Rattle.velo_events.specs.Block.{owner, is_open, IsTransaction}
 use Rattle.velo_events.specs.Graph.{HasCycle}
-use Rattle.velo_monitor.proofs.OnCollection.{not_live-covered}
+use Rattle.velo_arena.specs.declared.step.Step.{Step}
 use Rattle.velo_arena.specs.declared.step.Node.{Node}
 use Rattle.velo_arena.specs.Slots.{node_in, has_stamp, has_finished, is_used, limit_of, is_finished_in}
 use Rattle.velo_graph.specs.Nodes.{Nodes, is_ancestor, IsSound}
 use Rattle.velo_graph.proofs.OnNodes.{used_in_range}
 use Rattle.velo_tables.specs.LastAccesses.{entry}
 use Rattle.velo_merge.specs.Named.{Bears}
-use Rattle.velo_monitor.specs.Watched.{Watched, AreFounded, AreAncestors, AreEntries, IsAccountedIn, AreDepths, IsMonitorOf}
+use Rattle.velo_monitor.specs.Watched.{Watched, AreFounded, AreAncestors, IsEntryFor, AreEntries, IsAccountedIn, AreDepths, IsMonitorOf}
+use Rattle.velo_monitor.proofs.OnTables.{entry-from_account, account-from_entry}
 use Rattle.velo_graph.specs.Collects.{IsUnneeded, Collects}
 use Rattle.velo_graph.proofs.OnRoots.{some_below}
-use Rattle.velo_monitor.proofs.OnCollecting.{unneeded-dead, collects-before, entry-collected}
+use Rattle.velo_monitor.proofs.OnCollecting.{used_by, collects-before, entry-collected}
 
 -- all that it is to stand for a trace, but that something may be left to collect
 pub record IsUncollected (bounds : Bounds) (w : Watched) (trace : List Event) : Type 0 where
@@ -34,10 +35,6 @@ pub record IsUncollected (bounds : Bounds) (w : Watched) (trace : List Event) : 
   pub threads : length w.kept.threads ≡ bounds.threads
   pub accounted : (a : ℕ) → IsTransaction trace a → IsAccountedIn w.nodes trace a
   pub depths : AreDepths bounds w.depths trace
-
-used_by : (o : Option Node) (a : ℕ) → IsTrue (has_stamp o a) → IsTrue (is_some o)
-used_by None a h = absurd (false≢true h)
-used_by (Some n) a h = refl
 
 used_done : (o : Option Node) → IsTrue (has_finished o) → o ≡ None → ⊥
 used_done None h none = false≢true h
@@ -81,17 +78,8 @@ module _ (bounds : Bounds) (w : Watched) (trace : List Event) (stands : IsUncoll
           (λ (going : is_finished_in w.nodes.slots m ≡ false). absurd (both_ways (is_ancestor w.nodes m k && not (is_finished_in w.nodes.slots m)) none (and_from (is_ancestor w.nodes m k) (not (is_finished_in w.nodes.slots m)) before (not_from_false (is_finished_in w.nodes.slots m) going))))
           (cases_Bool (is_finished_in w.nodes.slots m))
 
-  collected-account : (a : ℕ) → IsAccountedIn w.nodes trace a → IsAccountedIn nodes trace a
-  collected-account a account = ⊎_elim
-      (λ founds. ⊎_elim
-      (λ gone. inr (inr (unneeded-dead w.nodes trace founds.0 a stands.sound stands.founded stands.ancestors founds.1 gone.0)))
-      (λ kept. inl (founds.0, ap (λ o. has_stamp o a) kept.1 ∙ founds.1)) (collects.each founds.0))
-      (λ others. ⊎_elim
-      (λ covered. ⊎_elim
-      (λ gone. inr (inr (not_live-covered trace a covered.1 covered.3 (unneeded-dead w.nodes trace covered.0 covered.1 stands.sound stands.founded stands.ancestors covered.2 gone.0))))
-      (λ kept. inr (inl (covered.0, covered.1, ap (λ o. has_stamp o covered.1) kept.1 ∙ covered.2, covered.3))) (collects.each covered.0))
-      (λ dead. inr (inr dead)) others)
-      account
+  entry-stays : (o : Option Step) (x : ℕ) → IsEntryFor w.nodes trace o x → IsEntryFor nodes trace o x
+  entry-stays o x = entry-collected w.nodes nodes trace o x stands.sound stands.founded stands.ancestors collects
 
   pub stands-collected : IsSound nodes → IsMonitorOf bounds (record { nodes = nodes; kept = w.kept; depths = w.depths }) trace
   stands-collected sound = record {
@@ -113,11 +101,11 @@ module _ (bounds : Bounds) (w : Watched) (trace : List Event) (stands : IsUncoll
     };
     collected = record { each = still_needed };
     entries = record {
-      last = λ p i at. entry-collected w.nodes nodes trace (entry w.kept p) (owner trace i) stands.sound stands.founded stands.ancestors collects (stands.entries.last p i at);
+      last = λ p i at. entry-stays (entry w.kept p) (owner trace i) (stands.entries.last p i at);
       never = stands.entries.never;
       given = λ p s h. subst (λ o. IsSomeAnd o (λ newest. s.stamp ≤ newest)) (sym collects.newest) (stands.entries.given p s h);
     };
     threads = stands.threads;
-    accounted = λ a t. collected-account a (stands.accounted a t);
+    accounted = λ a t. let by = entry-from_account w.nodes trace a (stands.accounted a t) in account-from_entry nodes trace a by.0 (entry-stays by.0 a by.1);
     depths = stands.depths;
   }

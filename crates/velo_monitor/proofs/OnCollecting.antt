@@ -1,18 +1,23 @@
 -- What collecting takes away is not live, so the tables still tell the truth.
-use Rattle.std.proofs.Common.{◌≡◌, ◌≢◌, ℕ, false, List, Option, Some, None, sym, ap, ◌∙◌, subst, ⊎_elim}
-use Rattle.std.specs.Prelude.{◌⊎◌}
+use Rattle.std.proofs.Common.{◌≡◌, ◌≢◌, ℕ, false, List, Option, Some, None, refl, sym, ap, ◌∙◌, subst, ⊎_elim}
+use Rattle.std.specs.Prelude.{◌⊎◌, IsTrue, is_some}
 use Rattle.std.proofs.lemmas.Bool.{cases_Bool, cases_eq, both_ways, not_from_true, false≢true}
 use Rattle.velo_events.specs.declared.event.Event.{Event}
 use Rattle.velo_events.specs.Block.{is_open}
 use Rattle.velo_monitor.specs.Collection.{IsLive, IsCovered}
 use Rattle.velo_monitor.proofs.OnCollection.{not_live-covered}
 use Rattle.velo_arena.specs.declared.step.Step.{Step}
+use Rattle.velo_arena.specs.declared.step.Node.{Node}
 use Rattle.velo_arena.specs.Slots.{node_in, has_stamp, bears, is_finished_in}
 use Rattle.velo_graph.specs.Nodes.{Nodes, IsSound}
 use Rattle.velo_merge.specs.Named.{Bears}
 use Rattle.velo_merge.proofs.OnStamps.{one_slot}
 use Rattle.velo_monitor.specs.Watched.{AreFounded, AreAncestors, IsEntryFor}
 use Rattle.velo_graph.specs.Collects.{IsUnneeded, Collects}
+
+pub used_by : (o : Option Node) (a : ℕ) → IsTrue (has_stamp o a) → IsTrue (is_some o)
+used_by None a h = absurd (false≢true h)
+used_by (Some n) a h = refl
 
 -- what is unneeded is not live
 pub unneeded-dead : (nodes : Nodes) (trace : List Event) (k a : ℕ) → IsSound nodes → AreFounded nodes trace → AreAncestors nodes trace → Bears nodes k a → IsUnneeded nodes k → ¬ IsLive trace a

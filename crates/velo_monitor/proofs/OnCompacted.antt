@@ -6,7 +6,7 @@ use Rattle.velo_events.specs.declared.config.Bounds.{Bounds}
 use Rattle.velo_events.specs.declared.event.Event.{Event}
 use Rattle.velo_events.specs.Block.{owner, is_open, IsFinished}
 use Rattle.velo_events.specs.Graph.{Edge}
-use Rattle.velo_monitor.specs.Collection.{IsLive, IsCovered}
+use Rattle.velo_monitor.specs.Collection.{IsCovered}
 use Rattle.velo_events.specs.Place.{Place}
 use Rattle.velo_events.proofs.OnGraphs.{Reaches-trans}
 use Rattle.velo_events.proofs.OnHappening.{Reaches-same_thread}
@@ -14,27 +14,19 @@ use Rattle.velo_events.proofs.OnUnfinished.{unfinished-not_finished}
 use Rattle.velo_monitor.proofs.OnCollection.{IsCovered-trans}
 use Rattle.velo_arena.specs.declared.step.Step.{Step}
 use Rattle.velo_arena.specs.declared.step.Heir.{Heir}
-use Rattle.velo_arena.specs.declared.step.Node.{Node}
 use Rattle.velo_arena.specs.Slots.{node_in, has_stamp, has_finished, bears, is_used, is_finished_in}
 use Rattle.velo_arena.specs.Heirs.{heir_in, renamed_by, renamed}
 use Rattle.velo_graph.specs.Nodes.{Nodes, is_ancestor, IsSound}
 use Rattle.velo_graph.specs.Leaves.{LeavesOut}
+use Rattle.velo_graph.proofs.OnCollecting.{used_of_finished}
 use Rattle.velo_merge.specs.Named.{Bears}
+use Rattle.velo_merge.proofs.OnStamps.{one_stamp}
 use Rattle.velo_tables.specs.LastAccesses.{LastAccesses, entry, IsRenamed}
-use Rattle.velo_monitor.specs.Watched.{Watched, IsStepFor, IsEntryFor, IsAccountedIn, IsMonitorOf}
+use Rattle.velo_monitor.specs.Watched.{Watched, IsStepFor, IsEntryFor, IsMonitorOf}
+use Rattle.velo_monitor.proofs.OnOptions.{same_some, none_some}
+use Rattle.velo_monitor.proofs.OnTables.{entry-from_account, account-from_entry}
 use Rattle.velo_monitor.proofs.OnHeirs.{IsHeir}
-
-same_stamp : (o : Option Node) (a b : ℕ) → IsTrue (has_stamp o a) → IsTrue (has_stamp o b) → a ≡ b
-same_stamp None a b first second = absurd (false≢true first)
-same_stamp (Some n) a b first second = sym (eqb-true n.stamp a first) ∙ eqb-true n.stamp b second
-
-used_by : (o : Option Node) (a : ℕ) → IsTrue (has_stamp o a) → IsTrue (is_some o)
-used_by None a h = absurd (false≢true h)
-used_by (Some n) a h = refl
-
-used_of_finished : (o : Option Node) → IsTrue (has_finished o) → IsTrue (is_some o)
-used_of_finished None h = absurd (false≢true h)
-used_of_finished (Some n) h = refl
+use Rattle.velo_monitor.proofs.OnCollecting.{used_by}
 
 cases_heir : (o : Option Heir) → (o ≡ None) ⊎ ((h : Heir) × (o ≡ Some h))
 cases_heir None = inl refl
@@ -116,7 +108,7 @@ module _ (bounds : Bounds) (w : Watched) (trace : List Event) (stands : IsMonito
         by false other = record {
           alive = λ borne. absurd (false≢true (sym (ap (λ n. has_stamp n s.stamp) (goes s.slot h there)) ∙ borne));
           dead = λ gone. is.dead (⊎_elim
-              (λ (borne : Bears w.nodes s.slot s.stamp). absurd (both_ways (h.of == s.stamp) other (eq-eqb h.of s.stamp (same_stamp (node_in w.nodes.slots s.slot) h.of s.stamp (are s.slot h there).borne borne))))
+              (λ (borne : Bears w.nodes s.slot s.stamp). absurd (both_ways (h.of == s.stamp) other (eq-eqb h.of s.stamp (one_stamp w.nodes s.slot h.of s.stamp (are s.slot h there).borne borne))))
               (λ (not_there : bears w.nodes.slots s.slot s.stamp ≡ false). not_there)
               (cases_Bool (bears w.nodes.slots s.slot s.stamp)));
         }
@@ -124,31 +116,6 @@ module _ (bounds : Bounds) (w : Watched) (trace : List Event) (stands : IsMonito
     entry-renamed : (o : Option Step) (x : ℕ) → IsEntryFor w.nodes trace o x → IsEntryFor nodes trace (option_map (renamed heirs) o) x
     entry-renamed None x is = is
     entry-renamed (Some s) x is = step-renamed s x (heir_in heirs s.slot) refl is
-
-    account-kept : (a : ℕ) → IsAccountedIn w.nodes trace a → IsAccountedIn nodes trace a
-    account-kept a account = ⊎_elim
-        (λ (founds : (k : ℕ) × Bears w.nodes k a).
-        ⊎_elim
-        (λ (none : heir_in heirs founds.0 ≡ None). inl (founds.0, stays-borne founds.0 a none founds.1))
-        (λ (some : (h : Heir) × (heir_in heirs founds.0 ≡ Some h)).
-        inr (inl (some.0.step.slot, some.0.step.stamp, heir-there founds.0 some.0 some.1, covers-borne founds.0 a some.0 some.1 founds.1)))
-        (cases_heir (heir_in heirs founds.0)))
-        (λ (others : ((k n : ℕ) × Bears w.nodes k n × IsCovered trace a n) ⊎ (¬ IsLive trace a)).
-        ⊎_elim
-        (λ (covered : (k n : ℕ) × Bears w.nodes k n × IsCovered trace a n).
-        ⊎_elim
-        (λ (none : heir_in heirs covered.0 ≡ None). inr (inl (covered.0, covered.1, stays-borne covered.0 covered.1 none covered.2, covered.3)))
-        (λ (some : (h : Heir) × (heir_in heirs covered.0 ≡ Some h)).
-        inr (inl (some.0.step.slot, some.0.step.stamp, heir-there covered.0 some.0 some.1, IsCovered-trans trace a covered.1 some.0.step.stamp covered.3 (covers-borne covered.0 covered.1 some.0 some.1 covered.2))))
-        (cases_heir (heir_in heirs covered.0)))
-        (λ (dead : ¬ IsLive trace a). inr (inr dead))
-        others)
-        account
-      where
-        covers-borne : (k z : ℕ) (h : Heir) → heir_in heirs k ≡ Some h → Bears w.nodes k z → IsCovered trace z h.step.stamp
-        covers-borne k z h there borne =
-            let is = are k h there in
-            subst (λ y. IsCovered trace y h.step.stamp) (same_stamp (node_in w.nodes.slots k) h.of z is.borne borne) (heir-covers k h is)
 
     -- the monitor stands for the same trace
     pub stands-compacted : (kept : LastAccesses) → IsRenamed w.kept heirs kept → length kept.threads ≡ length w.kept.threads → IsSound nodes → IsMonitorOf bounds (record { nodes = nodes; kept = kept; depths = w.depths }) trace
@@ -184,7 +151,7 @@ module _ (bounds : Bounds) (w : Watched) (trace : List Event) (stands : IsMonito
         given = λ p s h. given p s (entry w.kept p) refl (sym (renames.each p) ∙ h);
       };
       threads = same_threads ∙ stands.threads;
-      accounted = λ a t. account-kept a (stands.accounted a t);
+      accounted = λ a t. let by = entry-from_account w.nodes trace a (stands.accounted a t) in account-from_entry nodes trace a (option_map (renamed heirs) by.0) (entry-renamed by.0 a by.1);
       depths = stands.depths;
     }
       where
@@ -196,12 +163,6 @@ module _ (bounds : Bounds) (w : Watched) (trace : List Event) (stands : IsMonito
 
         old_given : (p : Place) (s : Step) → entry w.kept p ≡ Some s → IsSomeAnd nodes.slots.newest (λ newest. s.stamp ≤ newest)
         old_given p s h = subst (λ o. IsSomeAnd o (λ newest. s.stamp ≤ newest)) (sym leaves.newest) (stands.entries.given p s h)
-
-        same_some : (a b : Step) → Some a ≡ Some b → a ≡ b
-        same_some a b h = cc
-
-        none_some : (s : Step) → None ≡ Some s → ⊥
-        none_some s h = cc
 
         up_to : (o : Option ℕ) (a b : ℕ) → a ≤ b → IsSomeAnd o (λ newest. b ≤ newest) → IsSomeAnd o (λ newest. a ≤ newest)
         up_to None a b l h = h

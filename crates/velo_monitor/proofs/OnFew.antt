@@ -9,6 +9,7 @@ use Rattle.velo_arena.specs.declared.step.Node.{Node}
 use Rattle.velo_arena.specs.Slots.{Slots, is_used, used_in, with_node}
 use Rattle.velo_arena.proofs.OnSlots.{freed}
 use Rattle.velo_arena.proofs.OnFree.{used-freed}
+use Rattle.velo_monitor.proofs.OnOptions.{same_some, none_some}
 
 -- x is one of the list
 abbrev pub Among : {X : Type 0} → List X → X → Type 0
@@ -40,9 +41,6 @@ pub used-le : (cells : List (Option ℕ)) (slots : Slots) → ((k : ℕ) → IsT
 used-le [] slots stands = omega (arith, none-used slots.nodes (λ k used. stands k used))
 used-le (None ∷ cells) slots stands =
     omega (arith, used-le cells slots (λ k used. ⊎_elim (λ (h : None ≡ Some k). absurd (none_some k h)) (λ (later : Among cells (Some k)). later) (stands k used)))
-  where
-    none_some : (k : ℕ) → None ≡ Some k → ⊥
-    none_some k h = cc
 used-le (Some c ∷ cells) slots stands = ⊎_elim
     (λ (used : is_used slots c ≡ true).
     let rest = used-le cells (with_node slots c None) (λ k left.
@@ -56,9 +54,6 @@ used-le (Some c ∷ cells) slots stands = ⊎_elim
           ⊎_elim (λ (h : Some c ≡ Some k). absurd (false≢true (sym free ∙ ap (is_used slots) (same_some c k h) ∙ used))) (λ (later : Among cells (Some k)). later) (stands k used)),
     ))
     (cases_Bool (is_used slots c))
-  where
-    same_some : (a b : ℕ) → Some a ≡ Some b → a ≡ b
-    same_some a b h = cc
 
 -- ---- the cells: for each thread, and for the unfinished nodes, a column of the others than t0
 

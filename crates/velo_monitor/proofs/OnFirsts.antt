@@ -9,12 +9,10 @@ use Rattle.velo_arena.specs.Slots.{is_used, is_finished_in, node_in, stamp_in, l
 use Rattle.velo_graph.specs.Nodes.{Nodes}
 use Rattle.velo_graph.proofs.OnCollecting.{used_of_finished}
 use Rattle.velo_monitor.specs.Heirs.{thread_in, going_in, IsStill, AreGoing, is_reached, pair_of, first_in, earlier_of, IsReachedOf, AreFirsts}
+use Rattle.velo_monitor.proofs.OnOptions.{same_both}
 
 none_some : {X : Type 0} (o : Option X) (x : X) → o ≡ None → o ≡ Some x → ⊥
 none_some o x none some = cc
-
-same_some : {X : Type 0} (o : Option X) (x y : X) → o ≡ Some x → o ≡ Some y → x ≡ y
-same_some o x y first second = cc
 
 module _ (nodes : Nodes) (events : List Event) where
   abbrev stamp : ℕ → ℕ
@@ -32,7 +30,7 @@ module _ (nodes : Nodes) (events : List Event) where
   going-step going k so_far still inside = record {
     each = λ s u there. ⊎_elim
         (λ (here : s ≡ thread k).
-        let is : k ≡ u = same_some (going_in (set going (thread k) (Some k)) (thread k)) k u (get_or-set_same going (thread k) (Some k) None inside) (ap (going_in (set going (thread k) (Some k))) (sym here) ∙ there) in
+        let is : k ≡ u = same_both (going_in (set going (thread k) (Some k)) (thread k)) k u (get_or-set_same going (thread k) (Some k) None inside) (ap (going_in (set going (thread k) (Some k))) (sym here) ∙ there) in
         (subst (IsStill nodes) is still, ap thread (sym is) ∙ sym here))
         (λ (other : s ≡ thread k → ⊥). so_far.each s u (sym (get_or-set_other going (thread k) s (Some k) None other) ∙ there))
         (cases_eq s (thread k));
@@ -96,7 +94,7 @@ module _ (nodes : Nodes) (events : List Event) where
         each = λ u v r l m there. ⊎_elim
             (λ (same : pair_of u v ≡ pair_of t s).
             let at = pair-apart u v t s m small same in
-            let is : new ≡ r = same_some (first_in after t s) new r here (ap (λ i. get_or after i None) (sym same) ∙ there) in
+            let is : new ≡ r = same_both (first_in after t s) new r here (ap (λ i. get_or after i None) (sym same) ∙ there) in
             subst (λ z. IsReachedOf nodes events (going_in going v) u z) is
             (subst (λ z. IsReachedOf nodes events (going_in going z) u new) (sym at.1) (subst (λ z. IsReachedOf nodes events (going_in going s) z new) (sym at.0) new-reached)))
             (λ (other : pair_of u v ≡ pair_of t s → ⊥). so_far.each u v r l m (sym (away u v other) ∙ there))

@@ -13,10 +13,12 @@ use Rattle.velo_arena.specs.Slots.{used_in, limit_of}
 use Rattle.velo_graph.specs.Nodes.{Nodes}
 use Rattle.velo_events.specs.Place.{Place, looked_up, last_at}
 use Rattle.velo_tables.specs.LastAccesses.{LastAccesses, entry, steps_looked_up}
-use Rattle.velo_merge.specs.Named.{live_stamp, live_stamps, HasFinished, IsAncestor}
+use Rattle.velo_merge.specs.Named.{live_stamp, live_stamps}
+use Rattle.velo_monitor.proofs.OnOptions.{none_some}
 use Rattle.velo_monitor.specs.Watched.{Watched, IsEntryFor, AreEntries, IsMonitorOf}
 use Rattle.velo_monitor.specs.Changed.{IsGone, ForgetsDead}
 use Rattle.velo_monitor.specs.Answers.{BeginsOutermost, ComesOutside, GetsNewNode, NeedsNode, IsNext, IsSeen}
+use Rattle.velo_monitor.proofs.OnTables.{stands-kept}
 
 -- ---- the entries
 
@@ -38,10 +40,7 @@ entries-forgotten nodes old new trace forgets entries = record { last = last; ne
     never p at = ⊎_elim (λ (same : entry new p ≡ entry old p). same ∙ entries.never p at) (λ (gone : (entry new p ≡ None) × IsGone nodes (entry old p)). gone.0) (forgets.each p)
 
     was : (p : Place) (s : Step) → entry new p ≡ Some s → entry old p ≡ Some s
-    was p s h = ⊎_elim (λ (same : entry new p ≡ entry old p). sym same ∙ h) (λ (gone : (entry new p ≡ None) × IsGone nodes (entry old p)). absurd (none_some (sym gone.0 ∙ h))) (forgets.each p)
-      where
-        none_some : None ≡ Some s → ⊥
-        none_some h = cc
+    was p s h = ⊎_elim (λ (same : entry new p ≡ entry old p). sym same ∙ h) (λ (gone : (entry new p ≡ None) × IsGone nodes (entry old p)). absurd (none_some s (sym gone.0 ∙ h))) (forgets.each p)
 
 -- ---- the stamps that are looked up
 
@@ -81,21 +80,7 @@ module _ (w new : Watched) (forgets : ForgetsDead w.nodes w.kept new.kept) (node
   is-beside P p = subst (λ (n : Nodes). P (record { nodes = n; kept = new.kept; depths = new.depths })) (sym nodes) (subst (λ (d : List ℕ). P (record { nodes = w.nodes; kept = new.kept; depths = d })) (sym depths) p)
 
   pub stands-forgotten : (bounds : Bounds) (trace : List Event) → IsMonitorOf bounds w trace → IsMonitorOf bounds new trace
-  stands-forgotten bounds trace stands =
-      is-beside (λ m. IsMonitorOf bounds m trace) (record {
-        few = stands.few;
-        well_formed = stands.well_formed;
-        acyclic = stands.acyclic;
-        earlier = stands.earlier;
-        sound = stands.sound;
-        founded = stands.founded;
-        ancestors = stands.ancestors;
-        collected = stands.collected;
-        entries = entries-forgotten w.nodes w.kept new.kept trace forgets stands.entries;
-        threads = forgets.threads ∙ stands.threads;
-        accounted = stands.accounted;
-        depths = stands.depths;
-      })
+  stands-forgotten bounds trace stands = stands-kept bounds w new trace nodes depths (entries-forgotten w.nodes w.kept new.kept trace forgets stands.entries) forgets.threads stands
 
   needed-before : (trace : List Event) (e : Event) → NeedsNode beside trace e → NeedsNode w trace e
   needed-before trace e needs =

@@ -16,6 +16,7 @@ use Rattle.velo_merge.specs.Named.{Bears}
 use Rattle.velo_monitor.specs.Watched.{Watched, IsMonitorOf}
 use Rattle.velo_monitor.specs.Heirs.{thread_in, going_in, IsStill, is_reached, first_in, IsReachedOf, GivesWay, IsHeirOf, AreHeirs}
 use Rattle.velo_monitor.proofs.OnThreads.{bears-own, thread-known, own-node, one-slot, going-still, reached-by, reached-from}
+use Rattle.velo_monitor.proofs.OnOptions.{same_both}
 
 -- a node that an unfinished one reaches, of the thread, and no later than the position
 pub record IsOnTheWay (nodes : Nodes) (trace : List Event) (thread j z : ℕ) : Type 0 where
@@ -115,7 +116,7 @@ module _ (bounds : Bounds) (w : Watched) (trace : List Event) (stands : IsMonito
         let r = first-of s k l gives.finished there_too in
         let is = are.are_firsts.each (thread k) s r.0 (small k used) l r.1 in
         let by = reached-by bounds w trace stands going are.are_going s r.0 is.finished is.reached in
-        let itself : by.0 ≡ j = same_some (going_in going s) by.0 j by.1 (going-still bounds w trace stands going are.are_going j still) in
+        let itself : by.0 ≡ j = same_both (going_in going s) by.0 j by.1 (going-still bounds w trace stands going are.are_going j still) in
         let upper : stamp r.0 ≤ stamp h.step.slot = gives.latest.above s r.0 l there_too r.1 in
         record {
           slot = r.0;
@@ -142,6 +143,3 @@ module _ (bounds : Bounds) (w : Watched) (trace : List Event) (stands : IsMonito
       stays : (o : Option Heir) → heir_in heirs h.step.slot ≡ o → heir_in heirs h.step.slot ≡ None
       stays None at = at
       stays (Some g) at = absurd (no-further k h g gives (gives-of h.step.slot g at))
-
-      same_some : (o : Option ℕ) (a b : ℕ) → o ≡ Some a → o ≡ Some b → a ≡ b
-      same_some o a b one two = cc

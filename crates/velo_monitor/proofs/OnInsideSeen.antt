@@ -1,5 +1,5 @@
 -- What the monitor answers to an event inside a block, and what it is then.
-use Rattle.std.proofs.Common.{◌≡◌, ◌≢◌, ℕ, ◌+◌, ◌-◌, ◌<◌, List, [], ◌∷◌, ◌++◌, length, refl, sym, ap, ◌∙◌, subst, ⊎_elim, arith}
+use Rattle.std.proofs.Common.{◌≡◌, ◌≢◌, ℕ, ◌+◌, ◌-◌, ◌<◌, not, List, [], ◌∷◌, ◌++◌, length, refl, sym, ap, ◌∙◌, subst, ⊎_elim, arith}
 use Rattle.std.specs.Prelude.{IsTrue, IsFalse, slice_set}
 use Rattle.std.proofs.lemmas.Bool.{cases_eq}
 use Rattle.velo_monitor.specs.declared.monitor.Seen.{Seen}
@@ -14,7 +14,8 @@ use Rattle.velo_events.specs.WellFormed.{IsWellFormed, MayFollow}
 use Rattle.velo_events.specs.Graph.{HasCycle}
 use Rattle.velo_events.proofs.OnGraphs.{newest}
 use Rattle.velo_events.proofs.OnWellFormed.{IsWellFormed-push}
-use Rattle.velo_arena.specs.Slots.{Slots, bears}
+use Rattle.velo_events.proofs.OnUnfinished.{newest-unfinished}
+use Rattle.velo_arena.specs.Slots.{Slots, bears, is_finished_in}
 use Rattle.velo_graph.specs.Nodes.{Nodes, IsRoot}
 use Rattle.velo_graph.specs.Collects.{Collects, HasNothingLeft}
 use Rattle.velo_merge.specs.Named.{Bears}
@@ -24,8 +25,9 @@ use Rattle.velo_monitor.specs.Steps.{live_slots}
 use Rattle.velo_monitor.specs.Changed.{depth_of, EndsBlock, EndsInner, CountsBlocks, ExtendsBlock, ClosesBlock, AfterInside}
 use Rattle.velo_monitor.specs.Answers.{IsSeen}
 use Rattle.velo_monitor.proofs.OnNaming.{are-named, own-node, cycle-from_some, some-from_cycle}
-use Rattle.velo_monitor.proofs.OnStep.{stands-inside}
-use Rattle.velo_monitor.proofs.OnEnding.{Finishes, finishes, stands-ended}
+use Rattle.velo_monitor.proofs.OnInside.{own-inside}
+use Rattle.velo_monitor.proofs.OnEnding.{Finishes, finishes}
+use Rattle.velo_monitor.proofs.OnTaken.{TakesIn, takes-added, takes-finished, stands-own}
 use Rattle.velo_monitor.proofs.OnCollected.{IsUncollected, stands-collected}
 use Rattle.velo_monitor.proofs.OnQuiet.{nothing_left-added, nothing_left-ended, stands-whole}
 use Rattle.velo_monitor.proofs.OnCounts.{depth-same, depth-begun, depth-ended, depth-now, depths-same, depths-begun, depths-ended}
@@ -55,33 +57,38 @@ module _ (bounds : Bounds) (w : Watched) (trace : List Event) (e : Event) (stand
     acyclic : ¬ HasCycle (trace ++ e ∷ [])
     acyclic cycle = extends.open_end (some-from_cycle bounds w trace e stands follows extends.own.slot own.0 cycle)
 
+    there : Bears extends.extended extends.own.slot (newest trace e)
+    there = ap (λ (s : Slots). bears s extends.own.slot (newest trace e)) extends.adds.slots ∙ own.0
+
+    takes : TakesIn w.nodes extends.extended trace e
+    takes = takes-added bounds w trace e stands follows w.nodes extends.extended (live_slots w.nodes (steps_looked_up w.kept e)) extends.own.slot (are-named w e) (own-inside bounds w trace e stands follows extends.own.slot own.0 inside) extends.adds
+
+    quiet : HasNothingLeft extends.extended
+    quiet = nothing_left-added w.nodes extends.extended (live_slots w.nodes (steps_looked_up w.kept e)) extends.own.slot extends.adds stands.collected
+
     -- the block stays open
     goes-on : (depths : List ℕ) → new.nodes ≡ extends.extended → new.depths ≡ depths → AreDepths bounds depths (trace ++ e ∷ []) → 0 < depth_in (trace ++ e ∷ []) (thread_of e) → IsMonitorOf bounds new (trace ++ e ∷ [])
     goes-on depths nodes same are more =
         subst (λ (n : Nodes). IsMonitorOf bounds (record { nodes = n; kept = new.kept; depths = new.depths }) (trace ++ e ∷ [])) (sym nodes)
-        (stands-inside bounds w trace e stands follows inside (record { nodes = extends.extended; kept = new.kept; depths = new.depths }) (live_slots w.nodes (steps_looked_up w.kept e)) extends.own.slot extends.own own.0 (are-named w e) extends.adds extends.sound refl own.1 extends.recorded extends.threads acyclic
-        (still-unfinished bounds trace e well inside more)
-        (subst (λ (d : List ℕ). AreDepths bounds d (trace ++ e ∷ [])) (sym same) are))
+        (stands-whole bounds (record { nodes = extends.extended; kept = new.kept; depths = new.depths }) (trace ++ e ∷ [])
+        (stands-own bounds w trace e stands follows acyclic (record { nodes = extends.extended; kept = new.kept; depths = new.depths }) takes extends.sound extends.threads
+        (subst (λ (d : List ℕ). AreDepths bounds d (trace ++ e ∷ [])) (sym same) are) extends.own there own.1 extends.recorded
+        (ap (λ (s : Slots). is_finished_in s extends.own.slot) extends.adds.slots ∙ stands.founded.finished extends.own.slot (newest trace e) own.0
+        ∙ ap not ((newest-unfinished trace e inside).open_block ∙ sym (still-unfinished bounds trace e well inside more).open_block)))
+        quiet)
 
     -- it ends
     module _ (are : AreDepths bounds new.depths (trace ++ e ∷ [])) (none : depth_in (trace ++ e ∷ []) (thread_of e) ≡ 0) (ends : EndsBlock extends.extended new.nodes extends.own) where
       abbrev marked : Watched
       marked = record { nodes = ends.marked; kept = new.kept; depths = new.depths }
 
-      done : Finishes extends.extended ends.marked extends.own.slot (newest trace e)
-      done =
-          subst (λ s. Finishes extends.extended ends.marked extends.own.slot s) own.1
-          (finishes extends.extended ends.marked extends.own.slot extends.own.stamp (subst (λ z. Bears extends.extended extends.own.slot z) (sym own.1) there) ends.marks.slots ends.marks.ancestors)
-        where
-          there : Bears extends.extended extends.own.slot (newest trace e)
-          there = ap (λ (s : Slots). bears s extends.own.slot (newest trace e)) extends.adds.slots ∙ own.0
-
-      quiet : HasNothingLeft extends.extended
-      quiet = nothing_left-added w.nodes extends.extended (live_slots w.nodes (steps_looked_up w.kept e)) extends.own.slot extends.adds stands.collected
+      done : Finishes extends.extended ends.marked extends.own.slot
+      done = finishes extends.extended ends.marked extends.own.slot extends.own.stamp (subst (λ z. Bears extends.extended extends.own.slot z) (sym own.1) there) ends.marks.slots ends.marks.ancestors
 
       uncollected : IsUncollected bounds marked (trace ++ e ∷ [])
       uncollected =
-          stands-ended bounds w trace e stands follows inside (ended-finished bounds trace e well none) extends.extended marked (live_slots w.nodes (steps_looked_up w.kept e)) extends.own.slot extends.own own.0 (are-named w e) extends.adds done ends.marks.sound refl own.1 extends.recorded extends.threads acyclic are
+          stands-own bounds w trace e stands follows acyclic marked (takes-finished w.nodes extends.extended ends.marked trace e extends.own.slot there done takes) ends.marks.sound extends.threads are extends.own
+          (done.bearing extends.own.slot (newest trace e) ∙ there) own.1 extends.recorded (done.done ∙ sym (ap not (ended-finished bounds trace e well none).not_open))
 
       comes-to_end : IsMonitorOf bounds new (trace ++ e ∷ [])
       comes-to_end =
@@ -89,7 +96,7 @@ module _ (bounds : Bounds) (w : Watched) (trace : List Event) (e : Event) (stand
           (λ (collects : Collects ends.marked new.nodes). stands-collected bounds marked (trace ++ e ∷ []) uncollected new.nodes collects ends.sound)
           (λ (rest : (¬ IsRoot extends.extended extends.own.slot) × (new.nodes ≡ ends.marked)).
           subst (λ (n : Nodes). IsMonitorOf bounds (record { nodes = n; kept = new.kept; depths = new.depths }) (trace ++ e ∷ [])) (sym rest.1)
-          (stands-whole bounds marked (trace ++ e ∷ []) uncollected (nothing_left-ended extends.extended quiet extends.sound extends.own.slot rest.0 ends.marked (newest trace e) done)))
+          (stands-whole bounds marked (trace ++ e ∷ []) uncollected (nothing_left-ended extends.extended quiet extends.sound extends.own.slot rest.0 ends.marked done)))
           ends.collects
 
     abbrev extended : Watched

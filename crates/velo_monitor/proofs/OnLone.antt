@@ -10,10 +10,10 @@ use Rattle.velo_graph.specs.Nodes.{Nodes, is_ancestor, IsSound, IsRoot, LosesAnc
 use Rattle.velo_graph.specs.Collects.{IsUnneeded, Collects, HasNothingLeft}
 use Rattle.velo_monitor.proofs.OnEnding.{Finishes}
 
-pub root-kept : (old new : Nodes) (c s : ℕ) → Finishes old new c s → IsRoot old c → IsRoot new c
-root-kept old new c s finishes root = record { no_ancestor = λ m. finishes.ancestors m c ∙ root.no_ancestor m }
+pub root-kept : (old new : Nodes) (c : ℕ) → Finishes old new c → IsRoot old c → IsRoot new c
+root-kept old new c finishes root = record { no_ancestor = λ m. finishes.ancestors m c ∙ root.no_ancestor m }
 
-module _ (old marked new : Nodes) (c s : ℕ) (borne : Bears old c s) (sound : IsSound marked) (finishes : Finishes old marked c s) (nothing : HasNothingLeft old) (root : IsRoot old c) (leaf : (n : ℕ) → is_ancestor old c n ≡ false) (freed : new.slots ≡ with_node marked.slots c None) (loses : LosesAncestor marked new c) where
+module _ (old marked new : Nodes) (c s : ℕ) (borne : Bears old c s) (sound : IsSound marked) (finishes : Finishes old marked c) (nothing : HasNothingLeft old) (root : IsRoot old c) (leaf : (n : ℕ) → is_ancestor old c n ≡ false) (freed : new.slots ≡ with_node marked.slots c None) (loses : LosesAncestor marked new c) where
   unneeded-own : IsUnneeded marked c
   unneeded-own = record {
     finished = finishes.done;

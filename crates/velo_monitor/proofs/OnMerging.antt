@@ -54,7 +54,7 @@ module _ (bounds : Bounds) (w : Watched) (trace : List Event) (e : Event) (stand
         (λ (same : r.1.0 ≡ k). subst (λ z. IsTrue (reaches w.nodes r.1.2 z)) same r.1.5)
         (λ (other : r.1.0 ≡ k → ⊥). or_right (eqb r.1.2 k) (is_ancestor w.nodes r.1.2 k) (up_before (is_ancestor w.nodes) stands.sound.order r.1.2 r.1.0 k r.1.5 (others r.1.0 r.1.1 r.1.3 other)))
         (cases_eq r.1.0 k) in
-        Reaches-old trace e u b (reaches-sound w.nodes trace r.1.2 k u b stands.sound stands.ancestors r.1.4 names.borne up);
+        Reaches-old trace e u b (reaches-sound w.nodes trace r.1.2 k u b stands.ancestors r.1.4 names.borne up);
   }
     where
       reached : Reaches (Edge (trace ++ e ∷ [])) b (length trace)

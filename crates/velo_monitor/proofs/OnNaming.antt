@@ -1,7 +1,6 @@
 -- The slots of the live predecessors are those that the event's steps name; whether one of them closes a cycle.
-use Rattle.std.proofs.Common.{◌≡◌, ◌≢◌, ℕ, ◌<◌, ◌≤◌, false, List, [], ◌∷◌, ◌++◌, length, get_or, Option, Some, None, refl, sym, ap, ◌∙◌, subst, arith, get_or-set_same, get_or-set_other}
-use Rattle.std.specs.Prelude.{IsTrue, IsSomeAnd, Contains}
-use Rattle.std.specs.Option.{ForSome}
+use Rattle.std.proofs.Common.{◌≡◌, ◌≢◌, ℕ, ◌<◌, false, List, [], ◌∷◌, ◌++◌, length, get_or, Option, Some, None, refl, sym, ap, ◌∙◌, subst, arith, get_or-set_same, get_or-set_other}
+use Rattle.std.specs.Prelude.{IsTrue, Contains}
 use Rattle.velo_events.specs.declared.config.Bounds.{Bounds}
 use Rattle.velo_events.specs.declared.event.Event.{Event}
 use Rattle.velo_events.specs.Event.{thread_of}
@@ -19,20 +18,13 @@ use Rattle.velo_merge.specs.Named.{Bears}
 use Rattle.velo_merge.proofs.OnStamps.{one_slot, one_stamp}
 use Rattle.velo_monitor.specs.Watched.{Watched, IsMonitorOf}
 use Rattle.velo_monitor.specs.Steps.{live_slots, ReachesSome}
+use Rattle.velo_monitor.proofs.OnOptions.{same_some, below}
 use Rattle.velo_monitor.proofs.OnLooks.{Names}
 use Rattle.velo_monitor.proofs.OnInside.{AreNamed}
 use Rattle.velo_monitor.proofs.OnClosing.{closes-by, closes-from}
-use Rattle.velo_monitor.proofs.OnOpening.{HasFresh}
-use Rattle.velo_monitor.proofs.OnBegin.{HasFlags}
+use Rattle.velo_monitor.proofs.OnOpening.{HasFresh, HasFlags}
 use Rattle.velo_monitor.proofs.OnCurrent.{current-node}
 use Rattle.velo_monitor.proofs.OnSteps.{in_live_slots, of_live_slot}
-
-same_some : {X : Type 0} (a b : X) → Some a ≡ Some b → a ≡ b
-same_some a b h = cc
-
-below : (o : Option ℕ) (s n : ℕ) → IsSomeAnd o (λ z. s ≤ z) → ForSome o (λ z. z < n) → s < n
-below None s n h f = absurd h
-below (Some z) s n h f = let l : z < n = f z refl in let m : s ≤ z = h in omega (arith, l, m)
 
 -- a step that is looked up and names a node names it
 pub names-step : (w : Watched) (e : Event) (step : Step) → Contains (steps_looked_up w.kept e) step → Bears w.nodes step.slot step.stamp → Names w.nodes w.kept e step.slot step.stamp

@@ -19,8 +19,8 @@ reaches-unfinished nodes trace j k a b sound ancestors first second still leads 
     (cases_eq a b)
 
 -- and what a node reaches in the graph of nodes it reaches in the trace
-pub reaches-sound : (nodes : Nodes) (trace : List Event) (j k a b : ℕ) → IsSound nodes → AreAncestors nodes trace → Bears nodes j a → Bears nodes k b → IsTrue (reaches nodes j k) → Reaches (Edge trace) a b
-reaches-sound nodes trace j k a b sound ancestors first second leads =
+pub reaches-sound : (nodes : Nodes) (trace : List Event) (j k a b : ℕ) → AreAncestors nodes trace → Bears nodes j a → Bears nodes k b → IsTrue (reaches nodes j k) → Reaches (Edge trace) a b
+reaches-sound nodes trace j k a b ancestors first second leads =
     ⊎_elim
     (λ (same : eqb j k ≡ true). inl (one_stamp nodes k a b (subst (λ z. Bears nodes z a) (eqb-true j k same) first) second))
     (λ (before : IsTrue (is_ancestor nodes j k)). ancestors.sound j k a b first second before)

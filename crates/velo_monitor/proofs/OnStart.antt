@@ -1,5 +1,5 @@
 -- With no node in use, no step and no open block, the monitor is that of the empty trace. Room that is made changes nothing.
-use Rattle.std.proofs.Common.{◌≡◌, ℕ, ◌<◌, ◌≤◌, false, List, [], ◌∷◌, length, get_or, replicate, Option, Some, None, refl, sym, ap, ◌∙◌, subst, ⊎_elim, arith}
+use Rattle.std.proofs.Common.{◌≡◌, ℕ, ◌<◌, ◌≤◌, false, List, [], ◌∷◌, length, get_or, replicate, Option, None, refl, sym, ap, ◌∙◌, ⊎_elim, arith}
 use Rattle.std.specs.Prelude.{slice_index_or}
 use Rattle.std.proofs.lemmas.Bool.{cases_lt, false≢true}
 use Rattle.std.proofs.lemmas.List.{get_or-replicate, get_or_past, length-replicate}
@@ -8,15 +8,15 @@ use Rattle.velo_events.specs.declared.config.Bounds.{Bounds}
 use Rattle.velo_events.specs.declared.event.Event.{Event}
 use Rattle.velo_events.specs.Heap.{times, depth_in}
 use Rattle.velo_events.specs.Graph.{Edge, IsCycle, HasCycle}
-use Rattle.velo_arena.specs.declared.step.Step.{Step}
 use Rattle.velo_arena.specs.declared.step.Node.{Node}
 use Rattle.velo_arena.specs.Slots.{node_in, has_stamp, has_finished}
-use Rattle.velo_graph.specs.Nodes.{Nodes, is_ancestor, IsSound}
+use Rattle.velo_graph.specs.Nodes.{is_ancestor, IsSound}
 use Rattle.velo_tables.specs.LastAccesses.{IsBlank, IsUnchanged}
 use Rattle.velo_events.proofs.OnLast.{last_at-within}
 use Rattle.velo_merge.specs.Named.{Bears}
 use Rattle.velo_monitor.specs.Watched.{Watched, IsMonitorOf}
-use Rattle.velo_monitor.proofs.OnTables.{entries-unchanged}
+use Rattle.velo_monitor.proofs.OnOptions.{none_some}
+use Rattle.velo_monitor.proofs.OnTables.{entries-unchanged, stands-kept}
 
 no-cycle : ¬ HasCycle []
 no-cycle has = none has.cycle has.is_cycle
@@ -70,19 +70,13 @@ starts bounds w limit few none newest rows sound blank threads depths = record {
   entries = record {
     last = λ p i at. absurd (omega (arith, last_at-within p [] i at));
     never = λ p at. blank.each p;
-    given = λ p s h. absurd (none_step s (sym (blank.each p) ∙ h));
+    given = λ p s h. absurd (none_some s (sym (blank.each p) ∙ h));
   };
   threads = threads;
   accounted = λ a t. absurd (omega (arith, t.within));
   depths = (ap length depths ∙ length-replicate bounds.threads nought, λ t l. ap (λ xs. slice_index_or xs t 0) depths ∙ zeros bounds.threads t ∙ sym (no-depth t));
 }
   where
-    none_some : (z : ℕ) → None ≡ Some z → ⊥
-    none_some z h = cc
-
-    none_step : (s : Step) → None ≡ Some s → ⊥
-    none_step s h = cc
-
     empty : (k : ℕ) → node_in w.nodes.slots k ≡ None
     empty k = ap (λ (nodes : List (Option Node)). get_or nodes k None) none ∙ vacant limit k
 
@@ -91,19 +85,4 @@ starts bounds w limit few none newest rows sound blank threads depths = record {
 
 -- with more room it is the monitor of the same trace
 pub makes-room : (bounds : Bounds) (w new : Watched) (trace : List Event) → new.nodes ≡ w.nodes → new.depths ≡ w.depths → IsUnchanged w.kept new.kept → length new.kept.threads ≡ length w.kept.threads → IsMonitorOf bounds w trace → IsMonitorOf bounds new trace
-makes-room bounds w new trace nodes depths unchanged threads stands =
-    subst (λ (n : Nodes). IsMonitorOf bounds (record { nodes = n; kept = new.kept; depths = new.depths }) trace) (sym nodes)
-    (subst (λ (d : List ℕ). IsMonitorOf bounds (record { nodes = w.nodes; kept = new.kept; depths = d }) trace) (sym depths) (record {
-      few = stands.few;
-      well_formed = stands.well_formed;
-      acyclic = stands.acyclic;
-      earlier = stands.earlier;
-      sound = stands.sound;
-      founded = stands.founded;
-      ancestors = stands.ancestors;
-      collected = stands.collected;
-      entries = entries-unchanged w.nodes w.kept new.kept trace unchanged stands.entries;
-      threads = threads ∙ stands.threads;
-      accounted = stands.accounted;
-      depths = stands.depths;
-    }))
+makes-room bounds w new trace nodes depths unchanged threads stands = stands-kept bounds w new trace nodes depths (entries-unchanged w.nodes w.kept new.kept trace unchanged stands.entries) threads stands

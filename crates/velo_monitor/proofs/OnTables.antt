@@ -1,7 +1,8 @@
 -- The tables after one more event was recorded.
 use Rattle.std.proofs.Common.{◌≡◌, ℕ, ◌<◌, ◌≤◌, Bool, true, false, List, [], ◌∷◌, ◌++◌, length, Option, Some, None, refl, sym, ◌∙◌, subst, ⊎_elim, inl, inr}
 use Rattle.std.specs.Prelude.{IsSomeAnd, if◌then◌else◌}
-use Rattle.std.proofs.lemmas.Bool.{both_ways, false_from_ne_true}
+use Rattle.std.proofs.lemmas.Bool.{cases_Bool, both_ways, false_from_ne_true}
+use Rattle.velo_events.specs.declared.config.Bounds.{Bounds}
 use Rattle.velo_events.specs.declared.event.Event.{Event}
 use Rattle.velo_events.specs.Block.{owner, IsTransaction}
 use Rattle.velo_monitor.specs.Collection.{IsCovered}
@@ -16,7 +17,7 @@ use Rattle.velo_events.specs.Place.{Place, is_recorded, last_at}
 use Rattle.velo_tables.specs.LastAccesses.{LastAccesses, entry, IsRecorded, IsUnchanged}
 use Rattle.velo_events.proofs.OnLast.{last_at-push, last_at-within}
 use Rattle.velo_merge.specs.Named.{Bears}
-use Rattle.velo_monitor.specs.Watched.{IsEntryFor, AreEntries}
+use Rattle.velo_monitor.specs.Watched.{Watched, IsEntryFor, AreEntries, IsAccountedIn, IsMonitorOf}
 
 -- nodes stay, and no node with a stamp of the trace comes
 pub record KeepsOld (old new : Nodes) (trace : List Event) : Type 0 where
@@ -72,3 +73,43 @@ entries-unchanged nodes old new trace same entries = record {
   never = λ p at. same.each p ∙ entries.never p at;
   given = λ p s h. entries.given p s (sym (same.each p) ∙ h);
 }
+
+-- ---- the whole, where the tables alone change
+
+pub stands-kept : (bounds : Bounds) (w new : Watched) (trace : List Event) → new.nodes ≡ w.nodes → new.depths ≡ w.depths → AreEntries w.nodes new.kept trace → length new.kept.threads ≡ length w.kept.threads → IsMonitorOf bounds w trace → IsMonitorOf bounds new trace
+stands-kept bounds w new trace nodes depths entries threads stands =
+    subst (λ (n : Nodes). IsMonitorOf bounds (record { nodes = n; kept = new.kept; depths = new.depths }) trace) (sym nodes)
+    (subst (λ (d : List ℕ). IsMonitorOf bounds (record { nodes = w.nodes; kept = new.kept; depths = d }) trace) (sym depths) (record {
+      few = stands.few;
+      well_formed = stands.well_formed;
+      acyclic = stands.acyclic;
+      earlier = stands.earlier;
+      sound = stands.sound;
+      founded = stands.founded;
+      ancestors = stands.ancestors;
+      collected = stands.collected;
+      entries = entries;
+      threads = threads ∙ stands.threads;
+      accounted = stands.accounted;
+      depths = stands.depths;
+    }))
+
+-- ---- to be accounted for is to have an entry that could stand
+
+pub entry-from_account : (nodes : Nodes) (trace : List Event) (a : ℕ) → IsAccountedIn nodes trace a → (o : Option Step) × IsEntryFor nodes trace o a
+entry-from_account nodes trace a account = ⊎_elim
+    (λ founds. (Some (record { slot = founds.0; stamp = a }), record { alive = λ borne. inl refl; dead = λ gone. absurd (both_ways (bears nodes.slots founds.0 a) gone founds.1) }))
+    (λ others. ⊎_elim
+    (λ covered. (Some (record { slot = covered.0; stamp = covered.1 }), record { alive = λ borne. inr covered.3; dead = λ gone. absurd (both_ways (bears nodes.slots covered.0 covered.1) gone covered.2) }))
+    (λ dead. (None, dead)) others)
+    account
+
+pub account-from_entry : (nodes : Nodes) (trace : List Event) (a : ℕ) (o : Option Step) → IsEntryFor nodes trace o a → IsAccountedIn nodes trace a
+account-from_entry nodes trace a None dead = inr (inr dead)
+account-from_entry nodes trace a (Some s) is = ⊎_elim
+    (λ (borne : Bears nodes s.slot s.stamp). ⊎_elim
+    (λ (same : s.stamp ≡ a). inl (s.slot, subst (Bears nodes s.slot) same borne))
+    (λ (covered : IsCovered trace a s.stamp). inr (inl (s.slot, s.stamp, borne, covered)))
+    (is.alive borne))
+    (λ (gone : bears nodes.slots s.slot s.stamp ≡ false). inr (inr (is.dead gone)))
+    (cases_Bool (bears nodes.slots s.slot s.stamp))

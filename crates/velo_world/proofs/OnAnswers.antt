@@ -76,13 +76,4 @@ meaning-live w t action e h = at (refusal_of w.config.bounds w.log t.0 (kind_for
 -- the action that asks for what an action means is this action
 pub action_of-kind_for : (log : List Event) (action : Action) → action_of (kind_for log action) ≡ action
 action_of-kind_for log (Action.Read x) = refl
-action_of-kind_for log (Action.Write x v) = refl
-action_of-kind_for log (Action.Acquire m) = refl
-action_of-kind_for log (Action.Release m) = refl
-action_of-kind_for log (Action.AcquireShared m) = refl
-action_of-kind_for log (Action.ReleaseShared m) = refl
-action_of-kind_for log (Action.Begin l) = refl
-action_of-kind_for log Action.End = refl
-action_of-kind_for log (Action.Fork u) = refl
-action_of-kind_for log (Action.Join u) = refl
-action_of-kind_for log Action.Exit = refl
+action_of-kind_for log _ = refl

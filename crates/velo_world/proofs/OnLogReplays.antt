@@ -7,7 +7,7 @@ use Rattle.velo_events.specs.declared.config.Bounds.{Bounds}
 use Rattle.velo_events.specs.declared.config.Config.{Config}
 use Rattle.velo_events.specs.declared.event.Event.{Event}
 use Rattle.velo_events.specs.declared.event.Kind.{Kind}
-use Rattle.velo_events.specs.declared.event.Kind.TheVariants.{Read, Write, Acquire, Release, AcquireShared, ReleaseShared, Begin, End, Fork, Join, Exit}
+use Rattle.velo_events.specs.declared.event.Kind.TheVariants.{Read}
 use Rattle.velo_events.specs.declared.event.ThreadId.{ThreadId}
 use Rattle.velo_events.specs.declared.refusal.Refusal.{Refusal}
 use Rattle.velo_events.specs.WellFormed.{MayFollow, NamesKnown, IsWellFormed}
@@ -30,44 +30,17 @@ use Rattle.velo_world.proofs.OnAlarms.{length-before}
 refusal_of-asked : (bounds : Bounds) (log : List Event) (t : ℕ) (kind : Kind) → refusal_of bounds log t (kind_for log (action_of kind)) ≡ refusal_of bounds log t kind
 unfolding refusal_of
 refusal_of-asked bounds log t (Read x v) = refl
-refusal_of-asked bounds log t (Write x v) = refl
-refusal_of-asked bounds log t (Acquire m) = refl
-refusal_of-asked bounds log t (Release m) = refl
-refusal_of-asked bounds log t (AcquireShared m) = refl
-refusal_of-asked bounds log t (ReleaseShared m) = refl
-refusal_of-asked bounds log t (Begin l) = refl
-refusal_of-asked bounds log t End = refl
-refusal_of-asked bounds log t (Fork u) = refl
-refusal_of-asked bounds log t (Join u) = refl
-refusal_of-asked bounds log t Exit = refl
+refusal_of-asked bounds log t _ = refl
 
 -- a read has its value where it asks for its own event
 own_event : (log : List Event) (t : ThreadId) (kind : Kind) → IsTrue (has_its_value log kind) → kind_for log (action_of kind) ≡ kind
 own_event log t (Read x v) h = ap (λ n. Read x n) (sym (eqb-true v _ h))
-own_event log t (Write x v) h = refl
-own_event log t (Acquire m) h = refl
-own_event log t (Release m) h = refl
-own_event log t (AcquireShared m) h = refl
-own_event log t (ReleaseShared m) h = refl
-own_event log t (Begin l) h = refl
-own_event log t End h = refl
-own_event log t (Fork u) h = refl
-own_event log t (Join u) h = refl
-own_event log t Exit h = refl
+own_event log t _ h = refl
 
 -- the names of the event that is asked for are those of the action
 names_asked : (bounds : Bounds) (log : List Event) (kind : Kind) → NamesKnown bounds (kind_for log (action_of kind)) → NamesKnown bounds kind
 names_asked bounds log (Read x v) h = h
-names_asked bounds log (Write x v) h = h
-names_asked bounds log (Acquire m) h = h
-names_asked bounds log (Release m) h = h
-names_asked bounds log (AcquireShared m) h = h
-names_asked bounds log (ReleaseShared m) h = h
-names_asked bounds log (Begin l) h = h
-names_asked bounds log End h = h
-names_asked bounds log (Fork u) h = h
-names_asked bounds log (Join u) h = h
-names_asked bounds log Exit h = h
+names_asked bounds log _ h = h
 
 -- what is not refused has its names in the bounds
 pub known_names : (bounds : Bounds) (log : List Event) (e : Event) → IsWellFormed bounds log → refusal_of bounds log e.thread.0 e.kind ≡ None → NamesKnown bounds e.kind

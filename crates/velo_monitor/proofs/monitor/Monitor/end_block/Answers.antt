@@ -13,7 +13,7 @@ free-requires-clause-root c =
     let own = c.args.own in
     let now = c.finish.new.self in
     let root = (subst (λ (v : Watched). IsTrue c.is_root-is_root.result ↔ IsRoot v.nodes own.slot) c.self.view_is c.is_root-is_root.ensures).0 c.if-not-is_root.false in
-    root-kept old now own.slot own.stamp
+    root-kept old now own.slot
     (finishes old now own.slot own.stamp c.requires.borne
     (subst (λ (v : Watched). now.slots ≡ with_node v.nodes.slots own.slot (Some (record { stamp = own.stamp; finished = true }))) c.self.view_is c.finish.ensures.finished)
     (subst (λ (v : Watched). now.ancestors ≡ v.nodes.ancestors) c.self.view_is c.finish.ensures.ancestors)) root
