@@ -6,7 +6,5 @@ pub mod OnNested
 pub mod OnParsing
 pub mod OnPhrases
 pub mod OnReading
-pub mod OnSketches
-pub mod OnCompleting
-pub mod OnLonger
+pub mod OnFound
 pub mod OnWords

@@ -1,5 +1,5 @@
 -- What the first pass keeps of the lines is what is known of them.
-use Rattle.std.proofs.Common.{◌≡◌, ℕ, ◌+◌, ◌-◌, ◌*◌, ◌<◌, ◌≤◌, zero, suc, min, ltb, leb, eqb, Bool, true, false, cond, List, [], ◌∷◌, ◌++◌, length, map, take, slice_get, Option, Some, None, Result, Ok, Err, refl, sym, ap, subst, ◌∙◌, ⊎_elim, append-nil, append_assoc, add-zero, length-append, lit≤, arith}
+use Rattle.std.proofs.Common.{◌≡◌, ℕ, ◌+◌, ◌-◌, ◌*◌, ◌<◌, ◌≤◌, zero, suc, min, ltb, leb, eqb, Bool, true, false, cond, List, [], ◌∷◌, ◌++◌, length, map, take, slice_get, Option, Some, None, Result, Ok, Err, refl, sym, ap, subst, ◌∙◌, ⊎_elim, append-nil, append_assoc, add-zero, length-append, arith}
 use Rattle.std.specs.Prelude.{option_map, OnOk}
 use Rattle.std.specs.Option.{option_map_or}
 use Rattle.std.specs.List.{flat_map}
@@ -19,12 +19,11 @@ use Rattle.velo_workload.specs.declared.outline.Outline.{Outline}
 use Rattle.velo_workload.specs.declared.nesting.Open.{Open}
 use Rattle.velo_workload.specs.Words.{Word, lines}
 use Rattle.velo_workload.specs.Phrase.{phrase_of, phrases, Spoken, Begin, Repeat, Done, Phrase, Blank, Bad, BadThread, Variable, Lock, Thread, Body}
-use Rattle.velo_workload.specs.Outline.{AreFew, is_among, Judges, fault_from, first_fault, variable_in, lock_in, thread_in, label_in, label_of, statement_in, variables, locks, threads, labels, statements, reading, Known, known, Names, names_in, first_of_two, fault_of_line, fault_at_end, declared_fault, statement_fault, full_fault}
+use Rattle.velo_workload.specs.Outline.{AreFew, is_among, Judges, fault_from, first_fault, variable_in, lock_in, thread_in, label_in, label_of, statement_in, variables, locks, threads, labels, statements, reading, Known, known, names_in, first_of_two, fault_of_line, fault_at_end, declared_fault, statement_fault, full_fault}
 use Rattle.velo_workload.specs.Nesting.{NestingState, new_nesting, last_open, nesting_after, nesting_after_line, nesting_from, nesting_of_lines, nesting_fault, most_kept, kept_open, kept}
 use Rattle.velo_workload.proofs.Building.{up_to_most, phrases_left, IsReadUpTo}
 use Rattle.velo_workload.specs.Known.{lines_left, LineState, kept_of, known_by, known_of, statement_kept, labelled, with_line, whole}
 use Rattle.velo_workload.proofs.OnCosts.{agrees, same_depth, same_end}
-use Rattle.velo_workload.proofs.OnLonger.{IsLonger, names_longer}
 
 -- an answer that is this fault
 abbrev pub wrong : WorkFault → Result (Unit {0}) WorkFault
@@ -253,9 +252,6 @@ judged_first f g (TooMany n) h = some_first f g (TooMany n) h
 judged_first f g Memory h = h
 
 module _ (text : List ℕ) where
-  pub begun : (o : Outline) → kept_of o ≡ whole [] → IsReadUpTo text (Some text) o 0
-  begun o e = record { before = []; is_kept = e; number = refl; few = record { variables = lit≤ tt; locks = lit≤ tt; threads = lit≤ tt; labels = lit≤ tt; statements = lit≤ tt }; all = refl; fault = refl }
-
   -- what is known when so much was read
   known_then : (rest : Option (List ℕ)) (o : Outline) (n : ℕ) (r : IsReadUpTo text rest o n) → known_of o ≡ known_by (whole r.before)
   known_then rest o n r = ap known_by r.is_kept ∙ known_kept (whole r.before)
@@ -304,13 +300,6 @@ module _ (text : List ℕ) where
 
   pub few_then : (rest : Option (List ℕ)) (o : Outline) (n : ℕ) → IsReadUpTo text rest o n → AreFew (known_of o)
   few_then rest o n r = subst AreFew (sym (known_then rest o n r)) r.few
-
-  -- the names of the text are those so far, and then others
-  pub longer_then : (rest : Option (List ℕ)) (o : Outline) (n : ℕ) → IsReadUpTo text rest o n → IsLonger (names_in (known_of o)) (names_in (known (phrases text)))
-  longer_then rest o n r =
-      let here : names_in (known r.before) ≡ names_in (known_of o) = sym (ap names_in (known_then rest o n r ∙ known_whole r.before)) in
-      subst (λ (some : Names). IsLonger some (names_in (known (phrases text)))) here
-      (subst (λ (ps : List Phrase). IsLonger (names_in (known r.before)) (names_in (known ps))) r.all (names_longer r.before (phrases_left rest)))
 
 pub on_ok : {X E P : Type 0} → P → (r : Result X E) → OnOk r P
 on_ok p (Ok x) = p

@@ -1,12 +1,12 @@
 -- What the first pass keeps of the lines that it has read. Private contracts cite these words.
-use Rattle.std.specs.Prelude.{◌≡◌, ℕ, ◌+◌, ◌*◌, min, List, [], ◌∷◌, ◌++◌, length, map, Option, Some, None}
+use Rattle.std.specs.Prelude.{ℕ, ◌+◌, ◌*◌, min, List, [], ◌∷◌, ◌++◌, length, Option, Some, None}
 use Rattle.std.specs.Str.{bytes_eq}
 use Rattle.indexmap.specs.IndexSet.{insert_key}
 use Rattle.velo_workload.specs.declared.outline.Outline.{Outline}
 use Rattle.velo_workload.specs.Words.{Word, lines}
-use Rattle.velo_workload.specs.Phrase.{phrase_of, Spoken, Repeat, Done, Begin, Phrase, Variable, Lock, Thread, Body}
+use Rattle.velo_workload.specs.Phrase.{Spoken, Repeat, Done, Begin, Phrase, Variable, Lock, Thread, Body}
 use Rattle.velo_workload.specs.Names.{names_of}
-use Rattle.velo_workload.specs.Nesting.{NestingState, new_nesting, nesting_after, nesting_of_lines, nesting_fault, most_kept, kept, nesting_of}
+use Rattle.velo_workload.specs.Nesting.{NestingState, new_nesting, nesting_after, nesting_of_lines, nesting_fault, most_kept, nesting_of}
 use Rattle.velo_workload.specs.Outline.{Known, variables, locks, threads, labels, statements}
 
 -- the names and labels so far, how many statements there were, and the body that is read

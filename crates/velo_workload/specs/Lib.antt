@@ -5,5 +5,5 @@ pub mod Outline
 pub mod Nesting
 pub mod Known
 pub mod Program
-pub mod Sketch
+pub mod Found
 pub mod Bodies

@@ -1,6 +1,6 @@
 //! Growing calls of `indexmap` and of `String`, each with the fact that its refusal leaves. No
 //! other code of this crate can show this fact.
-ghost use Rattle.std.specs.Prelude.{◌≡◌, not, map, IfOk};
+ghost use Rattle.std.specs.Prelude.{◌≡◌, not, IfOk};
 ghost use Rattle.std.specs.String.{string_bytes};
 ghost use Rattle.std.specs.Str.{bytes_eq};
 ghost use Rattle.indexmap.specs.IndexSet.{insert_key};

@@ -3,7 +3,6 @@
 #![tactic(auto)]
 
 mod bodies;
-mod draft;
 mod fault;
 mod growth;
 mod laws;

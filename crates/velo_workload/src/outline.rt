@@ -1,11 +1,9 @@
 //! The first pass over a text: what it declares, and its faults but for undeclared names.
 ghost use Rattle.std.specs.Prelude.{◌≡◌, ◌<◌, [], OnOk};
 ghost use Rattle.velo_workload.specs.Phrase.{said, spoken, phrases, Body, Thread};
-ghost use Rattle.velo_workload.specs.Outline.{AreFew, names_in, Judges, known, first_fault, fault_of_line, statement_fault, full_fault, fault_at_end};
+ghost use Rattle.velo_workload.specs.Outline.{AreFew, names_in, Judges, known, first_fault, fault_of_line, statement_fault, fault_at_end};
 ghost use Rattle.velo_workload.specs.Known.{known_of, kept_of, whole, with_line};
-ghost use Rattle.velo_workload.specs.Sketch.{sketches_of, AreSketches};
 
-use crate::bodies::Bodies;
 use crate::fault::WorkFault;
 use crate::growth::insert;
 use crate::limits::{MAX_OPEN_REPEATS, MAX_STATEMENTS, MAX_VARIABLES};
@@ -158,19 +156,15 @@ impl<'a> Outline<'a> {
         }
     }
 
-    /// Reads a text's lines, before any other, and puts down its bodies.
+    /// Reads a text's lines, before any other.
     ///
     /// # Errors
     /// The first fault of the first pass; `Memory` if an allocation failed.
-    pub fn read(&mut self, text: &'a [u8], bodies: &mut Bodies<'a>) -> Result<(), WorkFault>
-        requires first { kept_of self.old ≡ whole [] }
-        requires none { sketches_of bodies.old
-            ≡ record { whole = []; current = record { statements = []; later = [] } } }
+    pub fn read(&mut self, text: &'a [u8]) -> Result<(), WorkFault>
+        requires { kept_of self.old ≡ whole [] }
         ensures judged { Judges (first_fault (phrases text.now)) result }
         ensures names { OnOk result (names_in (known_of self.new) ≡ names_in (known (phrases text.now))) }
         ensures few { OnOk result (AreFew (known_of self.new)) }
-        ensures bodies { OnOk result
-            (AreSketches (names_in (known (phrases text.now))) (phrases text.now) (sketches_of bodies.new)) }
     {
         let mut rest = Some(text);
         let mut number = 0;
@@ -180,10 +174,6 @@ impl<'a> Outline<'a> {
             match self.take(phrase, number) {
                 Ok(()) => {}
                 Err(fault) => return Err(fault),
-            }
-            match bodies.take(self, phrase, number) {
-                Ok(()) => {}
-                Err(_) => return Err(WorkFault::Memory),
             }
             rest = more;
         }

@@ -1,17 +1,15 @@
 //! Parsing a text to a workload.
-ghost use Rattle.std.specs.Prelude.{◌≡◌, ◌≤◌, ◌<◌, ◌↔◌, [], Some, length, map, drop, slice_get, IfOk, OnOk, OnErr, Err};
+ghost use Rattle.std.specs.Prelude.{◌≡◌, ◌≤◌, ◌<◌, ◌↔◌, [], Some, length, map, slice_get, IfOk, OnOk, OnErr, Err};
 ghost use Rattle.std.specs.String.{string_bytes};
 ghost use Rattle.std.specs.Str.{IsUtf8};
-ghost use Rattle.velo_workload.specs.Names.{names_of};
 ghost use Rattle.velo_workload.specs.Bodies.{AreBodies};
-ghost use Rattle.velo_workload.specs.Outline.{AreFew, Judges, names_in};
+ghost use Rattle.velo_workload.specs.Outline.{AreFew, names_in};
 ghost use Rattle.velo_workload.specs.Known.{known_of, kept_of, whole};
-ghost use Rattle.velo_workload.specs.Program.{Program, program_of, meaning_of, ParsesAs};
-ghost use Rattle.velo_workload.specs.Sketch.{sketches_of, drafted, unknown_in_sketches, bodies_completed};
+ghost use Rattle.velo_workload.specs.Program.{program_of, meaning_of, ParsesAs};
 ghost use Rattle.velo_events.specs.declared.limits.TheConstants.{MAX_THREADS, MAX_LOCKS};
 ghost use Rattle.velo_workload.specs.declared.limits.TheConstants.{MAX_WORKLOAD_BYTES};
 
-use crate::bodies::{Bodies, complete_bodies};
+use crate::bodies::read_bodies;
 use crate::fault::WorkFault;
 use crate::growth::copy_of;
 use crate::limits::MAX_WORKLOAD_BYTES;
@@ -20,7 +18,6 @@ use crate::outline::Outline;
 use crate::statement::Statement;
 use std::alloc::Global;
 use std::marker::Model;
-use std::mem::replace;
 use velo_events::growth::reserve;
 use velo_events::{Bounds, Memory, ThreadId};
 
@@ -145,25 +142,6 @@ fn assemble(
     })
 }
 
-/// The bodies of the threads of a text, by what the first pass has put down.
-fn bodies_of(
-    alloc: Global,
-    outline: &Outline,
-    bodies: &mut Bodies,
-) -> Result<Vec<Vec<Statement>>, WorkFault>
-    requires { AreFew (known_of outline.now) }
-    ensures judged { Judges (unknown_in_sketches (names_in (known_of outline.now)) (drafted (sketches_of bodies.old))) result }
-    ensures bodies { IfOk result (λ found.
-        map (λ body. body.items) found.items
-        ≡ drop 1 (bodies_completed (names_in (known_of outline.now)) (drafted (sketches_of bodies.old)))) }
-{
-    bodies.finish()?;
-    let drafts = replace(&mut bodies.whole, Vec::new(alloc));
-    let mut found = complete_bodies(alloc, outline, drafts)?;
-    let _before_threads = found.remove(0);
-    Ok(found)
-}
-
 /// The workload of a text, by an outline of no line.
 fn parse_into<'a>(
     alloc: Global,
@@ -173,10 +151,9 @@ fn parse_into<'a>(
     requires { kept_of outline.old ≡ whole [] }
     ensures { ParsesAs (meaning_of text.now) result }
 {
-    let mut drafts = Bodies::new(alloc);
-    match outline.read(text, &mut drafts) {
+    match outline.read(text) {
         Err(fault) => Err(fault),
-        Ok(()) => match bodies_of(alloc, outline, &mut drafts) {
+        Ok(()) => match read_bodies(alloc, outline, text) {
             Err(fault) => Err(fault),
             Ok(bodies) => match assemble(alloc, outline, bodies) {
                 Ok(workload) => Ok(workload),
@@ -188,8 +165,8 @@ fn parse_into<'a>(
 
 /// Parses a text to the program that it means.
 ///
-/// Its time and memory grow with the text. The text is read once: the second pass goes over the
-/// statements alone whose names are not declared up to their line.
+/// Its time and memory grow with the text, which is read twice: a statement may use a name that a
+/// later line declares.
 ///
 /// # Errors
 /// The first fault of the text: the first pass judges all but undeclared names, line by line, and

@@ -1,14 +1,11 @@
-use Rattle.std.proofs.Common.{◌+◌, ◌∙◌, ap, map, sym, subst, rules}
+use Rattle.std.proofs.Common.{◌+◌, ◌∙◌, ap, sym, subst, rules}
 use Rattle.std.specs.Prelude.{option_copied}
 use Rattle.std.specs.List.{before_first}
 use Rattle.velo_workload.specs.Words.{is_newline}
-use Rattle.velo_workload.specs.Outline.{Judges, fault_of_line, names_in, known}
+use Rattle.velo_workload.specs.Outline.{Judges, fault_of_line}
 use Rattle.velo_workload.specs.Known.{known_of, kept_of, with_line}
-use Rattle.velo_workload.specs.Phrase.{phrases, phrase_of}
-use Rattle.velo_workload.specs.Sketch.{sketches_of, with_phrase}
-use Rattle.velo_workload.proofs.Building.{phrases_left, IsReadUpTo, IsSketchedUpTo}
-use Rattle.velo_workload.proofs.OnReading.{line_wrong, line_right, all_names, few_then, longer_then, end_is, on_ok, wrong}
-use Rattle.velo_workload.proofs.OnSketches.{sketched_more, sketched_all}
+use Rattle.velo_workload.proofs.Building.{IsReadUpTo}
+use Rattle.velo_workload.proofs.OnReading.{line_wrong, line_right, all_names, few_then, end_is, on_ok, wrong}
 use Rattle.velo_workload.proofs.outline.Outline.read.Goals as goal
 
 pub returns-in-Err-clause-judged : goal.returns-in-Err-clause-judged
@@ -20,18 +17,6 @@ returns-in-Err-clause-judged c =
     let judged = subst (λ p. Judges (fault_of_line (known_of o) p (n + 1)) (wrong c.in-Err.fault)) c.next_phrase.ensures.phrase c.in-Err.ensures.judged in
     line_wrong text c.in-Some.bytes.now (before_first is_newline c.in-Some.bytes.now) (option_copied c.next_phrase.result.1) o n c.in-Err.fault read c.next_phrase.ensures.lines judged
 
-pub take-requires-in-Some : goal.take-requires-in-Some
-take-requires-in-Some c =
-    let text = c.args.text.now in
-    let o = c.loop-rest.self in
-    let n = c.loop-rest.number in
-    let line = before_first is_newline c.in-Some.bytes.now in
-    let more = option_copied c.next_phrase.result.1 in
-    let read = subst (λ r. IsReadUpTo text (option_copied r) o n) c.in-Some.is c.loop-rest.invariant.read in
-    let fine = ap (λ p. fault_of_line (known_of o) p (n + 1)) (sym c.next_phrase.ensures.phrase) ∙ c.in-Ok.ensures.judged in
-    let kept = c.in-Ok.ensures.kept ∙ ap (λ p. with_line (kept_of o) p (n + 1)) c.next_phrase.ensures.phrase in
-    few_then text more c.take.new.self (n + 1) (line_right text c.in-Some.bytes.now line more o c.take.new.self n read c.next_phrase.ensures.lines fine kept)
-
 pub loop-rest-preserved : goal.loop-rest-preserved
 loop-rest-preserved c =
     let text = c.args.text.now in
@@ -39,17 +24,11 @@ loop-rest-preserved c =
     let n = c.loop-rest.number in
     let line = before_first is_newline c.in-Some.bytes.now in
     let more = option_copied c.next_phrase.result.1 in
-    let all-names = names_in (known (phrases text)) in
     let read = subst (λ r. IsReadUpTo text (option_copied r) o n) c.in-Some.is c.loop-rest.invariant.read in
     let fine = ap (λ p. fault_of_line (known_of o) p (n + 1)) (sym c.next_phrase.ensures.phrase) ∙ c.in-Ok.ensures.judged in
     let kept = c.in-Ok.ensures.kept ∙ ap (λ p. with_line (kept_of o) p (n + 1)) c.next_phrase.ensures.phrase in
-    let read-more = line_right text c.in-Some.bytes.now line more o c.take.new.self n read c.next_phrase.ensures.lines fine kept in
-    let here = subst (λ r. IsSketchedUpTo all-names (phrases text) (phrases_left (option_copied r)) n (sketches_of c.loop-rest.bodies)) c.in-Some.is c.loop-rest.invariant.sketched in
-    let here-line = subst (λ ls. IsSketchedUpTo all-names (phrases text) (map phrase_of ls) n (sketches_of c.loop-rest.bodies)) c.next_phrase.ensures.lines here in
-    let new-is = c.in-Ok-take.ensures ∙ ap (λ p. with_phrase (names_in (known_of c.take.new.self)) (sketches_of c.loop-rest.bodies) p (n + 1)) c.next_phrase.ensures.phrase in
     record {
-      read = read-more;
-      sketched = sketched_more all-names (names_in (known_of c.take.new.self)) (phrases text) (phrases_left more) (phrase_of line) n (sketches_of c.loop-rest.bodies) (sketches_of c.take-in-Some.new.self) (longer_then text more c.take.new.self (n + 1) read-more) here-line new-is;
+      read = line_right text c.in-Some.bytes.now line more o c.take.new.self n read c.next_phrase.ensures.lines fine kept;
       numbered = search rules;
     }
 
@@ -67,9 +46,3 @@ pub returns-clause-names : goal.returns-clause-names
 returns-clause-names c =
     let read = subst (λ r. IsReadUpTo c.args.text.now (option_copied r) c.loop-rest.self c.loop-rest.number) c.in_default.is c.loop-rest.invariant.read in
     on_ok (all_names c.args.text.now c.loop-rest.self c.loop-rest.number read) c.end.result
-
-pub returns-clause-bodies : goal.returns-clause-bodies
-returns-clause-bodies c =
-    let ps = phrases c.args.text.now in
-    let sketched = subst (λ r. IsSketchedUpTo (names_in (known ps)) ps (phrases_left (option_copied r)) c.loop-rest.number (sketches_of c.loop-rest.bodies)) c.in_default.is c.loop-rest.invariant.sketched in
-    on_ok (sketched_all (names_in (known ps)) ps c.loop-rest.number (sketches_of c.loop-rest.bodies) sketched) c.end.result

@@ -1,17 +1,13 @@
 use Rattle.std.proofs.Common.{◌+◌, ◌≤◌, length}
 use Rattle.std.specs.Prelude.{MatchOption, option_copied}
 use Rattle.std.specs.Option.{option_map_or}
-use Rattle.velo_workload.specs.Phrase.{phrases}
-use Rattle.velo_workload.specs.Outline.{names_in, known}
-use Rattle.velo_workload.specs.Sketch.{sketches_of}
-use Rattle.velo_workload.proofs.Building.{phrases_left, IsReadUpTo, IsSketchedUpTo}
+use Rattle.velo_workload.proofs.Building.{IsReadUpTo}
 use Rattle.velo_workload.proofs.outline.Outline.read.Given as goal
 
 abbrev pub invariant-loop-rest : goal.invariant-loop-rest
 invariant-loop-rest l =
     record {
       read : IsReadUpTo l.text (option_copied l.rest) l.self l.number;
-      sketched : IsSketchedUpTo (names_in (known (phrases l.text))) (phrases l.text) (phrases_left (option_copied l.rest)) l.number (sketches_of l.bodies);
       numbered : MatchOption l.rest (l.number ≤ length l.text + 1) (λ bytes. l.number + length bytes.now ≤ length l.text);
     }
 
