@@ -2,16 +2,93 @@
 
 use crate::growth::{with_argument, with_subcommand};
 use crate::help;
-use crate::options::{
-    ALL_EVENTS, ALL_NODES, Argument, CARRIED_LOG, CERTIFICATE, DELAY_SEED, ENDLESS, EVENTS, FILE,
-    FIRST, FOUND_LOG, IGNORE, IGNORE_LABEL, IGNORE_LOCK, IGNORE_LOCKS, IGNORE_VARIABLE, LOG, MAP,
-    NAMES, NAMES_OUT, NO_WITNESS, NODES, NOT_ATOMIC, PREDICTED_LOG, PROGRESS, RANDOM, REPORT,
-    RUN_LOG, RUN_SEED, SCHEDULE, SECONDS, SITES, STATES, STOP, STOP_WATCH, TEXT_OR_JSON,
-    THINNED_LOG, TRIES, TURNS, VALUES, WHY, argument_of,
-};
+use crate::options::{ARGUMENTS, Verb, argument_of};
 use clap::Command;
 use std::alloc::Global;
 use velo_events::Memory;
+
+/// A subcommand.
+#[derive(Clone, Copy)]
+struct Row<'a> {
+    /// Which one it is.
+    verb: Verb,
+    /// Its word on the command line.
+    name: &'a str,
+    /// What it does, in a line.
+    about: &'a str,
+    /// What its help says after its arguments.
+    after_help: &'a str,
+}
+
+/// The subcommands, in the order of the program's help.
+static SUBCOMMANDS: [Row<'static>; 11] = [
+    Row {
+        verb: Verb::Check,
+        name: "check",
+        about: "Reads a recorded log and reports the verdict",
+        after_help: help::OF_CHECK,
+    },
+    Row {
+        verb: Verb::Replay,
+        name: "replay",
+        about: "Runs a workload by a schedule and reports the verdict",
+        after_help: help::OF_REPLAY,
+    },
+    Row {
+        verb: Verb::Run,
+        name: "run",
+        about: "Runs a workload on real threads and reports the verdict",
+        after_help: help::OF_RUN,
+    },
+    Row {
+        verb: Verb::Explain,
+        name: "explain",
+        about: "Reads a recorded log and explains the verdict in lanes and words",
+        after_help: help::OF_EXPLAIN,
+    },
+    Row {
+        verb: Verb::Carry,
+        name: "carry",
+        about: "Reads a recorded log and writes it in the newest version",
+        after_help: help::OF_CARRY,
+    },
+    Row {
+        verb: Verb::Explore,
+        name: "explore",
+        about: "Tries every schedule of a workload and reports what it finds",
+        after_help: help::OF_EXPLORE,
+    },
+    Row {
+        verb: Verb::Watch,
+        name: "watch",
+        about: "Reads a log as it is written, prints its alarm at once, and reports the verdict",
+        after_help: help::OF_WATCH,
+    },
+    Row {
+        verb: Verb::Audit,
+        name: "audit",
+        about: "Reads a recorded log and lists the labels whose blocks are not atomic",
+        after_help: help::OF_AUDIT,
+    },
+    Row {
+        verb: Verb::Thin,
+        name: "thin",
+        about: "Leaves out of a recorded log what adds nothing to its verdict",
+        after_help: help::OF_THIN,
+    },
+    Row {
+        verb: Verb::Predict,
+        name: "predict",
+        about: "Searches a recorded log for what other runs of its program can show",
+        after_help: help::OF_PREDICT,
+    },
+    Row {
+        verb: Verb::Verify,
+        name: "verify",
+        about: "Checks the certificate of a report against the log",
+        after_help: help::OF_VERIFY,
+    },
+];
 
 /// The command line of the program, whose words [`run`](crate::run) reads: the subcommands `check`,
 /// `replay`, `run`, `explain`, `carry`, `explore`, `watch`, `audit`, `thin`, `predict` and `verify`,
@@ -27,17 +104,11 @@ use velo_events::Memory;
 /// # Errors
 /// `Memory` if an allocation failed.
 pub fn command<'a>(alloc: Global) -> Result<Command<'a>, Memory> {
-    let program = with_subcommand(bare(alloc), check(alloc)?)?;
-    let program = with_subcommand(program, replay(alloc)?)?;
-    let program = with_subcommand(program, run(alloc)?)?;
-    let program = with_subcommand(program, explain(alloc)?)?;
-    let program = with_subcommand(program, carry(alloc)?)?;
-    let program = with_subcommand(program, explore(alloc)?)?;
-    let program = with_subcommand(program, watch(alloc)?)?;
-    let program = with_subcommand(program, audit(alloc)?)?;
-    let program = with_subcommand(program, thin(alloc)?)?;
-    let program = with_subcommand(program, predict(alloc)?)?;
-    with_subcommand(program, verify(alloc)?)
+    let mut program = bare(alloc);
+    for row in &SUBCOMMANDS {
+        program = with_row(alloc, program, *row)?;
+    }
+    Ok(program)
 }
 
 /// The program before it has its subcommands.
@@ -49,197 +120,20 @@ fn bare<'a>(alloc: Global) -> Command<'a> {
         .subcommand_required(true)
 }
 
-fn check<'a>(alloc: Global) -> Result<Command<'a>, Memory> {
-    let about = "Reads a recorded log and reports the verdict";
-    let arguments = [LOG, NAMES, WHY, EVENTS, NODES, CERTIFICATE];
-    subcommand(alloc, "check", about, help::OF_CHECK, &arguments)
+/// The program with one more subcommand.
+fn with_row<'a>(alloc: Global, program: Command<'a>, row: Row<'a>) -> Result<Command<'a>, Memory> {
+    with_subcommand(program, subcommand(alloc, row)?)
 }
 
-fn replay<'a>(alloc: Global) -> Result<Command<'a>, Memory> {
-    let about = "Runs a workload by a schedule and reports the verdict";
-    let arguments = [
-        FILE,
-        SCHEDULE,
-        TURNS,
-        STOP,
-        WHY,
-        RUN_LOG,
-        NAMES_OUT,
-        EVENTS,
-        NODES,
-        CERTIFICATE,
-    ];
-    subcommand(alloc, "replay", about, help::OF_REPLAY, &arguments)
-}
-
-fn run<'a>(alloc: Global) -> Result<Command<'a>, Memory> {
-    let about = "Runs a workload on real threads and reports the verdict";
-    let arguments = [
-        FILE,
-        STOP,
-        WHY,
-        RUN_LOG,
-        NAMES_OUT,
-        EVENTS,
-        NODES,
-        CERTIFICATE,
-    ];
-    subcommand(alloc, "run", about, help::OF_RUN, &arguments)
-}
-
-fn explain<'a>(alloc: Global) -> Result<Command<'a>, Memory> {
-    let about = "Reads a recorded log and explains the verdict in lanes and words";
-    let arguments = [
-        LOG,
-        TEXT_OR_JSON,
-        NAMES,
-        SITES,
-        NOT_ATOMIC,
-        IGNORE,
-        IGNORE_LABEL,
-        IGNORE_LOCK,
-        IGNORE_LOCKS,
-        IGNORE_VARIABLE,
-    ];
-    subcommand(alloc, "explain", about, help::OF_EXPLAIN, &arguments)
-}
-
-fn carry<'a>(alloc: Global) -> Result<Command<'a>, Memory> {
-    let about = "Reads a recorded log and writes it in the newest version";
-    let arguments = [LOG, CARRIED_LOG];
-    subcommand(alloc, "carry", about, help::OF_CARRY, &arguments)
-}
-
-fn explore<'a>(alloc: Global) -> Result<Command<'a>, Memory> {
-    let about = "Tries every schedule of a workload and reports what it finds";
-    let arguments = [
-        FILE,
-        STATES,
-        SECONDS,
-        FIRST,
-        PROGRESS,
-        RANDOM,
-        RUN_SEED,
-        TEXT_OR_JSON,
-        FOUND_LOG,
-        NAMES_OUT,
-        EVENTS,
-        NODES,
-        CERTIFICATE,
-    ];
-    subcommand(alloc, "explore", about, help::OF_EXPLORE, &arguments)
-}
-
-fn watch<'a>(alloc: Global) -> Result<Command<'a>, Memory> {
-    let about = "Reads a log as it is written, prints its alarm at once, and reports the verdict";
-    let arguments = [
-        LOG,
-        NAMES,
-        SITES,
-        STOP_WATCH,
-        ENDLESS,
-        NOT_ATOMIC,
-        IGNORE,
-        IGNORE_LABEL,
-        IGNORE_LOCK,
-        IGNORE_LOCKS,
-        IGNORE_VARIABLE,
-        EVENTS,
-        NODES,
-        CERTIFICATE,
-    ];
-    subcommand(alloc, "watch", about, help::OF_WATCH, &arguments)
-}
-
-fn audit<'a>(alloc: Global) -> Result<Command<'a>, Memory> {
-    let about = "Reads a recorded log and lists the labels whose blocks are not atomic";
-    let arguments = [
-        LOG,
-        NO_WITNESS,
-        TEXT_OR_JSON,
-        NAMES,
-        SITES,
-        NOT_ATOMIC,
-        IGNORE,
-        IGNORE_LABEL,
-        IGNORE_LOCK,
-        IGNORE_LOCKS,
-        IGNORE_VARIABLE,
-        ALL_EVENTS,
-        ALL_NODES,
-    ];
-    subcommand(alloc, "audit", about, help::OF_AUDIT, &arguments)
-}
-
-fn thin<'a>(alloc: Global) -> Result<Command<'a>, Memory> {
-    let about = "Leaves out of a recorded log what adds nothing to its verdict";
-    let arguments = [
-        LOG,
-        THINNED_LOG,
-        MAP,
-        NAMES,
-        NOT_ATOMIC,
-        IGNORE,
-        IGNORE_LABEL,
-        IGNORE_LOCK,
-        IGNORE_LOCKS,
-        IGNORE_VARIABLE,
-    ];
-    subcommand(alloc, "thin", about, help::OF_THIN, &arguments)
-}
-
-fn predict<'a>(alloc: Global) -> Result<Command<'a>, Memory> {
-    let about = "Searches a recorded log for what other runs of its program can show";
-    let arguments = [
-        LOG,
-        PREDICTED_LOG,
-        VALUES,
-        TRIES,
-        DELAY_SEED,
-        TEXT_OR_JSON,
-        NAMES,
-        SITES,
-        NOT_ATOMIC,
-        IGNORE,
-        IGNORE_LABEL,
-        IGNORE_LOCK,
-        IGNORE_LOCKS,
-        IGNORE_VARIABLE,
-        ALL_EVENTS,
-        ALL_NODES,
-    ];
-    subcommand(alloc, "predict", about, help::OF_PREDICT, &arguments)
-}
-
-fn verify<'a>(alloc: Global) -> Result<Command<'a>, Memory> {
-    let about = "Checks the certificate of a report against the log";
-    let arguments = [LOG, REPORT];
-    subcommand(alloc, "verify", about, help::OF_VERIFY, &arguments)
-}
-
-/// A subcommand with these arguments.
-fn subcommand<'a>(
-    alloc: Global,
-    name: &'a str,
-    about: &'a str,
-    after_help: &'a str,
-    arguments: &[Argument<'a>],
-) -> Result<Command<'a>, Memory> {
-    let command = Command::new(alloc, name)
-        .about(about)
-        .after_help(after_help);
-    with_arguments(alloc, command, arguments)
-}
-
-/// The command with these arguments more, after its own.
-fn with_arguments<'a>(
-    alloc: Global,
-    command: Command<'a>,
-    arguments: &[Argument<'a>],
-) -> Result<Command<'a>, Memory> {
-    let mut built = command;
-    for argument in arguments {
-        built = with_argument(built, argument_of(alloc, argument))?;
+/// A subcommand with its arguments.
+fn subcommand<'a>(alloc: Global, row: Row<'a>) -> Result<Command<'a>, Memory> {
+    let mut built = Command::new(alloc, row.name)
+        .about(row.about)
+        .after_help(row.after_help);
+    for argument in &ARGUMENTS {
+        if argument.commands.contains(&row.verb) {
+            built = with_argument(built, argument_of(alloc, *argument))?;
+        }
     }
     Ok(built)
 }

@@ -7,22 +7,18 @@ ghost use Rattle.velo_events.specs.WellFormed.{IsWellFormed};
 ghost use Rattle.velo_filter.specs.Tables.{left_of};
 ghost use Rattle.velo_cli.specs.Auditing.{AreRoundsOf};
 
-use crate::asked::Command;
-use crate::context::{ContextOptions, InContext, do_in_context};
+use crate::context::{ContextOptions, InContext};
 use crate::inquiry::Inquiry;
-use crate::leaving::{config_of_rounds, left_out};
+use crate::judging::{Judges, judge_log};
+use crate::leaving::config_of_rounds;
 use crate::page::page_of;
 use crate::sending::print;
-use crate::siting::are_of_log;
 use std::alloc::Global;
 use velo_audit::{AuditFault, Told, audit_checked, count_labels_left};
-use velo_bytes::{Sink, Source};
-use velo_check::{AuditOptions, CheckFault, Fate, Files, Operand, do_input, open_input};
+use velo_bytes::Sink;
+use velo_check::{AuditOptions, CheckFault, Fate, Files, Limits, Operand, open_input};
 use velo_events::{Bounds, Config, Memory, Refusal};
 use velo_filter::LeftOut;
-use velo_finding::Asked;
-use velo_names::Names;
-use velo_sidecars::Sites;
 use velo_traces::Trace;
 use velo_world::Closed;
 
@@ -88,115 +84,54 @@ pub fn rounds_of(
     }
 }
 
-/// Audits the log of a closed world, of which so much is left out at first.
-fn audit_rest<O: Sink>(
-    inquiry: &Inquiry<AuditOptions>,
-    closed: &Closed,
-    left: &mut LeftOut,
-    out: &mut O,
-) -> Fate
-    requires short { length closed.now.log ≤ inquiry.now.options.now.limits.events }
-{
-    let config = config_of_rounds(closed, inquiry.options.limits);
-    let log = closed.log();
-    match rounds_of(
-        inquiry.alloc,
-        &config,
-        log,
-        is_clean(closed),
-        inquiry.options.witness,
-        left,
-    ) {
-        Ok(rounds) => {
-            let fate = tell_rounds(inquiry, config.bounds, log, &rounds, left, out);
-            drop(rounds);
-            fate
-        }
-        Err(fate) => fate,
-    }
-}
+impl Judges for AuditOptions<'_> {
+    ghost most = { λ options. options.limits.events };
 
-/// Audits the log of a closed world.
-fn audit_closed<O: Sink>(inquiry: &Inquiry<AuditOptions>, closed: &Closed, out: &mut O) -> Fate
-    requires short { length closed.now.log ≤ inquiry.now.options.now.limits.events }
-{
-    match left_out(inquiry.alloc, inquiry.asked) {
-        Ok(mut left) => {
-            let fate = audit_rest(inquiry, closed, &mut left, out);
-            drop(left);
-            fate
-        }
-        Err(Memory) => Fate::Memory,
+    fn limits(&self) -> Limits {
+        self.limits
     }
-}
 
-/// Audits the log of a closed world, if the sites are of it.
-fn audit_if_of<O: Sink>(inquiry: &Inquiry<AuditOptions>, closed: &Closed, out: &mut O) -> Fate
-    requires short { length closed.now.log ≤ inquiry.now.options.now.limits.events }
-{
-    if !are_of_log(inquiry.sites, closed.log()) {
-        return Fate::OtherSites;
+    fn open<F: Files>(&self, files: &F) -> Result<F::Input, Fate> {
+        open_input(files, Operand::Log, self.input, None)
     }
-    audit_closed(inquiry, closed, out)
-}
 
-/// Reads a whole log, does its events, and audits it.
-fn audit_log<I: Source, O: Sink>(
-    inquiry: &Inquiry<AuditOptions>,
-    source: &mut I,
-    out: &mut O,
-) -> Fate {
-    let limits = inquiry.options.limits;
-    match do_input(inquiry.alloc, source, limits.events, limits.nodes) {
-        Ok(closed) => {
-            let fate = audit_if_of(inquiry, &closed, out);
-            drop(closed);
-            fate
-        }
-        Err(fault) => Fate::Check(fault),
-    }
-}
-
-/// Audits the log that was asked for, and reports it by the names and with the sites.
-fn audit_input<F: Files, O: Sink>(inquiry: &Inquiry<AuditOptions>, files: &F, out: &mut O) -> Fate {
-    match open_input(files, Operand::Log, inquiry.options.input, None) {
-        Ok(mut log) => audit_log(inquiry, &mut log, out),
-        Err(fate) => fate,
-    }
-}
-
-impl InContext for Command<'_, AuditOptions<'_>> {
-    fn do_in<F: Files, O: Sink>(
-        &self,
-        alloc: Global,
-        names: &Names,
-        asked: &Asked,
-        sites: &Option<Sites>,
-        files: &mut F,
+    fn judge<F: Files, O: Sink>(
+        inquiry: &Inquiry<Self>,
+        closed: &Closed,
+        left: &mut LeftOut,
+        _files: &mut F,
         out: &mut O,
     ) -> Fate {
-        let inquiry = Inquiry {
-            alloc,
-            names,
-            sites,
-            asked,
-            options: self.options,
-        };
-        audit_input(&inquiry, files, out)
+        let config = config_of_rounds(closed, inquiry.options.limits);
+        let log = closed.log();
+        match rounds_of(
+            inquiry.alloc,
+            &config,
+            log,
+            is_clean(closed),
+            inquiry.options.witness,
+            left,
+        ) {
+            Ok(rounds) => {
+                let fate = tell_rounds(inquiry, config.bounds, log, &rounds, left, out);
+                drop(rounds);
+                fate
+            }
+            Err(fate) => fate,
+        }
     }
 }
 
-/// Audits the log that was asked for. The names are read first.
-pub fn audit_file<F: Files, O: Sink>(
-    alloc: Global,
-    options: &AuditOptions,
-    files: &mut F,
-    out: &mut O,
-) -> Fate {
-    let context = ContextOptions {
-        names: options.names,
-        ignored: options.ignored,
-        sites: options.sites,
-    };
-    do_in_context(alloc, &Command { options }, &context, files, out)
+impl InContext for AuditOptions<'_> {
+    fn context(&self) -> ContextOptions<'_> {
+        ContextOptions {
+            names: self.names,
+            ignored: self.ignored,
+            sites: self.sites,
+        }
+    }
+
+    fn do_in<F: Files, O: Sink>(inquiry: &Inquiry<Self>, files: &mut F, out: &mut O) -> Fate {
+        judge_log(inquiry, files, out)
+    }
 }

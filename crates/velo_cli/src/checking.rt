@@ -1,7 +1,8 @@
 //! `velodrome check`.
 
-use crate::asked::Command;
-use crate::naming::{ByNames, do_by_names, shown_by};
+use crate::context::{ContextOptions, InContext};
+use crate::given_names::{names_given, shown_of};
+use crate::inquiry::Inquiry;
 use std::alloc::Global;
 use velo_bytes::Sink;
 use velo_check::{CheckOptions, Fate, Files, Operand, check_source, fate_of, open_input};
@@ -28,25 +29,14 @@ fn check_named<F: Files, O: Sink>(
     }
 }
 
-impl ByNames for Command<'_, CheckOptions<'_>> {
-    fn do_by<F: Files, O: Sink>(
-        &self,
-        alloc: Global,
-        names: &velo_names::Names,
-        files: &mut F,
-        out: &mut O,
-    ) -> Fate {
-        let shown = shown_by(self.options.names, names);
-        check_named(alloc, self.options, &shown, files, out)
+impl InContext for CheckOptions<'_> {
+    fn context(&self) -> ContextOptions<'_> {
+        ContextOptions::by_names(self.names)
     }
-}
 
-/// Checks the log that was asked for. The names are read first.
-pub fn check_file<F: Files, O: Sink>(
-    alloc: Global,
-    options: &CheckOptions,
-    files: &mut F,
-    out: &mut O,
-) -> Fate {
-    do_by_names(alloc, &Command { options }, options.names, files, out)
+    fn do_in<F: Files, O: Sink>(inquiry: &Inquiry<Self>, files: &mut F, out: &mut O) -> Fate {
+        let options = inquiry.options;
+        let names = names_given(options.names, inquiry.names);
+        check_named(inquiry.alloc, options, &shown_of(names), files, out)
+    }
 }

@@ -1,6 +1,7 @@
 //! What a command knows before it opens its log: names, what is left out of the log, and sites.
 
 use crate::ignoring::{ignored_labels, ignored_locks, ignored_variables};
+use crate::inquiry::Inquiry;
 use crate::listing::{Listed, listed_of};
 use crate::naming::{names_in, read_given};
 use crate::siting::sites_in;
@@ -9,7 +10,7 @@ use velo_bytes::Sink;
 use velo_check::{Beside, Fate, Files, Ignored, Operand, list_beside};
 use velo_finding::Asked;
 use velo_names::{MAX_NAMES_BYTES, Names};
-use velo_sidecars::{MAX_SITES_BYTES, Sites};
+use velo_sidecars::MAX_SITES_BYTES;
 
 /// What was asked for of all that a command knows before it opens its log.
 #[derive(Clone, Copy)]
@@ -20,6 +21,25 @@ pub struct ContextOptions<'a> {
     pub ignored: Ignored<'a>,
     /// The path of the sites, or `-`.
     pub sites: Option<&'a str>,
+}
+
+impl<'a> ContextOptions<'a> {
+    /// Names alone, if a path of some is given.
+    pub fn by_names(names: Option<&'a str>) -> ContextOptions<'a> {
+        let ignored = Ignored {
+            known: None,
+            is_wide: false,
+            labels: &[],
+            locks: &[],
+            variables: &[],
+            all_locks: false,
+        };
+        ContextOptions {
+            names,
+            ignored,
+            sites: None,
+        }
+    }
 }
 
 /// The files of a context, which are read beside the log.
@@ -35,38 +55,39 @@ pub fn reads_of<'a>(options: &ContextOptions<'a>) -> [Beside<'a>; 3] {
     [names, list_beside(&options.ignored), sites]
 }
 
-/// What is done by names, without what is left out of the log, and with sites.
+/// What a command was asked for that knows something before it opens its log.
 pub trait InContext {
-    /// Does it by these names, without what was asked for, and with these sites.
-    fn do_in<F: Files, O: Sink>(
-        &self,
-        alloc: Global,
-        names: &Names,
-        asked: &Asked,
-        sites: &Option<Sites>,
-        files: &mut F,
-        out: &mut O,
-    ) -> Fate;
+    /// What was asked for of that.
+    fn context(&self) -> ContextOptions<'_>;
+
+    /// Does the command by what it knows then.
+    fn do_in<F: Files, O: Sink>(inquiry: &Inquiry<Self>, files: &mut F, out: &mut O) -> Fate;
 }
 
 /// Does a command with the sites of the file at a path, if one is given, which is read first.
 fn do_by_sites<C: InContext, F: Files, O: Sink>(
     alloc: Global,
-    command: &C,
+    options: &C,
     names: &Names,
     asked: &Asked,
-    options: &ContextOptions,
+    path: Option<&str>,
     files: &mut F,
     out: &mut O,
 ) -> Fate {
-    let path = options.sites;
     let bytes = match read_given(alloc, path, MAX_SITES_BYTES, files) {
         Ok(bytes) => bytes,
         Err(fate) => return fate,
     };
     let fate = match sites_in(alloc, path, &bytes) {
         Ok(sites) => {
-            let fate = command.do_in(alloc, names, asked, &sites, files, out);
+            let inquiry = Inquiry {
+                alloc,
+                names,
+                sites: &sites,
+                asked,
+                options,
+            };
+            let fate = C::do_in(&inquiry, files, out);
             drop(sites);
             fate
         }
@@ -79,14 +100,14 @@ fn do_by_sites<C: InContext, F: Files, O: Sink>(
 /// Does a command without what is known, and without what is to be ignored by the names.
 fn do_known<C: InContext, F: Files, O: Sink>(
     alloc: Global,
-    command: &C,
+    options: &C,
     names: &Names,
-    options: &ContextOptions,
+    context: &ContextOptions,
     listed: &mut Listed,
     files: &mut F,
     out: &mut O,
 ) -> Fate {
-    let ignored = &options.ignored;
+    let ignored = &context.ignored;
     let labels = match ignored_labels(alloc, names, &mut listed.labels, ignored.labels) {
         Ok(labels) => labels,
         Err(fate) => return fate,
@@ -105,22 +126,22 @@ fn do_known<C: InContext, F: Files, O: Sink>(
         variables: &variables,
         all_locks: listed.all_locks || ignored.all_locks,
     };
-    do_by_sites(alloc, command, names, &asked, options, files, out)
+    do_by_sites(alloc, options, names, &asked, context.sites, files, out)
 }
 
 /// Does a command without what is to be ignored by the names. The list of what is known is read
 /// first.
 fn do_by_asked<C: InContext, F: Files, O: Sink>(
     alloc: Global,
-    command: &C,
+    options: &C,
     names: &Names,
-    options: &ContextOptions,
+    context: &ContextOptions,
     files: &mut F,
     out: &mut O,
 ) -> Fate {
-    match listed_of(alloc, names, &options.ignored, files) {
+    match listed_of(alloc, names, &context.ignored, files) {
         Ok(mut listed) => {
-            let fate = do_known(alloc, command, names, options, &mut listed, files, out);
+            let fate = do_known(alloc, options, names, context, &mut listed, files, out);
             drop(listed);
             fate
         }
@@ -132,18 +153,18 @@ fn do_by_asked<C: InContext, F: Files, O: Sink>(
 /// and then the sites are read.
 pub fn do_in_context<C: InContext, F: Files, O: Sink>(
     alloc: Global,
-    command: &C,
-    options: &ContextOptions,
+    options: &C,
     files: &mut F,
     out: &mut O,
 ) -> Fate {
-    let bytes = match read_given(alloc, options.names, MAX_NAMES_BYTES, files) {
+    let context = options.context();
+    let bytes = match read_given(alloc, context.names, MAX_NAMES_BYTES, files) {
         Ok(bytes) => bytes,
         Err(fate) => return fate,
     };
-    let fate = match names_in(alloc, options.names, &bytes) {
+    let fate = match names_in(alloc, context.names, &bytes) {
         Ok(names) => {
-            let fate = do_by_asked(alloc, command, &names, options, files, out);
+            let fate = do_by_asked(alloc, options, &names, &context, files, out);
             drop(names);
             fate
         }

@@ -1,19 +1,12 @@
 //! Each command is done, whatever the files and the output are.
 
-use crate::auditing::audit_file;
 use crate::carrying::carry_file;
-use crate::checking::check_file;
-use crate::endless::watch_endless_file;
-use crate::explaining::explain_file;
+use crate::context::do_in_context;
 use crate::exploring::explore_file;
-use crate::predicting::predict_file;
 use crate::progress::ExploreProgress;
 use crate::replaying::replay_file;
 use crate::running::run_file;
-use crate::thinning::thin_file;
 use crate::verifying::verify_file;
-use crate::watching::watch_file;
-use crate::watching_rest::watch_rest_file;
 use std::alloc::Global;
 use std::sync::Wait;
 use std::thread::Threads;
@@ -31,31 +24,19 @@ pub fn do_request<R: Threads + Wait + Sync, F: Files, O: Sink, P: ExploreProgres
     out: &mut O,
     progress: &mut P,
 ) -> Fate {
-    do_by(rt, alloc, request, files, out, progress)
-}
-
-/// Does what was asked for, by the command that it names.
-fn do_by<R: Threads + Wait + Sync, F: Files, O: Sink, P: ExploreProgress>(
-    rt: &R,
-    alloc: Global,
-    request: &Request,
-    files: &mut F,
-    out: &mut O,
-    progress: &mut P,
-) -> Fate {
     match request {
-        Request::Check(options) => check_file(alloc, options, files, out),
+        Request::Check(options) => do_in_context(alloc, options, files, out),
         Request::Replay(options) => replay_file(alloc, options, files, out),
         Request::Run(options) => run_file(rt, alloc, options, files, out),
-        Request::Explain(options) => explain_file(alloc, options, files, out),
+        Request::Explain(options) => do_in_context(alloc, options, files, out),
         Request::Carry(options) => carry_file(alloc, options, files),
         Request::Explore(options) => explore_file(alloc, options, files, out, progress),
-        Request::Watch(options) => watch_file(alloc, options, files, out),
-        Request::WatchEndless(options) => watch_endless_file(alloc, options, files, out),
-        Request::WatchRest(options) => watch_rest_file(alloc, options, files, out),
-        Request::Audit(options) => audit_file(alloc, options, files, out),
-        Request::Predict(options) => predict_file(alloc, options, files, out),
-        Request::Thin(options) => thin_file(alloc, options, files, out),
+        Request::Watch(options) => do_in_context(alloc, options, files, out),
+        Request::WatchEndless(options) => do_in_context(alloc, options, files, out),
+        Request::WatchRest(options) => do_in_context(alloc, options, files, out),
+        Request::Audit(options) => do_in_context(alloc, options, files, out),
+        Request::Predict(options) => do_in_context(alloc, options, files, out),
+        Request::Thin(options) => do_in_context(alloc, options, files, out),
         Request::Verify(options) => verify_file(alloc, options, files, out),
     }
 }

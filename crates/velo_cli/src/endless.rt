@@ -3,9 +3,9 @@ ghost use Rattle.std.specs.Prelude.{◌-◌};
 ghost use Rattle.velo_watch.specs.Endless.{CanGoOn};
 ghost use Rattle.velo_watch.specs.declared.long.TheConstants.{MAX_WATCHED};
 
-use crate::asked::Command;
+use crate::context::{ContextOptions, InContext};
 use crate::given_names::{names_given, shown_of};
-use crate::naming::{ByNames, do_by_names};
+use crate::inquiry::Inquiry;
 use crate::watching::{AskedWatch, watch_named};
 use std::alloc::Global;
 use velo_bytes::{Sink, Source, WriteFault};
@@ -87,25 +87,14 @@ fn report_of<O: Sink>(
     }
 }
 
-impl ByNames for Command<'_, EndlessOptions<'_>> {
-    fn do_by<F: Files, O: Sink>(
-        &self,
-        alloc: Global,
-        names: &Names,
-        files: &mut F,
-        out: &mut O,
-    ) -> Fate {
-        let given = names_given(self.options.names, names);
-        watch_named(alloc, self.options, given, files, out)
+impl InContext for EndlessOptions<'_> {
+    fn context(&self) -> ContextOptions<'_> {
+        ContextOptions::by_names(self.names)
     }
-}
 
-/// Watches the log that was asked for, of any length. The names are read first.
-pub fn watch_endless_file<F: Files, O: Sink>(
-    alloc: Global,
-    options: &EndlessOptions,
-    files: &mut F,
-    out: &mut O,
-) -> Fate {
-    do_by_names(alloc, &Command { options }, options.names, files, out)
+    fn do_in<F: Files, O: Sink>(inquiry: &Inquiry<Self>, files: &mut F, out: &mut O) -> Fate {
+        let options = inquiry.options;
+        let names = names_given(options.names, inquiry.names);
+        watch_named(inquiry.alloc, options, names, files, out)
+    }
 }

@@ -1,25 +1,22 @@
 //! `velodrome explain`: a log is explained, whole or without what is left out.
 ghost use Rattle.std.specs.Prelude.{◌≡◌, ◌≤◌, length};
-ghost use Rattle.velo_events.specs.declared.limits.TheConstants.{MAX_EVENTS};
+ghost use Rattle.velo_events.specs.declared.limits.TheConstants.{MAX_EVENTS, MAX_NODES};
 ghost use Rattle.velo_events.specs.WellFormed.{IsWellFormed};
 
-use crate::asked::Command;
-use crate::context::{ContextOptions, InContext, do_in_context};
+use crate::context::{ContextOptions, InContext};
 use crate::inquiry::Inquiry;
-use crate::leaving::{config_of_rounds, left_out};
+use crate::judging::{Judges, judge_log};
+use crate::leaving::config_of_rounds;
 use crate::sending::print;
-use crate::siting::are_of_log;
 use std::alloc::Global;
 use velo_audit::{AuditFault, FirstAlarm, first_alarm};
-use velo_bytes::{Sink, Source};
+use velo_bytes::Sink;
 use velo_certify::{CertFault, owners_of};
-use velo_check::{ExplainOptions, Fate, Files, Limits, Operand, TextOrJson, do_input, open_input};
+use velo_check::{ExplainOptions, Fate, Files, Limits, Operand, TextOrJson, open_input};
 use velo_events::{Bounds, MAX_EVENTS, MAX_NODES, Memory};
 use velo_explain::{Evidence, Page, evidence_of, explain_clean, explain_named, explain_sited};
 use velo_filter::{LeftOut, thin};
 use velo_finding::{Asked, Background, Shown, add_accesses, add_asked, explanation_json};
-use velo_names::Names;
-use velo_sidecars::Sites;
 use velo_traces::Trace;
 use velo_world::Closed;
 
@@ -208,6 +205,17 @@ fn explain_first<O: Sink>(
     put(page, true, out)
 }
 
+/// The greatest limits, which no log exceeds.
+fn greatest_limits() -> Limits
+    ensures events { result.events ≡ MAX_EVENTS }
+    ensures nodes { result.nodes ≡ MAX_NODES }
+{
+    Limits {
+        events: MAX_EVENTS,
+        nodes: MAX_NODES,
+    }
+}
+
 /// Explains what is left of the log of a closed world.
 fn explain_left<O: Sink>(
     inquiry: &Inquiry<ExplainOptions>,
@@ -218,11 +226,7 @@ fn explain_left<O: Sink>(
 ) -> Fate
     requires { length closed.now.log ≤ MAX_EVENTS }
 {
-    let greatest = Limits {
-        events: MAX_EVENTS,
-        nodes: MAX_NODES,
-    };
-    let config = config_of_rounds(closed, greatest);
+    let config = config_of_rounds(closed, greatest_limits());
     let log = closed.log();
     match first_alarm(inquiry.alloc, &config, log, left) {
         Ok(None) => explain_clean_rest(inquiry, before, config.bounds, log, left, out),
@@ -238,86 +242,55 @@ fn explain_left<O: Sink>(
 }
 
 /// Explains what is left of the log of a closed world, behind what is left out.
-fn explain_rest<O: Sink>(inquiry: &Inquiry<ExplainOptions>, closed: &Closed, out: &mut O) -> Fate
-    requires { length closed.now.log ≤ MAX_EVENTS }
-{
-    let before = match opening(inquiry) {
-        Ok(before) => before,
-        Err(Memory) => return Fate::Memory,
-    };
-    let left = match left_out(inquiry.alloc, inquiry.asked) {
-        Ok(left) => left,
-        Err(Memory) => return Fate::Memory,
-    };
-    explain_left(inquiry, before.as_slice(), closed, &left, out)
-}
-
-/// Explains what a closed world shows, if the sites are of its log: of its whole log, or of what is left
-/// of it.
-fn explain_closed<O: Sink>(inquiry: &Inquiry<ExplainOptions>, closed: &Closed, out: &mut O) -> Fate
-    requires { length closed.now.log ≤ MAX_EVENTS }
-{
-    if !are_of_log(inquiry.sites, closed.log()) {
-        return Fate::OtherSites;
-    }
-    if is_whole(inquiry.asked) {
-        return explain_whole(inquiry, closed, out);
-    }
-    explain_rest(inquiry, closed, out)
-}
-
-/// Reads a whole log, does its events, and explains what they show.
-fn explain_log<I: Source, O: Sink>(
+fn explain_rest<O: Sink>(
     inquiry: &Inquiry<ExplainOptions>,
-    source: &mut I,
+    closed: &Closed,
+    left: &LeftOut,
     out: &mut O,
-) -> Fate {
-    match do_input(inquiry.alloc, source, MAX_EVENTS, MAX_NODES) {
-        Ok(closed) => {
-            let fate = explain_closed(inquiry, &closed, out);
-            drop(closed);
-            fate
-        }
-        Err(fault) => Fate::Check(fault),
+) -> Fate
+    requires { length closed.now.log ≤ MAX_EVENTS }
+{
+    match opening(inquiry) {
+        Ok(before) => explain_left(inquiry, before.as_slice(), closed, left, out),
+        Err(Memory) => Fate::Memory,
     }
 }
 
-impl InContext for Command<'_, ExplainOptions<'_>> {
-    fn do_in<F: Files, O: Sink>(
-        &self,
-        alloc: Global,
-        names: &Names,
-        asked: &Asked,
-        sites: &Option<Sites>,
-        files: &mut F,
+impl Judges for ExplainOptions<'_> {
+    ghost most = { λ options. MAX_EVENTS };
+
+    fn limits(&self) -> Limits {
+        greatest_limits()
+    }
+
+    fn open<F: Files>(&self, files: &F) -> Result<F::Input, Fate> {
+        open_input(files, Operand::Log, self.input, None)
+    }
+
+    fn judge<F: Files, O: Sink>(
+        inquiry: &Inquiry<Self>,
+        closed: &Closed,
+        left: &mut LeftOut,
+        _files: &mut F,
         out: &mut O,
     ) -> Fate {
-        let inquiry = Inquiry {
-            alloc,
-            names,
-            sites,
-            asked,
-            options: self.options,
-        };
-        match open_input(files, Operand::Log, self.options.input, None) {
-            Ok(mut log) => explain_log(&inquiry, &mut log, out),
-            Err(fate) => fate,
+        if is_whole(inquiry.asked) {
+            return explain_whole(inquiry, closed, out);
         }
+        explain_rest(inquiry, closed, left, out)
     }
 }
 
-/// Explains the log that was asked for. The names are read first, then the list of known labels, and
-/// then the sites.
-pub fn explain_file<F: Files, O: Sink>(
-    alloc: Global,
-    options: &ExplainOptions,
-    files: &mut F,
-    out: &mut O,
-) -> Fate {
-    let context = ContextOptions {
-        names: options.names,
-        ignored: options.ignored,
-        sites: options.sites,
-    };
-    do_in_context(alloc, &Command { options }, &context, files, out)
+impl InContext for ExplainOptions<'_> {
+    fn context(&self) -> ContextOptions<'_> {
+        ContextOptions {
+            names: self.names,
+            ignored: self.ignored,
+            sites: self.sites,
+        }
+    }
+
+    fn do_in<F: Files, O: Sink>(inquiry: &Inquiry<Self>, files: &mut F, out: &mut O) -> Fate {
+        judge_log(inquiry, files, out)
+    }
 }

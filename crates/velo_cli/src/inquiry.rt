@@ -6,7 +6,7 @@ use velo_names::Names;
 use velo_sidecars::Sites;
 
 /// By which names, with which sites, without what, and by which options a log is told of.
-#[derive(Clone, Copy)]
+#[derive(Drop)]
 pub struct Inquiry<'i, O> {
     /// Where pages are allocated.
     pub alloc: Global,

@@ -2,7 +2,6 @@
 #![tactic(auto)]
 
 mod arguments;
-mod asked;
 mod auditing;
 mod blaming;
 mod carrying;
@@ -22,6 +21,7 @@ pub mod help;
 mod ignored;
 mod ignoring;
 mod inquiry;
+mod judging;
 mod leaving;
 mod listing;
 mod naming;

@@ -1,10 +1,8 @@
 //! Files of names.
 
 use std::alloc::Global;
-use velo_bytes::Sink;
 use velo_check::{Fate, Files, read_file};
-use velo_names::{MAX_NAMES_BYTES, Names};
-use velo_report::Names as ReportNames;
+use velo_names::Names;
 
 /// The bytes of the file at a path, as `read_file`; none without a path.
 ///
@@ -34,48 +32,4 @@ pub fn names_in<'a>(alloc: Global, path: Option<&str>, bytes: &'a [u8]) -> Resul
         Ok(names) => Ok(names),
         Err(fault) => Err(Fate::Names(fault)),
     }
-}
-
-/// What a report calls threads and labels by the names of a file, if one was given.
-pub fn shown_by<'a>(path: Option<&str>, names: &'a Names<'a>) -> ReportNames<'a> {
-    match path {
-        Some(_) => ReportNames::Listed(names),
-        None => ReportNames::Numbers,
-    }
-}
-
-/// What is done by the names of a file, if one is given.
-pub trait ByNames {
-    /// Does it by these names.
-    fn do_by<F: Files, O: Sink>(
-        &self,
-        alloc: Global,
-        names: &Names,
-        files: &mut F,
-        out: &mut O,
-    ) -> Fate;
-}
-
-/// Does a command by the names of the file at a path, if one is given. The names are read first.
-pub fn do_by_names<C: ByNames, F: Files, O: Sink>(
-    alloc: Global,
-    command: &C,
-    path: Option<&str>,
-    files: &mut F,
-    out: &mut O,
-) -> Fate {
-    let bytes = match read_given(alloc, path, MAX_NAMES_BYTES, files) {
-        Ok(bytes) => bytes,
-        Err(fate) => return fate,
-    };
-    let fate = match names_in(alloc, path, &bytes) {
-        Ok(names) => {
-            let fate = command.do_by(alloc, &names, files, out);
-            drop(names);
-            fate
-        }
-        Err(fate) => fate,
-    };
-    drop(bytes);
-    fate
 }

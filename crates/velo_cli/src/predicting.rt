@@ -7,25 +7,22 @@ ghost use Rattle.velo_delays.specs.Deadlock.{AreDeadlocksIn};
 ghost use Rattle.velo_delays.specs.Found.{AreFoundIn};
 ghost use Rattle.velo_cli.specs.Predicting.{ArePredictionsOf};
 
-use crate::asked::Command;
 use crate::auditing::{is_clean, rounds_of};
-use crate::context::{ContextOptions, InContext, do_in_context, reads_of};
+use crate::context::{ContextOptions, InContext, reads_of};
 use crate::inquiry::Inquiry;
-use crate::leaving::{config_of_rounds, left_out};
+use crate::judging::{Judges, judge_log};
+use crate::leaving::config_of_rounds;
 use crate::page::page_of_predictions;
 use crate::saved_trace::trace_text;
 use crate::sending::{print, save_text};
-use crate::siting::are_of_log;
 use std::alloc::Global;
 use velo_audit::Told;
-use velo_bytes::{Sink, Source};
-use velo_check::{Beside, Fate, Files, Operand, PredictOptions, do_input, open_apart};
+use velo_bytes::Sink;
+use velo_check::{Beside, Fate, Files, Limits, Operand, PredictOptions, open_apart};
 use velo_delays::{Deadlock, Draws, PredictedCycle, search, search_deadlocks, with_lines};
 use velo_events::{Bounds, Config, Event, Memory};
 use velo_filter::LeftOut;
-use velo_finding::{Asked, PredictedFindings, is_something_told};
-use velo_names::Names;
-use velo_sidecars::Sites;
+use velo_finding::{PredictedFindings, is_something_told};
 use velo_traces::Trace;
 use velo_world::Closed;
 
@@ -162,137 +159,48 @@ fn predict_after<F: Files, O: Sink>(
     }
 }
 
-/// Predicts by the log of a closed world, of which so much is left out at first.
-fn predict_rest<F: Files, O: Sink>(
-    inquiry: &Inquiry<PredictOptions>,
-    closed: &Closed,
-    left: &mut LeftOut,
-    files: &mut F,
-    out: &mut O,
-) -> Fate
-    requires short { length closed.now.log ≤ inquiry.now.options.now.limits.events }
-{
-    let config = config_of_rounds(closed, inquiry.options.limits);
-    let log = closed.log();
-    match rounds_of(inquiry.alloc, &config, log, is_clean(closed), true, left) {
-        Ok(rounds) => predict_after(inquiry, &config, log, rounds, left, files, out),
-        Err(fate) => fate,
-    }
-}
+impl Judges for PredictOptions<'_> {
+    ghost most = { λ options. options.limits.events };
 
-/// Predicts by the log of a closed world.
-fn predict_closed<F: Files, O: Sink>(
-    inquiry: &Inquiry<PredictOptions>,
-    closed: &Closed,
-    files: &mut F,
-    out: &mut O,
-) -> Fate
-    requires short { length closed.now.log ≤ inquiry.now.options.now.limits.events }
-{
-    match left_out(inquiry.alloc, inquiry.asked) {
-        Ok(mut left) => {
-            let fate = predict_rest(inquiry, closed, &mut left, files, out);
-            drop(left);
-            fate
-        }
-        Err(Memory) => Fate::Memory,
+    fn limits(&self) -> Limits {
+        self.limits
     }
-}
 
-/// Predicts by the log of a closed world, if the sites are of it.
-fn predict_if_of<F: Files, O: Sink>(
-    inquiry: &Inquiry<PredictOptions>,
-    closed: &Closed,
-    files: &mut F,
-    out: &mut O,
-) -> Fate
-    requires short { length closed.now.log ≤ inquiry.now.options.now.limits.events }
-{
-    if !are_of_log(inquiry.sites, closed.log()) {
-        return Fate::OtherSites;
+    fn open<F: Files>(&self, files: &F) -> Result<F::Input, Fate> {
+        let reads = reads_of(&self.context());
+        let witness = Beside {
+            operand: Operand::Out,
+            path: self.target,
+        };
+        open_apart(files, Operand::Log, self.input, &reads, None, witness)
     }
-    predict_closed(inquiry, closed, files, out)
-}
 
-/// Reads a whole log, does its events, and predicts by it.
-fn predict_log<I: Source, F: Files, O: Sink>(
-    inquiry: &Inquiry<PredictOptions>,
-    source: &mut I,
-    files: &mut F,
-    out: &mut O,
-) -> Fate {
-    let limits = inquiry.options.limits;
-    match do_input(inquiry.alloc, source, limits.events, limits.nodes) {
-        Ok(closed) => {
-            let fate = predict_if_of(inquiry, &closed, files, out);
-            drop(closed);
-            fate
-        }
-        Err(fault) => Fate::Check(fault),
-    }
-}
-
-/// What is known before the log is opened.
-fn context_of<'a>(options: &PredictOptions<'a>) -> ContextOptions<'a> {
-    ContextOptions {
-        names: options.names,
-        ignored: options.ignored,
-        sites: options.sites,
-    }
-}
-
-/// Predicts by the log that was asked for.
-fn predict_input<F: Files, O: Sink>(
-    inquiry: &Inquiry<PredictOptions>,
-    files: &mut F,
-    out: &mut O,
-) -> Fate {
-    let options = inquiry.options;
-    let reads = reads_of(&context_of(options));
-    let witness = Beside {
-        operand: Operand::Out,
-        path: options.target,
-    };
-    match open_apart(files, Operand::Log, options.input, &reads, None, witness) {
-        Ok(mut log) => predict_log(inquiry, &mut log, files, out),
-        Err(fate) => fate,
-    }
-}
-
-impl InContext for Command<'_, PredictOptions<'_>> {
-    fn do_in<F: Files, O: Sink>(
-        &self,
-        alloc: Global,
-        names: &Names,
-        asked: &Asked,
-        sites: &Option<Sites>,
+    fn judge<F: Files, O: Sink>(
+        inquiry: &Inquiry<Self>,
+        closed: &Closed,
+        left: &mut LeftOut,
         files: &mut F,
         out: &mut O,
     ) -> Fate {
-        let inquiry = Inquiry {
-            alloc,
-            names,
-            sites,
-            asked,
-            options: self.options,
-        };
-        predict_input(&inquiry, files, out)
+        let config = config_of_rounds(closed, inquiry.options.limits);
+        let log = closed.log();
+        match rounds_of(inquiry.alloc, &config, log, is_clean(closed), true, left) {
+            Ok(rounds) => predict_after(inquiry, &config, log, rounds, left, files, out),
+            Err(fate) => fate,
+        }
     }
 }
 
-/// Predicts by the log that was asked for what other runs of its program can show. The names are read
-/// first.
-pub fn predict_file<F: Files, O: Sink>(
-    alloc: Global,
-    options: &PredictOptions,
-    files: &mut F,
-    out: &mut O,
-) -> Fate {
-    do_in_context(
-        alloc,
-        &Command { options },
-        &context_of(options),
-        files,
-        out,
-    )
+impl InContext for PredictOptions<'_> {
+    fn context(&self) -> ContextOptions<'_> {
+        ContextOptions {
+            names: self.names,
+            ignored: self.ignored,
+            sites: self.sites,
+        }
+    }
+
+    fn do_in<F: Files, O: Sink>(inquiry: &Inquiry<Self>, files: &mut F, out: &mut O) -> Fate {
+        judge_log(inquiry, files, out)
+    }
 }

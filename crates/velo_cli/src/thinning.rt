@@ -1,7 +1,7 @@
 //! `velodrome thin`: what is left out of the log goes first, and the rest is thinned.
 
-use crate::asked::Command;
-use crate::context::{ContextOptions, InContext, do_in_context, reads_of};
+use crate::context::{ContextOptions, InContext, reads_of};
+use crate::inquiry::Inquiry;
 use crate::leaving::left_out;
 use std::alloc::Global;
 use velo_bytes::{Sink, Source};
@@ -10,9 +10,6 @@ use velo_check::{
 };
 use velo_events::Memory;
 use velo_filter::LeftOut;
-use velo_finding::Asked;
-use velo_names::Names;
-use velo_sidecars::Sites;
 use velo_thinning::{Targets, ThinFault, ThinnedLog, deliver_thinned, read_thinned};
 use velo_worker::Ending;
 
@@ -67,15 +64,6 @@ fn thin_input<I: Source, F: Files, O: Sink>(
     }
 }
 
-/// What is known before the log is opened.
-fn context_of<'a>(options: &ThinOptions<'a>) -> ContextOptions<'a> {
-    ContextOptions {
-        names: options.names,
-        ignored: options.ignored,
-        sites: None,
-    }
-}
-
 /// Opens the log that was asked for, and thins it without what is left out of it.
 fn thin_without<F: Files, O: Sink>(
     alloc: Global,
@@ -88,7 +76,7 @@ fn thin_without<F: Files, O: Sink>(
         operand: Operand::Map,
         path: options.map,
     };
-    let reads = reads_of(&context_of(options));
+    let reads = reads_of(&options.context());
     match open_apart(
         files,
         Operand::Log,
@@ -102,39 +90,23 @@ fn thin_without<F: Files, O: Sink>(
     }
 }
 
-impl InContext for Command<'_, ThinOptions<'_>> {
-    fn do_in<F: Files, O: Sink>(
-        &self,
-        alloc: Global,
-        _names: &Names,
-        asked: &Asked,
-        _sites: &Option<Sites>,
-        files: &mut F,
-        out: &mut O,
-    ) -> Fate {
-        match left_out(alloc, asked) {
+impl InContext for ThinOptions<'_> {
+    fn context(&self) -> ContextOptions<'_> {
+        ContextOptions {
+            names: self.names,
+            ignored: self.ignored,
+            sites: None,
+        }
+    }
+
+    fn do_in<F: Files, O: Sink>(inquiry: &Inquiry<Self>, files: &mut F, out: &mut O) -> Fate {
+        match left_out(inquiry.alloc, inquiry.asked) {
             Ok(omitted) => {
-                let fate = thin_without(alloc, self.options, &omitted, files, out);
+                let fate = thin_without(inquiry.alloc, inquiry.options, &omitted, files, out);
                 drop(omitted);
                 fate
             }
             Err(Memory) => Fate::Memory,
         }
     }
-}
-
-/// Thins the log that was asked for. The names are read first, and then the list of known labels.
-pub fn thin_file<F: Files, O: Sink>(
-    alloc: Global,
-    options: &ThinOptions,
-    files: &mut F,
-    out: &mut O,
-) -> Fate {
-    do_in_context(
-        alloc,
-        &Command { options },
-        &context_of(options),
-        files,
-        out,
-    )
 }

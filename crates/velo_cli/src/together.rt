@@ -1,14 +1,15 @@
 //! Options of a request that do not go together.
 
 use crate::clash::Clash;
+use crate::context::{ContextOptions, InContext};
 use crate::given::{Given, given_by};
 use crate::ignored::leaves_out;
 use crate::paths::{clash_of_files, clash_of_inputs, clash_of_targets, path_of_schedule};
 use crate::requests::request_of;
 use clap::ArgMatches;
 use velo_check::{
-    AuditOptions, EndlessOptions, ExplainOptions, ExploreOptions, Ignored, PredictOptions,
-    RandomRuns, ReplayOptions, Request, ScheduleSource, TextOrJson, ThinOptions, WatchRestOptions,
+    EndlessOptions, ExploreOptions, Ignored, RandomRuns, ReplayOptions, Request, ScheduleSource,
+    TextOrJson, WatchRestOptions,
 };
 
 /// Why the options of the request do not go together, if they do not, where the words give these.
@@ -17,15 +18,15 @@ fn clash_of(request: &Request, given: Given) -> Option<Clash> {
         Request::Check(options) => clash_of_inputs(options.input, options.names),
         Request::Replay(options) => clash_of_replay(options, given.schedule),
         Request::Run(options) => clash_of_targets(options.target, options.names_target),
-        Request::Explain(options) => clash_of_explain(options, given),
+        Request::Explain(options) => clash_of_answer(options.input, &options.context(), given),
         Request::Carry(_) => None,
         Request::Explore(options) => clash_of_explore(options, given),
         Request::Watch(options) => clash_of_inputs(options.input, options.names),
         Request::WatchEndless(options) => clash_of_endless(options, given),
-        Request::WatchRest(options) => clash_of_watch_rest(options, given.not_atomic),
-        Request::Audit(options) => clash_of_audit(options, given),
-        Request::Thin(options) => clash_of_thin(options, given.not_atomic),
-        Request::Predict(options) => clash_of_predict(options, given),
+        Request::WatchRest(options) => clash_of_watch_rest(options, given),
+        Request::Audit(options) => clash_of_answer(options.input, &options.context(), given),
+        Request::Thin(options) => clash_of_context(options.input, &options.context(), given),
+        Request::Predict(options) => clash_of_answer(options.input, &options.context(), given),
         Request::Verify(options) => clash_of_inputs(options.input, Some(options.report)),
     }
 }
@@ -45,69 +46,34 @@ fn clash_of_schedule(schedule: ScheduleSource, has_text: bool) -> Option<Clash> 
     }
 }
 
-/// An explanation has one of two forms, and no clash of its paths.
-fn clash_of_explain(options: &ExplainOptions, given: Given) -> Option<Clash> {
+/// An answer has one of two forms, and no clash of what is read for it.
+fn clash_of_answer(input: &str, context: &ContextOptions, given: Given) -> Option<Clash> {
     if given.neither_text_nor_json {
         return Some(Clash::NeitherTextNorJson);
     }
-    clash_of_files(
-        options.input,
-        options.names,
-        options.sites,
-        options.ignored.known,
-    )
-    .or(clash_of_lists(&options.ignored, given.not_atomic))
+    clash_of_context(input, context, given)
 }
 
-/// An audit has one of two forms, and no clash of its paths.
-fn clash_of_audit(options: &AuditOptions, given: Given) -> Option<Clash> {
-    if given.neither_text_nor_json {
-        return Some(Clash::NeitherTextNorJson);
-    }
-    clash_of_files(
-        options.input,
-        options.names,
-        options.sites,
-        options.ignored.known,
-    )
-    .or(clash_of_lists(&options.ignored, given.not_atomic))
-}
-
-/// Predictions have one of two forms, and no clash of their paths.
-fn clash_of_predict(options: &PredictOptions, given: Given) -> Option<Clash> {
-    if given.neither_text_nor_json {
-        return Some(Clash::NeitherTextNorJson);
-    }
-    clash_of_files(
-        options.input,
-        options.names,
-        options.sites,
-        options.ignored.known,
-    )
-    .or(clash_of_lists(&options.ignored, given.not_atomic))
-}
-
-/// A log is thinned without a clash of its paths.
-fn clash_of_thin(options: &ThinOptions, has_known: bool) -> Option<Clash> {
-    clash_of_files(options.input, options.names, None, options.ignored.known).or(clash_of_lists(
-        &options.ignored,
-        has_known,
+/// A log and what is read beside it have no clash of their paths, and there is one list.
+fn clash_of_context(input: &str, context: &ContextOptions, given: Given) -> Option<Clash> {
+    let ignored = &context.ignored;
+    clash_of_files(input, context.names, context.sites, ignored.known).or(clash_of_lists(
+        ignored,
+        given.not_atomic,
     ))
 }
 
 /// What is left of a log is watched without a certificate, and without a clash of its paths; and so is a
 /// log whose places are told.
-fn clash_of_watch_rest(options: &WatchRestOptions, has_known: bool) -> Option<Clash> {
-    let (watch, ignored) = (&options.watch, &options.ignored);
-    if watch.certificate && leaves_out(ignored) {
+fn clash_of_watch_rest(options: &WatchRestOptions, given: Given) -> Option<Clash> {
+    let watch = &options.watch;
+    if watch.certificate && leaves_out(&options.ignored) {
         return Some(Clash::RestCertificate);
     }
     if watch.certificate {
         return Some(Clash::SitesCertificate);
     }
-    clash_of_files(watch.input, watch.names, options.sites, ignored.known).or(clash_of_lists(
-        ignored, has_known,
-    ))
+    clash_of_context(watch.input, &options.context(), given)
 }
 
 /// One list is read: a wide one, or that of `--not-atomic`.

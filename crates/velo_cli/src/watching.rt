@@ -1,9 +1,9 @@
 //! `velodrome watch`: a log that is checked as it comes.
 ghost use Rattle.std.specs.Prelude.{◌≡◌, ◌<◌, ◌-◌, ℕ, ⊤, true, length, IfOk, OnOk};
 
-use crate::asked::Command;
+use crate::context::{ContextOptions, InContext, do_in_context};
 use crate::given_names::{names_given, shown_of};
-use crate::naming::{ByNames, do_by_names};
+use crate::inquiry::Inquiry;
 use std::alloc::Global;
 use velo_bytes::{Sink, Source};
 use velo_check::{
@@ -217,16 +217,15 @@ impl AskedWatch for WatchOptions<'_> {
     }
 }
 
-impl ByNames for Command<'_, WatchOptions<'_>> {
-    fn do_by<F: Files, O: Sink>(
-        &self,
-        alloc: Global,
-        names: &Names,
-        files: &mut F,
-        out: &mut O,
-    ) -> Fate {
-        let given = names_given(self.options.names, names);
-        watch_named(alloc, self.options, given, files, out)
+impl InContext for WatchOptions<'_> {
+    fn context(&self) -> ContextOptions<'_> {
+        ContextOptions::by_names(self.names)
+    }
+
+    fn do_in<F: Files, O: Sink>(inquiry: &Inquiry<Self>, files: &mut F, out: &mut O) -> Fate {
+        let options = inquiry.options;
+        let names = names_given(options.names, inquiry.names);
+        watch_named(inquiry.alloc, options, names, files, out)
     }
 }
 
@@ -237,5 +236,5 @@ pub fn watch_file<F: Files, O: Sink>(
     files: &mut F,
     out: &mut O,
 ) -> Fate {
-    do_by_names(alloc, &Command { options }, options.names, files, out)
+    do_in_context(alloc, options, files, out)
 }

@@ -4,9 +4,9 @@ ghost use Rattle.std.specs.Prelude.{◌-◌, length};
 ghost use Rattle.velo_filter.specs.Tables.{left_of};
 ghost use Rattle.velo_watch.specs.RestUnderWay.{CanGoOn};
 
-use crate::asked::Command;
-use crate::context::{ContextOptions, InContext, do_in_context};
+use crate::context::{ContextOptions, InContext};
 use crate::given_names::names_given;
+use crate::inquiry::Inquiry;
 use crate::leaving::left_out;
 use crate::places::add_places;
 use crate::rest_report::page_of_rest;
@@ -17,7 +17,6 @@ use velo_check::{CheckFault, Fate, Files, Verdict, WatchOptions, WatchRestOption
 use velo_events::Memory;
 use velo_explain::Page;
 use velo_filter::LeftOut;
-use velo_finding::Asked;
 use velo_names::Names;
 use velo_sidecars::Sites;
 use velo_watch::{ClosedRest, RestWatch, WatchFault};
@@ -124,46 +123,30 @@ fn report_rest<O: Sink>(
     }
 }
 
-impl InContext for Command<'_, WatchRestOptions<'_>> {
-    fn do_in<F: Files, O: Sink>(
-        &self,
-        alloc: Global,
-        names: &Names,
-        asked: &Asked,
-        sites: &Option<Sites>,
-        files: &mut F,
-        out: &mut O,
-    ) -> Fate {
-        let options = &self.options.watch;
-        match left_out(alloc, asked) {
+impl InContext for WatchRestOptions<'_> {
+    fn context(&self) -> ContextOptions<'_> {
+        ContextOptions {
+            names: self.watch.names,
+            ignored: self.ignored,
+            sites: self.sites,
+        }
+    }
+
+    fn do_in<F: Files, O: Sink>(inquiry: &Inquiry<Self>, files: &mut F, out: &mut O) -> Fate {
+        let options = &inquiry.options.watch;
+        match left_out(inquiry.alloc, inquiry.asked) {
             Ok(left) => {
-                let given = names_given(options.names, names);
+                let names = names_given(options.names, inquiry.names);
                 let asked = RestAsked {
                     options,
-                    sites,
+                    sites: inquiry.sites,
                     left: &left,
                 };
-                let fate = watch_named(alloc, &asked, given, files, out);
+                let fate = watch_named(inquiry.alloc, &asked, names, files, out);
                 drop(left);
                 fate
             }
             Err(Memory) => Fate::Memory,
         }
     }
-}
-
-/// Watches the log that was asked for, of which what is left is judged. The names are read first, then
-/// the list of what is known already, and then the sites.
-pub fn watch_rest_file<F: Files, O: Sink>(
-    alloc: Global,
-    options: &WatchRestOptions,
-    files: &mut F,
-    out: &mut O,
-) -> Fate {
-    let context = ContextOptions {
-        names: options.watch.names,
-        ignored: options.ignored,
-        sites: options.sites,
-    };
-    do_in_context(alloc, &Command { options }, &context, files, out)
 }
