@@ -4,25 +4,19 @@
 #![tactic(auto)]
 
 mod again;
+mod asked;
 mod beside;
+mod complaint;
 mod ended;
 mod escapes;
 mod events;
 mod failing;
-mod faults;
-mod given;
-mod header;
 mod ignoring;
-mod line;
 mod lines;
 mod log;
-mod place;
-mod reasons;
 mod refused;
-mod roles;
 mod saying;
 mod schedule;
-mod standing;
 mod waits;
 mod work;
 
