@@ -53,23 +53,31 @@ pub(crate) fn name_at<'a>(names: &'a [String], number: u16) -> Words<'a> {
     }
 }
 
-/// What is said of all of a file.
-pub(crate) fn whole(said: Said) -> Complaint<'static> {
+/// What is said of a place in one piece.
+pub(crate) fn told<'a>(
+    line: usize,
+    what: Words<'a>,
+    shown: Option<&'a [u8]>,
+    help: &'a str,
+) -> Complaint<'a> {
+    let nothing = plain("");
+    let says = [what, nothing, nothing];
     Complaint {
-        line: 0,
-        says: [plain(said.0), plain(""), plain("")],
-        shown: None,
-        help: said.1,
+        line,
+        says,
+        shown,
+        help,
     }
+}
+
+/// What is said of all of a file.
+pub(crate) fn whole<'a>(said: Said) -> Complaint<'a> {
+    told(0, plain(said.0), None, said.1)
 }
 
 /// What is said of a line of these bytes.
 pub(crate) fn at_line<'a>(line: usize, bytes: &'a [u8], said: Said) -> Complaint<'a> {
-    Complaint {
-        line,
-        shown: Some(line_at(line, bytes)),
-        ..whole(said)
-    }
+    told(line, plain(said.0), Some(line_at(line, bytes)), said.1)
 }
 
 /// Adds words with their numbers.

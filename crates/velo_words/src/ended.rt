@@ -2,7 +2,7 @@
 //! could not go on.
 
 use crate::again::read_again;
-use crate::complaint::{Complaint, Said, Words, add_complaint, name_at, plain, said, whole};
+use crate::complaint::{Complaint, Said, Words, add_complaint, name_at, plain, said, told, whole};
 use crate::waits_of;
 use std::alloc::Global;
 use velo_bytes::append;
@@ -43,13 +43,11 @@ fn refused_act(refusal: Refusal) -> Said {
 /// What is said of a thread that was refused.
 fn refused_complaint<'a>(names: &'a [String], thread: ThreadId, refusal: Refusal) -> Complaint<'a> {
     let (act, help) = refused_act(refusal);
+    let name = name_at(names, u16::from(thread.0));
+    let says = [plain("thread "), name, plain(act)];
     Complaint {
         line: 0,
-        says: [
-            plain("thread "),
-            name_at(names, u16::from(thread.0)),
-            plain(act),
-        ],
+        says,
         shown: None,
         help,
     }
@@ -131,10 +129,7 @@ fn add_foreign(
                 text: "thread # is none of the workload (threads: #): its turns are passed over",
                 numbers: [u64::from(thread.0), u64::from(threads)],
             };
-            let complaint = Complaint {
-                says: [none, plain(""), plain("")],
-                ..whole(("", ""))
-            };
+            let complaint = told(0, none, None, "");
             add_complaint(text, place_of(options.schedule), &complaint)
         }
         None => Ok(()),

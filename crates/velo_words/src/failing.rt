@@ -1,7 +1,7 @@
 //! Which file could not be opened, read or written, in words.
 
 use crate::asked::Asked;
-use crate::complaint::{Complaint, plain, said, whole};
+use crate::complaint::{Complaint, plain, said};
 use std::alloc::Global;
 use velo_check::{CheckFault, Fate};
 use velo_logtext::LogFault;
@@ -52,16 +52,19 @@ fn reason_of(reason: SystemReason) -> &'static str {
 }
 
 /// What is said of a file that failed.
-fn failure_words(
+fn failure_words<'a>(
     alloc: Global,
     path: &str,
-    verb: &str,
-    word: &str,
+    verb: &'a str,
+    word: &'a str,
     reason: SystemReason,
 ) -> Option<Vec<u8>> {
+    let says = [plain(verb), plain(word), plain(reason_of(reason))];
     let complaint = Complaint {
-        says: [plain(verb), plain(word), plain(reason_of(reason))],
-        ..whole(("", ""))
+        line: 0,
+        says,
+        shown: None,
+        help: "",
     };
     said(alloc, path, &complaint)
 }

@@ -2,7 +2,7 @@
 
 use crate::again::read_again;
 use crate::asked::Asked;
-use crate::complaint::{Complaint, Said, said, whole};
+use crate::complaint::{plain, said, told};
 use std::alloc::Global;
 use velo_check::{Files, Ignorable, Ignored};
 use velo_names::{MAX_NAMES_BYTES, NameKind, Names};
@@ -56,11 +56,7 @@ fn words_by(
 ) -> Option<Vec<u8>> {
     for word in ignoring.words {
         if means_none(alloc, names, ignoring.kind, word)? {
-            let vain: Said = (ignoring.reason, help);
-            let complaint = Complaint {
-                shown: Some(word.as_bytes()),
-                ..whole(vain)
-            };
+            let complaint = told(0, plain(ignoring.reason), Some(word.as_bytes()), help);
             return said(alloc, ignoring.option, &complaint);
         }
     }

@@ -1,6 +1,6 @@
 //! What is said of a log that could not be read.
 
-use crate::complaint::{Complaint, Said, at_line, counted, plain, whole};
+use crate::complaint::{Complaint, Said, at_line, counted, told, whole};
 use crate::lines::{after_number, begins, ends_in_return, line_at};
 use velo_bytes::{after, number, spaced_number};
 use velo_logtext::LogFault;
@@ -100,10 +100,7 @@ fn first_line(bytes: &[u8]) -> Complaint<'_> {
         Some(rest) => numbers_reason(rest),
         None => (NO_HEADER, 0),
     };
-    Complaint {
-        says: [counted(reason, value), plain(""), plain("")],
-        ..at_line(1, bytes, ("", ""))
-    }
+    told(1, counted(reason, value), Some(line_at(1, bytes)), "")
 }
 
 /// What is said of bytes in which no header stands.

@@ -1,7 +1,8 @@
 //! What is said of an event of a log that is refused, or reads a wrong value.
 
-use crate::complaint::{Complaint, Said, Words, at_line, counted, plain, said};
+use crate::complaint::{Complaint, Words, counted, plain, said};
 use crate::events::{Sought, events_up_to, last_of};
+use crate::lines::line_at;
 use std::alloc::Global;
 use velo_bytes::Bytes;
 use velo_events::{Bounds, Event, Kind, LockId, Refusal, ThreadId};
@@ -253,6 +254,22 @@ fn event_words(
     }
 }
 
+/// The same of the event in a line of a log.
+fn event_complaint<'a>(
+    line: usize,
+    bytes: &'a [u8],
+    says: [Words<'a>; 3],
+    help: &'a str,
+) -> Complaint<'a> {
+    let shown = Some(line_at(line, bytes));
+    Complaint {
+        line,
+        says,
+        shown,
+        help,
+    }
+}
+
 /// What is said of the event at a position of a log, by its bytes.
 pub(crate) fn words_of_event(
     alloc: Global,
@@ -261,19 +278,12 @@ pub(crate) fn words_of_event(
     position: usize,
     refusal: Option<Refusal>,
 ) -> Option<Vec<u8>> {
-    const NOTHING: Said = ("", "");
     let mut source = Bytes::new(bytes);
     let (bounds, trace, event) = events_up_to(alloc, &mut source, position)?;
     let (why, help) = event_words(bounds, trace.as_slice(), event, refusal);
-    let complaint = Complaint {
-        says: [
-            counted("thread # ", u64::from(event.thread.0)),
-            kind_words(event.kind),
-            why,
-        ],
-        help,
-        ..at_line(position.saturating_add(2), bytes, NOTHING)
-    };
+    let thread = counted("thread # ", u64::from(event.thread.0));
+    let says = [thread, kind_words(event.kind), why];
+    let complaint = event_complaint(position.saturating_add(2), bytes, says, help);
     drop(trace);
     said(alloc, path, &complaint)
 }

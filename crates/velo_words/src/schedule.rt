@@ -74,10 +74,13 @@ fn split_word(bytes: &[u8]) -> (&[u8], Option<&[u8]>) {
 
 /// What is said of a word at a place, counted from 1.
 fn bad_word<'a>(place: usize, word: &'a [u8], reason: &'a str) -> Complaint<'a> {
+    let says = [counted("word #: ", place as u64), plain(reason), plain("")];
+    let shown = Some(word);
     Complaint {
-        says: [counted("word #: ", place as u64), plain(reason), plain("")],
-        shown: Some(word),
-        ..whole(("", ""))
+        line: 0,
+        says,
+        shown,
+        help: "",
     }
 }
 
