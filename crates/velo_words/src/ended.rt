@@ -90,11 +90,12 @@ fn place_of<'a>(source: ScheduleSource<'a>) -> &'a str {
 
 /// Who waits for what at the end of a run, if it is stuck.
 fn waits_of_ended(alloc: Global, workload: &Workload, ended: (Closed, Ending)) -> Option<Vec<u8>> {
-    let (closed, _) = ended;
-    let waits = if closed.bounds() == workload.bounds() {
-        waits_of(alloc, workload, &closed).ok()
-    } else {
-        None
+    let (closed, ending) = ended;
+    let waits = match ending {
+        Ending::Stuck if closed.bounds() == workload.bounds() => {
+            waits_of(alloc, workload, &closed).ok()
+        }
+        _ => None,
     };
     drop(closed);
     waits

@@ -20,7 +20,7 @@ mod schedule;
 mod waits;
 mod work;
 
-pub use escapes::{append_escaped, escaped, escaped_lines};
+pub use escapes::{append_escaped, escaped_lines};
 pub use failing::{Recall, SystemReason};
 pub use saying::end_in_words;
 pub use waits::waits_of;

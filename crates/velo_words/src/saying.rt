@@ -15,13 +15,13 @@ use std::alloc::Global;
 use velo_bytes::{Sink, WriteFault, write_all};
 use velo_check::status::FAILED;
 use velo_check::{CheckFault, Fate, Files, Request, end_with};
-use velo_claims::MAX_REPORT_BYTES;
+use velo_claims::{MAX_REPORT_BYTES, ReportFault};
 use velo_events::MAX_EVENTS;
 use velo_logtext::LogFault;
-use velo_names::MAX_NAMES_BYTES;
+use velo_names::{MAX_NAMES_BYTES, NamesFault};
 use velo_schedule_text::ScheduleFault;
-use velo_sidecars::MAX_SITES_BYTES;
-use velo_workload::MAX_WORKLOAD_BYTES;
+use velo_sidecars::{ListFault, MAX_SITES_BYTES, SitesFault};
+use velo_workload::{MAX_WORKLOAD_BYTES, WorkFault};
 
 /// The most lines that a log has: its header, and one for each event.
 const MAX_LINES: usize = MAX_EVENTS as usize + 1;
@@ -61,9 +61,14 @@ fn last_line_of(fault: CheckFault) -> usize {
     }
 }
 
-/// The file that a fate is about, if there is one, and the most bytes of it that are read.
+/// The file that a fate is about, if there is one of which something can be said, and the most bytes
+/// of it that are read.
 fn file_of<'a>(asked: &Asked<'a>, fate: Fate) -> (Option<&'a str>, usize) {
     match fate {
+        Fate::Check(CheckFault::Write | CheckFault::Memory) => (None, 0),
+        Fate::Work(WorkFault::Memory) | Fate::Names(NamesFault::Memory) => (None, 0),
+        Fate::List(ListFault::Memory) | Fate::Sites(SitesFault::Memory) => (None, 0),
+        Fate::Report(ReportFault::Memory) => (None, 0),
         Fate::Check(fault) => (asked.finite_log(), most_up_to(last_line_of(fault))),
         Fate::Work(_) => (asked.work, MAX_WORKLOAD_BYTES),
         Fate::Names(_) => (asked.names, MAX_NAMES_BYTES),
