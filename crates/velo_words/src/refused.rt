@@ -254,6 +254,14 @@ fn event_words(
     }
 }
 
+/// Words that are as long there as others beside them.
+fn beside<'a>(words: Words<'static>) -> Words<'a> {
+    Words {
+        text: words.text,
+        numbers: words.numbers,
+    }
+}
+
 /// The same of the event in a line of a log.
 fn event_complaint<'a>(
     line: usize,
@@ -282,7 +290,7 @@ pub(crate) fn words_of_event(
     let (bounds, trace, event) = events_up_to(alloc, &mut source, position)?;
     let (why, help) = event_words(bounds, trace.as_slice(), event, refusal);
     let thread = counted("thread # ", u64::from(event.thread.0));
-    let says = [thread, kind_words(event.kind), why];
+    let says = [thread, beside(kind_words(event.kind)), beside(why)];
     let complaint = event_complaint(position.saturating_add(2), bytes, says, help);
     drop(trace);
     said(alloc, path, &complaint)
