@@ -1,22 +1,44 @@
 //! What is said of a file beside a log: of names, of sites, of known labels, and of a report.
 
-use crate::lines::{ends_in_return, line_at};
-use crate::place::{Complaint, place_words};
-use std::alloc::Global;
-use velo_bytes::{after, number};
+use crate::complaint::{Complaint, Said, at_line, whole};
+use crate::lines::{after_number, begins, ends_in_return, line_at};
+use velo_bytes::after;
 use velo_claims::ReportFault;
-use velo_events::Memory;
-use velo_explain::Page;
-use velo_names::{MAX_NAME_BYTES, NameKind, NamesFault, is_number};
+use velo_names::{MAX_NAME_BYTES, NamesFault, is_number};
 use velo_sidecars::{ListFault, SitesFault};
 
 const RETURNED: &str = "a carriage return stands at the end of the line";
 
-const TOO_MANY_LINES: &str = "the file has more than 1000000 lines";
+const TOO_MANY_LINES: Said = ("the file has more than 1000000 lines", "");
 
-const TOO_MANY_BYTES: &str = "the file has more than 16777216 bytes";
+const TOO_MANY_BYTES: Said = ("the file has more than 16777216 bytes", "");
 
-const NOT_TEXT: &str = "the file is not UTF-8";
+const NOT_TEXT: Said = ("the file is not UTF-8", "");
+
+/// How a line of names begins, the most that its number can be, and what is said where there is
+/// none.
+static KINDS: [(&str, u64, &str); 4] = [
+    (
+        "thread ",
+        255,
+        "expected a number from 0 to 255 after the kind",
+    ),
+    (
+        "variable ",
+        65_535,
+        "expected a number from 0 to 65535 after the kind",
+    ),
+    (
+        "lock ",
+        65_535,
+        "expected a number from 0 to 65535 after the kind",
+    ),
+    (
+        "label ",
+        4_294_967_295,
+        "expected a number from 0 to 4294967295 after the kind",
+    ),
+];
 
 /// What is wrong with bytes that are no name.
 fn name_reason(name: &[u8]) -> &'static str {
@@ -29,22 +51,8 @@ fn name_reason(name: &[u8]) -> &'static str {
     "a control character stands in the name"
 }
 
-/// What is wrong where no number stands after a kind.
-fn number_reason(kind: NameKind) -> &'static str {
-    match kind {
-        NameKind::Thread => "expected a number from 0 to 255 after the kind",
-        NameKind::Variable | NameKind::Lock => {
-            "expected a number from 0 to 65535 after the kind"
-        }
-        NameKind::Label => "expected a number from 0 to 4294967295 after the kind",
-    }
-}
-
-/// What is wrong with what stands after a kind.
-fn kind_reason(kind: NameKind, bytes: &[u8]) -> &'static str {
-    let Some((_, rest)) = number(bytes, u64::from(kind.greatest())) else {
-        return number_reason(kind);
-    };
+/// What is wrong with what stands after a number.
+fn named_reason(rest: &[u8]) -> &'static str {
     match after(rest, b" ") {
         Some(name) => name_reason(name),
         None => "expected one space and a name after the number",
@@ -53,88 +61,42 @@ fn kind_reason(kind: NameKind, bytes: &[u8]) -> &'static str {
 
 /// What is wrong with a line that says no name.
 fn naming_reason(line: &[u8]) -> &'static str {
-    if let Some(rest) = after(line, b"thread ") {
-        return kind_reason(NameKind::Thread, rest);
+    if ends_in_return(line) {
+        return RETURNED;
     }
-    if let Some(rest) = after(line, b"variable ") {
-        return kind_reason(NameKind::Variable, rest);
-    }
-    if let Some(rest) = after(line, b"lock ") {
-        return kind_reason(NameKind::Lock, rest);
-    }
-    if let Some(rest) = after(line, b"label ") {
-        return kind_reason(NameKind::Label, rest);
+    for (word, most, lacking) in &KINDS {
+        if let Some(rest) = after(line, word.as_bytes()) {
+            return match after_number(rest, *most) {
+                Some(rest) => named_reason(rest),
+                None => *lacking,
+            };
+        }
     }
     "the line begins with none of thread, variable, lock and label"
 }
 
-/// The same; but a carriage return at the end comes first.
-fn unnamed_reason(line: &[u8]) -> &'static str {
-    if ends_in_return(line) {
-        return RETURNED;
-    }
-    naming_reason(line)
-}
-
-/// The line of a fault of names that is shown; 0 where it is one of the whole file.
-fn names_line(fault: NamesFault) -> usize {
+/// What is said of a fault of names, by the bytes of their file, if something is.
+pub(crate) fn names_complaint(fault: NamesFault, bytes: &[u8]) -> Option<Complaint<'_>> {
+    const HELP: &str =
+        "help: a line is `KIND NUMBER NAME`, as in `label 7 transfer`; others are empty or begin with #\n";
     match fault {
-        NamesFault::BadLine(n) | NamesFault::NamedTwice(n) => n,
-        _ => 0,
-    }
-}
-
-/// What is wrong with a file of names.
-fn names_reason(fault: NamesFault, line: &[u8]) -> &'static str {
-    match fault {
-        NamesFault::BadLine(_) => unnamed_reason(line),
-        NamesFault::NamedTwice(_) => "a line before names this number of this kind",
-        NamesFault::TooManyLines => TOO_MANY_LINES,
-        NamesFault::TooManyBytes => TOO_MANY_BYTES,
-        NamesFault::NotText => NOT_TEXT,
-        NamesFault::Memory => "",
-    }
-}
-
-/// What to do about a file of names.
-fn names_help(fault: NamesFault) -> &'static str {
-    match fault {
-        NamesFault::BadLine(_) => {
-            "help: a line is `KIND NUMBER NAME`, as in `label 7 transfer`; others are empty or begin with #\n"
+        NamesFault::BadLine(n) => {
+            Some(at_line(n, bytes, (naming_reason(line_at(n, bytes)), HELP)))
         }
-        _ => "",
-    }
-}
-
-/// What is said of a fault of names, by the path and the bytes of their file.
-///
-/// # Errors
-/// `Memory` if an allocation failed.
-pub(crate) fn names_words(
-    alloc: Global,
-    path: &str,
-    bytes: &[u8],
-    fault: NamesFault,
-) -> Result<Page, Memory> {
-    let line = names_line(fault);
-    let complaint = Complaint {
-        line,
-        reason: names_reason(fault, line_at(line, bytes)),
-        help: names_help(fault),
-    };
-    place_words(alloc, path, bytes, complaint)
-}
-
-/// The line of a fault of a list that is shown; 0 where it is one of the whole file.
-fn list_line(fault: ListFault) -> usize {
-    match fault {
-        ListFault::BadLine(n) => n,
-        _ => 0,
+        NamesFault::NamedTwice(n) => Some(at_line(
+            n,
+            bytes,
+            ("a line before names this number of this kind", ""),
+        )),
+        NamesFault::TooManyLines => Some(whole(TOO_MANY_LINES)),
+        NamesFault::TooManyBytes => Some(whole(TOO_MANY_BYTES)),
+        NamesFault::NotText => Some(whole(NOT_TEXT)),
+        NamesFault::Memory => None,
     }
 }
 
 /// Whether a number follows this word.
-fn is_numbered(word: &[u8], line: &[u8]) -> bool {
+fn is_numbered(line: &[u8], word: &[u8]) -> bool {
     match after(line, word) {
         Some(rest) => is_number(rest),
         None => false,
@@ -149,7 +111,7 @@ fn entry_reason(line: &[u8]) -> &'static str {
     if is_number(line) {
         return "a label has a number from 0 to 4294967295, without leading zeros";
     }
-    if is_numbered(b"lock ", line) || is_numbered(b"variable ", line) {
+    if is_numbered(line, b"lock ") || is_numbered(line, b"variable ") {
         return "a lock or a variable has a number from 0 to 65535, without leading zeros";
     }
     if line.len() > MAX_NAME_BYTES {
@@ -158,155 +120,70 @@ fn entry_reason(line: &[u8]) -> &'static str {
     "this is not a label's number or name, nor a line that audit or predict prints"
 }
 
-/// What is wrong with a list of known labels.
-fn list_reason(fault: ListFault, line: &[u8]) -> &'static str {
+/// What is said of a fault of a list, by the bytes of its file, if something is.
+pub(crate) fn list_complaint(fault: ListFault, bytes: &[u8]) -> Option<Complaint<'_>> {
     match fault {
-        ListFault::BadLine(_) => entry_reason(line),
-        ListFault::TooManyLines => TOO_MANY_LINES,
-        ListFault::TooManyBytes => TOO_MANY_BYTES,
-        ListFault::NotText => NOT_TEXT,
-        ListFault::Memory => "",
-    }
-}
-
-/// What is said of a fault of a list, by the path and the bytes of its file.
-///
-/// # Errors
-/// `Memory` if an allocation failed.
-pub(crate) fn list_words(
-    alloc: Global,
-    path: &str,
-    bytes: &[u8],
-    fault: ListFault,
-) -> Result<Page, Memory> {
-    let line = list_line(fault);
-    let complaint = Complaint {
-        line,
-        reason: list_reason(fault, line_at(line, bytes)),
-        help: "",
-    };
-    place_words(alloc, path, bytes, complaint)
-}
-
-/// The line of a fault of sites that is shown; 0 where it is one of the whole file.
-fn sites_line(fault: SitesFault) -> usize {
-    match fault {
-        SitesFault::BadLine(n) | SitesFault::EndsEarly(n) => n,
-        _ => 0,
+        ListFault::BadLine(n) => Some(at_line(n, bytes, (entry_reason(line_at(n, bytes)), ""))),
+        ListFault::TooManyLines => Some(whole(TOO_MANY_LINES)),
+        ListFault::TooManyBytes => Some(whole(TOO_MANY_BYTES)),
+        ListFault::NotText => Some(whole(NOT_TEXT)),
+        ListFault::Memory => None,
     }
 }
 
 /// What is wrong with a line of this number in a file of sites.
-fn site_reason(line: usize) -> &'static str {
+fn site_reason(line: usize) -> Said {
     if line == 1 {
-        return "this is not a file of sites: expected a first line `vsites 1 SITES EVENTS`";
+        return (
+            "this is not a file of sites: expected a first line `vsites 1 SITES EVENTS`",
+            "",
+        );
     }
-    "unexpected line: the places come first, and then a site's number for each event"
+    (
+        "unexpected line: the places come first, and then a site's number for each event",
+        "",
+    )
 }
 
-/// What is wrong with a file of sites.
-fn sites_reason(fault: SitesFault) -> &'static str {
+/// What is said of a fault of sites, by the bytes of their file, if something is.
+pub(crate) fn sites_complaint(fault: SitesFault, bytes: &[u8]) -> Option<Complaint<'_>> {
     match fault {
-        SitesFault::BadLine(n) => site_reason(n),
-        SitesFault::EndsEarly(_) => {
-            "the file ends here, before all that its first line asks for"
-        }
-        SitesFault::TooManyBytes => "the file has more than 268435456 bytes",
-        SitesFault::NotText => NOT_TEXT,
-        SitesFault::Memory => "",
-    }
-}
-
-/// What to do about a file of sites.
-fn sites_help(fault: SitesFault) -> &'static str {
-    match fault {
-        SitesFault::EndsEarly(_) => "help: did the program end while it wrote?\n",
-        _ => "",
-    }
-}
-
-/// What is said of a fault of sites, by the path and the bytes of their file.
-///
-/// # Errors
-/// `Memory` if an allocation failed.
-pub(crate) fn sites_words(
-    alloc: Global,
-    path: &str,
-    bytes: &[u8],
-    fault: SitesFault,
-) -> Result<Page, Memory> {
-    let complaint = Complaint {
-        line: sites_line(fault),
-        reason: sites_reason(fault),
-        help: sites_help(fault),
-    };
-    place_words(alloc, path, bytes, complaint)
-}
-
-/// What is said of sites that are not those of the log, by the path of their file.
-///
-/// # Errors
-/// `Memory` if an allocation failed.
-pub fn other_sites_words(alloc: Global, path: &str) -> Result<Page, Memory> {
-    let complaint = Complaint {
-        line: 0,
-        reason: "these are the sites of a log with another number of events",
-        help: "help: take the log and its sites from one run\n",
-    };
-    place_words(alloc, path, &[], complaint)
-}
-
-/// The line of a fault of a report that is shown; 0 where it is one of the whole file.
-fn report_line(fault: ReportFault) -> usize {
-    match fault {
-        ReportFault::BadLine(n) | ReportFault::EndsEarly(n) => n,
-        _ => 0,
+        SitesFault::BadLine(n) => Some(at_line(n, bytes, site_reason(n))),
+        SitesFault::EndsEarly(n) => Some(at_line(
+            n,
+            bytes,
+            (
+                "the file ends here, before all that its first line asks for",
+                "help: did the program end while it wrote?\n",
+            ),
+        )),
+        SitesFault::TooManyBytes => Some(whole(("the file has more than 268435456 bytes", ""))),
+        SitesFault::NotText => Some(whole(NOT_TEXT)),
+        SitesFault::Memory => None,
     }
 }
 
 /// What is wrong with a line that is not what a report has at its place.
-fn report_line_reason(line: &[u8]) -> &'static str {
-    match after(line, b"vlog ") {
-        Some(_) => "this is not a report: it looks like a log",
-        None => "this is not what a report or its certificate has at this place",
+fn report_reason(line: &[u8]) -> &'static str {
+    if begins(line, "vlog ") {
+        return "this is not a report: it looks like a log";
     }
+    "this is not what a report or its certificate has at this place"
 }
 
-/// What is wrong with a report.
-fn report_reason(fault: ReportFault, line: &[u8]) -> &'static str {
+/// What is said of a fault of a report, by the bytes of its file, if something is.
+pub(crate) fn report_complaint(fault: ReportFault, bytes: &[u8]) -> Option<Complaint<'_>> {
+    const HELP: &str = "help: REPORT is all that `velodrome check LOG --certificate` prints\n";
     match fault {
-        ReportFault::BadLine(_) => report_line_reason(line),
-        ReportFault::EndsEarly(_) => "the report ends here, before the end of its verdict",
-        ReportFault::TooManyBytes => "the file has more than 268500992 bytes",
-        ReportFault::Memory => "",
-    }
-}
-
-/// What to do about a report.
-fn report_help(fault: ReportFault) -> &'static str {
-    match fault {
-        ReportFault::BadLine(_) | ReportFault::EndsEarly(_) => {
-            "help: REPORT is all that `velodrome check LOG --certificate` prints\n"
+        ReportFault::BadLine(n) => {
+            Some(at_line(n, bytes, (report_reason(line_at(n, bytes)), HELP)))
         }
-        _ => "",
+        ReportFault::EndsEarly(n) => Some(at_line(
+            n,
+            bytes,
+            ("the report ends here, before the end of its verdict", HELP),
+        )),
+        ReportFault::TooManyBytes => Some(whole(("the file has more than 268500992 bytes", ""))),
+        ReportFault::Memory => None,
     }
-}
-
-/// What is said of a fault of a report, by the path and the bytes of its file.
-///
-/// # Errors
-/// `Memory` if an allocation failed.
-pub(crate) fn report_words(
-    alloc: Global,
-    path: &str,
-    bytes: &[u8],
-    fault: ReportFault,
-) -> Result<Page, Memory> {
-    let line = report_line(fault);
-    let complaint = Complaint {
-        line,
-        reason: report_reason(fault, line_at(line, bytes)),
-        help: report_help(fault),
-    };
-    place_words(alloc, path, bytes, complaint)
 }

@@ -2,130 +2,59 @@
 //! could not go on.
 
 use crate::again::read_again;
-use crate::lines::{add_file, add_text};
-use crate::place::{Complaint, place_words};
+use crate::complaint::{Complaint, Said, Words, add_complaint, name_at, plain, said, told, whole};
 use crate::waits_of;
 use std::alloc::Global;
+use velo_bytes::append;
 use velo_check::{Files, ReplayOptions, Request, RunOptions, ScheduleSource};
 use velo_events::{Config, Memory, Refusal, ThreadId};
-use velo_explain::{Page, Piece};
 use velo_schedule_text::{MAX_SCHEDULE_BYTES, schedule_in, schedule_of, turns_of};
 use velo_worker::{Ending, replay};
 use velo_workload::{MAX_WORKLOAD_BYTES, Workload, parse, text_of};
 use velo_world::Closed;
 
-/// The first thread of a schedule that a workload with so many threads does not have.
-fn foreign_in(threads: u8, schedule: &[ThreadId]) -> Option<ThreadId> {
-    schedule.iter().copied().find(|thread| thread.0 >= threads)
-}
-
-/// Adds that a thread is none of a workload with so many.
-fn add_none_of(
-    page: &mut Page,
-    alloc: Global,
-    place: &str,
-    threads: u64,
-    thread: u64,
-) -> Result<(), Memory> {
-    add_file(page, alloc, place)?;
-    page.add(&[
-        Piece::Text("thread "),
-        Piece::Number(thread),
-        Piece::Text(" is none of the workload (threads: "),
-        Piece::Number(threads),
-        Piece::Text("): its turns are passed over\n"),
-    ])
-}
-
-/// Adds that a schedule has turns of no thread, if it has.
-fn add_foreign(
-    page: &mut Page,
-    alloc: Global,
-    place: &str,
-    threads: u8,
-    foreign: Option<ThreadId>,
-) -> Result<(), Memory> {
-    match foreign {
-        Some(thread) => add_none_of(page, alloc, place, u64::from(threads), u64::from(thread.0)),
-        None => Ok(()),
-    }
-}
-
-/// Where a schedule is.
-fn place_of<'a>(source: ScheduleSource<'a>) -> &'a str {
-    match source {
-        ScheduleSource::Text(_) => "--schedule",
-        ScheduleSource::Turns(_) => "--turns",
-        ScheduleSource::File(path) => path,
-    }
-}
-
-/// What a thread does that is refused.
-fn refused_act(refusal: Refusal) -> &'static str {
+/// What a thread does that is refused, and what to do about it.
+fn refused_act(refusal: Refusal) -> Said {
     match refusal {
-        Refusal::AlreadyHeld => "acquires a lock that it holds already",
-        Refusal::NotHolder => "releases a lock that it does not hold in this way",
-        Refusal::NoOpenBlock => "ends a block, but has none open",
-        Refusal::TooDeep => "begins a block, but has 32 open, as many as there may be",
-        Refusal::AlreadyForked => "forks a thread that runs already or was forked before",
-        Refusal::NotForked => "joins a thread that was not forked",
-        Refusal::AlreadyJoined => "joins a thread that was joined before",
-        Refusal::BlockOpen => "ends, but has a block open",
-        Refusal::LockHeld => "ends, but holds a lock",
-        Refusal::LogFull => "cannot go on: the log is full",
-        Refusal::GraphFull => "cannot go on: no node of the graph is free",
-        _ => "cannot go on",
+        Refusal::AlreadyHeld => (" acquires a lock that it holds already", ""),
+        Refusal::NotHolder => (" releases a lock that it does not hold in this way", ""),
+        Refusal::NoOpenBlock => (" ends a block, but has none open", ""),
+        Refusal::TooDeep => (
+            " begins a block, but has 32 open, as many as there may be",
+            "",
+        ),
+        Refusal::AlreadyForked => (" forks a thread that runs already or was forked before", ""),
+        Refusal::NotForked => (" joins a thread that was not forked", ""),
+        Refusal::AlreadyJoined => (" joins a thread that was joined before", ""),
+        Refusal::BlockOpen => (" ends, but has a block open", ""),
+        Refusal::LockHeld => (" ends, but holds a lock", ""),
+        Refusal::LogFull => (
+            " cannot go on: the log is full",
+            "help: raise the limit with --events, up to 16777216\n",
+        ),
+        Refusal::GraphFull => (
+            " cannot go on: no node of the graph is free",
+            "help: raise the limit with --nodes, up to 4096\n",
+        ),
+        _ => (" cannot go on", ""),
     }
 }
 
-/// What to do about a refusal.
-fn refused_help(refusal: Refusal) -> &'static str {
-    match refusal {
-        Refusal::LogFull => "help: raise the limit with --events, up to 16777216\n",
-        Refusal::GraphFull => "help: raise the limit with --nodes, up to 4096\n",
-        _ => "",
+/// What is said of a thread that was refused.
+fn refused_complaint<'a>(names: &'a [String], thread: ThreadId, refusal: Refusal) -> Complaint<'a> {
+    let (act, help) = refused_act(refusal);
+    let name = name_at(names, u16::from(thread.0));
+    let says = [plain("thread "), name, plain(act)];
+    Complaint {
+        line: 0,
+        says,
+        shown: None,
+        help,
     }
-}
-
-/// Adds the name of a thread, or its number, where it has none.
-fn add_name(page: &mut Page, names: &[String], thread: ThreadId) -> Result<(), Memory> {
-    match names.get(usize::from(thread.0)) {
-        Some(name) => add_text(page, name.as_str()),
-        None => page.add(&[Piece::Number(u64::from(thread.0))]),
-    }
-}
-
-/// Adds what a thread does that is refused, and what to do about it.
-fn add_act(
-    page: &mut Page,
-    alloc: Global,
-    path: &str,
-    names: &[String],
-    thread: ThreadId,
-    refusal: Refusal,
-) -> Result<(), Memory> {
-    add_file(page, alloc, path)?;
-    add_text(page, "thread ")?;
-    add_name(page, names, thread)?;
-    page.add(&[
-        Piece::Text(" "),
-        Piece::Text(refused_act(refusal)),
-        Piece::Text("\n"),
-        Piece::Text(refused_help(refusal)),
-    ])
-}
-
-/// Adds which threads wait for one another.
-fn add_stuck(page: &mut Page, alloc: Global, path: &str, waits: &str) -> Result<(), Memory> {
-    add_file(page, alloc, path)?;
-    page.add(&[
-        Piece::Text("these threads wait for one another\n"),
-        Piece::Text(waits),
-    ])
 }
 
 /// The workload of the file at a path, which is read again.
-pub(crate) fn workload_at<F: Files>(alloc: Global, path: &str, files: &F) -> Option<Workload> {
+fn workload_at<F: Files>(alloc: Global, path: &str, files: &F) -> Option<Workload> {
     let bytes = read_again(alloc, path, MAX_WORKLOAD_BYTES, files)?;
     let text = text_of(&bytes).ok()?;
     parse(alloc, text).ok()
@@ -150,26 +79,29 @@ fn schedule_of_source<F: Files>(
     }
 }
 
-/// Who waits for what in the world of a run that is stuck.
-fn waits_in(alloc: Global, workload: &Workload, closed: &Closed) -> Option<Vec<u8>> {
-    if closed.bounds() != workload.bounds() {
-        return None;
+/// Where a schedule is.
+fn place_of<'a>(source: ScheduleSource<'a>) -> &'a str {
+    match source {
+        ScheduleSource::Text(_) => "--schedule",
+        ScheduleSource::Turns(_) => "--turns",
+        ScheduleSource::File(path) => path,
     }
-    waits_of(alloc, workload, closed).ok()
 }
 
 /// Who waits for what at the end of a run, if it is stuck.
 fn waits_of_ended(alloc: Global, workload: &Workload, ended: (Closed, Ending)) -> Option<Vec<u8>> {
     let (closed, ending) = ended;
     let waits = match ending {
-        Ending::Stuck => waits_in(alloc, workload, &closed),
+        Ending::Stuck if closed.bounds() == workload.bounds() => {
+            waits_of(alloc, workload, &closed).ok()
+        }
         _ => None,
     };
     drop(closed);
     waits
 }
 
-/// Who waits for what at the end of a replay, if it is stuck.
+/// Who waits for what at the end of a replay that is stuck.
 fn waits_after(
     alloc: Global,
     workload: &Workload,
@@ -177,23 +109,47 @@ fn waits_after(
     options: &RunOptions,
 ) -> Option<Vec<u8>> {
     let limits = options.limits;
-    let config = Config::new(
-        0,
-        workload.bounds(),
-        limits.events,
-        limits.nodes,
-        options.stop,
-    )
-    .ok()?;
+    let bounds = workload.bounds();
+    let config = Config::new(0, bounds, limits.events, limits.nodes, options.stop).ok()?;
     match replay(alloc, workload, schedule, config) {
         Ok(ended) => waits_of_ended(alloc, workload, ended),
         Err(Memory) => None,
     }
 }
 
+/// Adds that the first thread of a schedule that the workload does not have is none of it.
+fn add_foreign(
+    text: &mut Vec<u8>,
+    options: &ReplayOptions,
+    threads: u8,
+    schedule: &[ThreadId],
+) -> Result<(), Memory> {
+    match schedule.iter().copied().find(|thread| thread.0 >= threads) {
+        Some(thread) => {
+            let none = Words {
+                text: "thread # is none of the workload (threads: #): its turns are passed over",
+                numbers: [u64::from(thread.0), u64::from(threads)],
+            };
+            let complaint = told(0, none, None, "");
+            add_complaint(text, place_of(options.schedule), &complaint)
+        }
+        None => Ok(()),
+    }
+}
+
+/// Adds which threads wait for one another.
+fn add_stuck(text: &mut Vec<u8>, path: &str, waits: &[u8]) -> Result<(), Memory> {
+    add_complaint(
+        text,
+        path,
+        &whole(("these threads wait for one another", "")),
+    )?;
+    append(text, waits)
+}
+
 /// Adds why a replay could not go on, if it could not.
 fn add_stop(
-    page: &mut Page,
+    text: &mut Vec<u8>,
     alloc: Global,
     workload: &Workload,
     schedule: &[ThreadId],
@@ -203,24 +159,11 @@ fn add_stop(
     match ending {
         Ending::Stuck => {
             let waits = waits_after(alloc, workload, schedule, options)?;
-            add_stuck(
-                page,
-                alloc,
-                options.input,
-                std::str::from_utf8(&waits).ok()?,
-            )
-            .ok()
+            add_stuck(text, options.input, &waits).ok()
         }
         Ending::Refused(thread, refusal) => {
-            add_act(
-                page,
-                alloc,
-                options.input,
-                workload.thread_names(),
-                thread,
-                refusal,
-            )
-            .ok()
+            let complaint = refused_complaint(workload.thread_names(), thread, refusal);
+            add_complaint(text, options.input, &complaint).ok()
         }
         _ => Some(()),
     }
@@ -233,14 +176,11 @@ fn replay_words(
     schedule: &[ThreadId],
     options: &ReplayOptions,
     ending: Ending,
-) -> Option<Page> {
-    let threads = workload.bounds().threads;
-    let foreign = foreign_in(threads, schedule);
-    let mut page = Page::new(alloc);
-    let place = place_of(options.schedule);
-    add_foreign(&mut page, alloc, place, threads, foreign).ok()?;
-    add_stop(&mut page, alloc, workload, schedule, &options.run, ending)?;
-    Some(page)
+) -> Option<Vec<u8>> {
+    let mut text = Vec::new(alloc);
+    add_foreign(&mut text, options, workload.bounds().threads, schedule).ok()?;
+    add_stop(&mut text, alloc, workload, schedule, &options.run, ending)?;
+    Some(text)
 }
 
 /// What is said of a replay, by its schedule and its workload, which are read again.
@@ -249,12 +189,12 @@ fn words_of_replay<F: Files>(
     options: &ReplayOptions,
     ending: Ending,
     files: &F,
-) -> Option<Page> {
+) -> Option<Vec<u8>> {
     let schedule = schedule_of_source(alloc, options.schedule, files)?;
     let workload = workload_at(alloc, options.run.input, files)?;
-    let page = replay_words(alloc, &workload, &schedule, options, ending);
+    let text = replay_words(alloc, &workload, &schedule, options, ending);
     drop(workload);
-    page
+    text
 }
 
 /// What is said of a thread that was refused, by the workload, which is read again.
@@ -264,32 +204,12 @@ fn words_of_act<F: Files>(
     thread: ThreadId,
     refusal: Refusal,
     files: &F,
-) -> Option<Page> {
+) -> Option<Vec<u8>> {
     let workload = workload_at(alloc, path, files)?;
-    let mut page = Page::new(alloc);
-    let names = workload.thread_names();
-    let added = add_act(&mut page, alloc, path, names, thread, refusal);
+    let complaint = refused_complaint(workload.thread_names(), thread, refusal);
+    let text = said(alloc, path, &complaint);
     drop(workload);
-    match added {
-        Ok(()) => Some(page),
-        Err(Memory) => None,
-    }
-}
-
-/// What is said of a run that was not a replay.
-fn words_of_run<F: Files>(alloc: Global, path: &str, ending: Ending, files: &F) -> Option<Page> {
-    match ending {
-        Ending::Refused(thread, refusal) => words_of_act(alloc, path, thread, refusal, files),
-        Ending::Stuck => {
-            let complaint = Complaint {
-                line: 0,
-                reason: "threads wait for one another",
-                help: "help: `velodrome explore` says which thread waits for which lock, held by whom\n",
-            };
-            place_words(alloc, path, &[], complaint).ok()
-        }
-        _ => None,
-    }
+    text
 }
 
 /// What is said of how a run ended.
@@ -298,39 +218,20 @@ pub(crate) fn words_of_end<F: Files>(
     request: &Request,
     ending: Ending,
     files: &F,
-) -> Option<Page> {
+) -> Option<Vec<u8>> {
+    const STUCK: Said = (
+        "threads wait for one another",
+        "help: `velodrome explore` says which thread waits for which lock, held by whom\n",
+    );
     match (request, ending) {
-        (Request::Replay(options), _) if options.run.why => {
-            words_of_replay(alloc, options, ending, files)
+        (Request::Replay(options), _) => words_of_replay(alloc, options, ending, files),
+        (Request::Run(options), Ending::Refused(thread, refusal)) => {
+            words_of_act(alloc, options.input, thread, refusal, files)
         }
-        (Request::Run(options), _) if options.why => {
-            words_of_run(alloc, options.input, ending, files)
-        }
+        (Request::Run(options), Ending::Stuck) => said(alloc, options.input, &whole(STUCK)),
         (Request::Explore(options), Ending::Refused(thread, refusal)) => {
             words_of_act(alloc, options.input, thread, refusal, files)
         }
-        _ => None,
-    }
-}
-
-/// What is said of a search of the workload at a path that is undecided, with what to do.
-fn undecided(alloc: Global, path: &str, help: &str) -> Option<Page> {
-    let complaint = Complaint {
-        line: 0,
-        reason: "some findings are undecided",
-        help,
-    };
-    place_words(alloc, path, &[], complaint).ok()
-}
-
-/// What is said of a search that is undecided.
-pub(crate) fn words_of_open(alloc: Global, request: &Request) -> Option<Page> {
-    match request {
-        Request::Explore(options) => undecided(
-            alloc,
-            options.input,
-            "help: raise --states, --seconds, --events or --nodes; or make runs by chance: see --random\n",
-        ),
         _ => None,
     }
 }

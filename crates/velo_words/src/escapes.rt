@@ -102,19 +102,7 @@ pub fn append_escaped(text: &mut Vec<u8>, bytes: &[u8]) -> Result<(), Memory>
     append_with(text, b"\\n", bytes)
 }
 
-/// Bytes as they are shown in a line, see [`append_escaped`].
-///
-/// # Errors
-/// `Memory` if an allocation failed.
-pub fn escaped(alloc: Global, bytes: &[u8]) -> Result<Vec<u8>, Memory>
-    ensures { IfOk result (λ text. text.items ≡ escaped bytes.now) }
-{
-    let mut text = Vec::new(alloc);
-    append_escaped(&mut text, bytes)?;
-    Ok(text)
-}
-
-/// Bytes as they are shown in lines: the same, but newlines stay.
+/// Bytes as they are shown in lines: as in [`append_escaped`], but newlines stay.
 ///
 /// # Errors
 /// `Memory` if an allocation failed.

@@ -1,11 +1,9 @@
 //! Which file could not be opened, read or written, in words.
 
-use crate::lines::add_file;
-use crate::roles::{ROLES, Role, asks_for_words, path_of, word_of};
+use crate::asked::Asked;
+use crate::complaint::{Complaint, plain, said};
 use std::alloc::Global;
-use velo_check::{CheckFault, Fate, Request};
-use velo_events::Memory;
-use velo_explain::{Page, Piece};
+use velo_check::{CheckFault, Fate};
 use velo_logtext::LogFault;
 
 /// Why a file could not be opened, read or written.
@@ -32,20 +30,12 @@ pub trait Recall {
     }
 }
 
-/// A file of a request that failed.
-#[derive(Clone, Copy)]
-struct Failed<'a> {
-    role: Role,
-    path: &'a str,
-    reason: SystemReason,
-}
-
 /// What was to be done with the file, where the fate is that it failed.
 fn verb_of(fate: Fate) -> Option<&'static str> {
     match fate {
-        Fate::CannotOpen => Some("open"),
-        Fate::ReadFailed | Fate::Check(CheckFault::Log(LogFault::Read)) => Some("read"),
-        Fate::WriteFailed => Some("write"),
+        Fate::CannotOpen => Some("cannot open "),
+        Fate::ReadFailed | Fate::Check(CheckFault::Log(LogFault::Read)) => Some("cannot read "),
+        Fate::WriteFailed => Some("cannot write "),
         _ => None,
     }
 }
@@ -53,73 +43,50 @@ fn verb_of(fate: Fate) -> Option<&'static str> {
 /// A reason in words.
 fn reason_of(reason: SystemReason) -> &'static str {
     match reason {
-        SystemReason::NotFound => "there is no such file",
-        SystemReason::Denied => "permission is denied",
-        SystemReason::IsDirectory => "it is a directory",
-        SystemReason::Full => "no room is left",
-        SystemReason::Other => "the system refused it",
+        SystemReason::NotFound => ": there is no such file",
+        SystemReason::Denied => ": permission is denied",
+        SystemReason::IsDirectory => ": it is a directory",
+        SystemReason::Full => ": no room is left",
+        SystemReason::Other => ": the system refused it",
     }
-}
-
-/// The failure of the file of a role, if the request has one and it failed.
-fn failure_of<'a, F: Recall>(role: Role, request: &Request<'a>, files: &F) -> Option<Failed<'a>> {
-    let path = path_of(role, request)?;
-    let reason = files.failure_at(path)?;
-    Some(Failed { role, path, reason })
-}
-
-/// The file of a request that failed, if it is known.
-fn failed_of<'a, F: Recall>(request: &Request<'a>, files: &F) -> Option<Failed<'a>> {
-    for role in &ROLES {
-        if let Some(failed) = failure_of(*role, request, files) {
-            return Some(failed);
-        }
-    }
-    None
-}
-
-/// Adds what is said of a file, by what was to be done, its word and the reason.
-fn add_failure(
-    page: &mut Page,
-    alloc: Global,
-    path: &str,
-    verb: &str,
-    word: &str,
-    reason: &str,
-) -> Result<(), Memory> {
-    add_file(page, alloc, path)?;
-    page.add(&[
-        Piece::Text("cannot "),
-        Piece::Text(verb),
-        Piece::Text(" "),
-        Piece::Text(word),
-        Piece::Text(": "),
-        Piece::Text(reason),
-        Piece::Text("\n"),
-    ])
 }
 
 /// What is said of a file that failed.
-fn failure_words(alloc: Global, verb: &str, failed: &Failed) -> Result<Page, Memory> {
-    let mut page = Page::new(alloc);
-    let word = word_of(failed.role);
-    let reason = reason_of(failed.reason);
-    add_failure(&mut page, alloc, failed.path, verb, word, reason)?;
-    Ok(page)
+fn failure_words<'a>(
+    alloc: Global,
+    path: &str,
+    verb: &'a str,
+    word: &'a str,
+    reason: SystemReason,
+) -> Option<Vec<u8>> {
+    let says = [plain(verb), plain(word), plain(reason_of(reason))];
+    let complaint = Complaint {
+        line: 0,
+        says,
+        shown: None,
+        help: "",
+    };
+    said(alloc, path, &complaint)
 }
 
-/// What is said where a file of a request could not be opened, read or written, if the request asks
-/// for words and it is known which file it is.
-pub fn words_of_failure<F: Recall>(
+/// Why a file failed, if there is one and it is known to have failed.
+fn failure_of<F: Recall>(path: Option<&str>, files: &F) -> Option<SystemReason> {
+    files.failure_at(path?)
+}
+
+/// What is said where a file of a request could not be opened, read or written, if it is known
+/// which file it is.
+pub(crate) fn words_of_failure<F: Recall>(
     alloc: Global,
-    request: &Request,
+    asked: &Asked,
     fate: Fate,
     files: &F,
-) -> Option<Page> {
-    if !asks_for_words(request) {
-        return None;
-    }
+) -> Option<Vec<u8>> {
     let verb = verb_of(fate)?;
-    let failed = failed_of(request, files)?;
-    failure_words(alloc, verb, &failed).ok()
+    for (word, path) in &asked.files() {
+        if let Some(reason) = failure_of(*path, files) {
+            return failure_words(alloc, path.unwrap_or(""), verb, word, reason);
+        }
+    }
+    None
 }

@@ -4,29 +4,23 @@
 #![tactic(auto)]
 
 mod again;
+mod asked;
 mod beside;
+mod complaint;
 mod ended;
 mod escapes;
 mod events;
 mod failing;
-mod faults;
-mod given;
-mod header;
 mod ignoring;
-mod line;
 mod lines;
 mod log;
-mod place;
-mod reasons;
 mod refused;
-mod roles;
 mod saying;
 mod schedule;
-mod standing;
 mod waits;
 mod work;
 
-pub use escapes::{append_escaped, escaped, escaped_lines};
+pub use escapes::{append_escaped, escaped_lines};
 pub use failing::{Recall, SystemReason};
 pub use saying::end_in_words;
 pub use waits::waits_of;

@@ -1,185 +1,163 @@
 //! What a command says of its end, before its last line.
 
 use crate::again::read_again;
-use crate::beside::other_sites_words;
-use crate::ended::{words_of_end, words_of_open};
-use crate::events::events_up_to;
+use crate::asked::{Asked, asked_of};
+use crate::beside::{list_complaint, names_complaint, report_complaint, sites_complaint};
+use crate::complaint::{Complaint, Said, said, whole};
+use crate::ended::words_of_end;
 use crate::failing::{Recall, words_of_failure};
-use crate::faults::{FileFault, fault_words, most_bytes_for, most_up_to};
-use crate::given::{names_explained_of, schedule_of};
 use crate::ignoring::words_in_vain;
-use crate::refused::{refused_words, wrong_value_words};
-use crate::roles::{list_of, report_of, sites_of};
-use crate::schedule::{numbers_words, schedule_words, turns_words};
+use crate::log::log_complaint;
+use crate::refused::words_of_event;
+use crate::schedule::words_of_schedule;
+use crate::work::work_complaint;
 use std::alloc::Global;
-use velo_bytes::{Bytes, Sink, WriteFault, write_all};
+use velo_bytes::{Sink, WriteFault, write_all};
 use velo_check::status::FAILED;
-use velo_check::{CheckFault, Fate, Files, Request, ScheduleSource, end_with};
-use velo_claims::ReportFault;
-use velo_events::{Bounds, Event, Memory, Refusal};
-use velo_explain::Page;
-use velo_names::NamesFault;
-use velo_schedule_text::{MAX_SCHEDULE_BYTES, ScheduleFault};
-use velo_sidecars::{ListFault, SitesFault};
-use velo_workload::WorkFault;
+use velo_check::{CheckFault, Fate, Files, Request, end_with};
+use velo_claims::{MAX_REPORT_BYTES, ReportFault};
+use velo_events::MAX_EVENTS;
+use velo_logtext::LogFault;
+use velo_names::{MAX_NAMES_BYTES, NamesFault};
+use velo_schedule_text::ScheduleFault;
+use velo_sidecars::{ListFault, MAX_SITES_BYTES, SitesFault};
+use velo_workload::{MAX_WORKLOAD_BYTES, WorkFault};
 
-/// The path where words are asked for.
-fn if_asked(why: bool, path: &str) -> Option<&str> {
-    if why { Some(path) } else { None }
+/// The most lines that a log has: its header, and one for each event.
+const MAX_LINES: usize = MAX_EVENTS as usize + 1;
+
+const OTHER_SITES: Said = (
+    "these are the sites of a log with another number of events",
+    "help: take the log and its sites from one run\n",
+);
+
+const UNDECIDED: Said = (
+    "some findings are undecided",
+    "help: raise --states, --seconds, --events or --nodes; or make runs by chance: see --random\n",
+);
+
+/// The most bytes of a log that are read to say what is wrong in a line of it: as many as the lines
+/// up to it can have, and some more.
+fn most_up_to(line: usize) -> usize {
+    65 * line.min(MAX_LINES) + 128
 }
 
-/// The path of the log whose faults are said in words, if the request has one.
-fn log_of<'a>(request: &Request<'a>) -> Option<&'a str> {
-    match request {
-        Request::Explain(options) => Some(options.input),
-        Request::Watch(options) => Some(options.input),
-        Request::WatchRest(options) => Some(options.watch.input),
-        Request::Audit(options) => Some(options.input),
-        Request::Thin(options) => Some(options.input),
-        Request::Predict(options) => Some(options.input),
-        Request::Verify(options) => Some(options.input),
-        Request::Check(options) => if_asked(options.why, options.input),
+/// The last line of a log that is read to say what its fault is.
+fn last_line_for(fault: LogFault) -> usize {
+    match fault {
+        LogFault::BadLine(n) | LogFault::Truncated(n) => n,
+        _ => 1,
+    }
+}
+
+/// The last line of a log that is read to say why its check failed.
+fn last_line_of(fault: CheckFault) -> usize {
+    match fault {
+        CheckFault::Log(fault) => last_line_for(fault),
+        CheckFault::Refused { position, .. } | CheckFault::WrongValue { position } => {
+            position.saturating_add(2)
+        }
+        CheckFault::Write | CheckFault::Memory => 1,
+    }
+}
+
+/// The file that a fate is about, if there is one of which something can be said, and the most bytes
+/// of it that are read.
+fn file_of<'a>(asked: &Asked<'a>, fate: Fate) -> (Option<&'a str>, usize) {
+    match fate {
+        Fate::Check(CheckFault::Write | CheckFault::Memory) => (None, 0),
+        Fate::Work(WorkFault::Memory) | Fate::Names(NamesFault::Memory) => (None, 0),
+        Fate::List(ListFault::Memory) | Fate::Sites(SitesFault::Memory) => (None, 0),
+        Fate::Report(ReportFault::Memory) => (None, 0),
+        Fate::Check(fault) => (asked.finite_log(), most_up_to(last_line_of(fault))),
+        Fate::Work(_) => (asked.work, MAX_WORKLOAD_BYTES),
+        Fate::Names(_) => (asked.names, MAX_NAMES_BYTES),
+        Fate::List(_) => (asked.list().1, MAX_NAMES_BYTES),
+        Fate::Sites(_) => (asked.sites, MAX_SITES_BYTES),
+        Fate::Report(_) => (asked.report, MAX_REPORT_BYTES),
+        _ => (None, 0),
+    }
+}
+
+/// What is said of a fault of a file, by its bytes, if something is.
+fn complaint_of(fate: Fate, bytes: &[u8]) -> Option<Complaint<'_>> {
+    match fate {
+        Fate::Check(CheckFault::Log(fault)) => log_complaint(fault, bytes),
+        Fate::Work(fault) => work_complaint(fault, bytes),
+        Fate::Names(fault) => names_complaint(fault, bytes),
+        Fate::List(fault) => list_complaint(fault, bytes),
+        Fate::Sites(fault) => sites_complaint(fault, bytes),
+        Fate::Report(fault) => report_complaint(fault, bytes),
         _ => None,
     }
 }
 
-/// The path of the workload whose faults are said in words, if the request has one.
-fn work_of<'a>(request: &Request<'a>) -> Option<&'a str> {
+/// What is said of the file at a path, by its bytes.
+fn words_in(alloc: Global, path: &str, bytes: &[u8], fate: Fate) -> Option<Vec<u8>> {
+    match fate {
+        Fate::Check(CheckFault::Refused { position, refusal }) => {
+            words_of_event(alloc, path, bytes, position, Some(refusal))
+        }
+        Fate::Check(CheckFault::WrongValue { position }) => {
+            words_of_event(alloc, path, bytes, position, None)
+        }
+        _ => said(alloc, path, &complaint_of(fate, bytes)?),
+    }
+}
+
+/// What is said of the file that a fate is about, whose bytes are read again.
+fn words_of_file<F: Files>(alloc: Global, asked: &Asked, fate: Fate, files: &F) -> Option<Vec<u8>> {
+    let (path, most) = file_of(asked, fate);
+    let path = path?;
+    let bytes = read_again(alloc, path, most, files)?;
+    words_in(alloc, path, &bytes, fate)
+}
+
+/// What is said of a file without its bytes, if there is such a file.
+fn words_of_whole(alloc: Global, path: Option<&str>, what: Said) -> Option<Vec<u8>> {
+    said(alloc, path?, &whole(what))
+}
+
+/// What is said of the schedule of a request, if it has one.
+fn words_of_turns<F: Files>(alloc: Global, request: &Request, files: &F) -> Option<Vec<u8>> {
     match request {
-        Request::Explore(options) => Some(options.input),
-        Request::Run(options) => if_asked(options.why, options.input),
-        Request::Replay(options) => if_asked(options.run.why, options.run.input),
+        Request::Replay(options) => words_of_schedule(alloc, options.schedule, files),
         _ => None,
     }
-}
-
-/// What is said of a fault of the file at a path, whose bytes are read again.
-fn words_of_file<F: Files>(alloc: Global, path: &str, fault: FileFault, files: &F) -> Option<Page> {
-    let bytes = read_again(alloc, path, most_bytes_for(fault), files)?;
-    fault_words(alloc, path, &bytes, fault).ok()
-}
-
-/// What is said of the file at a path that says no turns, by its bytes, which are read again.
-fn words_of_turns_file<F: Files>(alloc: Global, path: &str, files: &F) -> Option<Page> {
-    let bytes = read_again(alloc, path, MAX_SCHEDULE_BYTES, files)?;
-    schedule_words(alloc, path, &bytes).ok()
-}
-
-/// What is said of a text that is no schedule.
-fn words_of_schedule<F: Files>(alloc: Global, source: ScheduleSource, files: &F) -> Option<Page> {
-    match source {
-        ScheduleSource::Text(text) => { numbers_words(alloc, "--schedule", text.as_bytes()).ok() }
-        ScheduleSource::Turns(text) => turns_words(alloc, "--turns", text.as_bytes()).ok(),
-        ScheduleSource::File(path) => words_of_turns_file(alloc, path, files),
-    }
-}
-
-/// What is said of sites that are not those of the log, by the path of their file.
-fn words_of_other_sites(alloc: Global, path: &str) -> Option<Page> {
-    other_sites_words(alloc, path).ok()
-}
-
-/// What is said of an event that is refused, or else reads a wrong value.
-fn event_words(
-    alloc: Global,
-    path: &str,
-    refusal: Option<Refusal>,
-    bounds: Bounds,
-    before: &[Event],
-    event: Event,
-) -> Result<Page, Memory> {
-    match refusal {
-        Some(refusal) => refused_words(alloc, path, bounds, before, event, refusal),
-        None => wrong_value_words(alloc, path, before, event),
-    }
-}
-
-/// What is said of the event at a position, by the bytes of its log.
-fn words_in(
-    alloc: Global,
-    path: &str,
-    bytes: &[u8],
-    position: usize,
-    refusal: Option<Refusal>,
-) -> Option<Page> {
-    let mut source = Bytes::new(bytes);
-    let (bounds, trace, event) = events_up_to(alloc, &mut source, position)?;
-    match event_words(alloc, path, refusal, bounds, trace.as_slice(), event) {
-        Ok(page) => Some(page),
-        Err(_) => None,
-    }
-}
-
-/// What is said of the event at a position of the log at a path, whose bytes are read again.
-fn words_of_event<F: Files>(
-    alloc: Global,
-    path: &str,
-    position: usize,
-    refusal: Option<Refusal>,
-    files: &F,
-) -> Option<Page> {
-    let bytes = read_again(alloc, path, most_up_to(position.saturating_add(2)), files)?;
-    words_in(alloc, path, &bytes, position, refusal)
 }
 
 /// What is said of a fate, if there is something to say.
-fn words_of<F: Files>(alloc: Global, request: &Request, fate: Fate, files: &F) -> Option<Page> {
+fn words_of<F: Files>(
+    alloc: Global,
+    request: &Request,
+    asked: &Asked,
+    fate: Fate,
+    files: &F,
+) -> Option<Vec<u8>> {
     match fate {
         Fate::Finished { ending, .. } => words_of_end(alloc, request, ending, files),
-        Fate::Check(CheckFault::Log(fault)) => {
-            words_of_file(alloc, log_of(request)?, FileFault::Log(fault), files)
-        }
-        Fate::Check(CheckFault::Refused { position, refusal }) => {
-            words_of_event(alloc, log_of(request)?, position, Some(refusal), files)
-        }
-        Fate::Check(CheckFault::WrongValue { position }) => {
-            words_of_event(alloc, log_of(request)?, position, None, files)
-        }
-        Fate::Work(WorkFault::Memory) => None,
-        Fate::Work(fault) => {
-            words_of_file(alloc, work_of(request)?, FileFault::Work(fault), files)
-        }
-        Fate::Schedule(ScheduleFault::Bad) => {
-            words_of_schedule(alloc, schedule_of(request)?, files)
-        }
-        Fate::Names(NamesFault::Memory) => None,
-        Fate::Names(fault) => {
-            words_of_file(
-                alloc,
-                names_explained_of(request)?,
-                FileFault::Names(fault),
-                files,
-            )
-        }
-        Fate::Sites(SitesFault::Memory) => None,
-        Fate::Sites(fault) => {
-            words_of_file(alloc, sites_of(request)?, FileFault::Sites(fault), files)
-        }
-        Fate::OtherSites => words_of_other_sites(alloc, sites_of(request)?),
-        Fate::Report(ReportFault::Memory) => None,
-        Fate::Report(fault) => {
-            words_of_file(alloc, report_of(request)?, FileFault::Report(fault), files)
-        }
-        Fate::Ignored(what) => words_in_vain(alloc, request, what, files),
-        Fate::Open => words_of_open(alloc, request),
-        Fate::List(ListFault::Memory) => None,
-        Fate::List(fault) => {
-            words_of_file(alloc, list_of(request)?, FileFault::List(fault), files)
-        }
-        _ => None,
+        Fate::Schedule(ScheduleFault::Bad) => words_of_turns(alloc, request, files),
+        Fate::OtherSites => words_of_whole(alloc, asked.sites, OTHER_SITES),
+        Fate::Open => words_of_whole(alloc, asked.work, UNDECIDED),
+        Fate::Ignored(what) => words_in_vain(alloc, asked, what, files),
+        _ => words_of_file(alloc, asked, fate, files),
     }
 }
 
-/// What is said of a file that failed, or else of what a file says.
+/// What is said of a file that failed, or else of what a file says, if the request asks for words.
 fn said_of<F: Files + Recall>(
     alloc: Global,
     request: &Request,
     fate: Fate,
     files: &F,
-) -> Option<Page> {
-    match words_of_failure(alloc, request, fate, files) {
-        Some(page) => Some(page),
-        None => words_of(alloc, request, fate, files),
+) -> Option<Vec<u8>> {
+    let asked = asked_of(request);
+    if !asked.in_words {
+        return None;
+    }
+    match words_of_failure(alloc, &asked, fate, files) {
+        Some(text) => Some(text),
+        None => words_of(alloc, request, &asked, fate, files),
     }
 }
 
@@ -202,7 +180,7 @@ pub fn end_in_words<F: Files + Recall, E: Sink>(
     err: &mut E,
 ) -> u8 {
     match said_of(alloc, request, *fate, files) {
-        Some(page) => end_after(page.as_slice(), fate, err),
+        Some(text) => end_after(&text, fate, err),
         None => end_with(fate, err),
     }
 }
